@@ -1,0 +1,88 @@
+-- Document 01, "Replies, operation by operation": the calls, and what each answers on every memory and every argument.
+use Prim.Native.Nat.{ℕ, zero, suc, _+_, _-_, _*_}
+use mathlib.Core.Bool.{Bool, true, false, _&&_}
+use mathlib.Core.List.{List, [], _∷_}
+use mathlib.Core.Option.{Option, none, some}
+use lib.ListN.{length, replicate}
+use lib.Dec.{leb, ltb, eqb}
+use Rattle.bitmap.specs.Bit.{zeros}
+use Rattle.rules.specs.Heap.{Memory, withWaiting, shaped, countOf, isFirst, sizeAt, exponent, lowestFree, isRef}
+use Rattle.rules.specs.Damage.{damage}
+use Rattle.rules.specs.Store.{formatted, storeRootIn, storeCellIn, allocateIn}
+use Rattle.rules.specs.Collection.{collected}
+use Rattle.rules.specs.declared.Reply.{Reply}
+
+-- the calls with their own arguments
+pub data Call : Type 0 where
+  format check collect freeBlocks : Call
+  allocate : (n r : ℕ) → Call
+  storeRoot : (r v : ℕ) → Call
+  storeCell : (a j v : ℕ) → Call
+  look : (a : ℕ) → Call
+
+-- a reply, and the memory after the call
+abbrev pub Answer : Type 0
+Answer = Reply × Memory
+
+abbrev pub reply : ℕ → ℕ → ℕ → Reply
+reply number value second = record { number = number; value = value; second = second }
+
+-- "Number 0 is acceptance." Here with one value, and a memory that is not written
+abbrev pub accepted : Memory → ℕ → Answer
+accepted h value = (reply 0 value 0, h)
+
+-- "A refusal carries value 0 .. and changes no buffer."
+abbrev pub refused : Memory → ℕ → Answer
+refused h number = (reply number 0 0, h)
+
+-- the call goes on where the test passes, and is refused with the number where not
+unfoldable pub require : Bool → ℕ → Memory → Answer → Answer
+require test number h next = elim test [ true ↦ next | false ↦ refused h number ]
+
+-- "1 as before; 2 if the heap is damaged", with the damage kind as its value; then what the call itself answers
+unfoldable pub onSound : ℕ → ℕ → Memory → Answer → Answer
+onSound N w h next =
+    let kind = damage N w h in
+    require (shaped N w h) 1 h (elim (eqb kind 0) [ true ↦ next | false ↦ (reply 2 kind 0, h) ])
+
+-- an accepted call that may free: the waiting list is left all 0
+abbrev pub settled : ℕ → Memory → Memory
+settled N h = withWaiting (replicate N 0) h
+
+-- "The value is the number of blocks freed": 0 bits of the A-map after the call less those before
+unfoldable pub freeing : ℕ → Memory → Memory → Answer
+freeing N h g = accepted (settled N g) (zeros (g .a) - zeros (h .a))
+
+-- "5 if no chunk of s blocks is free"; else "the value is the first block"
+unfoldable pub allocation : ℕ → ℕ → Memory → ℕ → ℕ → Option ℕ → Answer
+allocation N w h n r none = refused h 5
+allocation N w h n r (some i) = accepted (settled N (allocateIn N w h n r i)) i
+
+-- each list of refusals "is in order, and the first number that applies is given"
+unfoldable pub answer : ℕ → ℕ → Memory → Call → Answer
+answer N w h format = require (shaped N w h) 1 h (accepted (formatted N w (length (h .roots))) 0)
+answer N w h check = onSound N w h (accepted h 0)
+answer N w h freeBlocks = onSound N w h (accepted h (zeros (h .a)))
+answer N w h collect = onSound N w h (freeing N h (collected N w h))
+answer N w h (allocate n r) =
+    onSound N w h
+    (require (leb 1 n && leb n N) 3 h
+    (require (ltb r (length (h .roots))) 4 h
+    (allocation N w h n r (lowestFree N (exponent n) (h .a)))))
+answer N w h (storeRoot r v) =
+    onSound N w h
+    (require (ltb r (length (h .roots))) 4 h
+    (require (isRef N h v) 8 h
+    (freeing N h (storeRootIn N w h r v))))
+answer N w h (storeCell a j v) =
+    onSound N w h
+    (require (isFirst N h a) 6 h
+    (require (ltb j (4 * sizeAt N h a)) 7 h
+    (require (isRef N h v) 8 h
+    (freeing N h (storeCellIn N w h (4 * a + j) v)))))
+answer N w h (look a) = onSound N w h (require (isFirst N h a) 6 h (reply 0 (sizeAt N h a) (countOf N w h a), h))
+
+-- the plain machine on a list of calls: each answer, from the memory that the one before left
+unfoldable pub run : ℕ → ℕ → Memory → List Call → List Answer
+run N w h [] = []
+run N w h (c ∷ cs) = let x = answer N w h c in x ∷ run N w (x .1) cs

@@ -1,0 +1,121 @@
+-- Document 01, "Small heaps on paper": the cases marked P, as one list. "N is 8, w is 2 and there are 4 roots unless said; bytes in
+-- decimal." That each case gives what it says is one lemma, in proofs/.
+use Prim.Native.Nat.{ℕ}
+use mathlib.Core.List.{List, [], _∷_, map}
+use lib.ListN.{getD}
+use Rattle.rules.specs.Heap.{Memory, withA, withB}
+use Rattle.rules.specs.Store.{formatted}
+use Rattle.rules.specs.Calls.{Call, check, collect, freeBlocks, allocate, storeRoot, storeCell, look, Answer, reply, run}
+use Rattle.rules.specs.declared.Reply.{Reply}
+
+-- calls on a heap of 8 blocks, each with the reply it is to get, and the bytes of the A-map and the B-map after the last
+pub record Case : Type 0 where
+  pub width : ℕ
+  pub before : Memory
+  pub a : ℕ
+  pub b : ℕ
+  pub steps : List (Call × Reply)
+
+abbrev pub case : ℕ → Memory → ℕ → ℕ → List (Call × Reply) → Case
+case width before a b steps = record { width = width; before = before; a = a; b = b; steps = steps }
+
+unfoldable pub fresh : (w : ℕ) → Memory
+fresh w = formatted 8 w 4
+
+-- "Otherwise fresh": only the bytes of the two maps differ
+unfoldable pub freshBut : (a b : ℕ) → Memory
+freshBut a b = withA (a ∷ []) (withB (b ∷ []) (fresh 2))
+
+abbrev pub gives : ℕ → Reply
+gives value = reply 0 value 0
+
+abbrev pub shows : ℕ → ℕ → Reply
+shows size count = reply 0 size count
+
+abbrev pub refuses : ℕ → Reply
+refuses number = reply number 0 0
+
+abbrev pub damaged : ℕ → Reply
+damaged kind = reply 2 kind 0
+
+unfoldable pub cases : List Case
+cases =
+    -- P1
+    case 2 (fresh 2) 119 185
+    ((allocate 2 0, gives 0) ∷ (allocate 1 1, gives 2) ∷ (allocate 3 2, gives 4) ∷ (look 4, shows 3 1) ∷ [])
+    -- P2
+    ∷ case 2 (fresh 2) 127 177
+    ((allocate 2 0, gives 0) ∷ (allocate 1 1, gives 2) ∷ (allocate 3 2, gives 4)
+    ∷ (allocate 2 3, refuses 5) ∷ (freeBlocks, gives 2) ∷ (look 3, refuses 6) ∷ (look 7, refuses 6) ∷ (allocate 1 3, gives 3) ∷ [])
+    -- P3
+    ∷ case 2 (fresh 2) 223 111 ((allocate 5 0, gives 0) ∷ (allocate 3 1, refuses 5) ∷ (allocate 2 1, gives 6) ∷ [])
+    -- P4
+    ∷ case 2 (fresh 2) 0 255
+    ((allocate 1 0, gives 0) ∷ (storeRoot 1 1, gives 0) ∷ (storeRoot 2 1, gives 0) ∷ (look 0, shows 1 3)
+    ∷ (storeRoot 0 0, gives 0) ∷ (storeRoot 1 0, gives 0) ∷ (storeRoot 2 0, gives 0) ∷ (look 0, shows 1 3) ∷ (collect, gives 1) ∷ [])
+    -- P5
+    ∷ case 2 (fresh 2) 0 255
+    ((allocate 1 0, gives 0) ∷ (storeRoot 1 1, gives 0) ∷ (storeRoot 0 0, gives 0) ∷ (look 0, shows 1 1)
+    ∷ (storeRoot 1 0, gives 1) ∷ (look 0, refuses 6) ∷ [])
+    -- P6
+    ∷ case 1 (fresh 1) 0 255 ((allocate 1 0, gives 0) ∷ (storeRoot 0 0, gives 0) ∷ (look 0, shows 1 1) ∷ (collect, gives 1) ∷ [])
+    -- P7
+    ∷ case 2 (fresh 2) 0 255
+    ((allocate 1 0, gives 0) ∷ (allocate 1 1, gives 1) ∷ (storeCell 0 0 2, gives 0) ∷ (storeCell 1 0 1, gives 0)
+    ∷ (storeRoot 0 0, gives 0) ∷ (storeRoot 1 0, gives 0) ∷ (look 0, shows 1 1) ∷ (look 1, shows 1 1) ∷ (collect, gives 2) ∷ [])
+    -- P8
+    ∷ case 2 (fresh 2) 0 255
+    ((allocate 2 0, gives 0) ∷ (allocate 1 1, gives 2) ∷ (storeCell 0 7 3, gives 0) ∷ (storeRoot 1 0, gives 0)
+    ∷ (storeCell 0 8 3, refuses 7) ∷ (storeRoot 0 0, gives 3) ∷ [])
+    -- P9, both halves; what is stuck stays at 3 when a root is cleared
+    ∷ case 2 (fresh 2) 1 254
+    ((allocate 1 0, gives 0) ∷ (storeRoot 0 1, gives 0) ∷ (look 0, shows 1 1)
+    ∷ (storeRoot 1 1, gives 0) ∷ (look 0, shows 1 2) ∷ (storeRoot 0 1, gives 0) ∷ (look 0, shows 1 3)
+    ∷ (storeRoot 0 0, gives 0) ∷ (look 0, shows 1 3) ∷ [])
+    -- P10
+    ∷ case 2 (fresh 2) 255 127 ((allocate 0 9, refuses 3) ∷ (allocate 9 9, refuses 3) ∷ (allocate 8 0, gives 0) ∷ [])
+    -- P11
+    ∷ case 2 (freshBut 0 254) 0 254 ((check, damaged 1) ∷ [])
+    ∷ case 2 (freshBut 1 255) 1 255 ((check, damaged 2) ∷ [])
+    ∷ case 2 (freshBut 6 251) 6 251 ((check, damaged 3) ∷ [])
+    ∷ []
+
+-- "Plausible readings that are wrong", in the document's order: each case tells the right reading from the wrong one
+unfoldable pub readings : List Case
+readings =
+    -- "Taking the lowest run of n free blocks wherever it starts, or flipping all s."
+    case 2 (fresh 2) 127 180
+    ((allocate 1 0, gives 0) ∷ (allocate 2 1, gives 2) ∷ (allocate 3 2, gives 4) ∷ (allocate 1 3, gives 1) ∷ (freeBlocks, gives 1) ∷ [])
+    -- "Leaving the B bit at 0 after a free: a later, longer object would seem to end there."
+    ∷ case 2 (fresh 2) 3 253 ((allocate 1 0, gives 0) ∷ (storeRoot 0 0, gives 1) ∷ (allocate 2 0, gives 0) ∷ (look 0, shows 2 1) ∷ [])
+    -- "Counting a stuck object down, or treating 2^w as the capacity."
+    ∷ case 1 (fresh 1) 1 254
+    ((allocate 1 0, gives 0) ∷ (storeRoot 1 1, gives 0) ∷ (look 0, shows 1 1) ∷ (storeRoot 0 0, gives 0) ∷ (storeRoot 1 0, gives 0)
+    ∷ (look 0, shows 1 1) ∷ [])
+    -- "Counting references from unreached objects in a collection."
+    ∷ case 2 (fresh 2) 1 254
+    ((allocate 1 0, gives 0) ∷ (allocate 1 1, gives 1) ∷ (storeCell 1 0 1, gives 0) ∷ (storeCell 1 1 2, gives 0) ∷ (storeRoot 1 0, gives 0)
+    ∷ (look 0, shows 1 2) ∷ (look 1, shows 1 1) ∷ (collect, gives 1) ∷ (look 0, shows 1 1) ∷ [])
+    -- "Freeing the dropped object without letting go of what its cells name, or letting go once for two equal cells."
+    ∷ case 2 (fresh 2) 0 255
+    ((allocate 1 0, gives 0) ∷ (allocate 1 1, gives 1) ∷ (storeCell 0 0 2, gives 0) ∷ (storeRoot 1 0, gives 0) ∷ (storeCell 0 3 2, gives 0)
+    ∷ (look 1, shows 1 2) ∷ (storeRoot 0 0, gives 2) ∷ [])
+    -- "Clearing counts before marking and losing one when an object is met a second time."
+    ∷ case 2 (fresh 2) 1 254 ((allocate 1 0, gives 0) ∷ (storeRoot 1 1, gives 0) ∷ (collect, gives 0) ∷ (look 0, shows 1 2) ∷ [])
+    ∷ []
+
+-- the memory after the last of the answers
+unfoldable pub after : Memory → List Answer → Memory
+after h [] = h
+after h (x ∷ xs) = after (x .1) xs
+
+-- what the rules give for a case: the replies and the two bytes
+unfoldable pub outcome : Case → List Reply × ℕ × ℕ
+outcome c =
+    let answers = run 8 (c .width) (c .before) (map (λ s. s .0) (c .steps)) in
+    let h = after (c .before) answers in
+    (map (λ x. x .0) answers, getD (h .a) 0 0, getD (h .b) 0 0)
+
+-- what document 01 says
+unfoldable pub expected : Case → List Reply × ℕ × ℕ
+expected c = (map (λ s. s .1) (c .steps), c .a, c .b)

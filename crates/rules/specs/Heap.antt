@@ -1,0 +1,147 @@
+-- Document 01, "The lent heap": the lists of numbers that the caller lends, and what is read off them. N is the number of blocks
+-- and w the count width, as in the document. Definitions that read one list take that list, the others the whole memory.
+use Prim.Native.Nat.{ℕ, zero, suc, _+_, _-_, _*_, _/_, _^_}
+use mathlib.Core.Bool.{Bool, true, false, not, _&&_, _||_}
+use mathlib.Core.List.{List, [], _∷_}
+use mathlib.Core.Option.{Option, none, some}
+use lib.ListN.{length, getD}
+use lib.Dec.{leb, ltb, eqb}
+use Rattle.bitmap.specs.Bit.{bitAt, countBelow}
+use Rattle.planes.specs.Plane.{countAt}
+
+-- the six lent buffers
+pub record Memory : Type 0 where
+  pub a : List ℕ
+  pub b : List ℕ
+  pub counts : List ℕ
+  pub cells : List ℕ
+  pub roots : List ℕ
+  pub waiting : List ℕ
+
+abbrev pub memory : (a b counts cells roots waiting : List ℕ) → Memory
+memory a b counts cells roots waiting =
+    record { a = a; b = b; counts = counts; cells = cells; roots = roots; waiting = waiting }
+
+-- a memory with one buffer replaced
+abbrev pub withA : List ℕ → Memory → Memory
+withA x h = memory x (h .b) (h .counts) (h .cells) (h .roots) (h .waiting)
+
+abbrev pub withB : List ℕ → Memory → Memory
+withB x h = memory (h .a) x (h .counts) (h .cells) (h .roots) (h .waiting)
+
+abbrev pub withCounts : List ℕ → Memory → Memory
+withCounts x h = memory (h .a) (h .b) x (h .cells) (h .roots) (h .waiting)
+
+abbrev pub withCells : List ℕ → Memory → Memory
+withCells x h = memory (h .a) (h .b) (h .counts) x (h .roots) (h .waiting)
+
+abbrev pub withRoots : List ℕ → Memory → Memory
+withRoots x h = memory (h .a) (h .b) (h .counts) (h .cells) x (h .waiting)
+
+abbrev pub withWaiting : List ℕ → Memory → Memory
+withWaiting x h = memory (h .a) (h .b) (h .counts) (h .cells) (h .roots) x
+
+-- ---- sizes
+
+-- the largest heap
+abbrev pub maxBlocks : ℕ
+maxBlocks = 8192
+
+-- "a power of two from 8 to 8,192": k doublings of 8 are tried
+unfoldable pub isPowerFrom : ℕ → ℕ → ℕ → Bool
+isPowerFrom zero p n = eqb n p
+isPowerFrom (suc k) p n = elim (eqb n p) [ true ↦ true | false ↦ isPowerFrom k (p * 2) n ]
+
+-- 8 doubled ten times is the largest heap
+abbrev pub isBlocks : ℕ → Bool
+isBlocks n = isPowerFrom 10 8 n
+
+-- every test passes
+unfoldable pub all : List Bool → Bool
+all [] = true
+all (t ∷ ts) = elim t [ true ↦ all ts | false ↦ false ]
+
+-- N, w ("1 to 4 bits"), the number of roots ("1 to 64") and each buffer's length are as they have to be
+unfoldable pub shape : (N w a b counts cells roots waiting : ℕ) → Bool
+shape N w a b counts cells roots waiting =
+    all
+    (isBlocks N ∷ leb 1 w ∷ leb w 4 ∷ leb 1 roots ∷ leb roots 64
+    ∷ eqb a (N / 8) ∷ eqb b (N / 8) ∷ eqb counts (w * (N / 8)) ∷ eqb cells (4 * N) ∷ eqb waiting N ∷ [])
+
+abbrev pub shaped : ℕ → ℕ → Memory → Bool
+shaped N w h =
+    shape N w (length (h .a)) (length (h .b)) (length (h .counts)) (length (h .cells)) (length (h .roots)) (length (h .waiting))
+
+-- "The capacity is 2^w − 1."
+abbrev pub capacity : ℕ → ℕ
+capacity w = 2 ^ w - 1
+
+-- "An object's count stands at its first block."
+abbrev pub countOf : ℕ → ℕ → Memory → ℕ → ℕ
+countOf N w h i = countAt (N / 8) w (h .counts) i
+
+-- ---- objects
+
+-- A-map: "1 is allocated, 0 is free"
+abbrev pub isFree : List ℕ → ℕ → Bool
+isFree a i = eqb (bitAt a i) 0
+
+-- B-map: "0 stands on the last block of each object and 1 everywhere else"
+abbrev pub isLast : List ℕ → ℕ → Bool
+isLast b i = eqb (bitAt b i) 0
+
+-- "A first block is an allocated block that is block 0, or follows a free block, or follows a block whose B bit is 0."
+unfoldable pub firstIn : ℕ → List ℕ → List ℕ → ℕ → Bool
+firstIn N a b i = ltb i N && not (isFree a i) && (eqb i 0 || isFree a (i - 1) || isLast b (i - 1))
+
+abbrev pub isFirst : ℕ → Memory → ℕ → Bool
+isFirst N h i = firstIn N (h .a) (h .b) i
+
+-- "Its object runs to the first 0 in the B-map from there." How many blocks that are; n of them are left in the heap.
+unfoldable pub sizeFrom : ℕ → List ℕ → ℕ → ℕ
+sizeFrom zero b i = 0
+sizeFrom (suc n) b i = elim (isLast b i) [ true ↦ 1 | false ↦ suc (sizeFrom n b (i + 1)) ]
+
+abbrev pub sizeAt : ℕ → Memory → ℕ → ℕ
+sizeAt N h i = sizeFrom (N - i) (h .b) i
+
+-- ---- chunks
+
+-- the exponent of "the least power of two that is n or more": k and the numbers above it are tried
+unfoldable pub exponentFrom : ℕ → ℕ → ℕ → ℕ
+exponentFrom zero k n = k
+exponentFrom (suc f) k n = elim (leb n (2 ^ k)) [ true ↦ k | false ↦ exponentFrom f (k + 1) n ]
+
+unfoldable pub exponent : ℕ → ℕ
+exponent n = exponentFrom n 0 n
+
+-- "A chunk of one block is free when its A bit is 0; a larger one when both of its halves are." The chunk of 2 ^ k blocks from i.
+unfoldable pub chunkFree : ℕ → List ℕ → ℕ → Bool
+chunkFree zero a i = isFree a i
+chunkFree (suc k) a i = elim (chunkFree k a i) [ true ↦ chunkFree k a (i + 2 ^ k) | false ↦ false ]
+
+-- the lowest free chunk among the n chunks of 2 ^ k blocks from block i on
+unfoldable pub lowestFrom : ℕ → ℕ → List ℕ → ℕ → Option ℕ
+lowestFrom zero k a i = none
+lowestFrom (suc n) k a i = elim (chunkFree k a i) [ true ↦ some i | false ↦ lowestFrom n k a (i + 2 ^ k) ]
+
+-- "The lowest free chunk of s blocks is taken": s is 2 ^ k, and a chunk is "s blocks starting at a multiple of s"
+unfoldable pub lowestFree : ℕ → ℕ → List ℕ → Option ℕ
+lowestFree N k a = lowestFrom (N / 2 ^ k) k a 0
+
+-- ---- references
+
+-- what a cell or root may hold: "0, or 1 + the first block of an object"
+unfoldable pub refIn : ℕ → List ℕ → List ℕ → ℕ → Bool
+refIn N a b v = eqb v 0 || firstIn N a b (v - 1)
+
+abbrev pub isRef : ℕ → Memory → ℕ → Bool
+isRef N h v = refIn N (h .a) (h .b) v
+
+-- the number of places of a list that hold v
+unfoldable pub holding : ℕ → List ℕ → ℕ
+holding v l = countBelow (λ j. eqb (getD l j 0) v) (length l)
+
+-- "the number of all cells and roots naming the object" at block i
+abbrev pub references : Memory → ℕ → ℕ
+references h i = holding (i + 1) (h .roots) + holding (i + 1) (h .cells)

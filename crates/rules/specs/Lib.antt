@@ -1,0 +1,7 @@
+pub mod Heap
+pub mod Damage
+pub mod Store
+pub mod Collection
+pub mod Calls
+pub mod Demand
+pub mod Cases

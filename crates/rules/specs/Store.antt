@@ -1,0 +1,110 @@
+-- Document 01, "What each call does": format, counting up and down, freeing, the stores and the placing of a new object.
+use Prim.Native.Nat.{ℕ, zero, suc, _+_, _-_, _*_, _/_}
+use mathlib.Core.Bool.{Bool, true, false, _||_}
+use mathlib.Core.List.{List, [], _∷_}
+use lib.ListN.{getD, set, replicate}
+use lib.Dec.{eqb}
+use Rattle.bitmap.specs.Bit.{setBit, fillBits}
+use Rattle.planes.specs.Plane.{countAt, setCount}
+use Rattle.rules.specs.Heap.{Memory, memory, withA, withB, withCounts, withCells, withRoots, capacity, sizeAt}
+
+-- "A-map 0, B-map all ones, everything else 0."
+unfoldable pub formatted : (N w roots : ℕ) → Memory
+formatted N w roots =
+    memory (replicate (N / 8) 0) (replicate (N / 8) 255) (replicate (w * (N / 8)) 0) (replicate (4 * N) 0) (replicate roots 0)
+    (replicate N 0)
+
+-- ---- counting
+
+-- "the object named by v, if v isn't 0, is counted up"; "A count at capacity is stuck: up and down don't change it."
+unfoldable pub countUp : ℕ → ℕ → List ℕ → ℕ → List ℕ
+countUp N w counts v =
+    let c = countAt (N / 8) w counts (v - 1) in
+    elim (eqb v 0 || eqb c (capacity w)) [ true ↦ counts | false ↦ setCount (N / 8) w counts (v - 1) (c + 1) ]
+
+-- the counts, and the first blocks of the objects whose count came to 0 and that wait to be freed, the last one first
+pub record Work : Type 0 where
+  pub counts : List ℕ
+  pub stack : List ℕ
+
+abbrev pub work : List ℕ → List ℕ → Work
+work counts stack = record { counts = counts; stack = stack }
+
+-- the object named by v, if any, is counted down; where its count comes to 0 it waits to be freed
+unfoldable pub countDown : ℕ → ℕ → Work → ℕ → Work
+countDown N w s v =
+    let c = countAt (N / 8) w (s .counts) (v - 1) in
+    let stays = eqb v 0 || eqb c (capacity w) in
+    elim stays [
+      | true ↦ s
+      | false ↦
+          work (setCount (N / 8) w (s .counts) (v - 1) (c - 1)) (elim (eqb c 1) [ true ↦ (v - 1) ∷ s .stack | false ↦ s .stack ])
+    ]
+
+-- "each object its cells named is counted down likewise, once for each cell": the n cells from cell j on
+unfoldable pub countDownEach : ℕ → ℕ → Work → List ℕ → ℕ → ℕ → Work
+countDownEach N w s cells j zero = s
+countDownEach N w s cells j (suc n) = countDown N w (countDownEach N w s cells j n) (getD cells (j + n) 0)
+
+-- ---- freeing
+
+-- the n cells from cell j on made 0
+unfoldable pub clearCells : List ℕ → ℕ → ℕ → List ℕ
+clearCells cells j zero = cells
+clearCells cells j (suc n) = set (clearCells cells j n) (j + n) 0
+
+-- the object of n blocks at i: "its A bits go to 0, its last B bit goes to 1 .., its count and cells go to 0"
+unfoldable pub freed : ℕ → ℕ → Memory → ℕ → ℕ → Memory
+freed N w h i n =
+    withA (fillBits (h .a) i n 0)
+    (withB (setBit (h .b) (i + n - 1) 1)
+    (withCounts (setCount (N / 8) w (h .counts) i 0)
+    (withCells (clearCells (h .cells) (4 * i) (4 * n)) h)))
+
+-- The waiting objects are freed, the last one first, until none waits. Each step frees one object, so N steps are enough.
+unfoldable pub release : (steps : ℕ) → ℕ → ℕ → Memory → List ℕ → Memory
+release zero N w h stack = h
+release (suc f) N w h [] = h
+release (suc f) N w h (i ∷ rest) =
+    let n = sizeAt N h i in
+    let g = freed N w h i n in
+    let s = countDownEach N w (work (g .counts) rest) (h .cells) (4 * i) (4 * n) in
+    release f N w (withCounts (s .counts) g) (s .stack)
+
+-- "then the old object, if any, is counted down", with all that this frees
+unfoldable pub letGo : ℕ → ℕ → Memory → ℕ → Memory
+letGo N w h v =
+    let s = countDown N w (work (h .counts) []) v in
+    release N N w (withCounts (s .counts) h) (s .stack)
+
+-- ---- stores
+
+-- "then the cell is written; then the old object, if any, is counted down": root r
+unfoldable pub putRoot : ℕ → ℕ → Memory → ℕ → ℕ → Memory
+putRoot N w h r v = letGo N w (withRoots (set (h .roots) r v) h) (getD (h .roots) r 0)
+
+-- the same with cell number c of all cells
+unfoldable pub putCell : ℕ → ℕ → Memory → ℕ → ℕ → Memory
+putCell N w h c v = letGo N w (withCells (set (h .cells) c v) h) (getD (h .cells) c 0)
+
+-- "First the object named by v, if v isn't 0, is counted up"
+unfoldable pub storeRootIn : ℕ → ℕ → Memory → ℕ → ℕ → Memory
+storeRootIn N w h r v = putRoot N w (withCounts (countUp N w (h .counts) v) h) r v
+
+unfoldable pub storeCellIn : ℕ → ℕ → Memory → ℕ → ℕ → Memory
+storeCellIn N w h c v = putCell N w (withCounts (countUp N w (h .counts) v) h) c v
+
+-- ---- allocation
+
+-- the new object of n blocks at i: "only its first n blocks become allocated .. The B bit of block n of the object goes to 0, the count
+-- becomes 1, the cells are 0."
+unfoldable pub placed : ℕ → ℕ → Memory → ℕ → ℕ → Memory
+placed N w h i n =
+    withA (fillBits (h .a) i n 1)
+    (withB (setBit (h .b) (i + n - 1) 0)
+    (withCounts (setCount (N / 8) w (h .counts) i 1)
+    (withCells (clearCells (h .cells) (4 * i) (4 * n)) h)))
+
+-- "Then the reference is stored in root r as below, except that the new object isn't counted up again."
+unfoldable pub allocateIn : ℕ → ℕ → Memory → ℕ → ℕ → ℕ → Memory
+allocateIn N w h n r i = putRoot N w (placed N w h i n) r (i + 1)
