@@ -1,0 +1,52 @@
+//! The eight calls as data, and their four words in a file.
+
+use crate::heap::Memory;
+use crate::rules::{self, Reply};
+
+/// One call with its own arguments.
+#[derive(Clone, Copy, Debug, PartialEq, Eq, Hash)]
+pub enum Call {
+    Format,
+    Check,
+    Allocate { n: usize, r: usize },
+    StoreRoot { r: usize, v: u16 },
+    StoreCell { a: usize, j: usize, v: u16 },
+    Collect,
+    Look { a: usize },
+    FreeBlocks,
+}
+
+impl Call {
+    /// The four words of a call in a file.
+    pub fn words(self) -> [u64; 4] {
+        match self {
+            Call::Format => [0, 0, 0, 0],
+            Call::Check => [1, 0, 0, 0],
+            Call::Allocate { n, r } => [2, n as u64, r as u64, 0],
+            Call::StoreRoot { r, v } => [3, r as u64, v as u64, 0],
+            Call::StoreCell { a, j, v } => [4, a as u64, j as u64, v as u64],
+            Call::Collect => [5, 0, 0, 0],
+            Call::Look { a } => [6, a as u64, 0, 0],
+            Call::FreeBlocks => [7, 0, 0, 0],
+        }
+    }
+
+    /// Check, look and free blocks: "The check, the look and the free-block call write nothing."
+    pub fn only_reads(self) -> bool {
+        matches!(self, Call::Check | Call::Look { .. } | Call::FreeBlocks)
+    }
+}
+
+/// Carries out one call on the lent memory and gives its reply.
+pub fn apply(blocks: usize, width: usize, memory: &mut Memory, call: Call) -> Reply {
+    match call {
+        Call::Format => rules::format(blocks, width, memory),
+        Call::Check => rules::check(blocks, width, memory),
+        Call::Allocate { n, r } => rules::allocate(blocks, width, memory, n, r),
+        Call::StoreRoot { r, v } => rules::store_root(blocks, width, memory, r, v),
+        Call::StoreCell { a, j, v } => rules::store_cell(blocks, width, memory, a, j, v),
+        Call::Collect => rules::collect(blocks, width, memory),
+        Call::Look { a } => rules::look(blocks, width, memory, a),
+        Call::FreeBlocks => rules::free_blocks(blocks, width, memory),
+    }
+}

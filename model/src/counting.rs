@@ -1,0 +1,59 @@
+//! Counting up, counting down, and what a count-down to 0 frees.
+
+use crate::heap::{capacity, cell_places, count, named, set_bit, set_count, size, Memory};
+
+/// "the number of all cells and roots naming the object"
+pub fn references(memory: &Memory, first: usize) -> usize {
+    let from_cells = memory.cells.iter().filter(|v| **v as usize == 1 + first);
+    let from_roots = memory.roots.iter().filter(|v| **v as usize == 1 + first);
+    from_cells.count() + from_roots.count()
+}
+
+/// "First the object named by v, if v isn't 0, is counted up". "A count at capacity is stuck: up and down
+/// don't change it."
+pub fn count_up(blocks: usize, width: usize, memory: &mut Memory, v: u16) {
+    if v == 0 {
+        return;
+    }
+    let first = named(blocks, memory, v).expect("v was tested to name an object");
+    let now = count(blocks, width, memory, first);
+    if now != capacity(width) {
+        set_count(blocks, width, memory, first, now + 1);
+    }
+}
+
+/// "then the old object, if any, is counted down." "A count-down to 0 frees the object", "and each object
+/// its cells named is counted down likewise, once for each cell."
+pub fn count_down(blocks: usize, width: usize, memory: &mut Memory, old: u16) {
+    // What still is to be counted down, the longest waiting first. Document 01 leaves the order open.
+    let mut to_count_down = std::collections::VecDeque::from([old]);
+    while let Some(v) = to_count_down.pop_front() {
+        if v == 0 {
+            continue;
+        }
+        let first = named(blocks, memory, v).expect("an undamaged heap's cells name objects");
+        let now = count(blocks, width, memory, first);
+        if now == capacity(width) {
+            continue;
+        }
+        set_count(blocks, width, memory, first, now - 1);
+        if now - 1 == 0 {
+            to_count_down.extend(&memory.cells[cell_places(blocks, memory, first)]);
+            erase(blocks, width, memory, first);
+        }
+    }
+}
+
+/// Frees one object and counts nothing down: "its A bits go to 0, its last B bit goes to 1 (004 doesn't
+/// mention this), its count and cells go to 0".
+pub fn erase(blocks: usize, width: usize, memory: &mut Memory, first: usize) {
+    let size = size(blocks, memory, first);
+    for i in first..first + size {
+        set_bit(&mut memory.a, i, 0);
+    }
+    set_bit(&mut memory.b, first + size - 1, 1);
+    set_count(blocks, width, memory, first, 0);
+    for place in 4 * first..4 * (first + size) {
+        memory.cells[place] = 0;
+    }
+}

@@ -1,0 +1,81 @@
+//! The six kinds of damage. "Each is tested over the whole heap before the next; the first found is reported."
+//!
+//! "The waiting list may hold anything on entry."
+
+use crate::chunks::least_power_of_two;
+use crate::counting::references;
+use crate::heap::{
+    bit, capacity, count, first_blocks, is_allocated, is_first_block, named, size, Memory,
+};
+
+/// The damage kind, or 0 where there is no damage.
+pub fn damage(blocks: usize, width: usize, memory: &Memory) -> usize {
+    if kind_1(blocks, memory) {
+        1
+    } else if kind_2(blocks, memory) {
+        2
+    } else if kind_3(blocks, memory) {
+        3
+    } else if kind_4(blocks, memory) {
+        4
+    } else if kind_5(blocks, width, memory) {
+        5
+    } else if kind_6(blocks, memory) {
+        6
+    } else {
+        0
+    }
+}
+
+/// "1. A 0 in the B-map on a free block."
+fn kind_1(blocks: usize, memory: &Memory) -> bool {
+    (0..blocks).any(|i| !is_allocated(memory, i) && bit(&memory.b, i) == 0)
+}
+
+/// "2. An allocated block with B bit 1 whose next block is free or past the end."
+fn kind_2(blocks: usize, memory: &Memory) -> bool {
+    (0..blocks).any(|i| {
+        is_allocated(memory, i)
+            && bit(&memory.b, i) == 1
+            && (i + 1 == blocks || !is_allocated(memory, i + 1))
+    })
+}
+
+/// "3. An object whose first block is not a multiple of the least power of two that is its size or more."
+fn kind_3(blocks: usize, memory: &Memory) -> bool {
+    let objects = first_blocks(blocks, memory);
+    objects
+        .iter()
+        .any(|first| first % least_power_of_two(size(blocks, memory, *first)) != 0)
+}
+
+/// "4. A cell of a free block that isn't 0, or a cell or root that is neither 0 nor 1 + a first block."
+fn kind_4(blocks: usize, memory: &Memory) -> bool {
+    let names_nothing = |v: u16| v != 0 && named(blocks, memory, v).is_none();
+    let cell_of_free_block =
+        (0..4 * blocks).any(|c| !is_allocated(memory, c / 4) && memory.cells[c] != 0);
+    cell_of_free_block
+        || memory.cells.iter().any(|v| names_nothing(*v))
+        || memory.roots.iter().any(|v| names_nothing(*v))
+}
+
+/// "5. A count other than 0 where no object starts; an object with count 0; a count below capacity that
+/// differs from the number of all cells and roots naming the object."
+fn kind_5(blocks: usize, width: usize, memory: &Memory) -> bool {
+    (0..blocks).any(|i| {
+        let count = count(blocks, width, memory, i);
+        if !is_first_block(blocks, memory, i) {
+            return count != 0;
+        }
+        count == 0 || (count < capacity(width) && count != references(memory, i))
+    })
+}
+
+/// "6. The number of objects differs from the number of 0 bits in the B-map."
+///
+/// This can't be met: without kind 1 each 0 stands on an allocated block, and without kind 2 each object
+/// ends on such a 0 and each such 0 ends one object. It is tested all the same.
+fn kind_6(blocks: usize, memory: &Memory) -> bool {
+    let zeros = (0..blocks).filter(|i| bit(&memory.b, *i) == 0).count();
+    first_blocks(blocks, memory).len() != zeros
+}

@@ -1,0 +1,471 @@
+//! The families of lists. Each one writes at least so many entries at a desk, beginning with a format.
+
+use crate::calls::Call;
+use crate::chunks::least_power_of_two;
+use crate::damaging;
+use crate::generate::Desk;
+use crate::heap::free_count;
+use crate::random::Random;
+
+/// Writes at least so many entries of one family at a desk.
+pub type Writer = fn(&mut Desk, usize);
+
+/// All families by name.
+pub const FAMILIES: [(&str, Writer); 9] = [
+    ("random", random),
+    ("near-full", near_full),
+    ("saturation", saturation),
+    ("cycles", cycles),
+    ("self-references", self_references),
+    ("deep-chains", deep_chains),
+    ("damage", damage),
+    ("wrong-lengths", wrong_lengths),
+    ("huge-arguments", huge_arguments),
+];
+
+/// A good header, small mostly: blocks, width, roots. The width goes with the seed, so that four seeds in a
+/// row have all four.
+pub fn some_shape(seed: u64, random: &mut Random) -> [u64; 3] {
+    let blocks = random.pick(&[8, 8, 16, 16, 32, 64]);
+    let roots = random.pick(&[1, 2, 3, 4, 4, 5, 6, 8]);
+    [blocks, 1 + seed % 4, roots]
+}
+
+/// The list of a family, cut to exactly so many entries; none where there is no such family. "mixed" has all
+/// families one after another, each on heaps of its own.
+pub fn generate(family: &str, seed: u64, count: usize) -> Option<Desk> {
+    let mut random = Random::new(seed);
+    let shape = some_shape(seed, &mut random);
+    let mut desk = Desk::new(random, shape);
+    if family == "mixed" {
+        mixed(&mut desk, count);
+    } else {
+        let (_, write) = FAMILIES.iter().find(|(name, _)| *name == family)?;
+        write(&mut desk, count);
+    }
+    desk.entries.truncate(count);
+    Some(desk)
+}
+
+/// All families one after another, each on a new heap, until there are so many entries.
+pub fn mixed(desk: &mut Desk, count: usize) {
+    let end = desk.entries.len() + count;
+    while desk.entries.len() < end {
+        for (_, write) in FAMILIES {
+            let seed = desk.random.word();
+            let shape = some_shape(seed, &mut desk.random);
+            desk.new_heap(shape);
+            write(desk, 40);
+        }
+    }
+}
+
+/// Any calls.
+pub fn random(desk: &mut Desk, count: usize) {
+    let end = desk.entries.len() + count;
+    desk.call(Call::Format);
+    while desk.entries.len() < end {
+        let call = desk.some_call();
+        desk.call(call);
+    }
+}
+
+/// Heaps with few free blocks: what is left is asked for, and a little more.
+pub fn near_full(desk: &mut Desk, count: usize) {
+    let end = desk.entries.len() + count;
+    desk.call(Call::Format);
+    while desk.entries.len() < end {
+        let free = free_count(desk.blocks(), &desk.bench.memory);
+        let call = match desk.random.below(10) {
+            0..=3 => Call::Allocate {
+                n: 1 + desk.random.below(free.max(1)),
+                r: desk.some_root(),
+            },
+            4 => Call::Allocate {
+                n: free.max(1),
+                r: desk.some_root(),
+            },
+            5 => Call::Allocate {
+                n: 1,
+                r: desk.some_root(),
+            },
+            // Kept by a cell, so that the root can take the next one.
+            6..=7 => desk.some_cell_store(5),
+            8 => desk.some_root_store(30),
+            _ => {
+                if desk.random.percent(15) {
+                    Call::Collect
+                } else {
+                    desk.some_call()
+                }
+            }
+        };
+        if call != Call::Format {
+            desk.call(call);
+        }
+    }
+}
+
+/// Counts driven up to the capacity, past it, and down again. A self store raises a count by itself.
+pub fn saturation(desk: &mut Desk, count: usize) {
+    let end = desk.entries.len() + count;
+    desk.call(Call::Format);
+    while desk.entries.len() < end {
+        desk.call(Call::Allocate { n: 4, r: 0 });
+        desk.call(Call::Allocate { n: 1, r: 0 });
+        let a = desk.some_object();
+        let target = desk.some_object();
+        let times = 1 + desk.random.below((1 << desk.bench.width) + 2);
+        let cells = desk.cells_of(a);
+        let v = 1 + target as u16;
+        for time in 0..times {
+            let j = (time + desk.random.below(2)) % cells;
+            desk.call(Call::StoreCell { a, j, v });
+            if desk.random.percent(30) {
+                let r = desk.some_root();
+                desk.call(Call::StoreRoot { r, v });
+                desk.call(Call::StoreRoot { r, v });
+            }
+        }
+        desk.call(Call::Look { a: target });
+        for j in 0..cells.min(times) {
+            desk.call(Call::StoreCell { a, j, v: 0 });
+        }
+        desk.call(Call::Look { a: target });
+        for _ in 0..3 {
+            let call = desk.some_root_store(80);
+            desk.call(call);
+        }
+        if desk.random.percent(60) {
+            desk.call(Call::Collect);
+            desk.call(Call::Look { a: target });
+        }
+    }
+}
+
+/// Rings of objects, let go by their roots, kept or collected, some of them hanging on other rings.
+pub fn cycles(desk: &mut Desk, count: usize) {
+    let end = desk.entries.len() + count;
+    desk.call(Call::Format);
+    while desk.entries.len() < end {
+        let length = 1 + desk.random.below(5);
+        let r = desk.random.below(desk.roots());
+        let mut first = None;
+        let mut before = None;
+        for _ in 0..length {
+            let n = 1 + desk.random.below(2);
+            let reply = desk.call(Call::Allocate { n, r });
+            if reply.number != 0 {
+                desk.call(Call::Collect);
+                break;
+            }
+            // The new object names the one before it, which its root has let go only if a count held.
+            let new = reply.value;
+            first = first.or(Some(new));
+            if let Some(old) = before.filter(|old| desk.objects().contains(old)) {
+                let j = desk.random.below(4);
+                desk.call(Call::StoreCell {
+                    a: new,
+                    j,
+                    v: 1 + old as u16,
+                });
+            }
+            // Keep it by a second root, so that the next allocation into the first one doesn't free it.
+            let other = desk.random.below(desk.roots());
+            desk.call(Call::StoreRoot {
+                r: other,
+                v: 1 + new as u16,
+            });
+            before = Some(new);
+        }
+        if let (Some(first), Some(last)) = (first, before) {
+            if desk.objects().contains(&first) {
+                let j = desk.random.below(4);
+                desk.call(Call::StoreCell {
+                    a: first,
+                    j,
+                    v: 1 + last as u16,
+                });
+            }
+        }
+        for r in 0..desk.roots() {
+            if desk.random.percent(70) {
+                desk.call(Call::StoreRoot { r, v: 0 });
+            }
+        }
+        if desk.random.percent(30) {
+            let call = desk.some_cell_store(40);
+            desk.call(call);
+        }
+        desk.call(Call::FreeBlocks);
+        if desk.random.percent(40) {
+            desk.call(Call::Collect);
+        }
+    }
+}
+
+/// Objects that name themselves, values stored over themselves, owners freed by their own store.
+pub fn self_references(desk: &mut Desk, count: usize) {
+    let end = desk.entries.len() + count;
+    desk.call(Call::Format);
+    while desk.entries.len() < end {
+        let r = desk.random.below(desk.roots());
+        let n = 1 + desk.random.below(2);
+        desk.call(Call::Allocate { n, r });
+        let a = desk.some_object();
+        let v = 1 + a as u16;
+        let j = desk.random.below(desk.cells_of(a));
+        desk.call(Call::StoreCell { a, j, v });
+        if desk.random.percent(50) {
+            desk.call(Call::StoreCell { a, j, v });
+        }
+        if desk.random.percent(50) {
+            // A root stored over itself.
+            let held = desk.bench.memory.roots[r];
+            desk.call(Call::StoreRoot { r, v: held });
+        }
+        if desk.random.percent(70) {
+            // Only its own cell names it now; writing that cell frees the owner of the cell.
+            for r in 0..desk.roots() {
+                if desk.bench.memory.roots[r] == v {
+                    desk.call(Call::StoreRoot { r, v: 0 });
+                }
+            }
+            let other = desk.some_value(40);
+            desk.call(Call::StoreCell { a, j, v: other });
+            desk.call(Call::Look { a });
+        }
+        if desk.random.percent(20) {
+            desk.call(Call::Collect);
+        }
+    }
+}
+
+/// Long chains and wide stars, let go by one store.
+pub fn deep_chains(desk: &mut Desk, count: usize) {
+    let end = desk.entries.len() + count;
+    while desk.entries.len() < end {
+        desk.call(Call::Format);
+        if desk.random.percent(60) || desk.blocks() < 16 {
+            chain(desk);
+        } else {
+            star(desk);
+        }
+        let call = desk.some_call();
+        desk.call(call);
+        desk.call(Call::FreeBlocks);
+        // Let go, by each root that holds something.
+        for r in 0..desk.roots() {
+            if desk.bench.memory.roots[r] != 0 {
+                desk.call(Call::StoreRoot { r, v: 0 });
+            }
+        }
+        desk.call(Call::FreeBlocks);
+        desk.call(Call::Collect);
+    }
+}
+
+/// One block after another, each naming the one before; root 0 holds the last. Where there is a second root
+/// the new one is allocated into it, else the old one is lost.
+fn chain(desk: &mut Desk) {
+    let new_root = desk.roots().min(2) - 1;
+    let length = 2 + desk.random.below(desk.blocks());
+    desk.call(Call::Allocate { n: 1, r: 0 });
+    for _ in 0..length {
+        let held = desk.bench.memory.roots[0];
+        let reply = desk.call(Call::Allocate { n: 1, r: new_root });
+        if reply.number != 0 {
+            break;
+        }
+        let new = 1 + reply.value as u16;
+        if new_root != 0 {
+            let j = desk.random.below(4);
+            let a = reply.value;
+            desk.call(Call::StoreCell { a, j, v: held });
+            desk.call(Call::StoreRoot { r: 0, v: new });
+        }
+    }
+    if new_root != 0 {
+        desk.call(Call::StoreRoot { r: new_root, v: 0 });
+    }
+}
+
+/// One wide object whose cells name as many single blocks as there are, some of them twice.
+fn star(desk: &mut Desk) {
+    let blocks = desk.blocks();
+    let n = least_power_of_two(blocks / 4) - desk.random.below(2);
+    let new_root = desk.roots().min(2) - 1;
+    desk.call(Call::Allocate { n, r: 0 });
+    let mut j = 0;
+    while j + 1 < 4 * n {
+        let reply = desk.call(Call::Allocate { n: 1, r: new_root });
+        if reply.number != 0 || new_root == 0 {
+            break;
+        }
+        let v = 1 + reply.value as u16;
+        desk.call(Call::StoreCell { a: 0, j, v });
+        j += 1;
+        if desk.random.percent(30) {
+            desk.call(Call::StoreCell { a: 0, j, v });
+            j += 1;
+        }
+    }
+    if new_root != 0 {
+        desk.call(Call::StoreRoot { r: new_root, v: 0 });
+    }
+}
+
+/// Used heaps that are damaged by loads, in each kind, called, and mended again.
+pub fn damage(desk: &mut Desk, count: usize) {
+    let end = desk.entries.len() + count;
+    desk.call(Call::Format);
+    let mut kind = desk.random.below(7);
+    while desk.entries.len() < end {
+        for _ in 0..6 {
+            let call = desk.some_call();
+            if call != Call::Collect || desk.random.percent(30) {
+                desk.call(call);
+            }
+        }
+        let loads = damaging::some_damage(&mut desk.random, &desk.bench, kind);
+        kind = (kind + 1) % 7;
+        let undo: Vec<(u64, usize, u64)> = loads
+            .iter()
+            .map(|(buffer, index, _)| (*buffer, *index, desk.bench.number_at(*buffer, *index)))
+            .collect();
+        for (buffer, index, value) in loads {
+            desk.load(buffer, index, value);
+        }
+        desk.call(Call::Check);
+        for call in desk.one_of_each() {
+            if call != Call::Format && desk.random.percent(40) {
+                desk.call(call);
+            }
+        }
+        // A call that was accepted after all has changed the heap: then it stays as it is.
+        if desk.call(Call::Check).number == 2 {
+            for (buffer, index, value) in undo.into_iter().rev() {
+                desk.load(buffer, index, value);
+            }
+        }
+        if desk.call(Call::Check).number == 2 {
+            desk.call(Call::Format);
+        }
+    }
+}
+
+/// Buffers lent too long or too short, and headers that no heap has.
+pub fn wrong_lengths(desk: &mut Desk, count: usize) {
+    let end = desk.entries.len() + count;
+    let good = [
+        desk.blocks() as u64,
+        desk.bench.width as u64,
+        desk.roots() as u64,
+    ];
+    desk.call(Call::Format);
+    while desk.entries.len() < end {
+        for _ in 0..5 {
+            let call = desk.some_call();
+            desk.call(call);
+        }
+        let buffer = desk.random.below(6) as u64;
+        let length = desk.bench.length(buffer);
+        let wrong = match desk.random.below(5) {
+            0 => length - 1,
+            1 => length + 1,
+            2 => 0,
+            3 => 2 * length,
+            _ => desk.random.below(length + 1),
+        };
+        desk.length(buffer, wrong);
+        for call in desk.one_of_each() {
+            // Format would be accepted where the length is a right one after all (roots).
+            if call != Call::Format || desk.random.percent(30) {
+                desk.call(call);
+            }
+        }
+        desk.length(buffer, length);
+        desk.call(Call::Check);
+        if desk.random.percent(20) {
+            let bad = desk.random.pick(&[
+                [0, 2, 4],
+                [1, 2, 4],
+                [4, 2, 4],
+                [7, 1, 1],
+                [12, 2, 4],
+                [24, 2, 4],
+                [48, 3, 4],
+                [8, 0, 4],
+                [8, 5, 4],
+                [8, 2, 0],
+                [8, 2, 65],
+                [16, 1, 65],
+                [0, 0, 0],
+            ]);
+            desk.new_heap(bad);
+            desk.call(Call::Format);
+            for call in desk.one_of_each() {
+                desk.call(call);
+            }
+            desk.new_heap(good);
+            desk.call(Call::Format);
+        }
+    }
+}
+
+/// Arguments far out of range, where sums and products of them would not fit a word.
+pub fn huge_arguments(desk: &mut Desk, count: usize) {
+    let end = desk.entries.len() + count;
+    desk.call(Call::Format);
+    while desk.entries.len() < end {
+        let call = desk.some_call();
+        desk.call(call);
+        let blocks = desk.blocks() as u64;
+        let huge = [
+            u64::MAX,
+            u64::MAX - 1,
+            u64::MAX - 3,
+            u64::MAX / 2,
+            u64::MAX / 2 + 1,
+            u64::MAX / 4,
+            u64::MAX / 4 + 1,
+            u64::MAX / 8 + 1,
+            1 << 32,
+            (1 << 32) - 1,
+            (1 << 32) + 1,
+            65_535,
+            65_536,
+            65_537,
+            16_384,
+            8_193,
+            8_192,
+            4 * blocks,
+            4 * blocks - 1,
+            blocks + 1,
+            blocks,
+            blocks - 1,
+        ];
+        let (x, y) = (desk.random.pick(&huge), desk.random.pick(&huge));
+        let r = desk.some_root() as u64;
+        let a = desk.some_object() as u64;
+        let v = desk.some_value(50) as u64;
+        let bad_v = desk
+            .random
+            .pick(&[65_535, 65_534, 32_768, blocks, blocks + 1, 65_536, x]);
+        let words = match desk.random.below(12) {
+            0 => [2, x, r, 0],
+            1 => [2, 1, x, 0],
+            2 => [2, x, y, 0],
+            3 => [3, x, v, 0],
+            4 => [3, r, bad_v, 0],
+            5 => [3, x, bad_v, 0],
+            6 => [4, x, 0, v],
+            7 => [4, a, x, v],
+            8 => [4, a, 0, bad_v],
+            9 => [4, x, y, bad_v],
+            10 => [4, a, x, bad_v],
+            _ => [6, x, 0, 0],
+        };
+        desk.words(words);
+    }
+}

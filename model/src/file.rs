@@ -1,0 +1,193 @@
+//! The file form of a list of calls, and the bench that it runs on. README.md states the form.
+
+use crate::calls::{apply, Call};
+use crate::heap::Memory;
+use crate::rules::Reply;
+
+/// The largest numbers that a header (or an entry "new") may ask for: one more than is good where that
+/// makes refusal 1 reachable.
+pub const MOST_BLOCKS: u64 = 8192;
+pub const MOST_WIDTH: u64 = 5;
+pub const MOST_ROOTS: u64 = 65;
+
+/// The largest length of each of the six buffers.
+pub const MOST_LENGTHS: [u64; 6] = [1024, 1024, 5 * 1024, 32768, 65, 8192];
+
+/// The four words of an entry, after their meaning.
+#[derive(Clone, Copy, Debug, PartialEq, Eq)]
+pub enum Entry {
+    Call(Call),
+    /// A store whose v is above 65,535.
+    ValueDoesNotFit,
+    Load {
+        buffer: u64,
+        index: u64,
+        value: u64,
+    },
+    Length {
+        buffer: u64,
+        length: u64,
+    },
+    New {
+        blocks: u64,
+        width: u64,
+        roots: u64,
+    },
+    Unknown(u64),
+}
+
+impl Entry {
+    /// What four words mean. Words that the meaning doesn't use aren't looked at.
+    pub fn from_words(words: [u64; 4]) -> Entry {
+        let [kind, x, y, z] = words;
+        let (p, q) = (x as usize, y as usize);
+        match kind {
+            0 => Entry::Call(Call::Format),
+            1 => Entry::Call(Call::Check),
+            2 => Entry::Call(Call::Allocate { n: p, r: q }),
+            3 => match u16::try_from(y) {
+                Ok(v) => Entry::Call(Call::StoreRoot { r: p, v }),
+                Err(_) => Entry::ValueDoesNotFit,
+            },
+            4 => match u16::try_from(z) {
+                Ok(v) => Entry::Call(Call::StoreCell { a: p, j: q, v }),
+                Err(_) => Entry::ValueDoesNotFit,
+            },
+            5 => Entry::Call(Call::Collect),
+            6 => Entry::Call(Call::Look { a: p }),
+            7 => Entry::Call(Call::FreeBlocks),
+            8 => Entry::Load {
+                buffer: x,
+                index: y,
+                value: z,
+            },
+            9 => Entry::Length {
+                buffer: x,
+                length: y,
+            },
+            10 => Entry::New {
+                blocks: x,
+                width: y,
+                roots: z,
+            },
+            unknown => Entry::Unknown(unknown),
+        }
+    }
+}
+
+/// A heap as the program lends it: the buffers at their present lengths, and what lies beyond each of them.
+#[derive(Clone, Debug)]
+pub struct Bench {
+    pub blocks: usize,
+    pub width: usize,
+    pub memory: Memory,
+    beyond: Memory,
+}
+
+impl Bench {
+    /// Zeroed buffers, not formatted; none where the numbers are too large.
+    pub fn new(blocks: u64, width: u64, roots: u64) -> Option<Bench> {
+        if blocks > MOST_BLOCKS || width > MOST_WIDTH || roots > MOST_ROOTS {
+            return None;
+        }
+        Some(Bench {
+            blocks: blocks as usize,
+            width: width as usize,
+            memory: Memory::zeros(blocks as usize, width as usize, roots as usize),
+            beyond: Memory::default(),
+        })
+    }
+
+    pub fn call(&mut self, call: Call) -> Reply {
+        apply(self.blocks, self.width, &mut self.memory, call)
+    }
+
+    /// Writes one number into a lent buffer; false where the buffer, the index or the value is out of range.
+    pub fn load(&mut self, buffer: u64, index: u64, value: u64) -> bool {
+        let memory = &mut self.memory;
+        match buffer {
+            0 => load_byte(&mut memory.a, index, value),
+            1 => load_byte(&mut memory.b, index, value),
+            2 => load_byte(&mut memory.counts, index, value),
+            3 => load_number(&mut memory.cells, index, value),
+            4 => load_number(&mut memory.roots, index, value),
+            5 => load_number(&mut memory.waiting, index, value),
+            _ => false,
+        }
+    }
+
+    /// Sets the lent length of a buffer; false where the buffer or the length is out of range.
+    pub fn set_length(&mut self, buffer: u64, length: u64) -> bool {
+        if buffer > 5 || length > MOST_LENGTHS[buffer as usize] {
+            return false;
+        }
+        let (memory, beyond) = (&mut self.memory, &mut self.beyond);
+        let length = length as usize;
+        match buffer {
+            0 => lend(&mut memory.a, &mut beyond.a, length),
+            1 => lend(&mut memory.b, &mut beyond.b, length),
+            2 => lend(&mut memory.counts, &mut beyond.counts, length),
+            3 => lend(&mut memory.cells, &mut beyond.cells, length),
+            4 => lend(&mut memory.roots, &mut beyond.roots, length),
+            _ => lend(&mut memory.waiting, &mut beyond.waiting, length),
+        }
+        true
+    }
+
+    /// The number in a lent buffer.
+    pub fn number_at(&self, buffer: u64, index: usize) -> u64 {
+        let memory = &self.memory;
+        match buffer {
+            0 => memory.a[index] as u64,
+            1 => memory.b[index] as u64,
+            2 => memory.counts[index] as u64,
+            3 => memory.cells[index] as u64,
+            4 => memory.roots[index] as u64,
+            _ => memory.waiting[index] as u64,
+        }
+    }
+
+    /// The lent length of a buffer.
+    pub fn length(&self, buffer: u64) -> usize {
+        let memory = &self.memory;
+        match buffer {
+            0 => memory.a.len(),
+            1 => memory.b.len(),
+            2 => memory.counts.len(),
+            3 => memory.cells.len(),
+            4 => memory.roots.len(),
+            _ => memory.waiting.len(),
+        }
+    }
+}
+
+fn load_byte(list: &mut [u8], index: u64, value: u64) -> bool {
+    if index >= list.len() as u64 || value > 255 {
+        return false;
+    }
+    list[index as usize] = value as u8;
+    true
+}
+
+fn load_number(list: &mut [u16], index: u64, value: u64) -> bool {
+    if index >= list.len() as u64 || value > 65_535 {
+        return false;
+    }
+    list[index as usize] = value as u16;
+    true
+}
+
+/// Lends so many numbers of a buffer. What lies beyond keeps its values; what never was written is 0.
+fn lend<T: Copy + Default>(lent: &mut Vec<T>, beyond: &mut Vec<T>, length: usize) {
+    lent.append(beyond);
+    if lent.len() < length {
+        lent.resize(length, T::default());
+    }
+    *beyond = lent.split_off(length);
+}
+
+/// The bytes of a file.
+pub fn bytes(header: [u64; 3], entries: &[[u64; 4]]) -> Vec<u8> {
+    let words = header.iter().chain(entries.iter().flatten());
+    words.flat_map(|word| word.to_le_bytes()).collect()
+}

@@ -1,0 +1,222 @@
+//! The desk at which lists are written: it carries out each entry on the model as it writes it, so that the
+//! next one can be chosen to fit the heap. Most calls are chosen to be accepted; some are chosen not to be.
+
+use crate::calls::Call;
+use crate::file::{bytes, Bench, Entry};
+use crate::heap::{first_blocks, misshapen, size};
+use crate::random::Random;
+use crate::rules::Reply;
+
+pub struct Desk {
+    pub random: Random,
+    pub header: [u64; 3],
+    pub entries: Vec<[u64; 4]>,
+    pub bench: Bench,
+}
+
+impl Desk {
+    /// A desk whose file begins with this header, which isn't too large.
+    pub fn new(random: Random, header: [u64; 3]) -> Desk {
+        let [blocks, width, roots] = header;
+        Desk {
+            random,
+            header,
+            entries: Vec::new(),
+            bench: Bench::new(blocks, width, roots).expect("a header that is too large"),
+        }
+    }
+
+    /// The file as far as it is written.
+    pub fn file(&self) -> Vec<u8> {
+        bytes(self.header, &self.entries)
+    }
+
+    /// Writes any four words, and carries them out.
+    pub fn words(&mut self, words: [u64; 4]) -> Option<Reply> {
+        self.entries.push(words);
+        match Entry::from_words(words) {
+            Entry::Call(call) => return Some(self.bench.call(call)),
+            Entry::Load {
+                buffer,
+                index,
+                value,
+            } => {
+                self.bench.load(buffer, index, value);
+            }
+            Entry::Length { buffer, length } => {
+                self.bench.set_length(buffer, length);
+            }
+            Entry::New {
+                blocks,
+                width,
+                roots,
+            } => {
+                if let Some(next) = Bench::new(blocks, width, roots) {
+                    self.bench = next;
+                }
+            }
+            Entry::ValueDoesNotFit | Entry::Unknown(_) => {}
+        }
+        None
+    }
+
+    pub fn call(&mut self, call: Call) -> Reply {
+        self.words(call.words()).expect("a call has a reply")
+    }
+
+    pub fn load(&mut self, buffer: u64, index: usize, value: u64) {
+        self.words([8, buffer, index as u64, value]);
+    }
+
+    pub fn length(&mut self, buffer: u64, length: usize) {
+        self.words([9, buffer, length as u64, 0]);
+    }
+
+    pub fn new_heap(&mut self, shape: [u64; 3]) {
+        self.words([10, shape[0], shape[1], shape[2]]);
+    }
+
+    pub fn blocks(&self) -> usize {
+        self.bench.blocks
+    }
+
+    pub fn roots(&self) -> usize {
+        self.bench.memory.roots.len()
+    }
+
+    /// The first blocks of the present objects (none where the heap is misshapen).
+    pub fn objects(&self) -> Vec<usize> {
+        let bench = &self.bench;
+        if misshapen(bench.blocks, bench.width, &bench.memory) {
+            return Vec::new();
+        }
+        first_blocks(bench.blocks, &bench.memory)
+    }
+
+    /// A present object's first block, or 0 where there is none.
+    pub fn some_object(&mut self) -> usize {
+        let objects = self.objects();
+        if objects.is_empty() {
+            return 0;
+        }
+        self.random.pick(&objects)
+    }
+
+    /// The number of cells of the object at a block (4 where there is none).
+    pub fn cells_of(&self, a: usize) -> usize {
+        if self.objects().contains(&a) {
+            4 * size(self.bench.blocks, &self.bench.memory, a)
+        } else {
+            4
+        }
+    }
+
+    /// A root, seldom one out of range.
+    pub fn some_root(&mut self) -> usize {
+        let roots = self.roots();
+        if roots == 0 || self.random.percent(4) {
+            return roots + self.random.below(3);
+        }
+        self.random.below(roots)
+    }
+
+    /// A value to store: mostly an object's name or 0, seldom one that names nothing.
+    pub fn some_value(&mut self, percent_zero: usize) -> u16 {
+        if self.random.percent(4) {
+            return self.random.below(self.bench.blocks + 4) as u16;
+        }
+        if self.random.percent(1) {
+            return self.random.word() as u16;
+        }
+        if self.random.percent(percent_zero) || self.objects().is_empty() {
+            return 0;
+        }
+        1 + self.some_object() as u16
+    }
+
+    /// A size: mostly small, seldom large, seldom refused.
+    pub fn some_size(&mut self) -> usize {
+        let blocks = self.blocks();
+        match self.random.below(100) {
+            0..=1 => 0,
+            2..=3 => blocks + 1 + self.random.below(3),
+            4..=8 => 1 + self.random.below(blocks.max(1)),
+            9..=24 => 1 + self.random.below((blocks / 2).max(1)),
+            25..=49 => 1 + self.random.below((blocks / 4).max(1)),
+            _ => 1 + self.random.below(3),
+        }
+    }
+
+    pub fn some_allocation(&mut self) -> Call {
+        Call::Allocate {
+            n: self.some_size(),
+            r: self.some_root(),
+        }
+    }
+
+    pub fn some_root_store(&mut self, percent_zero: usize) -> Call {
+        Call::StoreRoot {
+            r: self.some_root(),
+            v: self.some_value(percent_zero),
+        }
+    }
+
+    pub fn some_cell_store(&mut self, percent_zero: usize) -> Call {
+        let a = if self.random.percent(4) {
+            self.random.below(self.bench.blocks + 3)
+        } else {
+            self.some_object()
+        };
+        let cells = self.cells_of(a);
+        let j = if self.random.percent(4) {
+            cells + self.random.below(3)
+        } else {
+            self.random.below(cells)
+        };
+        Call::StoreCell {
+            a,
+            j,
+            v: self.some_value(percent_zero),
+        }
+    }
+
+    pub fn some_look(&mut self) -> Call {
+        let a = if self.random.percent(25) {
+            self.random.below(self.bench.blocks + 3)
+        } else {
+            self.some_object()
+        };
+        Call::Look { a }
+    }
+
+    /// Any call, weighted so that heaps fill, tangle and empty again.
+    pub fn some_call(&mut self) -> Call {
+        if self.objects().is_empty() && self.random.percent(60) {
+            return self.some_allocation();
+        }
+        match self.random.below(200) {
+            0..=59 => self.some_allocation(),
+            60..=104 => self.some_root_store(55),
+            105..=163 => self.some_cell_store(25),
+            164..=172 => Call::Collect,
+            173..=186 => self.some_look(),
+            187..=192 => Call::FreeBlocks,
+            193..=198 => Call::Check,
+            _ => Call::Format,
+        }
+    }
+
+    /// A call of each kind, with arguments that would mostly be accepted.
+    pub fn one_of_each(&mut self) -> [Call; 8] {
+        [
+            Call::Check,
+            self.some_allocation(),
+            self.some_root_store(50),
+            self.some_cell_store(50),
+            Call::Collect,
+            self.some_look(),
+            Call::FreeBlocks,
+            Call::Format,
+        ]
+    }
+}

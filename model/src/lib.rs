@@ -1,0 +1,30 @@
+//! A model of the heap of document 01, written from that document alone and from none of the product's code.
+//!
+//! It is meant to be read by someone who knows document 01. It goes bit by bit, keeps reached objects in
+//! sets, counts references by looking at every cell and root, and splits chunks by recursion. Each rule
+//! stands under the sentence of document 01 that it renders.
+//!
+//! Read in this order: heap, chunks, counting, collection, damage, rules. Then claims (demand 3).
+//! The rest writes and reads lists of calls: calls, file, expect, and the generator.
+
+pub mod calls;
+pub mod chunks;
+pub mod claims;
+pub mod collection;
+pub mod counting;
+pub mod damage;
+pub mod damaging;
+pub mod expect;
+pub mod families;
+pub mod file;
+pub mod generate;
+pub mod heap;
+pub mod paper;
+pub mod random;
+pub mod rules;
+pub mod trace;
+pub mod vectors;
+
+pub use calls::{apply, Call};
+pub use heap::Memory;
+pub use rules::Reply;

@@ -1,0 +1,86 @@
+//! The commands. See README.md.
+
+use model::expect::expect;
+use model::families::{generate, FAMILIES};
+use model::{trace, vectors};
+use std::io::{Read, Write};
+use std::process::exit;
+
+const USAGE: &str = "usage:
+  model generate FAMILY SEED COUNT   a list of COUNT entries in the file form, to standard output
+  model vectors PATH [SEED]          the one large file, written to PATH
+  model paper                        the cases P1 to P11 as a file, to standard output
+  model expect < FILE                what the program `calls` must print for a file
+  model count < FILE                 what a file meets: calls, replies by number, damage kinds
+  model trace SEED COUNT N W         a random list as text, with replies and buffers
+  model damaged SEED COUNT           damaged memories as text, with their kinds
+  model steps SEED COUNT             single calls as text, each on a memory of its own
+";
+
+fn main() {
+    let words: Vec<String> = std::env::args().skip(1).collect();
+    let words: Vec<&str> = words.iter().map(String::as_str).collect();
+    match words[..] {
+        ["generate", family, seed, count] => {
+            match generate(family, number(seed), number(count) as usize) {
+                Some(desk) => print(&desk.file()),
+                None => {
+                    let names: Vec<&str> = FAMILIES.iter().map(|(name, _)| *name).collect();
+                    stop(&format!("families: {}, mixed\n", names.join(", ")));
+                }
+            }
+        }
+        ["vectors", path] => write_file(path, &vectors::vectors(1)),
+        ["vectors", path, seed] => write_file(path, &vectors::vectors(number(seed))),
+        ["paper"] => print(&vectors::paper_file()),
+        ["expect"] => print(expect(&input()).0.as_bytes()),
+        ["count"] => print(format!("{:?}\n", expect(&input()).1).as_bytes()),
+        ["trace", seed, count, blocks, width] => {
+            let (blocks, width) = (number(blocks), number(width));
+            if blocks > 8192 || width > 5 {
+                stop("trace: N is at most 8192, W at most 5\n");
+            }
+            let count = number(count) as usize;
+            print(trace::trace(number(seed), count, blocks as usize, width as usize).as_bytes());
+        }
+        ["damaged", seed, count] => {
+            print(trace::damaged(number(seed), number(count) as usize).as_bytes());
+        }
+        ["steps", seed, count] => {
+            print(trace::steps(number(seed), number(count) as usize).as_bytes());
+        }
+        _ => stop(USAGE),
+    }
+}
+
+fn number(word: &str) -> u64 {
+    match word.parse() {
+        Ok(number) => number,
+        Err(_) => stop(&format!("not a number: {word}\n")),
+    }
+}
+
+fn input() -> Vec<u8> {
+    let mut bytes = Vec::new();
+    if let Err(error) = std::io::stdin().read_to_end(&mut bytes) {
+        stop(&format!("standard input: {error}\n"));
+    }
+    bytes
+}
+
+fn print(bytes: &[u8]) {
+    if let Err(error) = std::io::stdout().write_all(bytes) {
+        stop(&format!("standard output: {error}\n"));
+    }
+}
+
+fn write_file(path: &str, bytes: &[u8]) {
+    if let Err(error) = std::fs::write(path, bytes) {
+        stop(&format!("{path}: {error}\n"));
+    }
+}
+
+fn stop(message: &str) -> ! {
+    eprint!("{message}");
+    exit(2)
+}

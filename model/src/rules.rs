@@ -1,0 +1,216 @@
+//! The eight calls, each with its refusals in document 01's order.
+//!
+//! "Each list is in order, and the first number that applies is given. No refusal is given when its
+//! condition is false."
+
+use crate::chunks::{least_power_of_two, lowest_free_chunk};
+use crate::collection::sweep_and_recount;
+use crate::counting::{count_down, count_up};
+use crate::damage::damage;
+use crate::heap::{
+    count, free_count, is_first_block, misshapen, named, set_bit, set_count, size, Memory,
+};
+
+/// "A reply is a number and a value (two values for the look). Number 0 is acceptance."
+#[derive(Clone, Copy, Debug, PartialEq, Eq, Hash)]
+pub struct Reply {
+    pub number: usize,
+    pub value: usize,
+    pub second: usize,
+}
+
+/// "An accepted call with no value named gives 0".
+fn accepted(value: usize) -> Reply {
+    Reply {
+        number: 0,
+        value,
+        second: 0,
+    }
+}
+
+/// "A refusal carries value 0, or the damage kind for number 2 (any further value of a reply is 0 ...), and
+/// changes no buffer."
+fn refused(number: usize) -> Reply {
+    Reply {
+        number,
+        value: 0,
+        second: 0,
+    }
+}
+
+/// The two refusals that stand first in every call but format: "1 as before; 2 if the heap is damaged."
+fn refused_1_or_2(blocks: usize, width: usize, memory: &Memory) -> Option<Reply> {
+    if misshapen(blocks, width, memory) {
+        return Some(refused(1));
+    }
+    match damage(blocks, width, memory) {
+        0 => None,
+        kind => Some(Reply {
+            number: 2,
+            value: kind,
+            second: 0,
+        }),
+    }
+}
+
+/// "Format, and each accepted call that allocates, stores a reference or may free an object, later ones
+/// included, leave it all 0."
+fn leave_waiting_list_zero(memory: &mut Memory) {
+    memory.waiting.fill(0);
+}
+
+/// "Format. A-map 0, B-map all ones, everything else 0. The value is 0."
+///
+/// "Format: 1 if N, w, the number of roots or any buffer's length is not as above." "A heap that a call
+/// formats isn't tested for more than 1."
+pub fn format(blocks: usize, width: usize, memory: &mut Memory) -> Reply {
+    if misshapen(blocks, width, memory) {
+        return refused(1);
+    }
+    memory.a.fill(0);
+    memory.b.fill(255);
+    memory.counts.fill(0);
+    memory.cells.fill(0);
+    memory.roots.fill(0);
+    leave_waiting_list_zero(memory);
+    accepted(0)
+}
+
+/// "Check: value 0." "Check and free blocks: 1 as before; 2 if the heap is damaged. Both test the whole heap."
+pub fn check(blocks: usize, width: usize, memory: &Memory) -> Reply {
+    if let Some(reply) = refused_1_or_2(blocks, width, memory) {
+        return reply;
+    }
+    accepted(0)
+}
+
+/// "Allocate n blocks into root r."
+///
+/// "Allocate: 1, 2; 3 if n is 0 or above N; 4 if r is not below the number of roots; 5 if no chunk of s
+/// blocks is free."
+pub fn allocate(blocks: usize, width: usize, memory: &mut Memory, n: usize, r: usize) -> Reply {
+    if let Some(reply) = refused_1_or_2(blocks, width, memory) {
+        return reply;
+    }
+    if n == 0 || n > blocks {
+        return refused(3);
+    }
+    if r >= memory.roots.len() {
+        return refused(4);
+    }
+    let s = least_power_of_two(n);
+    // "The search happens before the old root reference is let go, so what that frees is not used by this
+    // call."
+    let Some(first) = lowest_free_chunk(blocks, memory, s) else {
+        return refused(5);
+    };
+    // "only its first n blocks become allocated; the rest stays free for smaller objects."
+    for i in first..first + n {
+        set_bit(&mut memory.a, i, 1);
+    }
+    // "The B bit of block n of the object goes to 0, the count becomes 1, the cells are 0." Block n counts
+    // from 1: it is the last one (P1 has B = 185).
+    set_bit(&mut memory.b, first + n - 1, 0);
+    set_count(blocks, width, memory, first, 1);
+    memory.cells[4 * first..4 * (first + n)].fill(0);
+    // "Then the reference is stored in root r as below, except that the new object isn't counted up again."
+    let old = memory.roots[r];
+    memory.roots[r] = (1 + first) as u16;
+    count_down(blocks, width, memory, old);
+    leave_waiting_list_zero(memory);
+    // "The value is the first block."
+    accepted(first)
+}
+
+/// "Store v in root r".
+///
+/// "Store in a root: 1, 2, 4; 8 if v is neither 0 nor 1 + a first block."
+pub fn store_root(blocks: usize, width: usize, memory: &mut Memory, r: usize, v: u16) -> Reply {
+    if let Some(reply) = refused_1_or_2(blocks, width, memory) {
+        return reply;
+    }
+    if r >= memory.roots.len() {
+        return refused(4);
+    }
+    if v != 0 && named(blocks, memory, v).is_none() {
+        return refused(8);
+    }
+    let free_before = free_count(blocks, memory);
+    // "First the object named by v, if v isn't 0, is counted up; then the cell is written; then the old
+    // object, if any, is counted down."
+    count_up(blocks, width, memory, v);
+    let old = memory.roots[r];
+    memory.roots[r] = v;
+    count_down(blocks, width, memory, old);
+    leave_waiting_list_zero(memory);
+    // "The value is the number of blocks freed."
+    accepted(free_count(blocks, memory) - free_before)
+}
+
+/// "Store v ... in cell j of the object at block a."
+///
+/// "Store in a cell: 1, 2; 6 if a is not a first block (or not below N); 7 if j is not below 4 × size; 8."
+pub fn store_cell(
+    blocks: usize,
+    width: usize,
+    memory: &mut Memory,
+    a: usize,
+    j: usize,
+    v: u16,
+) -> Reply {
+    if let Some(reply) = refused_1_or_2(blocks, width, memory) {
+        return reply;
+    }
+    if !is_first_block(blocks, memory, a) {
+        return refused(6);
+    }
+    if j >= 4 * size(blocks, memory, a) {
+        return refused(7);
+    }
+    if v != 0 && named(blocks, memory, v).is_none() {
+        return refused(8);
+    }
+    let free_before = free_count(blocks, memory);
+    // The same three steps as in a root. "The owner of the written cell may itself be freed this way."
+    count_up(blocks, width, memory, v);
+    let old = memory.cells[4 * a + j];
+    memory.cells[4 * a + j] = v;
+    count_down(blocks, width, memory, old);
+    leave_waiting_list_zero(memory);
+    // "The value is the number of blocks freed."
+    accepted(free_count(blocks, memory) - free_before)
+}
+
+/// "Collect." "Collect: 1, 2." "The value is the number of blocks freed."
+pub fn collect(blocks: usize, width: usize, memory: &mut Memory) -> Reply {
+    if let Some(reply) = refused_1_or_2(blocks, width, memory) {
+        return reply;
+    }
+    let free_before = free_count(blocks, memory);
+    sweep_and_recount(blocks, width, memory);
+    leave_waiting_list_zero(memory);
+    accepted(free_count(blocks, memory) - free_before)
+}
+
+/// "Look at block a: the object's size and its count." "Look: 1, 2, 6."
+pub fn look(blocks: usize, width: usize, memory: &Memory, a: usize) -> Reply {
+    if let Some(reply) = refused_1_or_2(blocks, width, memory) {
+        return reply;
+    }
+    if !is_first_block(blocks, memory, a) {
+        return refused(6);
+    }
+    Reply {
+        number: 0,
+        value: size(blocks, memory, a),
+        second: count(blocks, width, memory, a),
+    }
+}
+
+/// "Free blocks: the value is the number of 0 bits in the A-map."
+pub fn free_blocks(blocks: usize, width: usize, memory: &Memory) -> Reply {
+    if let Some(reply) = refused_1_or_2(blocks, width, memory) {
+        return reply;
+    }
+    accepted(free_count(blocks, memory))
+}

@@ -1,0 +1,114 @@
+//! Lists and damaged memories as plain text, for a test of the formal rules in a scratch file. README.md
+//! states the two forms.
+
+use crate::calls::Call;
+use crate::damage::damage;
+use crate::damaging::some_damage;
+use crate::expect::buffer_lines;
+use crate::generate::Desk;
+use crate::heap::Memory;
+use crate::random::Random;
+use std::fmt::Write;
+
+/// A random list, one call a line, with its reply and the six buffers after it.
+pub fn trace(seed: u64, count: usize, blocks: usize, width: usize) -> String {
+    // Another list for each N and w, not the same one again.
+    let mut random = Random::new(seed + ((blocks as u64) << 32) + ((width as u64) << 48));
+    let roots = 1 + random.below(4);
+    let shape = [blocks as u64, width as u64, roots as u64];
+    let mut desk = Desk::new(random, shape);
+    // Rubbish in the waiting list: the first accepted call leaves it all 0.
+    for i in 0..blocks {
+        let v = desk.random.word() % 65_536;
+        desk.load(5, i, v);
+    }
+    let mut out = format!("{blocks} {width} {roots}\n");
+    writeln!(out, "{}", buffers(&desk.bench.memory)).unwrap();
+    for k in 0..count {
+        let call = if k == 0 {
+            Call::Format
+        } else {
+            desk.some_call()
+        };
+        let reply = desk.call(call);
+        let [c, x, y, z] = call.words();
+        write!(out, "{c} {x} {y} {z}").unwrap();
+        write!(out, " | {} {} {}", reply.number, reply.value, reply.second).unwrap();
+        writeln!(out, " | {}", buffers(&desk.bench.memory)).unwrap();
+    }
+    out
+}
+
+/// Small used memories, most of them damaged, one a line, with the damage kind that the model finds.
+pub fn damaged(seed: u64, count: usize) -> String {
+    let mut random = Random::new(seed);
+    let mut out = String::new();
+    for k in 0..count {
+        let shape = [
+            random.pick(&[8, 16]),
+            1 + random.below(4) as u64,
+            1 + random.below(4) as u64,
+        ];
+        let mut desk = Desk::new(Random::new(random.word()), shape);
+        desk.call(Call::Format);
+        for _ in 0..desk.random.below(30) {
+            let call = desk.some_call();
+            desk.call(call);
+        }
+        for (buffer, index, value) in some_damage(&mut desk.random, &desk.bench, k % 7) {
+            desk.load(buffer, index, value);
+        }
+        let bench = &desk.bench;
+        let kind = damage(bench.blocks, bench.width, &bench.memory);
+        let lists = buffers(&bench.memory);
+        writeln!(out, "{} {} | {lists} | {kind}", shape[0], shape[1]).unwrap();
+    }
+    out
+}
+
+/// Single calls, one a line, each on a small used memory of its own: before, call, reply, after. The waiting
+/// list holds rubbish before; one memory in eight is damaged too.
+pub fn steps(seed: u64, count: usize) -> String {
+    let mut random = Random::new(seed);
+    let mut out = String::new();
+    for k in 0..count {
+        let shape = [
+            random.pick(&[8, 8, 16, 32]),
+            1 + random.below(4) as u64,
+            1 + random.below(4) as u64,
+        ];
+        let mut desk = Desk::new(Random::new(random.word()), shape);
+        desk.call(Call::Format);
+        for _ in 0..desk.random.below(40) {
+            let call = desk.some_call();
+            desk.call(call);
+        }
+        for i in 0..desk.blocks() {
+            let rubbish = desk.random.word() % 65_536;
+            desk.load(5, i, rubbish);
+        }
+        if k % 8 == 7 {
+            for (buffer, index, value) in some_damage(&mut desk.random, &desk.bench, k / 8 % 7) {
+                desk.load(buffer, index, value);
+            }
+        }
+        let before = buffers(&desk.bench.memory);
+        let call = desk.some_call();
+        let reply = desk.call(call);
+        let [c, x, y, z] = call.words();
+        write!(
+            out,
+            "{} {} | {before} | {c} {x} {y} {z}",
+            shape[0], shape[1]
+        )
+        .unwrap();
+        write!(out, " | {} {} {}", reply.number, reply.value, reply.second).unwrap();
+        writeln!(out, " | {}", buffers(&desk.bench.memory)).unwrap();
+    }
+    out
+}
+
+/// The six buffers on one line.
+fn buffers(memory: &Memory) -> String {
+    buffer_lines(memory).join(" | ")
+}

@@ -1,0 +1,259 @@
+//! The one large file of lists that the program `calls` is tested with: the paper cases, all families on
+//! many small heaps, a few large heaps, and every complaint that a file can meet.
+
+use crate::calls::Call;
+use crate::families::{some_shape, FAMILIES};
+use crate::generate::Desk;
+use crate::paper::{self, Step};
+use crate::random::Random;
+
+/// The paper cases as a list, each on a new heap.
+pub fn paper_cases(desk: &mut Desk) {
+    for case in paper::cases() {
+        desk.new_heap([paper::BLOCKS as u64, case.width as u64, paper::ROOTS as u64]);
+        for step in case.steps {
+            match step {
+                Step::Gives(call, ..) => {
+                    desk.call(call);
+                }
+                Step::Given(a, b) => {
+                    desk.load(0, 0, a as u64);
+                    desk.load(1, 0, b as u64);
+                }
+                Step::Maps(..) => {}
+            }
+        }
+    }
+}
+
+/// The paper cases as a file of their own.
+pub fn paper_file() -> Vec<u8> {
+    let mut desk = Desk::new(Random::new(0), [8, 2, 4]);
+    paper_cases(&mut desk);
+    desk.file()
+}
+
+/// The large file. Its last entry is cut off.
+pub fn vectors(seed: u64) -> Vec<u8> {
+    let mut desk = Desk::new(Random::new(seed), [8, 2, 4]);
+    // Before the format: nothing is formatted by itself.
+    for call in [Call::Check, Call::FreeBlocks, Call::Look { a: 0 }] {
+        desk.call(call);
+    }
+    paper_cases(&mut desk);
+    complaints(&mut desk);
+    shapes(&mut desk);
+    waiting_list(&mut desk);
+    for round in 0..16 {
+        for (_, write) in FAMILIES {
+            let shape = some_shape(round, &mut desk.random);
+            desk.new_heap(shape);
+            write(&mut desk, 80);
+        }
+    }
+    large_heaps(&mut desk);
+    let mut file = desk.file();
+    file.extend(Call::FreeBlocks.words()[0].to_le_bytes());
+    file.extend([0; 5]);
+    file
+}
+
+/// Every line that says what is wrong with an entry, but for the last one's "cut off".
+fn complaints(desk: &mut Desk) {
+    let m = u64::MAX;
+    desk.new_heap([8, 2, 4]);
+    desk.call(Call::Format);
+    desk.call(Call::Allocate { n: 2, r: 0 });
+    for unknown in [11, 255, 256, 1 << 32, m] {
+        desk.words([unknown, 1, 2, 3]);
+    }
+    for v in [65_536, 65_537, 1 << 32, m] {
+        desk.words([3, 0, v, 0]);
+        desk.words([4, 0, 0, v]);
+        desk.words([3, m, v, 0]);
+    }
+    for load in [[0, 1, 0], [0, 0, 256], [3, 32, 0], [3, 0, 65_536]] {
+        desk.words([8, load[0], load[1], load[2]]);
+    }
+    for load in [
+        [4, 4, 0],
+        [5, 8, 1],
+        [6, 0, 0],
+        [m, 0, 0],
+        [0, m, 0],
+        [4, 0, m],
+    ] {
+        desk.words([8, load[0], load[1], load[2]]);
+    }
+    for [buffer, length] in [[0, 1025], [1, 1025], [2, 5121], [3, 32_769], [4, 66]] {
+        desk.words([9, buffer, length, 0]);
+    }
+    for [buffer, length] in [[5, 8193], [6, 0], [m, 1], [0, m]] {
+        desk.words([9, buffer, length, 0]);
+    }
+    for shape in [
+        [8193, 2, 4],
+        [16_384, 2, 4],
+        [8, 6, 4],
+        [8, 2, 66],
+        [m, 2, 4],
+    ] {
+        desk.words([10, shape[0], shape[1], shape[2]]);
+    }
+    for shape in [[8, m, 4], [8, 2, m]] {
+        desk.words([10, shape[0], shape[1], shape[2]]);
+    }
+    // Words that a call doesn't use aren't looked at.
+    desk.words([1, m, m, m]);
+    desk.words([2, 1, 1, m]);
+    desk.words([6, 0, m, m]);
+    // A buffer made shorter and longer again keeps what lay beyond.
+    desk.words([8, 4, 3, 3]);
+    desk.words([8, 4, 1, 0]);
+    desk.call(Call::Check);
+    for length in [1, 4, 65, 3, 0, 4] {
+        desk.words([9, 4, length, 0]);
+        desk.call(Call::Check);
+        desk.call(Call::StoreRoot { r: 3, v: 0 });
+    }
+}
+
+/// Each size up to 256 blocks and each width, formatted and used once; and the bad ones beside them.
+fn shapes(desk: &mut Desk) {
+    for blocks in [8, 16, 32, 64, 128, 256] {
+        for width in 1..=4 {
+            desk.new_heap([blocks, width, 1 + (blocks + width) % 64]);
+            desk.call(Call::Format);
+            let n = blocks as usize / 2 + 1;
+            desk.call(Call::Allocate { n, r: 0 });
+            desk.call(Call::Allocate { n: 2, r: 1 });
+            desk.call(Call::StoreCell {
+                a: 0,
+                j: 4 * n - 1,
+                v: 1,
+            });
+            desk.call(Call::StoreRoot { r: 0, v: 0 });
+            desk.call(Call::Look { a: 0 });
+            desk.call(Call::Collect);
+            desk.call(Call::FreeBlocks);
+        }
+    }
+    for bad in [
+        [4, 2, 4],
+        [12, 2, 4],
+        [8, 0, 4],
+        [8, 5, 4],
+        [8, 2, 0],
+        [8, 2, 65],
+    ] {
+        desk.new_heap(bad);
+        desk.call(Call::Format);
+        desk.call(Call::Check);
+    }
+    // Not a power of two, with buffers that fit all the same.
+    for blocks in [4, 12, 20, 24, 40, 48, 96, 1000] {
+        desk.new_heap([blocks, 2, 4]);
+        desk.length(2, 2 * (blocks as usize / 8));
+        for call in desk.one_of_each() {
+            desk.call(call);
+        }
+    }
+    // The blocks of one heap with the buffers of another.
+    desk.new_heap([12, 2, 4]);
+    for (buffer, length) in [(0, 2), (1, 2), (2, 4), (3, 64), (5, 16)] {
+        desk.length(buffer, length);
+    }
+    desk.call(Call::Format);
+}
+
+/// Rubbish in the waiting list before one call, accepted or refused; the new heap after it prints the list.
+fn waiting_list(desk: &mut Desk) {
+    let calls = [
+        Call::Format,
+        Call::Check,
+        Call::Allocate { n: 1, r: 2 },
+        Call::Allocate { n: 1, r: 0 },
+        Call::Allocate { n: 8, r: 2 },
+        Call::StoreRoot { r: 1, v: 0 },
+        Call::StoreRoot { r: 0, v: 0 },
+        Call::StoreRoot { r: 0, v: 1 },
+        Call::StoreRoot { r: 0, v: 9 },
+        Call::StoreCell { a: 0, j: 0, v: 0 },
+        Call::StoreCell { a: 0, j: 7, v: 0 },
+        Call::StoreCell { a: 0, j: 1, v: 3 },
+        Call::StoreCell { a: 0, j: 8, v: 0 },
+        Call::Collect,
+        Call::Look { a: 0 },
+        Call::Look { a: 1 },
+        Call::FreeBlocks,
+    ];
+    for width in [1, 2] {
+        for call in calls {
+            desk.new_heap([8, width, 4]);
+            desk.call(Call::Format);
+            desk.call(Call::Allocate { n: 2, r: 0 });
+            desk.call(Call::Allocate { n: 1, r: 1 });
+            desk.call(Call::StoreCell { a: 0, j: 7, v: 3 });
+            desk.call(Call::StoreRoot { r: 1, v: 0 });
+            for i in 0..8 {
+                let rubbish = desk.random.word() % 65_536;
+                desk.load(5, i, rubbish);
+            }
+            desk.call(call);
+        }
+    }
+}
+
+/// A chain of 1,024 blocks given by loads and let go by one store; and heaps of 8,192 blocks.
+fn large_heaps(desk: &mut Desk) {
+    let blocks = 1024;
+    desk.new_heap([blocks as u64, 2, 2]);
+    desk.call(Call::Format);
+    for byte in 0..blocks / 8 {
+        desk.load(0, byte, 255);
+        desk.load(1, byte, 0);
+        desk.load(2, byte, 255);
+    }
+    for block in 1..blocks {
+        // Block by block, each names the one before it: 0 is named by 1, and so on.
+        desk.load(3, 4 * block + block % 4, block as u64);
+    }
+    desk.load(4, 1, blocks as u64);
+    desk.call(Call::Check);
+    desk.call(Call::Allocate { n: 1, r: 0 });
+    desk.call(Call::StoreRoot { r: 1, v: 0 });
+    desk.call(Call::FreeBlocks);
+
+    desk.new_heap([512, 3, 3]);
+    crate::families::deep_chains(desk, 700);
+
+    for (width, roots) in [(4, 64), (1, 5)] {
+        desk.new_heap([8192, width, roots]);
+        desk.call(Call::Format);
+        desk.call(Call::Allocate { n: 8192, r: 0 });
+        desk.call(Call::StoreCell {
+            a: 0,
+            j: 32_767,
+            v: 1,
+        });
+        desk.call(Call::StoreCell {
+            a: 0,
+            j: 32_768,
+            v: 1,
+        });
+        desk.call(Call::Look { a: 0 });
+        desk.call(Call::StoreRoot { r: 0, v: 0 });
+        desk.call(Call::StoreCell {
+            a: 0,
+            j: 32_767,
+            v: 0,
+        });
+        desk.call(Call::Collect);
+        for n in [8193, 4097, 4096, 2049, 1, 1000, 1] {
+            desk.call(Call::Allocate { n, r: 1 });
+            desk.call(Call::StoreRoot { r: 2, v: 4097 });
+        }
+        crate::families::random(desk, 120);
+        crate::families::damage(desk, 60);
+    }
+}

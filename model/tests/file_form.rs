@@ -1,0 +1,168 @@
+//! The file form: what is printed for good and bad files, and what the large file meets.
+
+mod common;
+use common::say;
+use model::expect::expect;
+use model::file::bytes;
+use model::vectors::{paper_file, vectors};
+use model::{families, trace, Call};
+
+const EMPTY_8_2_4: &str = "0\n0\n0 0\n0 0 0 0 0 0 0 0 0 0 0 0 0 0 0 0 0 0 0 0 0 0 0 0 0 0 0 0 0 0 0 0\n0 0 0 0\n0 0 0 0 0 0 0 0\n";
+
+fn printed(header: [u64; 3], entries: &[[u64; 4]]) -> String {
+    expect(&bytes(header, entries)).0
+}
+
+#[test]
+fn headers() {
+    for length in 0..24 {
+        assert_eq!(
+            expect(&bytes([8, 2, 4], &[])[..length]).0,
+            "header: cut off\n"
+        );
+    }
+    assert_eq!(printed([8, 2, 4], &[]), EMPTY_8_2_4);
+    for header in [[8193, 2, 4], [8, 6, 4], [8, 2, 66], [u64::MAX, 0, 0]] {
+        assert_eq!(printed(header, &[[0; 4]]), "header: too large\n");
+    }
+    // Too large is said of a header alone; a bad one is a heap that refuses.
+    assert_eq!(printed([0, 0, 0], &[[0; 4]]), "1 0 0\n\n\n\n\n\n\n");
+    assert_eq!(
+        printed([8, 5, 1], &[[1, 0, 0, 0]]).lines().next(),
+        Some("1 0 0")
+    );
+    assert_eq!(printed([12, 2, 1], &[[0; 4]]).lines().nth(3), Some("0 0 0"));
+}
+
+#[test]
+fn entries() {
+    let first = |words: [u64; 4]| {
+        let out = printed([8, 2, 4], &[words]);
+        out.strip_suffix(EMPTY_8_2_4).map(str::to_string)
+    };
+    assert_eq!(first([1, 0, 0, 0]).unwrap(), "2 1 0\n");
+    assert_eq!(first([11, 0, 0, 0]).unwrap(), "call 0: unknown call 11\n");
+    let most = u64::MAX;
+    let line = "call 0: unknown call 18446744073709551615\n";
+    assert_eq!(first([most, 0, 0, 0]).unwrap(), line);
+    let line = "call 0: value does not fit a cell\n";
+    assert_eq!(first([3, 0, 65_536, 0]).unwrap(), line);
+    assert_eq!(first([4, 0, 0, most]).unwrap(), line);
+    for load in [
+        [0, 1, 0],
+        [1, 0, 256],
+        [2, 2, 0],
+        [3, 32, 0],
+        [3, 0, 65_536],
+        [6, 0, 0],
+    ] {
+        let words = [8, load[0], load[1], load[2]];
+        assert_eq!(first(words).unwrap(), "call 0: load out of range\n");
+    }
+    for [buffer, length] in [
+        [0, 1025],
+        [2, 5121],
+        [3, 32_769],
+        [4, 66],
+        [5, 8193],
+        [6, 0],
+    ] {
+        let words = [9, buffer, length, 0];
+        assert_eq!(first(words).unwrap(), "call 0: length out of range\n");
+    }
+    assert_eq!(first([10, 8193, 1, 1]).unwrap(), "call 0: too large\n");
+    // A new heap: the old buffers are printed first.
+    let out = printed([0, 0, 0], &[[10, 8, 2, 4], [1, 0, 0, 0]]);
+    assert_eq!(out, format!("\n\n\n\n\n\n2 1 0\n{EMPTY_8_2_4}"));
+    // Loads and lengths print nothing, count as entries, and what lies beyond a length is kept.
+    let out = printed(
+        [0, 0, 2],
+        &[
+            [8, 4, 0, 65_535],
+            [8, 4, 1, 7],
+            [9, 4, 1, 0],
+            [8, 4, 1, 9],
+            [9, 4, 4, 0],
+            [8, 4, 3, 5],
+            [9, 0, 2, 0],
+        ],
+    );
+    assert_eq!(out, "call 3: load out of range\n0 0\n\n\n\n65535 7 0 5\n\n");
+}
+
+#[test]
+fn cut_off() {
+    let calls = [Call::Format, Call::Check, Call::FreeBlocks].map(Call::words);
+    let whole = bytes([8, 2, 4], &calls);
+    let mut cuts = 0;
+    for length in 24..=whole.len() {
+        let out = expect(&whole[..length]).0;
+        let entries = (length - 24) / 32;
+        let mut due: Vec<String> = ["0 0 0", "0 0 0", "0 8 0"][..entries]
+            .iter()
+            .map(|line| line.to_string())
+            .collect();
+        if (length - 24) % 32 != 0 {
+            due.push(format!("call {entries}: cut off"));
+            cuts += 1;
+        }
+        let lines: Vec<&str> = out.lines().collect();
+        assert_eq!(lines.len(), due.len() + 6);
+        assert_eq!(lines[..due.len()], due);
+    }
+    say(&format!("{cuts} files cut off inside a call"));
+}
+
+#[test]
+fn the_large_file() {
+    let file = vectors(1);
+    assert_eq!(file, vectors(1));
+    let (out, tally) = expect(&file);
+    assert!(
+        tally.numbers.iter().all(|number| *number >= 100),
+        "{tally:?}"
+    );
+    assert!(
+        tally.kinds[1..6].iter().all(|number| *number >= 30),
+        "{tally:?}"
+    );
+    assert_eq!(tally.kinds[6], 0);
+    for line in [
+        "cut off",
+        "too large",
+        "value does not fit a cell",
+        "load out of range",
+        "length out of range",
+        "unknown call",
+    ] {
+        assert!(out.contains(line), "{line}");
+    }
+    assert!(file.len() < 700_000 && out.len() < 1_500_000);
+    say(&format!(
+        "the large file, {} bytes, printing {} bytes: {tally:?}",
+        file.len(),
+        out.len()
+    ));
+    let (_, paper) = expect(&paper_file());
+    assert_eq!(paper.heaps, 11);
+    assert_eq!(paper.complaints, 0);
+}
+
+#[test]
+fn seeds_make_the_same_again() {
+    for (family, _) in families::FAMILIES {
+        let file = |seed| families::generate(family, seed, 100).unwrap().file();
+        assert_eq!(file(7), file(7));
+        assert_ne!(file(7), file(8));
+    }
+    assert!(families::generate("none", 0, 1).is_none());
+    let text = trace::trace(5, 50, 16, 3);
+    assert_eq!(text.lines().count(), 52);
+    assert!(text
+        .lines()
+        .skip(2)
+        .all(|line| line.split('|').count() == 8));
+    assert_eq!(text, trace::trace(5, 50, 16, 3));
+    let text = trace::steps(5, 50);
+    assert!(text.lines().all(|line| line.split('|').count() == 15));
+}
