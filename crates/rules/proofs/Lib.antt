@@ -1,1 +1,7 @@
 pub mod Cases
+pub mod Tests
+pub mod Shape
+pub mod Objects
+pub mod Chunks
+pub mod Replies
+pub mod Counting

@@ -1,0 +1,140 @@
+-- The shape test as facts: the sizes that N, w, the roots and the lent lists have when a call is not refused with number 1.
+use mathlib.Core.Path.{_≡_, sym, ap, _∙_}
+use mathlib.Core.Logic.{inl, inr}
+use mathlib.Core.Bool.{Bool, true}
+use mathlib.Core.List.{List, [], _∷_}
+use Prim.Native.Nat.{ℕ, zero, suc, _+_, _-_, _*_, _/_, _^_, _≤_}
+use native.Mathlib.Nat.{mul-assoc, pow-succ'}
+use native.Mathlib.Decide.{decLt}
+use native.Mathlib.Omega.{arith}
+use lib.Dec.{leb, eqb}
+use lib.ListN.{length, getD, length-replicate}
+use lib.Pow.{pow-add, pow-mono, pow-lt}
+use borrow.Author.Tests.{leb-true, le-leb, eqb-true, eq-eqb}
+use Rattle.rules.specs.Heap.{Memory, isPowerFrom, isBlocks, shape, shaped, maxBlocks}
+use Rattle.rules.specs.Store.{formatted}
+use Rattle.rules.proofs.Tests.{test-cases, done, also, all-at, all-passed}
+
+pub record Shaped (N w : ℕ) (h : Memory) : Type 0 where
+  pub power : (k : ℕ) × (N ≡ 2 ^ k)
+  pub blocks-min : 8 ≤ N
+  pub blocks-max : N ≤ maxBlocks
+  pub whole-bytes : 8 * (N / 8) ≡ N
+  pub width-min : 1 ≤ w
+  pub width-max : w ≤ 4
+  pub roots-min : 1 ≤ length (h .roots)
+  pub roots-max : length (h .roots) ≤ 64
+  pub length-a : length (h .a) ≡ N / 8
+  pub length-b : length (h .b) ≡ N / 8
+  pub length-counts : length (h .counts) ≡ w * (N / 8)
+  pub length-cells : length (h .cells) ≡ 4 * N
+  pub length-waiting : length (h .waiting) ≡ N
+
+-- ---- a power of two
+
+-- a number found among f doublings of p is one of them ..
+doubled-facts : (f p n : ℕ) → isPowerFrom f p n ≡ true → (j : ℕ) × (j ≤ f) × (n ≡ p * 2 ^ j)
+unfolding isPowerFrom
+doubled-facts zero p n e = (0, omega arith, omega (arith, eqb-true n p e))
+doubled-facts (suc f) p n e = elim (test-cases (eqb n p)) [
+  | inl q ↦ (0, omega arith, omega (arith, eqb-true n p q))
+  | inr q ↦
+      let found = doubled-facts f (p * 2) n (rw (q, isPowerFrom) at e) in
+      let j : ℕ = found .0 in
+      (suc j, omega (arith, found .1), found .2 ∙ mul-assoc p 2 (2 ^ j) ∙ ap (λ (x : ℕ). p * x) (sym (pow-succ' 2 j)))
+]
+
+-- .. and each of them is found
+doubled-test : (f p n j : ℕ) → j ≤ f → n ≡ p * 2 ^ j → isPowerFrom f p n ≡ true
+unfolding isPowerFrom
+doubled-test zero p n zero l e = eq-eqb n p (omega arith)
+doubled-test zero p n (suc j) l e = absurd (omega arith)
+doubled-test (suc f) p n zero l e = rw (eq-eqb n p (omega arith), isPowerFrom)
+doubled-test (suc f) p n (suc j) l e = elim (test-cases (eqb n p)) [
+  | inl q ↦ rw (q, isPowerFrom)
+  | inr q ↦
+      rw (q, isPowerFrom)
+      (doubled-test f (p * 2) n j (omega arith) (e ∙ ap (λ (x : ℕ). p * x) (pow-succ' 2 j) ∙ sym (mul-assoc p 2 (2 ^ j))))
+]
+
+-- 8 to 8,192 are 2 ^ 3 to 2 ^ 13
+blocks-test : (n k : ℕ) → n ≡ 2 ^ k → 8 ≤ n → n ≤ maxBlocks → isBlocks n ≡ true
+blocks-test n k e low high =
+    let least : 3 ≤ k = elim (decLt k 3) [ yes l ↦ absurd (omega (arith, pow-mono {i = k} {j = 2} (omega arith))) | no l ↦ omega arith ] in
+    let most : k ≤ 13 = elim (decLt 13 k) [ yes l ↦ absurd (omega (arith, pow-lt {i = 13} {j = k} l)) | no l ↦ omega arith ] in
+    let j : ℕ = k - 3 in
+    let q : 3 + j ≡ k = omega arith in
+    doubled-test 10 8 n j (omega arith) (e ∙ ap (λ (x : ℕ). 2 ^ x) (sym q) ∙ pow-add 2 3 j)
+
+-- ---- the shape
+
+-- the tests, in order
+abbrev tests : ℕ → ℕ → Memory → List Bool
+tests N w h =
+    isBlocks N ∷ leb 1 w ∷ leb w 4 ∷ leb 1 (length (h .roots)) ∷ leb (length (h .roots)) 64
+    ∷ eqb (length (h .a)) (N / 8) ∷ eqb (length (h .b)) (N / 8) ∷ eqb (length (h .counts)) (w * (N / 8))
+    ∷ eqb (length (h .cells)) (4 * N) ∷ eqb (length (h .waiting)) N ∷ []
+
+pub shape-facts : (N w : ℕ) (h : Memory) → shaped N w h ≡ true → Shaped N w h
+unfolding shape
+shape-facts N w h e = record {
+  power = (3 + j, doubled ∙ sym (pow-add 2 3 j));
+  blocks-min = omega (arith, doubled, pow-mono {i = 0} {j = j} (omega arith));
+  blocks-max = omega (arith, doubled, pow-mono {j = 10} (found .1));
+  whole-bytes = omega (arith, doubled);
+  width-min = leb-true 1 w (at 1);
+  width-max = leb-true w 4 (at 2);
+  roots-min = leb-true 1 (length (h .roots)) (at 3);
+  roots-max = leb-true (length (h .roots)) 64 (at 4);
+  length-a = eqb-true (length (h .a)) (N / 8) (at 5);
+  length-b = eqb-true (length (h .b)) (N / 8) (at 6);
+  length-counts = eqb-true (length (h .counts)) (w * (N / 8)) (at 7);
+  length-cells = eqb-true (length (h .cells)) (4 * N) (at 8);
+  length-waiting = eqb-true (length (h .waiting)) N (at 9);
+}
+  where
+    at : (i : ℕ) → getD (tests N w h) i true ≡ true
+    at = all-at (tests N w h) e
+
+    found : (j : ℕ) × (j ≤ 10) × (N ≡ 8 * 2 ^ j)
+    found = doubled-facts 10 8 N (at 0)
+
+    j : ℕ
+    j = found .0
+
+    doubled : N ≡ 8 * 2 ^ j
+    doubled = found .2
+
+pub shape-test : (N w : ℕ) (h : Memory) → Shaped N w h → shaped N w h ≡ true
+unfolding shape
+shape-test N w h s =
+    all-passed (tests N w h)
+    (also (blocks-test N (s .power .0) (s .power .1) (s .blocks-min) (s .blocks-max))
+    (also (le-leb 1 w (s .width-min))
+    (also (le-leb w 4 (s .width-max))
+    (also (le-leb 1 (length (h .roots)) (s .roots-min))
+    (also (le-leb (length (h .roots)) 64 (s .roots-max))
+    (also (eq-eqb (length (h .a)) (N / 8) (s .length-a))
+    (also (eq-eqb (length (h .b)) (N / 8) (s .length-b))
+    (also (eq-eqb (length (h .counts)) (w * (N / 8)) (s .length-counts))
+    (also (eq-eqb (length (h .cells)) (4 * N) (s .length-cells))
+    (also (eq-eqb (length (h .waiting)) N (s .length-waiting)) done))))))))))
+
+-- a formatted heap has the shape of the lent one
+pub formatted-shaped : (N w : ℕ) (h : Memory) → Shaped N w h → Shaped N w (formatted N w (length (h .roots)))
+unfolding formatted
+formatted-shaped N w h s = record {
+  power = s .power;
+  blocks-min = s .blocks-min;
+  blocks-max = s .blocks-max;
+  whole-bytes = s .whole-bytes;
+  width-min = s .width-min;
+  width-max = s .width-max;
+  roots-min = omega (arith, s .roots-min, length-replicate {A = ℕ} (length (h .roots)) 0);
+  roots-max = omega (arith, s .roots-max, length-replicate {A = ℕ} (length (h .roots)) 0);
+  length-a = length-replicate (N / 8) 0;
+  length-b = length-replicate (N / 8) 255;
+  length-counts = length-replicate (w * (N / 8)) 0;
+  length-cells = length-replicate (4 * N) 0;
+  length-waiting = length-replicate N 0;
+}

@@ -1,0 +1,153 @@
+-- Laws of the tests that the rules are written with: a test's value to and from facts, `all`, `someBelow`, `firstKind` and `require`.
+use mathlib.Core.Path.{_≡_, refl, sym, ap, _∙_}
+use mathlib.Core.Logic.{_≢_, _⊎_, inl, inr}
+use mathlib.Core.Bool.{Bool, true, false, _&&_, _||_, true≢false, false≢true}
+use mathlib.Core.List.{List, [], _∷_}
+use Prim.Native.Nat.{ℕ, zero, suc, _+_, _<_}
+use native.Mathlib.Numerals.{add-one}
+use native.Mathlib.Decide.{ℕ-discrete}
+use native.Mathlib.Omega.{arith}
+use lib.ListN.{getD}
+use Rattle.rules.specs.Heap.{Memory, all}
+use Rattle.rules.specs.Damage.{someBelow, firstKind}
+use Rattle.rules.specs.Calls.{Answer, refused, require}
+
+-- ---- one test
+
+pub test-cases : (t : Bool) → (t ≡ true) ⊎ (t ≡ false)
+test-cases true = inl refl
+test-cases false = inr refl
+
+pub false-unless : (t : Bool) → (t ≡ true → ⊥) → t ≡ false
+false-unless true h = absurd (h refl)
+false-unless false h = refl
+
+-- ---- two tests
+
+pub and-true : (s t : Bool) → s && t ≡ true → (s ≡ true) × (t ≡ true)
+and-true true t e = (refl, e)
+and-true false t e = absurd (false≢true e)
+
+pub true-and : (s t : Bool) → s ≡ true → t ≡ true → s && t ≡ true
+true-and true t p q = q
+true-and false t p q = p
+
+pub and-false : (s t : Bool) → s && t ≡ false → s ≡ true → t ≡ false
+and-false true t e p = e
+and-false false t e p = absurd (false≢true p)
+
+pub false-and : (s t : Bool) → (s ≡ true → t ≡ false) → s && t ≡ false
+false-and true t h = h refl
+false-and false t h = refl
+
+pub or-true : (s t : Bool) → s || t ≡ true → (s ≡ true) ⊎ (t ≡ true)
+or-true true t e = inl refl
+or-true false t e = inr e
+
+pub true-or : (s t : Bool) → (s ≡ true) ⊎ (t ≡ true) → s || t ≡ true
+true-or true t o = refl
+true-or false t (inl p) = absurd (false≢true p)
+true-or false t (inr q) = q
+
+pub or-false : (s t : Bool) → s || t ≡ false → (s ≡ false) × (t ≡ false)
+or-false true t e = absurd (true≢false e)
+or-false false t e = (refl, e)
+
+pub false-or : (s t : Bool) → s ≡ false → t ≡ false → s || t ≡ false
+false-or true t p q = p
+false-or false t p q = q
+
+-- ---- a list of tests
+
+-- P holds of each in the list
+pub data Each {A : Type 0} (P : A → Type 0) : List A → Type 0 where
+  done : Each P []
+  also : {x : A} {l : List A} → P x → Each P l → Each P (x ∷ l)
+
+-- where all pass, each does ..
+pub all-at : (ts : List Bool) → all ts ≡ true → (i : ℕ) → getD ts i true ≡ true
+unfolding all
+all-at [] e i = refl
+all-at (true ∷ ts) e zero = refl
+all-at (true ∷ ts) e (suc i) = all-at ts e i
+all-at (false ∷ ts) e i = absurd (false≢true e)
+
+-- .. and the other way
+pub all-passed : (ts : List Bool) → Each (λ t. t ≡ true) ts → all ts ≡ true
+unfolding all
+all-passed [] done = refl
+all-passed (t ∷ ts) (also e rest) = rw (e, all) (all-passed ts rest)
+
+-- ---- the numbers below n
+
+-- where the test passes at some, there is one ..
+pub some-true : (test : ℕ → Bool) (n : ℕ) → someBelow test n ≡ true → (i : ℕ) × (i < n) × (test i ≡ true)
+unfolding someBelow
+some-true test zero e = absurd (false≢true e)
+some-true test (suc n) e = elim (test-cases (someBelow test n)) [
+  | inl q ↦ let found = some-true test n q in (found .0, omega (arith, found .1), found .2)
+  | inr q ↦ (n, omega arith, rw (q, someBelow) at e)
+]
+
+pub true-some : (test : ℕ → Bool) (n i : ℕ) → i < n → test i ≡ true → someBelow test n ≡ true
+unfolding someBelow
+true-some test zero i l h = absurd (omega arith)
+true-some test (suc n) i l h = elim (test-cases (someBelow test n)) [
+  | inl q ↦ rw (q, someBelow)
+  | inr q ↦ elim (ℕ-discrete i n) [
+    | yes p ↦ rw (q, someBelow) (ap test (sym p) ∙ h)
+    | no p ↦ absurd (false≢true (sym q ∙ true-some test n i (omega arith) h))
+  ]
+]
+
+-- .. and where at none, it fails at each
+pub some-false : (test : ℕ → Bool) (n : ℕ) → someBelow test n ≡ false → (i : ℕ) → i < n → test i ≡ false
+some-false test n e i l = false-unless (test i) (λ h. true≢false (sym (true-some test n i l h) ∙ e))
+
+pub false-some : (test : ℕ → Bool) (n : ℕ) → ((i : ℕ) → i < n → test i ≡ false) → someBelow test n ≡ false
+false-some test n h =
+    false-unless (someBelow test n) (λ e. let found = some-true test n e in true≢false (sym (found .2) ∙ h (found .0) (found .1)))
+
+-- a search that has found nothing yet goes one further
+pub some-next : (test : ℕ → Bool) (n : ℕ) → someBelow test n ≡ false → someBelow test (n + 1) ≡ test n
+unfolding someBelow
+some-next test n e = rw (add-one, e, someBelow)
+
+-- ---- the first kind found
+
+pub none-kind : (k : ℕ) (t : Bool) (ks : List (ℕ × Bool)) → t ≡ false → firstKind ((k, t) ∷ ks) ≡ firstKind ks
+unfolding firstKind
+none-kind k t ks e = rw e
+
+pub kind-found : (k : ℕ) (t : Bool) (ks : List (ℕ × Bool)) → t ≡ true → firstKind ((k, t) ∷ ks) ≡ k
+unfolding firstKind
+kind-found k t ks e = rw e
+
+-- where none is found, no test passes; the kinds' numbers are not 0 ..
+pub kind-at : (ks : List (ℕ × Bool)) → Each (λ k. k .0 ≢ 0) ks → firstKind ks ≡ 0 → (i : ℕ) → getD ks i (0, false) .1 ≡ false
+kind-at [] n e i = refl
+kind-at ((k, true) ∷ ks) (also n rest) e i = absurd (n (sym (kind-found k true ks refl) ∙ e))
+kind-at ((k, false) ∷ ks) (also n rest) e zero = refl
+kind-at ((k, false) ∷ ks) (also n rest) e (suc i) = kind-at ks rest (sym (none-kind k false ks refl) ∙ e) i
+
+-- .. and the other way
+pub kinds-absent : (ks : List (ℕ × Bool)) → Each (λ k. k .1 ≡ false) ks → firstKind ks ≡ 0
+unfolding firstKind
+kinds-absent [] done = refl
+kinds-absent ((k, t) ∷ ks) (also e rest) = none-kind k t ks e ∙ kinds-absent ks rest
+
+-- ---- a call that goes on or is refused
+
+pub require-true : (t : Bool) (number : ℕ) (h : Memory) (next : Answer) → t ≡ true → require t number h next ≡ next
+unfolding require
+require-true t number h next e = rw e
+
+pub require-false : (t : Bool) (number : ℕ) (h : Memory) (next : Answer) → t ≡ false → require t number h next ≡ refused h number
+unfolding require
+require-false t number h next e = rw e
+
+-- what is accepted has passed the test
+pub require-passed : (t : Bool) (number : ℕ) (h : Memory) (next : Answer) → number ≢ 0 → require t number h next .0 .number ≡ 0 → t ≡ true
+unfolding require
+require-passed true number h next some e = refl
+require-passed false number h next some e = absurd (some e)

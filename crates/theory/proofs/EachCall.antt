@@ -1,0 +1,5 @@
+-- What every call keeps and frees.
+pub mod Served
+pub mod StoresServed
+pub mod CollectionServed
+pub mod Answers

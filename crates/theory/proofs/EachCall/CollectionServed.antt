@@ -1,0 +1,98 @@
+-- The collection serves: it leaves a healthy memory, exactly the objects that a root led to, and each of them with its number of references
+-- or the capacity as its count.
+use mathlib.Core.Path.{_≡_, sym, ap, _∙_, subst}
+use mathlib.Core.Logic.{_≢_, inl, inr}
+use mathlib.Core.Bool.{true, false≢true}
+use Prim.Native.Nat.{ℕ, min}
+use lib.ListN.{length}
+use Rattle.rules.specs.Heap.{Memory, capacity, countOf, isFirst}
+use Rattle.rules.specs.Collection.{referencesFrom, marked, reached, collected}
+use Rattle.rules.specs.Calls.{collect, settled, freeing}
+use Rattle.rules.specs.Demand.{Object, Leads, written, stored, Collects, ExactCollection}
+use Rattle.rules.proofs.Tests.{test-cases}
+use Rattle.rules.proofs.Objects.{first-facts}
+use Rattle.theory.proofs.Graphs.Graph.{Graph, size, count}
+use Rattle.theory.proofs.Graphs.Collection.{collected-or-gone}
+use Rattle.theory.proofs.Graphs.Sweep as graph
+use Rattle.theory.proofs.Graphs.Calls.{collect-whole}
+use Rattle.theory.proofs.Memories.View.{view}
+use Rattle.theory.proofs.Memories.Healthy.{Aligned, Healthy, view-count}
+use Rattle.theory.proofs.Memories.Leads.{object-size, size-object, leads-reach}
+use Rattle.theory.proofs.EachCall.Served.{Served}
+use Rattle.theory.proofs.Memories.Stores.{positive}
+use Rattle.theory.proofs.EachCall.StoresServed.{healthy-after, object-after}
+use Rattle.theory.proofs.Memories.Rounds.{reached-led, led-reached}
+use Rattle.theory.proofs.Memories.ViewCollection.{is-collected, reach-marked, references-left, collected-shows}
+
+module _ (N w : ℕ) (h : Memory) (healthy : Healthy N w h) where
+  abbrev r : ℕ
+  r = length (h .roots)
+
+  abbrev before : Graph
+  before = view N w h
+
+  abbrev after : Graph
+  after = graph.collect (capacity w) r before
+
+  -- an object that is left has its old size
+  same-size : (b : ℕ) → size after b ≢ 0 → size after b ≡ size before b
+  same-size b n =
+      elim (collected-or-gone (capacity w) r before after (is-collected N w h healthy) b) [ inl e ↦ e | inr e ↦ absurd (n e) ]
+
+  after-aligned : Aligned (after .sizes)
+  after-aligned x n = rw (same-size x n) (healthy .aligned x (λ z. n (same-size x n ∙ z)))
+
+  led-stays : (b n : ℕ) → Object N h b n → Leads N h b → Object N (settled N (collected N w h)) b n
+  led-stays b n object leads =
+      object-after N w r h (collected N w h) after (healthy .represents) (collected-shows N w h healthy) b n object
+      (is-collected N w h healthy .reached b (leads-reach N h (before .sizes) (healthy .represents) leads))
+
+  stays-led : (b n : ℕ) → Object N (settled N (collected N w h)) b n → Object N h b n × Leads N h b
+  stays-led b n object =
+      let shows = collected-shows N w h healthy in
+      let stands = object-size N (settled N (collected N w h)) (view N w (collected N w h) .sizes) (shows .represents) b n object in
+      let left : size after b ≡ n = ap (λ (k : Graph). size k b) (sym (shows .view-is)) ∙ stands .0 in
+      let some : size after b ≢ 0 = λ z. stands .1 (sym left ∙ z) in
+      let was : size before b ≡ n = sym (same-size b some) ∙ left in (
+        subst (λ (m : ℕ). Object N h b m) was (size-object N h (before .sizes) (healthy .represents) b (λ z. stands .1 (sym was ∙ z))),
+        led some,
+      )
+    where
+      led : size after b ≢ 0 → Leads N h b
+      led some =
+          elim (test-cases (marked (reached N h) b)) [
+            | inl e ↦ reached-led N h b e
+            | inr e ↦
+                absurd
+                (some (is-collected N w h healthy .unreached b (λ reach. false≢true (sym e ∙ reach-marked N w h healthy b reach))))
+          ]
+
+  recounted-first :
+      (b : ℕ) → isFirst N (settled N (collected N w h)) b ≡ true
+      → countOf N w (settled N (collected N w h)) b ≡ min (capacity w) (referencesFrom N h (marked (reached N h)) b)
+  recounted-first b first =
+      sym (view-count N w (collected N w h) b (first-facts N ((collected N w h) .a) ((collected N w h) .b) b first .inside))
+      ∙ ap (λ (k : Graph). count k b) (collected-shows N w h healthy .view-is)
+      ∙ is-collected N w h healthy .counted b
+      ∙ ap (min (capacity w)) (sym (references-left N w h healthy b))
+
+  exact : ExactCollection N w h (settled N (collected N w h))
+  exact =
+      record {
+        exactly = λ b n. (stays-led b n, λ p. led-stays b n (p .0) (p .1));
+        led = marked (reached N h);
+        led-is = λ b. (reached-led N h b, led-reached N h b);
+        counted = recounted-first;
+      }
+
+  pub collect-served : Served N w collect h (freeing N h (collected N w h))
+  unfolding freeing stored written Collects
+  collect-served =
+      record {
+        keep =
+            healthy-after N w r (collected N w h) after (collected-shows N w h healthy)
+            (collect-whole (capacity w) (positive N w h healthy) r before (healthy .whole))
+            after-aligned;
+        no-early-free = led-stays;
+        collects = λ accepted. exact;
+      }

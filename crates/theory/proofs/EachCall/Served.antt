@@ -1,0 +1,70 @@
+-- What is asked of one call on a healthy memory, and that it holds of every call that frees and stores nothing: one that is refused, the
+-- check, the number of free blocks and the look, which leave the memory as it was, and the format.
+use mathlib.Core.Path.{_≡_, refl, sym, subst}
+use mathlib.Core.Logic.{_≢_}
+use mathlib.Core.Bool.{Bool, true, false}
+use Prim.Native.Nat.{ℕ}
+use native.Mathlib.Omega.{arith}
+use lib.ListN.{length, getD}
+use Rattle.rules.specs.Heap.{Memory}
+use Rattle.rules.specs.Store.{formatted}
+use Rattle.rules.specs.Calls.{Call, format, check, collect, freeBlocks, allocate, storeRoot, storeCell, look, Answer, reply, accepted, refused, require, onSound}
+use Rattle.rules.specs.Demand.{Leads, root, cell, written, stored, NoEarlyFree, Collects}
+use Rattle.rules.specs.declared.Reply.{Reply}
+use Rattle.rules.proofs.Replies.{on-sound-next}
+use Rattle.theory.proofs.Memories.Healthy.{Healthy, healthy-shaped, healthy-no-damage}
+use Rattle.theory.proofs.Memories.Formatted.{zeros-at, formatted-healthy}
+
+-- call c on memory h, answered with x
+pub record Served (N w : ℕ) (c : Call) (h : Memory) (x : Answer) : Type 0 where
+  pub keep : Healthy N w (x .1)
+  pub no-early-free : NoEarlyFree N c h (x .0) (x .1)
+  pub collects : Collects N w c h (x .0) (x .1)
+
+-- where all roots are 0 they lead nowhere
+no-roots : (N : ℕ) (h : Memory) → ((r : ℕ) → getD (h .roots) r 0 ≡ 0) → {b : ℕ} → Leads N h b → ⊥
+no-roots N h empty (root b n r object l e) = omega (arith, empty r)
+no-roots N h empty (cell b n a m j object before owner l e) = no-roots N h empty before
+
+module _ (N w : ℕ) (h : Memory) (healthy : Healthy N w h) where
+  -- ---- the calls that leave the memory
+
+  pub unchanged : (c : Call) (x : Reply) → Collects N w c h x h → Served N w c h (x, h)
+  unchanged c x collects = record { keep = healthy; no-early-free = λ b n object leads. object; collects = collects }
+
+  pub refused-served : (c : Call) (number : ℕ) → number ≢ 0 → Served N w c h (refused h number)
+  unfolding Collects
+  refused-served collect number nonzero = unchanged collect (reply number 0 0) (λ accepted. absurd (nonzero accepted))
+  refused-served format number nonzero = unchanged format (reply number 0 0) tt
+  refused-served check number nonzero = unchanged check (reply number 0 0) tt
+  refused-served freeBlocks number nonzero = unchanged freeBlocks (reply number 0 0) tt
+  refused-served (allocate n r) number nonzero = unchanged (allocate n r) (reply number 0 0) tt
+  refused-served (storeRoot r v) number nonzero = unchanged (storeRoot r v) (reply number 0 0) tt
+  refused-served (storeCell a j v) number nonzero = unchanged (storeCell a j v) (reply number 0 0) tt
+  refused-served (look a) number nonzero = unchanged (look a) (reply number 0 0) tt
+
+  pub require-served :
+      {c : Call} {next : Answer} (test : Bool) (number : ℕ) → number ≢ 0 → (test ≡ true → Served N w c h next)
+      → Served N w c h (require test number h next)
+  unfolding require
+  require-served true number nonzero served = served refl
+  require-served {c} false number nonzero served = refused-served c number nonzero
+
+  -- a healthy memory is not refused for its shape or for damage
+  pub on-sound : (next : Answer) → onSound N w h next ≡ next
+  on-sound next = on-sound-next N w h next (healthy-shaped N w h healthy) (healthy-no-damage N w h healthy)
+
+  pub on-sound-served : {c : Call} {next : Answer} → Served N w c h next → Served N w c h (onSound N w h next)
+  on-sound-served {c} {next} served = subst (λ (x : Answer). Served N w c h x) (sym (on-sound next)) served
+
+  -- ---- the format
+
+  pub format-served : Served N w format h (accepted (formatted N w (length (h .roots))) 0)
+  unfolding stored written Collects
+  format-served =
+      record {
+        keep = formatted-healthy N w h (healthy .shape);
+        no-early-free = λ b n object leads.
+            absurd (no-roots N (stored h format (reply 0 0 0)) (λ r. zeros-at (length (h .roots)) r) leads);
+        collects = tt;
+      }

@@ -1,0 +1,177 @@
+-- The accepted stores and the accepted allocation serve: they leave a healthy memory and free nothing that a root leads to once the call's
+-- own reference is written.
+use mathlib.Core.Path.{_≡_, refl, sym, ap, _∙_, subst}
+use mathlib.Core.Logic.{_≢_, inl, inr}
+use mathlib.Core.Bool.{true}
+use mathlib.Core.List.{[]}
+use mathlib.Core.Option.{some}
+use Prim.Native.Nat.{ℕ, suc, _+_, _*_, _≤_, _<_}
+use native.Mathlib.Decide.{ℕ-discrete}
+use native.Mathlib.Omega.{arith}
+use lib.ListN.{length, set, length-set, length-replicate}
+use lib.Seq.{set-append-left, getD-set-same, getD-set-other}
+use Rattle.rules.specs.Heap.{Memory, withCells, withRoots, capacity, isFirst, sizeAt, exponent, lowestFree, isRef}
+use Rattle.rules.specs.Store.{placed, putRoot, putCell, storeRootIn, storeCellIn, allocateIn}
+use Rattle.rules.specs.Calls.{allocate, storeRoot, storeCell, accepted, settled, freeing}
+use Rattle.rules.specs.Demand.{Object, written, stored, Collects}
+use Rattle.theory.proofs.Maps.Extents.{Represents, sizesOf, length-sizes-of}
+use Rattle.rules.proofs.Chunks.{Room, room}
+use Rattle.theory.proofs.Graphs.Graph as graph
+use Rattle.theory.proofs.Graphs.Graph.{Graph, size, raise, place, finish}
+use Rattle.theory.proofs.Graphs.Balance.{Balanced, Waits}
+use Rattle.theory.proofs.Graphs.Keep.{Reach}
+use Rattle.theory.proofs.Graphs.Order.{runs-leave}
+use Rattle.theory.proofs.Graphs.Calls.{Shape, Whole, Place, finish-ends}
+use Rattle.theory.proofs.Graphs.Calls.{raised-balanced, raised-waits, raised-shape, store-whole, store-keeps}
+use Rattle.theory.proofs.Graphs.Calls.{placed-balanced, placed-waits, placed-shape, allocate-whole, allocate-keeps}
+use Rattle.theory.proofs.Memories.View.{view}
+use Rattle.theory.proofs.Memories.Slots.{slotsIn}
+use Rattle.theory.proofs.Memories.Healthy.{Aligned, Healthy}
+use Rattle.theory.proofs.Memories.Leads.{object-size, size-object, leads-reach}
+use Rattle.theory.proofs.EachCall.Served.{Served}
+use Rattle.theory.proofs.Memories.ViewMoves.{set-append-right}
+use Rattle.theory.proofs.Memories.ViewRelease.{reshaped, Shows}
+use Rattle.theory.proofs.Memories.Stores.{positive, ref-object, store-root, cell-place, store-cell, room-vacant, allocate-root}
+
+-- ---- what a graph that keeps its laws gives its memory
+
+pub healthy-after :
+    (N w r : ℕ) (g : Memory) (k : Graph) → Shows N w r g k → Whole (capacity w) r k → Aligned (k .sizes) → Healthy N w (settled N g)
+healthy-after N w r g k shows whole aligned = record {
+  shape = reshaped N w g (settled N g) (shows .shape) refl refl refl refl refl (length-replicate N 0 ∙ sym (shows .shape .length-waiting));
+  represents = shows .represents;
+  whole = subst (λ (m : Graph). Whole (capacity w) (length (g .roots)) m) (sym (shows .view-is)) (rw (shows .roots-are) whole);
+  aligned = subst (λ (m : Graph). Aligned (m .sizes)) (sym (shows .view-is)) aligned;
+}
+
+-- an object whose size stays stands
+pub object-after :
+    (N w r : ℕ) (h g : Memory) (k : Graph) → Represents N (h .a) (h .b) (sizesOf N (h .a) (h .b)) → Shows N w r g k → (b n : ℕ)
+    → Object N h b n → size k b ≡ size (view N w h) b → Object N (settled N g) b n
+object-after N w r h g k represents shows b n object e =
+    let was = object-size N h (sizesOf N (h .a) (h .b)) represents b n object in
+    let is : size (view N w g) b ≡ n = ap (λ (m : Graph). size m b) (shows .view-is) ∙ e ∙ was .0 in
+    subst (λ (m : ℕ). Object N (settled N g) b m) is
+    (size-object N (settled N g) (sizesOf N (g .a) (g .b)) (shows .represents) b (λ z. was .1 (sym is ∙ z)))
+
+-- an object that a release leaves has its old size
+finish-aligned :
+    (cap : ℕ) (pos : 0 < cap) (r : ℕ) (k : Graph) (i v : ℕ) → Balanced cap k v → Waits k [] → Shape r k → Place r k i → Aligned (k .sizes)
+    → Aligned ((finish cap r k i v) .sizes)
+finish-aligned cap pos r k i v held waits shape slot-i aligned x n =
+    elim (runs-leave cap r (λ j. ⊥) pos (finish-ends cap pos r k i v held waits shape slot-i .runs) .objects x) [
+      | inl e ↦ rw e (aligned x (λ z. n (e ∙ z)))
+      | inr e ↦ absurd (n (e .0))
+    ]
+
+-- ---- the stores
+
+module _ (N w : ℕ) (h : Memory) (healthy : Healthy N w h) where
+  -- g is the memory after a store of v in slot i
+  module _ (v : ℕ) (ref : isRef N h v ≡ true) (i : ℕ) (slot-i : Place (length (h .roots)) (view N w h) i) (g : Memory)
+      (shows : Shows N w (length (h .roots)) g (graph.store (capacity w) (length (h .roots)) (view N w h) i v)) where
+    store-healthy : Healthy N w (settled N g)
+    unfolding graph.store
+    store-healthy =
+        let cap : ℕ = capacity w in
+        let r : ℕ = length (h .roots) in
+        let pos = positive N w h healthy in
+        let named = ref-object N w h healthy v ref in
+        healthy-after N w r g (graph.store cap r (view N w h) i v) shows
+        (store-whole cap pos r (view N w h) (healthy .whole) i v slot-i named)
+        (finish-aligned cap pos r (raise cap (view N w h) v) i v
+        (raised-balanced cap pos r (view N w h) (healthy .whole) i v slot-i named)
+        (raised-waits cap pos r (view N w h) (healthy .whole) i v slot-i named)
+        (raised-shape cap pos r (view N w h) (healthy .whole) i v slot-i named) slot-i (healthy .aligned))
+
+    store-object :
+        (b n : ℕ) → Object N h b n → Reach (length (h .roots)) (sizesOf N (h .a) (h .b)) (set (slotsIn h) i v) b
+        → Object N (settled N g) b n
+    store-object b n object reach =
+        object-after N w (length (h .roots)) h g (graph.store (capacity w) (length (h .roots)) (view N w h) i v) (healthy .represents) shows
+        b n object
+        (store-keeps (capacity w) (positive N w h healthy) (length (h .roots)) (view N w h) (healthy .whole) i v slot-i
+        (ref-object N w h healthy v ref) b reach)
+
+  pub storeRoot-served :
+      (r v : ℕ) → r < length (h .roots) → isRef N h v ≡ true → Served N w (storeRoot r v) h (freeing N h (storeRootIn N w h r v))
+  unfolding storeRootIn putRoot freeing stored written Collects
+  storeRoot-served r v l ref =
+      let shows = store-root N w h healthy v ref r l .shows in
+      record {
+        keep = store-healthy v ref r (inl l) (storeRootIn N w h r v) shows;
+        no-early-free = λ b n object leads.
+            store-object v ref r (inl l) (storeRootIn N w h r v) shows b n object
+            (rw (length-set (h .roots) r v, ← set-append-left (h .roots) (h .cells) r v l)
+            at (leads-reach N (withRoots (set (h .roots) r v) h) (sizesOf N (h .a) (h .b)) (healthy .represents) leads));
+        collects = tt;
+      }
+
+  pub storeCell-served :
+      (a j v : ℕ) → isFirst N h a ≡ true → j < 4 * sizeAt N h a → isRef N h v ≡ true
+      → Served N w (storeCell a j v) h (freeing N h (storeCellIn N w h (4 * a + j) v))
+  unfolding storeCellIn putCell freeing stored written Collects
+  storeCell-served a j v first l ref =
+      let shows = store-cell N w h healthy v ref a j first l .shows in
+      let slot-i = cell-place N w h healthy a j first l in
+      let i : ℕ = length (h .roots) + (4 * a + j) in
+      record {
+        keep = store-healthy v ref i slot-i (storeCellIn N w h (4 * a + j) v) shows;
+        no-early-free = λ b n object leads.
+            store-object v ref i slot-i (storeCellIn N w h (4 * a + j) v) shows b n object
+            (rw (← set-append-right (h .roots) (h .cells) (4 * a + j) v)
+            at (leads-reach N (withCells (set (h .cells) (4 * a + j) v) h) (sizesOf N (h .a) (h .b)) (healthy .represents) leads));
+        collects = tt;
+      }
+
+  -- ---- the allocation
+
+  module _ (n root i : ℕ) (some-blocks : 1 ≤ n) (not-more : n ≤ N) (l : root < length (h .roots))
+      (found : lowestFree N (exponent n) (h .a) ≡ some i) where
+    place-found : Room N (h .a) n i
+    place-found = room N (h .a) n i found
+
+    nonzero : n ≢ 0
+    nonzero = omega arith
+
+    placed-aligned : Aligned (set (sizesOf N (h .a) (h .b)) i n)
+    placed-aligned x p =
+        elim (ℕ-discrete x i) [
+          | yes e ↦
+              rw (e, getD-set-same (sizesOf N (h .a) (h .b)) i n 0 (omega (arith, place-found .inside, length-sizes-of N (h .a) (h .b))))
+              (place-found .aligned)
+          | no d ↦
+              let same = getD-set-other (sizesOf N (h .a) (h .b)) i x n 0 d in
+              rw same (healthy .aligned x (λ z. p (same ∙ z)))
+        ]
+
+    -- an object that stood is not the new one
+    old-object : (b m : ℕ) → Object N h b m → b ≢ i
+    old-object b m object e =
+        let was = object-size N h (sizesOf N (h .a) (h .b)) (healthy .represents) b m object in
+        omega (arith, place-found .free b (omega arith) (omega arith), healthy .represents .used b b (omega arith) (omega (arith, was)))
+
+    pub allocate-served : Served N w (allocate n root) h (accepted (settled N (allocateIn N w h n root i)) i)
+    unfolding allocateIn putRoot placed graph.allocate stored written Collects
+    allocate-served =
+        let cap : ℕ = capacity w in
+        let r : ℕ = length (h .roots) in
+        let pos = positive N w h healthy in
+        let vacant = room-vacant N w h healthy n i nonzero place-found in
+        let shows = allocate-root N w h healthy n i nonzero place-found root l .shows in
+        let named : 1 + i ≡ suc i = omega arith in
+        record {
+          keep = healthy-after N w r (allocateIn N w h n root i) (graph.allocate cap r (view N w h) i n root) shows
+              (allocate-whole cap pos r (view N w h) (healthy .whole) i n root vacant l)
+              (finish-aligned cap pos r (place (view N w h) i n) root (suc i)
+              (placed-balanced cap pos r (view N w h) (healthy .whole) i n root vacant l)
+              (placed-waits cap pos r (view N w h) (healthy .whole) i n root vacant l)
+              (placed-shape cap pos r (view N w h) (healthy .whole) i n root vacant l) (inl l) placed-aligned);
+          no-early-free = λ b m object leads.
+              object-after N w r h (allocateIn N w h n root i) (graph.allocate cap r (view N w h) i n root) (healthy .represents) shows
+              b m object
+              (allocate-keeps cap pos r (view N w h) (healthy .whole) i n root vacant l b (old-object b m object)
+              (rw (length-set (h .roots) root (1 + i), ← set-append-left (h .roots) (h .cells) root (1 + i) l, named)
+              at (leads-reach N (withRoots (set (h .roots) root (1 + i)) h) (sizesOf N (h .a) (h .b)) (healthy .represents) leads)));
+          collects = tt;
+        }

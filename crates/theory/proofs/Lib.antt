@@ -1,0 +1,6 @@
+pub mod Graphs
+pub mod Maps
+pub mod Memories
+pub mod EachCall
+pub mod Demand
+pub mod Theorems

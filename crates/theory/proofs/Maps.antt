@@ -1,0 +1,6 @@
+-- The two maps: the sizes they stand for, and the damage test as facts.
+pub mod Extents
+pub mod Parse
+pub mod Moves
+pub mod Totals
+pub mod Undamaged

@@ -1,0 +1,43 @@
+-- The N steps that the rules give a release are enough: nothing waits when they are used up, so more steps would change nothing; and at
+-- most N objects wait at any time.
+use mathlib.Core.Path.{_≡_, refl, ap}
+use mathlib.Core.List.{List, [], _∷_}
+use Prim.Native.Nat.{ℕ, zero, suc, _+_, _≤_}
+use native.Mathlib.Omega.{arith}
+use lib.ListN.{length}
+use Rattle.rules.specs.Heap.{Memory}
+use Rattle.rules.specs.Store.{freed, release}
+use Rattle.theory.proofs.Graphs.Occurrences.{occurrences}
+use Rattle.theory.proofs.Graphs.Balance.{waits-bound, waits-head, fewer}
+use Rattle.theory.proofs.Maps.Extents.{sizesOf, length-sizes-of}
+use Rattle.theory.proofs.Memories.View.{view}
+use Rattle.theory.proofs.Memories.ViewRelease.{Releasing, releasing-next, sizes-after, memoryAfter, workAfter}
+
+-- N places are enough for what waits
+pub waiting-fits : (N w : ℕ) (h : Memory) (stack : List ℕ) → Releasing N w h stack → length stack ≤ N
+waiting-fits N w h stack before =
+    omega (arith, waits-bound stack (view N w h) (before .waits), length-sizes-of N (h .a) (h .b))
+
+steps-left :
+    (N w fuel steps : ℕ) (h : Memory) (stack : List ℕ) → Releasing N w h stack → N ≤ occurrences 0 (sizesOf N (h .a) (h .b)) + fuel
+    → fuel ≤ steps → release steps N w h stack ≡ release fuel N w h stack
+unfolding release freed
+steps-left N w zero zero h stack before f l = refl
+steps-left N w zero (suc steps) h [] before f l = refl
+steps-left N w zero (suc steps) h (x ∷ rest) before f l =
+    absurd (omega (arith, waits-bound (x ∷ rest) (view N w h) (before .waits), length-sizes-of N (h .a) (h .b)))
+steps-left N w (suc fuel) zero h stack before f l = absurd (omega arith)
+steps-left N w (suc fuel) (suc steps) h [] before f l = refl
+steps-left N w (suc fuel) (suc steps) h (x ∷ rest) before f l =
+    steps-left N w fuel steps (memoryAfter N w h x rest) ((workAfter N w h x rest) .stack) (releasing-next N w h x rest before)
+    (omega (
+      arith,
+      fewer (view N w h) x (waits-head (view N w h) x rest (before .waits) .0),
+      ap (occurrences 0) (sizes-after N w h x rest before),
+    ))
+    (omega arith)
+
+-- more than N steps change nothing
+pub steps-suffice :
+    (N w steps : ℕ) (h : Memory) (stack : List ℕ) → Releasing N w h stack → N ≤ steps → release steps N w h stack ≡ release N N w h stack
+steps-suffice N w steps h stack before enough = steps-left N w N steps h stack before (omega arith) enough

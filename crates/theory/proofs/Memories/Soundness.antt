@@ -1,0 +1,121 @@
+-- A healthy memory is sound in the words of demand 3. Most of that is read off the two maps. The number of references takes a step: the
+-- words count the cells of objects, the damage test counts all cells, and every cell that is not 0 is one of an object.
+use mathlib.Core.Path.{_≡_, refl, sym, ap, _∙_}
+use mathlib.Core.Logic.{inl, inr}
+use mathlib.Core.Bool.{Bool, true, false, _&&_}
+use Prim.Native.Nat.{ℕ, _+_, _*_, _/_, _%_, _^_, _≤_, _<_}
+use native.Mathlib.Decide.{decLt}
+use native.Mathlib.Omega.{arith}
+use lib.Dec.{leb, ltb, eqb}
+use lib.ListN.{getD}
+use borrow.Author.Tests.{eqb-true, lt-ltb, le-leb}
+use Rattle.bitmap.specs.Bit.{countBelow}
+use Rattle.bitmap.proofs.Zeros.{count-same}
+use Rattle.rules.specs.Heap.{Memory, isFirst, sizeAt, exponent, holding, references}
+use Rattle.rules.specs.Collection.{isCellOf, cellOfSet, referencesFrom}
+use Rattle.rules.specs.Demand.{Object, Names, by-root, by-cell, numberOfReferences, InExtent, Sound}
+use Rattle.rules.proofs.Tests.{true-and, true-some}
+use Rattle.rules.proofs.Objects.{bit-cases}
+use Rattle.theory.proofs.Maps.Extents.{sizesOf}
+use Rattle.theory.proofs.Maps.Undamaged.{Undamaged}
+use Rattle.theory.proofs.Memories.Slots.{ref-first}
+use Rattle.theory.proofs.Memories.Healthy.{Healthy, healthy-undamaged}
+use Rattle.theory.proofs.Memories.Leads.{object-size, size-object}
+
+module _ (N w : ℕ) (h : Memory) (healthy : Healthy N w h) where
+  undamaged : Undamaged N w h
+  undamaged = healthy-undamaged N w h healthy
+
+  -- ---- extents
+
+  -- block i lies in the object at x, by the sizes and by the words
+  covers : (x i : ℕ) → x ≤ i → i < x + getD (sizesOf N (h .a) (h .b)) x 0 → InExtent N h i x
+  covers x i l u =
+      let object = size-object N h (sizesOf N (h .a) (h .b)) (healthy .represents) x (omega arith) in
+      record { first = object .first; from = l; below = omega (arith, object .size) }
+
+  covered : (x i : ℕ) → InExtent N h i x → i < x + getD (sizesOf N (h .a) (h .b)) x 0
+  covered x i e =
+      let object : Object N h x (sizeAt N h x) = record { first = e .first; size = refl } in
+      omega (arith, object-size N h (sizesOf N (h .a) (h .b)) (healthy .represents) x (sizeAt N h x) object .0, e .below)
+
+  apart : (i x y : ℕ) → x < y → InExtent N h i x → InExtent N h i y → x + getD (sizesOf N (h .a) (h .b)) x 0 ≤ y
+  apart i x y l p q =
+      healthy .represents .apart x y l (omega (arith, p .from, covered x i p)) (omega (arith, q .from, covered y i q))
+
+  -- ---- references
+
+  named : (b : ℕ) → Names N h b → isFirst N h b ≡ true
+  named b (by-root r l e) = ref-first N h (getD (h .roots) r 0) b (undamaged .root-refs r l) (omega arith)
+  named b (by-cell a n j object l e) =
+      let same = object-size N h (sizesOf N (h .a) (h .b)) (healthy .represents) a n object in
+      let inside = healthy .represents .inside a (λ z. same .1 (sym (same .0) ∙ z)) in
+      ref-first N h (getD (h .cells) (4 * a + j) 0) b (undamaged .cell-refs (4 * a + j) (omega (arith, same .0))) (omega arith)
+
+  -- a cell that holds a name is one of an object
+  owned-cell : (j b : ℕ) → j < 4 * N → getD (h .cells) j 0 ≡ b + 1 → cellOfSet N h (isFirst N h) j ≡ true
+  unfolding cellOfSet isCellOf
+  owned-cell j b l e =
+      elim (bit-cases (h .a) (j / 4)) [
+        | inl z ↦ absurd (omega (arith, undamaged .free-cells j l z))
+        | inr u ↦ let o = healthy .represents .owner (j / 4) u in found (o .0) (covers (o .0) (j / 4) (o .1) (o .2))
+      ]
+    where
+      found : (x : ℕ) → InExtent N h (j / 4) x → cellOfSet N h (isFirst N h) j ≡ true
+      found x extent =
+          true-some
+          (λ i. isFirst N h i && isFirst N h i && isCellOf N h i j)
+          N
+          x
+          (omega (arith, extent .from))
+          (true-and
+          (isFirst N h x && isFirst N h x)
+          (isCellOf N h x j)
+          (true-and (isFirst N h x) (isFirst N h x) (extent .first) (extent .first))
+          (true-and
+          (leb (4 * x) j)
+          (ltb j (4 * (x + sizeAt N h x)))
+          (le-leb (4 * x) j (omega (arith, extent .from)))
+          (lt-ltb j (4 * (x + sizeAt N h x)) (omega (arith, extent .below)))))
+
+  -- so all references are those that the rules count for objects
+  all-references : (b : ℕ) → numberOfReferences N h b ≡ references h b
+  unfolding referencesFrom holding
+  all-references b =
+      ap
+      (λ (n : ℕ). holding (b + 1) (h .roots) + n)
+      (count-same
+      (λ j. elim (eqb (getD (h .cells) j 0) (b + 1)) [ true ↦ cellOfSet N h (isFirst N h) j | false ↦ false ])
+      (λ j. eqb (getD (h .cells) j 0) (b + 1))
+      (4 * N)
+      (λ j l.
+      passed
+      (eqb (getD (h .cells) j 0) (b + 1))
+      (cellOfSet N h (isFirst N h) j)
+      (λ e. owned-cell j b l (eqb-true (getD (h .cells) j 0) (b + 1) e)))
+      ∙ ap (λ (n : ℕ). countBelow (λ j. eqb (getD (h .cells) j 0) (b + 1)) n) (sym (healthy .shape .length-cells)))
+    where
+      -- a second test that passes wherever the first does
+      passed : (s t : Bool) → (s ≡ true → t ≡ true) → elim s [ true ↦ t | false ↦ false ] ≡ s
+      passed true t p = p refl
+      passed false t p = refl
+
+  pub healthy-sound : Sound N w h
+  healthy-sound =
+      record {
+        named = named;
+        counted = λ b f.
+            elim (undamaged .counted b f) [ inl e ↦ inl e | inr e ↦ inr (e ∙ sym (all-references b)) ];
+        covered = λ i l u. let o = healthy .represents .owner i u in (o .0, covers (o .0) i (o .1) (o .2));
+        disjoint = λ i x y p q.
+            elim (decLt x y) [
+              | yes l ↦ absurd (omega (arith, apart i x y l p q, q .from, covered x i p))
+              | no l ↦
+                  elim (decLt y x) [ yes u ↦ absurd (omega (arith, apart i y x u q p, p .from, covered y i q)) | no u ↦ omega arith ]
+            ];
+        allocated = λ i x e.
+            let l = covered x i e in
+            (omega (arith, healthy .represents .inside x (omega (arith, e .from)), e .from), healthy .represents .used x i (e .from) l);
+        aligned = λ x n object. ap (λ (m : ℕ). x % 2 ^ exponent m) (sym (object .size)) ∙ undamaged .aligned x (object .first);
+        cleared = undamaged .free-cells;
+      }

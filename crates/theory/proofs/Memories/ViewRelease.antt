@@ -1,0 +1,168 @@
+-- The release of the rules is, seen in the object graph, the release of the graph's machine; and the maps go on to represent the sizes.
+use mathlib.Core.Path.{_≡_, refl, sym, _∙_, subst}
+use mathlib.Core.Logic.{_≢_}
+use mathlib.Core.List.{List, [], _∷_, _++_}
+use Prim.Native.Nat.{ℕ, zero, suc, _+_, _-_, _*_, _/_, _≤_, _<_}
+use native.Mathlib.Nat.{add-assoc}
+use native.Mathlib.Omega.{arith}
+use lib.ListN.{length, set}
+use lib.Seq.{getD-append-add}
+use Rattle.bitmap.specs.Bit.{setBit, fillBits}
+use Rattle.bitmap.proofs.Maps.{length-set-bit}
+use Rattle.bitmap.proofs.Runs.{length-fill}
+use Rattle.planes.specs.Plane.{setCount}
+use Rattle.planes.proofs.Counts.{set-count-there}
+use Rattle.rules.specs.Heap.{Memory, withCounts, capacity, sizeAt}
+use Rattle.rules.specs.Store.{Work, work, countDownEach, freed, release}
+use Rattle.rules.proofs.Shape.{Shaped}
+use Rattle.theory.proofs.Maps.Extents.{Represents, sizesOf, length-sizes-of, extent, represents-is}
+use Rattle.theory.proofs.Maps.Moves.{freed-represents}
+use Rattle.theory.proofs.Graphs.Occurrences.{nonzero-inside}
+use Rattle.theory.proofs.Graphs.Graph as graph
+use Rattle.theory.proofs.Graphs.Graph.{Graph, size, count, slot, firstSlot}
+use Rattle.theory.proofs.Graphs.Balance.{Balanced, Waits, waits-head, named-object, free-balanced, free-waits}
+use Rattle.theory.proofs.Memories.View.{view}
+use Rattle.theory.proofs.Memories.Healthy.{view-count}
+use Rattle.theory.proofs.Memories.ViewMoves.{WorkShows, each-shows, length-clear-cells, clear-behind}
+
+-- a memory whose buffers have the lengths of another's
+pub reshaped :
+    (N w : ℕ) (h g : Memory) → Shaped N w h → length (g .a) ≡ length (h .a) → length (g .b) ≡ length (h .b)
+    → length (g .counts) ≡ length (h .counts) → length (g .cells) ≡ length (h .cells) → length (g .roots) ≡ length (h .roots)
+    → length (g .waiting) ≡ length (h .waiting) → Shaped N w g
+reshaped N w h g s a b counts cells roots waiting = record {
+  power = s .power;
+  blocks-min = s .blocks-min;
+  blocks-max = s .blocks-max;
+  whole-bytes = s .whole-bytes;
+  width-min = s .width-min;
+  width-max = s .width-max;
+  roots-min = rw roots (s .roots-min);
+  roots-max = rw roots (s .roots-max);
+  length-a = a ∙ s .length-a;
+  length-b = b ∙ s .length-b;
+  length-counts = counts ∙ s .length-counts;
+  length-cells = cells ∙ s .length-cells;
+  length-waiting = waiting ∙ s .length-waiting;
+}
+
+-- the memory h is as its shape demands, has r roots and shows the graph k
+pub record Shows (N w r : ℕ) (h : Memory) (k : Graph) : Type 0 where
+  pub shape : Shaped N w h
+  pub represents : Represents N (h .a) (h .b) (sizesOf N (h .a) (h .b))
+  pub roots-are : length (h .roots) ≡ r
+  pub view-is : view N w h ≡ k
+
+-- graphs with equal parts are equal
+pub graph-is : {sizes counts slots sizes′ counts′ slots′ : List ℕ} → sizes ≡ sizes′ → counts ≡ counts′ → slots ≡ slots′
+    → _≡_ {A = Graph} (record { sizes = sizes; counts = counts; slots = slots }) (record { sizes = sizes′; counts = counts′; slots = slots′ })
+graph-is p q r = λ i. record { sizes = p i; counts = q i; slots = r i }
+
+-- what is known of a memory while objects wait: their counts have come to 0, and the laws hold with nothing in the hand
+pub record Releasing (N w : ℕ) (h : Memory) (stack : List ℕ) : Type 0 where
+  pub shape : Shaped N w h
+  pub represents : Represents N (h .a) (h .b) (sizesOf N (h .a) (h .b))
+  pub positive : 0 < capacity w
+  pub balanced : Balanced (capacity w) (view N w h) 0
+  pub waits : Waits (view N w h) stack
+
+-- ---- one object is freed
+
+-- the work that is left when the object at x is freed, and the memory then
+abbrev pub workAfter : ℕ → ℕ → Memory → ℕ → List ℕ → Work
+workAfter N w h x rest =
+    countDownEach N w (work ((freed N w h x (sizeAt N h x)) .counts) rest) (h .cells) (4 * x) (4 * sizeAt N h x)
+
+abbrev pub memoryAfter : ℕ → ℕ → Memory → ℕ → List ℕ → Memory
+memoryAfter N w h x rest = withCounts ((workAfter N w h x rest) .counts) (freed N w h x (sizeAt N h x))
+
+module _ (N w : ℕ) (h : Memory) (shape : Shaped N w h) (positive : 0 < capacity w) (balanced : Balanced (capacity w) (view N w h) 0) where
+  -- every slot names a block of the heap
+  pub slot-le : (s : ℕ) → slot (view N w h) s ≤ N
+  slot-le s = go (slot (view N w h) s) refl
+    where
+      go : (v : ℕ) → slot (view N w h) s ≡ v → v ≤ N
+      go zero e = omega arith
+      go (suc b) e =
+          let object = named-object (capacity w) positive (view N w h) balanced s b e in
+          omega (arith, length-sizes-of N (h .a) (h .b), nonzero-inside (sizesOf N (h .a) (h .b)) b object)
+
+module _ (N w : ℕ) (h : Memory) (x : ℕ) (rest : List ℕ) (before : Releasing N w h (x ∷ rest)) where
+  shape : Shaped N w h
+  shape = before .shape
+
+  object : size (view N w h) x ≢ 0
+  object = waits-head (view N w h) x rest (before .waits) .0
+
+  uncounted : count (view N w h) x ≡ 0
+  uncounted = waits-head (view N w h) x rest (before .waits) .1
+
+  pub size-there : sizeAt N h x ≡ size (view N w h) x
+  size-there = extent N (h .a) (h .b) (sizesOf N (h .a) (h .b)) (before .represents) x object
+
+  -- its count is 0 already
+  same-counts : setCount (N / 8) w (h .counts) x 0 ≡ h .counts
+  same-counts =
+      let inside : x < N = omega (arith, object, before .represents .inside x object) in
+      set-count-there (N / 8) w (h .counts) x 0 (sym (view-count N w h x inside) ∙ uncounted)
+
+  work-after :
+      WorkShows N w (workAfter N w h x rest) ((graph.free (capacity w) (length (h .roots)) (view N w h) x) .counts)
+      (graph.freeStack (capacity w) (length (h .roots)) (view N w h) x rest)
+  unfolding freed graph.free graph.freeStack
+  work-after =
+      rw (same-counts, size-there)
+      (each-shows N w (shape .whole-bytes) (h .counts) (shape .length-counts) rest (h .cells) (h .roots ++ h .cells) (4 * x)
+      (firstSlot (length (h .roots)) x) (λ k. rw add-assoc (sym (getD-append-add (h .roots) (h .cells) (4 * x + k) 0)))
+      (slot-le N w h shape (before .positive) (before .balanced)) (4 * size (view N w h) x))
+
+  maps-after :
+      Represents N (fillBits (h .a) x (sizeAt N h x) 0) (setBit (h .b) (x + sizeAt N h x - 1) 1) (set (sizesOf N (h .a) (h .b)) x 0)
+  maps-after =
+      freed-represents N (h .a) (h .b) (sizesOf N (h .a) (h .b)) (before .represents) x (sizeAt N h x) (sym size-there)
+      (λ z. object (sym size-there ∙ z))
+
+  pub sizes-after :
+      set (sizesOf N (h .a) (h .b)) x 0 ≡ sizesOf N (fillBits (h .a) x (sizeAt N h x) 0) (setBit (h .b) (x + sizeAt N h x - 1) 1)
+  sizes-after =
+      represents-is N (fillBits (h .a) x (sizeAt N h x) 0) (setBit (h .b) (x + sizeAt N h x - 1) 1) (set (sizesOf N (h .a) (h .b)) x 0)
+      maps-after
+
+  view-after : view N w (memoryAfter N w h x rest) ≡ graph.free (capacity w) (length (h .roots)) (view N w h) x
+  unfolding freed graph.free
+  view-after =
+      graph-is (sym sizes-after) (work-after .counts-are)
+      (rw size-there (clear-behind (h .roots) (h .cells) (4 * x) (4 * size (view N w h) x)))
+
+  pub releasing-next : Releasing N w (memoryAfter N w h x rest) ((workAfter N w h x rest) .stack)
+  unfolding freed
+  releasing-next =
+      let cap : ℕ = capacity w in
+      let r : ℕ = length (h .roots) in
+      record {
+        shape = reshaped N w h (memoryAfter N w h x rest) shape (length-fill (h .a) x (sizeAt N h x) 0)
+            (length-set-bit (h .b) (x + sizeAt N h x - 1) 1) (work-after .length-is ∙ sym (shape .length-counts))
+            (length-clear-cells (h .cells) (4 * x) (4 * sizeAt N h x)) refl refl;
+        represents = rw (← sizes-after) maps-after;
+        positive = before .positive;
+        balanced =
+            subst (λ (k : Graph). Balanced cap k 0) (sym view-after)
+            (free-balanced cap (before .positive) r (view N w h) x uncounted (before .balanced));
+        waits =
+            subst (λ (k : Graph). Waits k ((workAfter N w h x rest) .stack)) (sym view-after)
+            (rw (work-after .stack-is) (free-waits cap (before .positive) r (view N w h) x rest (before .balanced) (before .waits)));
+      }
+
+-- ---- all that waits is freed
+
+pub release-shows :
+    (N w fuel : ℕ) (h : Memory) (stack : List ℕ) → Releasing N w h stack
+    → Shows N w (length (h .roots)) (release fuel N w h stack) (graph.release (capacity w) (length (h .roots)) fuel (view N w h) stack)
+unfolding release graph.release freed
+release-shows N w zero h stack before =
+    record { shape = before .shape; represents = before .represents; roots-are = refl; view-is = refl }
+release-shows N w (suc fuel) h [] before =
+    record { shape = before .shape; represents = before .represents; roots-are = refl; view-is = refl }
+release-shows N w (suc fuel) h (x ∷ rest) before =
+    rw (← view-after N w h x rest before, ← work-after N w h x rest before .stack-is)
+    (release-shows N w fuel (memoryAfter N w h x rest) ((workAfter N w h x rest) .stack) (releasing-next N w h x rest before))

@@ -1,0 +1,95 @@
+-- The statements of specs/Statements.antt, proved, and demand 3.
+use mathlib.Core.Path.{_≡_, refl, sym, _∙_, subst}
+use mathlib.Core.Bool.{_&&_}
+use mathlib.Core.Option.{Option, none, some}
+use Prim.Native.Nat.{ℕ, _≤_, _<_}
+use native.Mathlib.Omega.{arith}
+use lib.ListN.{length}
+use lib.Dec.{leb, ltb}
+use borrow.Author.Tests.{le-leb, lt-ltb}
+use Rattle.rules.specs.Heap.{Memory, exponent, lowestFree}
+use Rattle.rules.specs.Calls.{allocate, Answer, require, onSound, allocation, answer}
+use Rattle.rules.specs.Demand.{Demand3}
+use Rattle.rules.proofs.Replies.{on-sound-shaped, on-sound-undamaged, on-sound-next}
+use Rattle.rules.proofs.Tests.{true-and, require-true, require-passed}
+use Rattle.rules.proofs.Shape.{shape-facts}
+use Rattle.rules.proofs.Chunks.{lowest-some, refused-none-free, none-free-refused}
+use Rattle.theory.specs.Statements.{Usable, CallsKeepUndamaged, FormatMakesUndamaged, RefusedExactly, Lowest, LowestTaken}
+use Rattle.theory.specs.Statements.{EveryListHasAChain, ObjectsAreEnds}
+use Rattle.theory.proofs.Maps.Extents.{sizesOf}
+use Rattle.theory.proofs.Maps.Parse.{parse}
+use Rattle.theory.proofs.Maps.Totals.{objects-ends}
+use Rattle.theory.proofs.Maps.Undamaged.{kinds-delimited}
+use Rattle.theory.proofs.Memories.Healthy.{Healthy, healthy-facts, healthy-shaped, healthy-no-damage}
+use Rattle.theory.proofs.Memories.Formatted.{formatted-healthy}
+use Rattle.theory.proofs.EachCall.Served.{on-sound}
+use Rattle.theory.proofs.EachCall.Answers.{answer-served}
+use Rattle.theory.proofs.Demand.{every-list, demand3}
+
+usable : (N w : ℕ) (h : Memory) → Healthy N w h → Usable N w h
+usable N w h healthy = record { right-shape = healthy-shaped N w h healthy; no-damage = healthy-no-damage N w h healthy }
+
+healthy : (N w : ℕ) (h : Memory) → Usable N w h → Healthy N w h
+healthy N w h u = healthy-facts N w h (u .right-shape) (u .no-damage)
+
+pub calls-keep-undamaged : CallsKeepUndamaged
+calls-keep-undamaged N w h u call = usable N w (answer N w h call .1) (answer-served N w h (healthy N w h u) call .keep)
+
+pub format-makes-undamaged : FormatMakesUndamaged
+format-makes-undamaged N w h fits = usable N w _ (formatted-healthy N w h (shape-facts N w h fits))
+
+-- an allocation whose other tests pass is answered by the search
+allocation-answer :
+    (N w : ℕ) (h : Memory) → Usable N w h → (n r : ℕ) → 1 ≤ n → n ≤ N → r < length (h .roots)
+    → answer N w h (allocate n r) ≡ allocation N w h n r (lowestFree N (exponent n) (h .a))
+unfolding answer
+allocation-answer N w h u n r low high inside =
+    let found : Answer = allocation N w h n r (lowestFree N (exponent n) (h .a)) in
+    on-sound N w h (healthy N w h u) _
+    ∙ require-true (leb 1 n && leb n N) 3 h _ (true-and (leb 1 n) (leb n N) (le-leb 1 n low) (le-leb n N high))
+    ∙ require-true (ltb r (length (h .roots))) 4 h found (lt-ltb r (length (h .roots)) inside)
+
+pub refused-exactly : RefusedExactly
+refused-exactly N w h u n r low high inside =
+    rw (allocation-answer N w h u n r low high inside) (refused-none-free N w h n r, none-free-refused N w h n r)
+
+-- what is accepted was found
+found-lowest :
+    (N w : ℕ) (h : Memory) (n r : ℕ) (found : Option ℕ) → lowestFree N (exponent n) (h .a) ≡ found
+    → allocation N w h n r found .0 .number ≡ 0 → Lowest N (h .a) n (allocation N w h n r found .0 .value)
+unfolding allocation
+found-lowest N w h n r none e accepted = absurd (omega arith)
+found-lowest N w h n r (some i) e accepted =
+    let low = lowest-some N (exponent n) (h .a) i e in
+    record { aligned = low .aligned; inside = low .inside; free = low .free; lowest = low .lowest }
+
+pub lowest-taken : LowestTaken
+unfolding answer
+lowest-taken N w h n r accepted =
+    let found : Answer = allocation N w h n r (lowestFree N (exponent n) (h .a)) in
+    let placed : Answer = require (ltb r (length (h .roots))) 4 h found in
+    let sized : Answer = require (leb 1 n && leb n N) 3 h placed in
+    let passed : onSound N w h sized ≡ sized =
+    on-sound-next N w h sized (on-sound-shaped N w h sized accepted) (on-sound-undamaged N w h sized accepted) in
+    let size = require-passed (leb 1 n && leb n N) 3 h placed (omega arith) (rw passed at accepted) in
+    let at-root : sized ≡ placed = require-true (leb 1 n && leb n N) 3 h placed size in
+    let root = require-passed (ltb r (length (h .roots))) 4 h found (omega arith) (rw (passed, at-root) at accepted) in
+    let at-search : placed ≡ found = require-true (ltb r (length (h .roots))) 4 h found root in
+    let answered : onSound N w h sized ≡ found = passed ∙ at-root ∙ at-search in
+    subst (λ (x : Answer). Lowest N (h .a) n (x .0 .value)) (sym answered)
+    (found-lowest N w h n r (lowestFree N (exponent n) (h .a)) refl
+    (subst (λ (x : Answer). x .0 .number ≡ 0) answered accepted))
+
+pub every-list-has-a-chain : EveryListHasAChain
+every-list-has-a-chain = every-list
+
+pub objects-are-ends : ObjectsAreEnds
+objects-are-ends N w h fits one two =
+    let shape = shape-facts N w h fits in
+    objects-ends N (h .a) (h .b) (sizesOf N (h .a) (h .b))
+    (parse N (h .a) (h .b) (omega (arith, shape .length-a, shape .whole-bytes)) (omega (arith, shape .length-b, shape .whole-bytes))
+    (kinds-delimited N w h one two))
+
+-- Demand 3, whole.
+pub demand-3 : Demand3
+demand-3 = demand3

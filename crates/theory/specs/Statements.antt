@@ -1,0 +1,60 @@
+-- What the theory proves of the rules, for the reader: each statement is over the rules' own words, and its proof is in proofs/. Demand 3
+-- itself is stated in the rules (`Demand3`).
+use Prim.Native.Nat.{ℕ, _+_, _*_, _%_, _^_, _≤_, _<_}
+use mathlib.Core.Path.{_≡_}
+use mathlib.Core.Logic.{_↔_}
+use mathlib.Core.Bool.{true, false}
+use mathlib.Core.List.{List}
+use lib.ListN.{length}
+use Rattle.bitmap.specs.Bit.{bitAt, countBelow, zeros}
+use Rattle.rules.specs.Heap.{Memory, shaped, isFirst, exponent}
+use Rattle.rules.specs.Damage.{someBelow, endOnFree, openEnd, damage}
+use Rattle.rules.specs.Store.{formatted}
+use Rattle.rules.specs.Calls.{Call, allocate, answer}
+use Rattle.rules.specs.Demand.{Made, Chain, callsOf}
+
+-- the heap passes the tests of numbers 1 and 2
+pub record Usable (N w : ℕ) (h : Memory) : Type 0 where
+  pub right-shape : shaped N w h ≡ true
+  pub no-damage : damage N w h ≡ 0
+
+-- "the proved fact that calls keep a heap undamaged"; a format makes one
+abbrev pub CallsKeepUndamaged : Type 0
+CallsKeepUndamaged = (N w : ℕ) (h : Memory) → Usable N w h → (call : Call) → Usable N w (answer N w h call .1)
+
+abbrev pub FormatMakesUndamaged : Type 0
+FormatMakesUndamaged = (N w : ℕ) (h : Memory) → shaped N w h ≡ true → Usable N w (formatted N w (length (h .roots)))
+
+-- some block of the chunk of 2 ^ k blocks at block i is used
+abbrev pub UsedChunk : List ℕ → (k i : ℕ) → Type 0
+UsedChunk a k i = (j : ℕ) × (i ≤ j) × (j < i + 2 ^ k) × (bitAt a j ≡ 1)
+
+-- "5 if no chunk of s blocks is free", and only then: every chunk, being "s blocks starting at a multiple of s", has a used block
+abbrev pub RefusedExactly : Type 0
+RefusedExactly =
+    (N w : ℕ) (h : Memory) → Usable N w h → (n r : ℕ) → 1 ≤ n → n ≤ N → r < length (h .roots)
+    → (answer N w h (allocate n r) .0 .number ≡ 5)
+    ↔ ((c : ℕ) → (c + 1) * 2 ^ exponent n ≤ N → UsedChunk (h .a) (exponent n) (c * 2 ^ exponent n))
+
+-- An accepted allocation takes the lowest free chunk: the value is a multiple of s, the n blocks from it lie in the heap and were free, and
+-- every lower chunk has a used block. Extents stay aligned and disjoint (`Sound`, in demand 3).
+pub record Lowest (N : ℕ) (a : List ℕ) (n i : ℕ) : Type 0 where
+  pub aligned : i % 2 ^ exponent n ≡ 0
+  pub inside : i + 2 ^ exponent n ≤ N
+  pub free : (j : ℕ) → i ≤ j → j < i + 2 ^ exponent n → bitAt a j ≡ 0
+  pub lowest : (c : ℕ) → c * 2 ^ exponent n < i → UsedChunk a (exponent n) (c * 2 ^ exponent n)
+
+abbrev pub LowestTaken : Type 0
+LowestTaken =
+    (N w : ℕ) (h : Memory) (n r : ℕ) → answer N w h (allocate n r) .0 .number ≡ 0
+    → Lowest N (h .a) n (answer N w h (allocate n r) .0 .value)
+
+-- no hypothesis of demand 3 is empty: every list of calls has a chain
+abbrev pub EveryListHasAChain : Type 0
+EveryListHasAChain = (N w : ℕ) (h : Memory) (calls : List Call) → (made : List Made) × (callsOf made ≡ calls) × Chain N w h made
+
+-- a heap without damage kinds 1 and 2 has as many objects as 0 bits in the B-map
+abbrev pub ObjectsAreEnds : Type 0
+ObjectsAreEnds =
+    (N w : ℕ) (h : Memory) → shaped N w h ≡ true → someBelow (endOnFree h) N ≡ false → someBelow (openEnd N h) N ≡ false
+    → countBelow (isFirst N h) N ≡ zeros (h .b)
