@@ -57,6 +57,13 @@ doubled-test (suc f) p n (suc j) l e = elim (test-cases (eqb n p)) [
       (doubled-test f (p * 2) n j (omega arith) (e ∙ ap (λ (x : ℕ). p * x) (pow-succ' 2 j) ∙ sym (mul-assoc p 2 (2 ^ j))))
 ]
 
+-- "a power of two from 8 to 8,192"
+pub blocks-facts : (N : ℕ) → isBlocks N ≡ true → (j : ℕ) × (j ≤ 10) × (N ≡ 8 * 2 ^ j)
+blocks-facts N e = doubled-facts 10 8 N e
+
+pub blocks-le : (N : ℕ) → isBlocks N ≡ true → N ≤ maxBlocks
+blocks-le N e = let found = blocks-facts N e in omega (arith, found .2, pow-mono {i = found .0} {j = 10} (found .1))
+
 -- 8 to 8,192 are 2 ^ 3 to 2 ^ 13
 blocks-test : (n k : ℕ) → n ≡ 2 ^ k → 8 ≤ n → n ≤ maxBlocks → isBlocks n ≡ true
 blocks-test n k e low high =
@@ -80,7 +87,7 @@ unfolding shape
 shape-facts N w h e = record {
   power = (3 + j, doubled ∙ sym (pow-add 2 3 j));
   blocks-min = omega (arith, doubled, pow-mono {i = 0} {j = j} (omega arith));
-  blocks-max = omega (arith, doubled, pow-mono {j = 10} (found .1));
+  blocks-max = blocks-le N (at 0);
   whole-bytes = omega (arith, doubled);
   width-min = leb-true 1 w (at 1);
   width-max = leb-true w 4 (at 2);
@@ -97,7 +104,7 @@ shape-facts N w h e = record {
     at = all-at (tests N w h) e
 
     found : (j : ℕ) × (j ≤ 10) × (N ≡ 8 * 2 ^ j)
-    found = doubled-facts 10 8 N (at 0)
+    found = blocks-facts N (at 0)
 
     j : ℕ
     j = found .0

@@ -72,7 +72,20 @@ all-at (true ∷ ts) e zero = refl
 all-at (true ∷ ts) e (suc i) = all-at ts e i
 all-at (false ∷ ts) e i = absurd (false≢true e)
 
--- .. and the other way
+-- where one fails, not all pass
+pub all-failed : (ts : List Bool) (i : ℕ) → getD ts i true ≡ false → all ts ≡ false
+unfolding all
+all-failed [] i e = absurd (true≢false e)
+all-failed (t ∷ ts) zero e = rw (e, all)
+all-failed (true ∷ ts) (suc i) e = all-failed ts i e
+all-failed (false ∷ ts) (suc i) e = refl
+
+pub all-one : (t : Bool) → all (t ∷ []) ≡ t
+unfolding all
+all-one true = refl
+all-one false = refl
+
+-- .. and where each does, all pass
 pub all-passed : (ts : List Bool) → Each (λ t. t ≡ true) ts → all ts ≡ true
 unfolding all
 all-passed [] done = refl

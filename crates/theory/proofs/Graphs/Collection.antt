@@ -1,6 +1,5 @@
 -- What a collection leaves: the objects that a root leads to, as they were, with their slots; nothing else; and counts that are exact up to
--- the capacity. This determines the graph, so any two ways to collect end in the same one. No test for reachability is needed: where two
--- results differed at a block, the object there could be neither reached nor unreached.
+-- the capacity. What follows of such a graph: it is balanced, and nothing waits.
 use mathlib.Core.Path.{_≡_, sym, _∙_}
 use mathlib.Core.Logic.{_≢_, _⊎_, inl, inr}
 use mathlib.Core.List.{[]}

@@ -1,0 +1,6 @@
+pub mod Cells
+pub mod Firsts
+pub mod FreeChunks
+pub mod LowestChunk
+pub mod Powers
+pub mod Sizes

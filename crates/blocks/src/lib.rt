@@ -1,0 +1,11 @@
+// Blocks of the heap: what is read off the two maps, the searches for a free chunk, and extents written and cleared.
+pub mod chunks;
+pub mod extents;
+pub mod objects;
+
+// A cell or root: 0, or 1 + the first block of an object. To widen references, change this type and MAX_BLOCKS, and `maxBlocks`
+// and `isBlocks` of the rules.
+pub type Ref = u16;
+
+// The largest heap, in blocks.
+pub const MAX_BLOCKS: usize = 8192;

@@ -1,0 +1,52 @@
+// First blocks, sizes and references, read off the A-map and the B-map.
+use crate::Ref;
+ghost use mathlib.Core.Path.{_≡_};
+ghost use Prim.Native.Nat.{_+_, _-_, _*_, _<_, _≤_};
+ghost use lib.ListN.{length};
+ghost use Rattle.rules.specs.Heap.{firstIn, sizeFrom, refIn};
+
+// Whether block i, which may be any number, is a first block.
+pub fn is_first(blocks: usize, a: &[u8], b: &[u8], i: usize) -> bool
+    requires { ⌜ (blocks ≤ 8 * length (now a)) × (blocks ≤ 8 * length (now b)) ⌝ }
+    ensures { λ r. ⌜ r ≡ firstIn blocks (now (a .entry)) (now (b .entry)) i ⌝ }
+{
+    if blocks <= i {
+        return false;
+    }
+    if bitmap::get_bit(a, i) == 0 {
+        return false;
+    }
+    if i == 0 {
+        return true;
+    }
+    if bitmap::get_bit(a, i - 1) == 0 {
+        return true;
+    }
+    bitmap::get_bit(b, i - 1) == 0
+}
+
+// The number of blocks from block i to the first 0 of the B-map, or to the heap's end.
+pub fn object_size(blocks: usize, b: &[u8], i: usize) -> usize
+    requires { ⌜ (blocks ≤ 8 * length (now b)) × (i < blocks) ⌝ }
+    ensures { λ r. ⌜ (r ≡ sizeFrom (blocks - i) (now (b .entry)) i) × (1 ≤ r) × (i + r ≤ blocks) ⌝ }
+{
+    let mut at = i;
+    while at < blocks {
+        if bitmap::get_bit(b, at) == 0 {
+            return at + 1 - i;
+        }
+        at += 1;
+    }
+    blocks - i
+}
+
+// Whether v is 0 or 1 + a first block.
+pub fn is_reference(blocks: usize, a: &[u8], b: &[u8], v: Ref) -> bool
+    requires { ⌜ (blocks ≤ 8 * length (now a)) × (blocks ≤ 8 * length (now b)) ⌝ }
+    ensures { λ r. ⌜ r ≡ refIn blocks (now (a .entry)) (now (b .entry)) v ⌝ }
+{
+    if v == 0 {
+        return true;
+    }
+    is_first(blocks, a, b, v as usize - 1)
+}

@@ -1,0 +1,49 @@
+-- `collector::collect` meets its contract: a marking of some buffers and a sweep of others are the collection of all.
+use borrow.Author.Needs.{needs}
+use Rattle.collector.proofs.Collects.{collected-memory, collected-blocks}
+use Rattle.collector.proofs.collect.Statement.{statement}
+use Rattle.collector.proofs.collect.Tie as tie
+
+mark-requires : tie.Need-mark-requires
+mark-requires c κs = search needs
+
+sweep-requires : tie.Need-sweep-requires
+sweep-requires c κs = search needs
+
+same-length : tie.Need-same-length
+same-length c = search needs
+
+same-length-2 : tie.Need-same-length-2
+same-length-2 c = search needs
+
+same-length-3 : tie.Need-same-length-3
+same-length-3 c = search needs
+
+same-length-4 : tie.Need-same-length-4
+same-length-4 c = search needs
+
+same-length-5 : tie.Need-same-length-5
+same-length-5 c = search needs
+
+returns : tie.Need-returns
+returns c =
+    let r = c .before .before .before .before .before .before in
+    let m = r .before .before .before .before .before .before .before .before .before in
+    let s = m .before .before .before .before .before .before .before .before .before .before .before in
+    let marked = m .mark .ensures in (
+      collected-memory _ _ _ _ _ _ _ _ (s .pre .idle) _ _ (marked .0) (marked .1) _ _ _ (r .sweep .ensures .0),
+      collected-blocks _ _ _ _ _ _ _ _ (s .pre .idle) _ _ (marked .0) (marked .1) _ (r .sweep .ensures .1),
+    )
+
+pub collect-spec : {M : Type 1} → statement M
+collect-spec =
+    tie.close
+    (tie.spec
+    mark-requires
+    sweep-requires
+    same-length
+    same-length-2
+    same-length-3
+    same-length-4
+    same-length-5
+    returns)

@@ -1,0 +1,34 @@
+// The full collection: counts are cleared, every reference of the roots and of the reached objects is counted anew, and what is left
+// at 0 is freed. A count that is not 0 is the mark. Expects an undamaged heap and a cleared waiting list, and leaves it cleared.
+pub mod mark;
+pub mod sweep;
+
+ghost use mathlib.Core.Path.{_≡_};
+ghost use Rattle.rules.specs.Heap.{memory};
+ghost use Rattle.references.specs.Ready.{Ready};
+ghost use Rattle.collector.specs.Sweep.{collectBy, collectBlocks};
+use blocks::Ref;
+
+// Collects. The number of blocks freed.
+pub fn collect(
+    blocks: usize,
+    width: usize,
+    a: &mut [u8],
+    b: &mut [u8],
+    counts: &mut [u8],
+    cells: &mut [Ref],
+    roots: &[Ref],
+    waiting: &mut [Ref],
+) -> usize
+    requires { ⌜ Ready blocks width (memory (now a) (now b) (now counts) (now cells) (now roots) (now waiting)) ⌝ }
+    ensures { λ freed.
+        ⌜ (memory (now (a .exit)) (now (b .exit)) (now (counts .exit)) (now (cells .exit)) (now (roots .entry)) (now (waiting .exit))
+        ≡ collectBy blocks width
+        (memory (now (a .entry)) (now (b .entry)) (now (counts .entry)) (now (cells .entry)) (now (roots .entry)) (now (waiting .entry))))
+        × (freed
+        ≡ collectBlocks blocks width
+        (memory (now (a .entry)) (now (b .entry)) (now (counts .entry)) (now (cells .entry)) (now (roots .entry)) (now (waiting .entry)))) ⌝ }
+{
+    mark::mark(blocks, width, b, counts, cells, roots, waiting);
+    sweep::sweep(blocks, width, a, b, counts, cells)
+}

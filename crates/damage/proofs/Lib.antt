@@ -1,0 +1,5 @@
+pub mod Counting
+pub mod References
+pub mod Searches
+pub mod Doubling
+pub mod Tally

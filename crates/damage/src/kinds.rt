@@ -1,0 +1,48 @@
+// Number 2: the first damage kind that applies.
+ghost use mathlib.Core.Path.{_≡_};
+ghost use mathlib.Core.Bool.{true};
+ghost use mathlib.Core.List.{[]};
+ghost use lib.ListN.{length};
+ghost use Rattle.rules.specs.Heap.{memory, shaped};
+ghost use Rattle.rules.specs.Damage.{damage};
+use blocks::Ref;
+
+// The damage kind of a heap of right shape, or 0. Each kind is tested over the whole heap before the next.
+pub fn damage_kind(
+    blocks: usize,
+    width: usize,
+    a: &[u8],
+    b: &[u8],
+    counts: &[u8],
+    cells: &[Ref],
+    roots: &[Ref],
+    waiting: &[Ref],
+) -> usize
+    requires { ⌜ shaped blocks width (memory (now a) (now b) (now counts) (now cells) (now roots) (now waiting)) ≡ true ⌝ }
+    ensures { λ r.
+        ⌜ r ≡ damage blocks width
+        (memory (now (a .entry)) (now (b .entry)) (now (counts .entry)) (now (cells .entry)) (now (roots .entry)) (now (waiting .entry))) ⌝ }
+{
+    if crate::maps::has_end_on_free(blocks, a, b) {
+        return 1;
+    }
+    if crate::maps::has_open_end(blocks, a, b) {
+        return 2;
+    }
+    if crate::maps::has_unaligned(blocks, a, b) {
+        return 3;
+    }
+    if crate::refs::has_bad_cell(blocks, a, b, cells) {
+        return 4;
+    }
+    if crate::refs::has_bad_root(blocks, a, b, roots) {
+        return 4;
+    }
+    if crate::counts::has_bad_count(blocks, width, a, b, counts, cells, roots) {
+        return 5;
+    }
+    if crate::maps::has_bad_ends(blocks, a, b) {
+        return 6;
+    }
+    0
+}

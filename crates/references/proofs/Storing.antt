@@ -1,0 +1,85 @@
+-- The stores and the placing of a new object, in the code's steps: each hands on a memory that meets what is asked, and what comes of it is
+-- what the rule gives.
+use mathlib.Core.Path.{_≡_, ap, _∙_}
+use mathlib.Core.List.{List, []}
+use Prim.Native.Nat.{ℕ, _+_, _-_, _*_, _/_}
+use lib.ListN.{length, getD, set}
+use Rattle.bitmap.specs.Bit.{setBit, fillBits}
+use Rattle.planes.specs.Plane.{setCount}
+use Rattle.planes.proofs.Counts.{length-set-count}
+use Rattle.rules.specs.Heap.{Memory, memory}
+use Rattle.rules.specs.Store.{countUp, clearCells, letGo, putRoot, putCell, storeRootIn, storeCellIn, placed, allocateIn}
+use Rattle.references.specs.Ready.{Ready}
+use Rattle.references.specs.Blocks.{letGoBlocks, putRootBlocks, putCellBlocks, storeRootBlocks, storeCellBlocks, allocateBlocks}
+use Rattle.references.proofs.Shapes.{planes-same, extents-written}
+use Rattle.references.proofs.Elsewhere.{let-go-roots, let-go-blocks-roots}
+
+module _ (N w : ℕ) (a b counts cells roots waiting : List ℕ) where
+  -- ---- stores: the counts are counted up first
+
+  pub ready-counts : (counts₁ : List ℕ) → length counts₁ ≡ length counts
+      → Ready N w (memory a b counts cells roots waiting) → Ready N w (memory a b counts₁ cells roots waiting)
+  ready-counts counts₁ e ready = record {
+    planes = planes-same N w counts counts₁ (ready .planes) e;
+    extents = ready .extents;
+    named = ready .named;
+    idle = ready .idle;
+  }
+
+  module _ (v : ℕ) (counts₁ : List ℕ) (up : counts₁ ≡ countUp N w counts v) where
+    pub store-root-done : (r : ℕ) (g : Memory)
+        → g ≡ putRoot N w (memory a b counts₁ cells roots waiting) r v
+        → g ≡ storeRootIn N w (memory a b counts cells roots waiting) r v
+    unfolding storeRootIn
+    store-root-done r g e = e ∙ ap (λ (x : List ℕ). putRoot N w (memory a b x cells roots waiting) r v) up
+
+    pub store-root-blocks : (r n : ℕ)
+        → n ≡ putRootBlocks N w (memory a b counts₁ cells roots waiting) r v
+        → n ≡ storeRootBlocks N w (memory a b counts cells roots waiting) r v
+    unfolding storeRootBlocks
+    store-root-blocks r n e = e ∙ ap (λ (x : List ℕ). putRootBlocks N w (memory a b x cells roots waiting) r v) up
+
+    pub store-cell-done : (c : ℕ) (a′ b′ counts′ cells′ waiting′ : List ℕ)
+        → memory a′ b′ counts′ cells′ [] waiting′ ≡ letGo N w (memory a b counts₁ (set cells c v) [] waiting) (getD cells c 0)
+        → memory a′ b′ counts′ cells′ roots waiting′ ≡ storeCellIn N w (memory a b counts cells roots waiting) c v
+    unfolding storeCellIn putCell
+    store-cell-done c a′ b′ counts′ cells′ waiting′ e =
+        let-go-roots N w a b counts₁ (set cells c v) roots waiting (getD cells c 0) a′ b′ counts′ cells′ waiting′ e
+        ∙ ap (λ (x : List ℕ). letGo N w (memory a b x (set cells c v) roots waiting) (getD cells c 0)) up
+
+    pub store-cell-blocks : (c n : ℕ)
+        → n ≡ letGoBlocks N w (memory a b counts₁ (set cells c v) [] waiting) (getD cells c 0)
+        → n ≡ storeCellBlocks N w (memory a b counts cells roots waiting) c v
+    unfolding storeCellBlocks putCellBlocks
+    store-cell-blocks c n e =
+        let-go-blocks-roots N w a b counts₁ (set cells c v) roots waiting (getD cells c 0) n e
+        ∙ ap (λ (x : List ℕ). letGoBlocks N w (memory a b x (set cells c v) roots waiting) (getD cells c 0)) up
+
+  -- ---- placing: the object of n blocks at i is written first
+
+  module _ (i n : ℕ) (a₁ b₁ counts₁ cells₁ : List ℕ) (ea : a₁ ≡ fillBits a i n 1) (eb : b₁ ≡ setBit b (i + n - 1) 0)
+      (ec : counts₁ ≡ setCount (N / 8) w counts i 1) (ee : cells₁ ≡ clearCells cells (4 * i) (4 * n)) where
+    pub ready-placed : Ready N w (memory a b counts cells roots waiting) → Ready N w (memory a₁ b₁ counts₁ cells₁ roots waiting)
+    ready-placed ready = record {
+      planes = planes-same N w counts counts₁ (ready .planes) (ap length ec ∙ length-set-count (N / 8) w counts i 1);
+      extents =
+          extents-written N a b cells a₁ b₁ cells₁ i n 1 (i + n - 1) 0 (4 * i) (4 * n) ea eb ee (ready .extents);
+      named = ready .named;
+      idle = ready .idle;
+    }
+
+    written : memory a₁ b₁ counts₁ cells₁ roots waiting ≡ placed N w (memory a b counts cells roots waiting) i n
+    unfolding placed
+    written = λ k. memory (ea k) (eb k) (ec k) (ee k) roots waiting
+
+    pub place-done : (r : ℕ) (g : Memory)
+        → g ≡ putRoot N w (memory a₁ b₁ counts₁ cells₁ roots waiting) r (i + 1)
+        → g ≡ allocateIn N w (memory a b counts cells roots waiting) n r i
+    unfolding allocateIn
+    place-done r g e = e ∙ ap (λ (h : Memory). putRoot N w h r (i + 1)) written
+
+    pub place-blocks : (r m : ℕ)
+        → m ≡ putRootBlocks N w (memory a₁ b₁ counts₁ cells₁ roots waiting) r (i + 1)
+        → m ≡ allocateBlocks N w (memory a b counts cells roots waiting) n r i
+    unfolding allocateBlocks
+    place-blocks r m e = e ∙ ap (λ (h : Memory). putRootBlocks N w h r (i + 1)) written

@@ -1,0 +1,88 @@
+-- `references::stores::place` meets its contract: the buffers that are handed on are those of `placed`.
+use native.Mathlib.Omega.{arith}
+use borrow.Author.Needs.{needs}
+use Rattle.references.proofs.Storing.{ready-placed, place-done, place-blocks}
+use Rattle.references.proofs.stores.place.Statement.{statement}
+use Rattle.references.proofs.stores.place.Tie as tie
+
+mark-extent-requires : tie.Need-mark-extent-requires
+mark-extent-requires c κs = search needs
+
+set-count-requires : tie.Need-set-count-requires
+set-count-requires c κs = search needs
+
+mul-clear-cells : tie.Need-mul-clear-cells
+mul-clear-cells c = search needs
+
+mul-clear-cells-2 : tie.Need-mul-clear-cells-2
+mul-clear-cells-2 c = search needs
+
+clear-cells-requires : tie.Need-clear-cells-requires
+clear-cells-requires c κs = search needs
+
+add-put-root : tie.Need-add-put-root
+add-put-root c = search needs
+
+cast-put-root : tie.Need-cast-put-root
+cast-put-root c = search needs
+
+put-root-requires : tie.Need-put-root-requires
+put-root-requires c κs =
+    let cleared = c .before .before .before .before .before .before .before .before in
+    let counted = cleared .before .before .before .before in
+    let marked = counted .before .before .before .before .before .before in
+    let pre = marked .before .before .before .before .before .before .before .before .before .pre in
+    let extent = marked .mark-extent .ensures in
+    let count = counted .set-count .ensures in
+    let cells = cleared .clear-cells .ensures in
+    (ready-placed _ _ _ _ _ _ _ _ _ _ _ _ _ _ (extent .0) (extent .1) count cells (pre .0), pre .3, omega arith)
+
+same-length : tie.Need-same-length
+same-length c = search needs
+
+same-length-2 : tie.Need-same-length-2
+same-length-2 c = search needs
+
+same-length-3 : tie.Need-same-length-3
+same-length-3 c = search needs
+
+same-length-4 : tie.Need-same-length-4
+same-length-4 c = search needs
+
+same-length-5 : tie.Need-same-length-5
+same-length-5 c = search needs
+
+same-length-6 : tie.Need-same-length-6
+same-length-6 c = search needs
+
+returns : tie.Need-returns
+returns c =
+    let put = c .before .before .before .before .before .before .before .before .before .before .before .before in
+    let cleared = put .before .before .before .before .before .before .before .before .before in
+    let counted = cleared .before .before .before .before in
+    let extent = counted .before .before .before .before .before .before .mark-extent .ensures in
+    let count = counted .set-count .ensures in
+    let cells = cleared .clear-cells .ensures in (
+      place-done _ _ _ _ _ _ _ _ _ _ _ _ _ _ (extent .0) (extent .1) count cells _ _ (put .put-root .ensures .0),
+      place-blocks _ _ _ _ _ _ _ _ _ _ _ _ _ _ (extent .0) (extent .1) count cells _ _ (put .put-root .ensures .1),
+    )
+
+pub place-spec : {M : Type 1} → statement M
+place-spec =
+    tie.close
+    (tie.spec
+    mark-extent-requires
+    set-count-requires
+    mul-clear-cells
+    mul-clear-cells-2
+    clear-cells-requires
+    add-put-root
+    cast-put-root
+    put-root-requires
+    same-length
+    same-length-2
+    same-length-3
+    same-length-4
+    same-length-5
+    same-length-6
+    returns)

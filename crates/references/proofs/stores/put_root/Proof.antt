@@ -1,0 +1,67 @@
+-- `references::stores::put_root` meets its contract: letting go is the same beside the roots, of which one is written.
+use native.Mathlib.Omega.{arith}
+use borrow.Author.Needs.{needs}
+use Rattle.rules.specs.Store.{putRoot}
+use Rattle.references.specs.Blocks.{putRootBlocks}
+use Rattle.references.proofs.Elsewhere.{let-go-roots, let-go-blocks-roots}
+use Rattle.references.proofs.stores.put_root.Statement.{statement}
+use Rattle.references.proofs.stores.put_root.Tie as tie
+
+mul-old : tie.Need-mul-old
+mul-old c = search needs
+
+slice-read-old : tie.Need-slice-read-old
+slice-read-old c = search needs
+
+mul-roots : tie.Need-mul-roots
+mul-roots c = search needs
+
+slice-write-roots : tie.Need-slice-write-roots
+slice-write-roots c = search needs
+
+let-go-requires : tie.Need-let-go-requires
+let-go-requires c κs =
+    let start = c .before .before .before .before .before .before .before .before .before .before .before .before in
+    let ready = start .pre .0 in
+    (ready .planes, ready .extents, ready .idle, omega (arith, ready .named (start .args .r)))
+
+same-length : tie.Need-same-length
+same-length c = search needs
+
+same-length-2 : tie.Need-same-length-2
+same-length-2 c = search needs
+
+same-length-3 : tie.Need-same-length-3
+same-length-3 c = search needs
+
+same-length-4 : tie.Need-same-length-4
+same-length-4 c = search needs
+
+same-length-5 : tie.Need-same-length-5
+same-length-5 c = search needs
+
+same-length-6 : tie.Need-same-length-6
+same-length-6 c = search needs
+
+returns : tie.Need-returns
+unfolding putRoot putRootBlocks
+returns c =
+    let gone = c .before .before .before .before .before .before .before .before .before .before .let-go .ensures in
+    (let-go-roots _ _ _ _ _ _ _ _ _ _ _ _ _ _ (gone .0), let-go-blocks-roots _ _ _ _ _ _ _ _ _ _ (gone .1))
+
+pub put-root-spec : {M : Type 1} → statement M
+put-root-spec =
+    tie.close
+    (tie.spec
+    mul-old
+    slice-read-old
+    mul-roots
+    slice-write-roots
+    let-go-requires
+    same-length
+    same-length-2
+    same-length-3
+    same-length-4
+    same-length-5
+    same-length-6
+    returns)

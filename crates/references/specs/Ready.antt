@@ -1,0 +1,28 @@
+-- What the inner calls ask of the lent lists: their lengths, that no reference points past the heap, and a cleared waiting list. An
+-- undamaged heap of right shape meets it once its waiting list is cleared. For contracts of private functions.
+use Prim.Native.Nat.{ℕ, _*_, _/_, _≤_}
+use mathlib.Core.Path.{_≡_}
+use mathlib.Core.List.{List}
+use lib.ListN.{length, getD, replicate}
+use Rattle.rules.specs.Heap.{Memory, maxBlocks}
+
+-- the count maps of N blocks
+pub record Planes (N w : ℕ) (counts : List ℕ) : Type 0 where
+  pub eighths : N ≡ 8 * (N / 8)
+  pub most : N ≤ maxBlocks
+  pub some : 1 ≤ w
+  pub width : w ≤ 4
+  pub length-is : length counts ≡ w * (N / 8)
+
+-- the two maps and the cells
+pub record Extents (N : ℕ) (a b cells : List ℕ) : Type 0 where
+  pub a-length : length a ≡ N / 8
+  pub b-length : length b ≡ N / 8
+  pub cells-length : length cells ≡ 4 * N
+  pub named : (j : ℕ) → getD cells j 0 ≤ N
+
+pub record Ready (N w : ℕ) (h : Memory) : Type 0 where
+  pub planes : Planes N w (h .counts)
+  pub extents : Extents N (h .a) (h .b) (h .cells)
+  pub named : (r : ℕ) → getD (h .roots) r 0 ≤ N
+  pub idle : h .waiting ≡ replicate N 0

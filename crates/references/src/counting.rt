@@ -1,0 +1,31 @@
+// A count up, and a count down that tells whether it came to 0.
+ghost use mathlib.Core.Path.{_≡_};
+ghost use Prim.Native.Nat.{_≤_, _<_};
+ghost use Rattle.rules.specs.Heap.{capacity};
+ghost use Rattle.rules.specs.Store.{countUp};
+ghost use Rattle.references.specs.Ready.{Planes};
+use blocks::Ref;
+
+// The largest count.
+pub fn capacity_of(width: usize) -> u8
+    requires { ⌜ (1 ≤ width) × (width ≤ 4) ⌝ }
+    ensures { λ r. ⌜ (r ≡ capacity width) × (1 ≤ r) × (r < 16) ⌝ }
+{
+    (1u8 << width) - 1
+}
+
+// Counts up the object that v names, if any.
+pub fn count_up(blocks: usize, width: usize, counts: &mut [u8], v: Ref)
+    requires { ⌜ Planes blocks width (now counts) × (v ≤ blocks) ⌝ }
+    ensures { λ _. ⌜ now (counts .exit) ≡ countUp blocks width (now (counts .entry)) v ⌝ }
+{
+    if v == 0 {
+        return;
+    }
+    let block = v as usize - 1;
+    let count = planes::get_count(counts, blocks / 8, width, block);
+    if count == capacity_of(width) {
+        return;
+    }
+    planes::set_count(counts, blocks / 8, width, block, count + 1);
+}

@@ -1,0 +1,142 @@
+// The two stores and the placing of a new object, each with the number of blocks that it frees.
+ghost use mathlib.Core.Path.{_≡_};
+ghost use Prim.Native.Nat.{_+_, _*_, _≤_, _<_};
+ghost use lib.ListN.{length};
+ghost use Rattle.rules.specs.Heap.{memory};
+ghost use Rattle.rules.specs.Store.{putRoot, storeRootIn, storeCellIn, allocateIn};
+ghost use Rattle.references.specs.Ready.{Ready};
+ghost use Rattle.references.specs.Blocks.{putRootBlocks, storeRootBlocks, storeCellBlocks, allocateBlocks};
+use blocks::Ref;
+
+// Writes v, which is counted already, to root r, and lets go of what stood there.
+fn put_root(
+    blocks: usize,
+    width: usize,
+    a: &mut [u8],
+    b: &mut [u8],
+    counts: &mut [u8],
+    cells: &mut [Ref],
+    roots: &mut [Ref],
+    waiting: &mut [Ref],
+    r: usize,
+    v: Ref,
+) -> usize
+    requires { ⌜ Ready blocks width (memory (now a) (now b) (now counts) (now cells) (now roots) (now waiting))
+        × (r < length (now roots)) × (v ≤ blocks) ⌝ }
+    ensures { λ freed.
+        ⌜ (memory (now (a .exit)) (now (b .exit)) (now (counts .exit)) (now (cells .exit)) (now (roots .exit)) (now (waiting .exit))
+        ≡ putRoot blocks width
+        (memory (now (a .entry)) (now (b .entry)) (now (counts .entry)) (now (cells .entry)) (now (roots .entry)) (now (waiting .entry)))
+        r v)
+        × (freed
+        ≡ putRootBlocks blocks width
+        (memory (now (a .entry)) (now (b .entry)) (now (counts .entry)) (now (cells .entry)) (now (roots .entry)) (now (waiting .entry)))
+        r v) ⌝ }
+{
+    let old = roots[r];
+    roots[r] = v;
+    crate::release::let_go(blocks, width, a, b, counts, cells, waiting, old)
+}
+
+// Stores v in root r.
+pub fn store_root(
+    blocks: usize,
+    width: usize,
+    a: &mut [u8],
+    b: &mut [u8],
+    counts: &mut [u8],
+    cells: &mut [Ref],
+    roots: &mut [Ref],
+    waiting: &mut [Ref],
+    r: usize,
+    v: Ref,
+) -> usize
+    requires { ⌜ Ready blocks width (memory (now a) (now b) (now counts) (now cells) (now roots) (now waiting))
+        × (r < length (now roots)) × (v ≤ blocks) ⌝ }
+    ensures { λ freed.
+        ⌜ (memory (now (a .exit)) (now (b .exit)) (now (counts .exit)) (now (cells .exit)) (now (roots .exit)) (now (waiting .exit))
+        ≡ storeRootIn blocks width
+        (memory (now (a .entry)) (now (b .entry)) (now (counts .entry)) (now (cells .entry)) (now (roots .entry)) (now (waiting .entry)))
+        r v)
+        × (freed
+        ≡ storeRootBlocks blocks width
+        (memory (now (a .entry)) (now (b .entry)) (now (counts .entry)) (now (cells .entry)) (now (roots .entry)) (now (waiting .entry)))
+        r v) ⌝ }
+{
+    crate::counting::count_up(blocks, width, counts, v);
+    put_root(blocks, width, a, b, counts, cells, roots, waiting, r, v)
+}
+
+// Stores v in cell number c of all cells.
+pub fn store_cell(
+    blocks: usize,
+    width: usize,
+    a: &mut [u8],
+    b: &mut [u8],
+    counts: &mut [u8],
+    cells: &mut [Ref],
+    roots: &[Ref],
+    waiting: &mut [Ref],
+    c: usize,
+    v: Ref,
+) -> usize
+    requires { ⌜ Ready blocks width (memory (now a) (now b) (now counts) (now cells) (now roots) (now waiting))
+        × (c < 4 * blocks) × (v ≤ blocks) ⌝ }
+    ensures { λ freed.
+        ⌜ (memory (now (a .exit)) (now (b .exit)) (now (counts .exit)) (now (cells .exit)) (now (roots .entry)) (now (waiting .exit))
+        ≡ storeCellIn blocks width
+        (memory (now (a .entry)) (now (b .entry)) (now (counts .entry)) (now (cells .entry)) (now (roots .entry)) (now (waiting .entry)))
+        c v)
+        × (freed
+        ≡ storeCellBlocks blocks width
+        (memory (now (a .entry)) (now (b .entry)) (now (counts .entry)) (now (cells .entry)) (now (roots .entry)) (now (waiting .entry)))
+        c v) ⌝ }
+{
+    crate::counting::count_up(blocks, width, counts, v);
+    let old = cells[c];
+    cells[c] = v;
+    crate::release::let_go(blocks, width, a, b, counts, cells, waiting, old)
+}
+
+// Makes an object of count 1 of the n blocks from block i on, and puts its reference into root r.
+pub fn place(
+    blocks: usize,
+    width: usize,
+    a: &mut [u8],
+    b: &mut [u8],
+    counts: &mut [u8],
+    cells: &mut [Ref],
+    roots: &mut [Ref],
+    waiting: &mut [Ref],
+    n: usize,
+    r: usize,
+    i: usize,
+) -> usize
+    requires { ⌜ Ready blocks width (memory (now a) (now b) (now counts) (now cells) (now roots) (now waiting))
+        × (1 ≤ n) × (i + n ≤ blocks) × (r < length (now roots)) ⌝ }
+    ensures { λ freed.
+        ⌜ (memory (now (a .exit)) (now (b .exit)) (now (counts .exit)) (now (cells .exit)) (now (roots .exit)) (now (waiting .exit))
+        ≡ allocateIn blocks width
+        (memory (now (a .entry)) (now (b .entry)) (now (counts .entry)) (now (cells .entry)) (now (roots .entry)) (now (waiting .entry)))
+        n r i)
+        × (freed
+        ≡ allocateBlocks blocks width
+        (memory (now (a .entry)) (now (b .entry)) (now (counts .entry)) (now (cells .entry)) (now (roots .entry)) (now (waiting .entry)))
+        n r i) ⌝ }
+{
+    blocks::extents::mark_extent(a, b, i, n);
+    planes::set_count(counts, blocks / 8, width, i, 1);
+    blocks::extents::clear_cells(cells, 4 * i, 4 * n);
+    put_root(
+        blocks,
+        width,
+        a,
+        b,
+        counts,
+        cells,
+        roots,
+        waiting,
+        r,
+        (i + 1) as Ref,
+    )
+}
