@@ -39,11 +39,11 @@ reached-start N a size d k e p =
       lowest = λ j f. sym (lowest-chunks N d j a (chunks ∙ ap (λ (x : ℕ). 2 ^ d * x) f));
     }
 
-module _ (N : ℕ) (a : List ℕ) (size at : ℕ) (positive : 0 < size) where
+module _ (N : ℕ) (a : List ℕ) (size at : ℕ) where
   -- past the end no chunk is left
-  pub reached-end : Reached N a size at → N ≤ at → (k : ℕ) → size ≡ 2 ^ k → at ≡ orElse N (lowestFree N k a)
+  pub reached-end : 0 < size → Reached N a size at → N ≤ at → (k : ℕ) → size ≡ 2 ^ k → at ≡ orElse N (lowestFree N k a)
   unfolding lowestFrom
-  reached-end r l k e = go (r .n) (r .left) (r .lowest k e)
+  reached-end positive r l k e = go (r .n) (r .left) (r .lowest k e)
     where
       go : (n : ℕ) → at + n * size ≡ N → lowestFrom n k a at ≡ lowestFree N k a → at ≡ orElse N (lowestFree N k a)
       go zero left lowest = omega (arith, ap (orElse N) lowest)

@@ -1,7 +1,6 @@
 // Free chunks of the A-map: the size of chunk that an object asks for, whether any is free (an or-tree), and the lowest one.
 ghost use mathlib.Core.Path.{_≡_};
-ghost use mathlib.Core.Option.{Option, none, some};
-ghost use Prim.Native.Nat.{ℕ, _+_, _-_, _*_, _^_, _<_, _≤_};
+ghost use Prim.Native.Nat.{ℕ, _+_, _*_, _^_, _<_, _≤_};
 ghost use lib.ListN.{length};
 ghost use Rattle.rules.specs.Heap.{exponent, chunkFree, lowestFree};
 ghost use Rattle.blocks.specs.Search.{someFree, orElse};
@@ -18,7 +17,8 @@ pub fn chunk_size(n: usize) -> usize
     size
 }
 
-// Whether the chunk of `size` blocks from block `at` is free: of one block where its A bit is 0, of more where both of its halves are.
+// Whether the chunk of `size` blocks from block `at` is free: of one block where its A bit is 0, of more where both of its
+// halves are.
 pub fn chunk_is_free(a: &[u8], at: usize, size: usize) -> bool
     requires { ⌜ ((k : ℕ) × (size ≡ 2 ^ k)) ⌝ }
     requires { ⌜ (at + size ≤ 8 * length (now a)) × (at + size < 2 ^ 64) ⌝ }

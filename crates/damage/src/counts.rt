@@ -1,4 +1,5 @@
-// Damage kind 5: counts against the number of references. These are tallied once, in a local array, since no lent buffer may be written.
+// Damage kind 5: counts against the number of references. These are tallied once, in a local array, since no lent buffer may
+// be written.
 ghost use mathlib.Core.Path.{_≡_};
 ghost use mathlib.Core.Bool.{cond, not, _&&_, _||_};
 ghost use mathlib.Core.List.{[]};
@@ -16,7 +17,8 @@ fn tally(refs: &[Ref], at: &mut [Ref; MAX_BLOCKS])
         × ((b : ℕ) → b < maxBlocks → getD (now at) b 0 + length (now refs) < 65536) ⌝ }
     ensures { λ _.
         ⌜ (length (now (at .exit)) ≡ maxBlocks)
-        × ((b : ℕ) → b < maxBlocks → getD (now (at .exit)) b 0 ≡ getD (now (at .entry)) b 0 + holding (b + 1) (now (refs .entry))) ⌝ }
+        × ((b : ℕ) → b < maxBlocks
+        → getD (now (at .exit)) b 0 ≡ getD (now (at .entry)) b 0 + holding (b + 1) (now (refs .entry))) ⌝ }
 {
     let mut j = 0;
     while j < refs.len() {

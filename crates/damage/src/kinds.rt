@@ -1,8 +1,6 @@
 // Number 2: the first damage kind that applies.
 ghost use mathlib.Core.Path.{_≡_};
 ghost use mathlib.Core.Bool.{true};
-ghost use mathlib.Core.List.{[]};
-ghost use lib.ListN.{length};
 ghost use Rattle.rules.specs.Heap.{memory, shaped};
 ghost use Rattle.rules.specs.Damage.{damage};
 use blocks::Ref;
@@ -21,7 +19,8 @@ pub fn damage_kind(
     requires { ⌜ shaped blocks width (memory (now a) (now b) (now counts) (now cells) (now roots) (now waiting)) ≡ true ⌝ }
     ensures { λ r.
         ⌜ r ≡ damage blocks width
-        (memory (now (a .entry)) (now (b .entry)) (now (counts .entry)) (now (cells .entry)) (now (roots .entry)) (now (waiting .entry))) ⌝ }
+        (memory (now (a .entry)) (now (b .entry)) (now (counts .entry)) (now (cells .entry)) (now (roots .entry))
+        (now (waiting .entry))) ⌝ }
 {
     if crate::maps::has_end_on_free(blocks, a, b) {
         return 1;

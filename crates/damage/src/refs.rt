@@ -9,7 +9,8 @@ use blocks::Ref;
 
 // Kind 4 of the cells.
 pub fn has_bad_cell(blocks: usize, a: &[u8], b: &[u8], cells: &[Ref]) -> bool
-    requires { ⌜ (blocks ≤ 8 * length (now a)) × (blocks ≤ 8 * length (now b)) × (length (now cells) ≡ 4 * blocks) × (blocks ≤ maxBlocks) ⌝ }
+    requires { ⌜ (blocks ≤ 8 * length (now a)) × (blocks ≤ 8 * length (now b)) × (length (now cells) ≡ 4 * blocks)
+        × (blocks ≤ maxBlocks) ⌝ }
     ensures { λ r.
         ⌜ r ≡ someBelow (badCell blocks (memory (now (a .entry)) (now (b .entry)) [] (now (cells .entry)) [] [])) (4 * blocks) ⌝ }
 {

@@ -1,8 +1,6 @@
 // Number 1: the number of blocks, the width, the number of roots and the lengths of the lent buffers.
 ghost use mathlib.Core.Path.{_≡_};
-ghost use mathlib.Core.Bool.{true};
-ghost use Prim.Native.Nat.{_*_, _≤_};
-ghost use Rattle.rules.specs.Heap.{isBlocks, shape, maxBlocks};
+ghost use Rattle.rules.specs.Heap.{isBlocks, shape};
 use blocks::MAX_BLOCKS;
 
 // Whether n is a power of two from 8 to the largest heap.

@@ -64,6 +64,9 @@ blocks-facts N e = doubled-facts 10 8 N e
 pub blocks-le : (N : ℕ) → isBlocks N ≡ true → N ≤ maxBlocks
 blocks-le N e = let found = blocks-facts N e in omega (arith, found .2, pow-mono {i = found .0} {j = 10} (found .1))
 
+pub blocks-power : (N : ℕ) → isBlocks N ≡ true → (k : ℕ) × (N ≡ 2 ^ k)
+blocks-power N e = let found = blocks-facts N e in (3 + found .0, found .2 ∙ sym (pow-add 2 3 (found .0)))
+
 -- 8 to 8,192 are 2 ^ 3 to 2 ^ 13
 blocks-test : (n k : ℕ) → n ≡ 2 ^ k → 8 ≤ n → n ≤ maxBlocks → isBlocks n ≡ true
 blocks-test n k e low high =
@@ -85,7 +88,7 @@ tests N w h =
 pub shape-facts : (N w : ℕ) (h : Memory) → shaped N w h ≡ true → Shaped N w h
 unfolding shape
 shape-facts N w h e = record {
-  power = (3 + j, doubled ∙ sym (pow-add 2 3 j));
+  power = blocks-power N (at 0);
   blocks-min = omega (arith, doubled, pow-mono {i = 0} {j = j} (omega arith));
   blocks-max = blocks-le N (at 0);
   whole-bytes = omega (arith, doubled);

@@ -41,7 +41,7 @@ inside : (c : tie.In-loop Inv-loop μ-loop Inv-chunks μ-chunks)
 inside c =
     let o = c .before .before .before in
     let s = o .before .before in
-    let lies = reached-inside (s .args .blocks) (s .args .a .now) (s .args .size) (o .chunks .at) (positive s) in
+    let lies = reached-inside (s .args .blocks) (s .args .a .now) (s .args .size) (o .chunks .at) in
     omega (arith, lies (o .chunks .inv) (omega arith))
 
 add-get-bit : tie.Need-add-get-bit Inv-loop μ-loop Inv-chunks μ-chunks
@@ -69,7 +69,7 @@ chunks-again c =
     let used : bitAt a (at + i) ≡ 0 → ⊥ =
     λ e. c .if2 .taken (c .before .get-bit .ensures .0 ∙ ap (λ (x : ℕ). bitAt a (x + i)) same ∙ e) in
     rw same
-    (reached-next (s .args .blocks) a (s .args .size) at (positive s) (o .chunks .inv) (omega arith) i (omega arith) used)
+    (reached-next (s .args .blocks) a (s .args .size) at (o .chunks .inv) (omega arith) i (omega arith) used)
 
 add-i : tie.Need-add-i Inv-loop μ-loop Inv-chunks μ-chunks
 add-i c = omega arith
@@ -99,7 +99,7 @@ returns-2 c k e =
     let a = s .args .a .now in
     let at = o .chunks .at in
     let free : (i : ℕ) → i < s .args .size → bitAt a (at + i) ≡ 0 = λ i j. l .loop .inv .2 i (omega arith) in
-    l .loop .inv .1 ∙ reached-free (s .args .blocks) a (s .args .size) at (positive s) (o .chunks .inv) (omega arith) free k e
+    l .loop .inv .1 ∙ reached-free (s .args .blocks) a (s .args .size) at (o .chunks .inv) (omega arith) free k e
 
 pub lowest-chunk-spec : {M : Type 1} → statement M
 lowest-chunk-spec =

@@ -1,0 +1,55 @@
+-- Every call leaves a usable heap usable: calls keep a heap undamaged, and an accepted call that writes leaves the waiting list cleared.
+use mathlib.Core.Path.{_≡_, refl, sym, subst}
+use mathlib.Core.Bool.{Bool, true, false, _&&_}
+use mathlib.Core.Option.{Option, none, some}
+use Prim.Native.Nat.{ℕ, _*_}
+use lib.Dec.{leb, ltb}
+use lib.ListN.{length, replicate}
+use Rattle.rules.specs.Heap.{Memory, shaped, isFirst, sizeAt, exponent, lowestFree, isRef}
+use Rattle.rules.specs.Store.{formatted}
+use Rattle.rules.specs.Calls.{Call, format, check, collect, freeBlocks, allocate, storeRoot, storeCell, look, Answer, require, onSound, freeing, allocation, answer}
+use Rattle.rules.specs.Demand.{Promise}
+use Rattle.rules.specs.declared.Reply.{Reply}
+use Rattle.rules.proofs.Replies.{on-sound-next}
+use Rattle.theory.proofs.Theorems.{calls-keep-undamaged}
+use Rattle.inner.specs.Usable.{Usable}
+
+module _ (N w : ℕ) (h : Memory) (usable : Usable N w h) where
+  abbrev Idle : Answer → Type 0
+  Idle x = x .1 .waiting ≡ replicate N 0
+
+  require-idle : (t : Bool) (number : ℕ) (next : Answer) → Idle next → Idle (require t number h next)
+  unfolding require
+  require-idle true number next idle = idle
+  require-idle false number next idle = usable .idle
+
+  on-sound-idle : (next : Answer) → Idle next → Idle (onSound N w h next)
+  on-sound-idle next idle = subst Idle (sym (on-sound-next N w h next (usable .shape-is) (usable .undamaged))) idle
+
+  allocation-idle : (n r : ℕ) (o : Option ℕ) → Idle (allocation N w h n r o)
+  unfolding allocation
+  allocation-idle n r none = usable .idle
+  allocation-idle n r (some i) = refl
+
+  answer-idle : (c : Call) → Idle (answer N w h c)
+  unfolding answer freeing formatted
+  answer-idle format = require-idle (shaped N w h) 1 _ refl
+  answer-idle check = on-sound-idle _ (usable .idle)
+  answer-idle freeBlocks = on-sound-idle _ (usable .idle)
+  answer-idle collect = on-sound-idle _ refl
+  answer-idle (allocate n r) =
+      on-sound-idle _
+      (require-idle (leb 1 n && leb n N) 3 _
+      (require-idle (ltb r (length (h .roots))) 4 _ (allocation-idle n r (lowestFree N (exponent n) (h .a)))))
+  answer-idle (storeRoot r v) =
+      on-sound-idle _ (require-idle (ltb r (length (h .roots))) 4 _ (require-idle (isRef N h v) 8 _ refl))
+  answer-idle (storeCell a j v) =
+      on-sound-idle _
+      (require-idle (isFirst N h a) 6 _ (require-idle (ltb j (4 * sizeAt N h a)) 7 _ (require-idle (isRef N h v) 8 _ refl)))
+  answer-idle (look a) = on-sound-idle _ (require-idle (isFirst N h a) 6 _ (usable .idle))
+
+  pub usable-kept : (c : Call) (x : Reply) (g : Memory) → Promise N w c h x g → Usable N w g
+  usable-kept c x g promise =
+      let kept = calls-keep-undamaged N w h (record { right-shape = usable .shape-is; no-damage = usable .undamaged }) c in
+      subst (λ (k : Memory). Usable N w k) (sym (promise .after-is))
+      (record { shape-is = kept .right-shape; undamaged = kept .no-damage; idle = answer-idle c })

@@ -1,0 +1,7 @@
+pub mod Places
+pub mod Idle
+pub mod Passed
+pub mod Stored
+pub mod Allocated
+pub mod Collected
+pub mod Kept

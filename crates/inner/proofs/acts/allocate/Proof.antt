@@ -1,0 +1,54 @@
+-- `inner::acts::allocate` meets its contract: the object is placed where the search found room.
+use Rattle.inner.proofs.Idle.{usable-ready}
+use Rattle.inner.proofs.Allocated.{allocate-passed, allocate-promised}
+use borrow.Author.Needs.{needs}
+use Rattle.inner.proofs.acts.allocate.Statement.{statement}
+use Rattle.inner.proofs.acts.allocate.Tie as tie
+
+place-requires : tie.Need-place-requires
+place-requires c κs =
+    let pre = c .before .before .before .before .before .before .before .before .before .before .before .before .pre in
+    let free = allocate-passed _ _ _ _ _ _ (pre .1) in
+    (usable-ready _ _ _ (pre .0), free .some-blocks, free .inside, free .place)
+
+acceptance-requires : tie.Need-acceptance-requires
+acceptance-requires c κs = search needs
+
+same-length : tie.Need-same-length
+same-length c = search needs
+
+same-length-2 : tie.Need-same-length-2
+same-length-2 c = search needs
+
+same-length-3 : tie.Need-same-length-3
+same-length-3 c = search needs
+
+same-length-4 : tie.Need-same-length-4
+same-length-4 c = search needs
+
+same-length-5 : tie.Need-same-length-5
+same-length-5 c = search needs
+
+same-length-6 : tie.Need-same-length-6
+same-length-6 c = search needs
+
+returns : tie.Need-returns
+returns c =
+    let pre = c .before .before .before .before .before .before .before .before .before .before .before .before .before .before .before .before .before .before .before .before .before .before .before .before .before .before .pre in
+    allocate-promised _ _ _ _ _ _ (allocate-passed _ _ _ _ _ _ (pre .1)) (pre .0) _ _
+    (c .before .before .before .before .before .before .before .before .before .before .before .before .before .place .ensures .0)
+    (c .acceptance .ensures)
+
+pub allocate-spec : {M : Type 1} → statement M
+allocate-spec =
+    tie.close
+    (tie.spec
+    place-requires
+    acceptance-requires
+    same-length
+    same-length-2
+    same-length-3
+    same-length-4
+    same-length-5
+    same-length-6
+    returns)

@@ -1,0 +1,63 @@
+-- `inner::acts::store_cell` meets its contract: cell j of the object at block `at` is cell 4 * at + j of all.
+use native.Mathlib.Omega.{arith}
+use Rattle.inner.proofs.Idle.{usable-healthy, usable-ready}
+use Rattle.inner.proofs.Passed.{cell-passed}
+use Rattle.inner.proofs.Stored.{cell-promised}
+use borrow.Author.Needs.{needs}
+use Rattle.inner.proofs.acts.store_cell.Statement.{statement}
+use Rattle.inner.proofs.acts.store_cell.Tie as tie
+
+mul-store-cell : tie.Need-mul-store-cell
+mul-store-cell c =
+    let pre = c .before .before .before .before .before .before .before .before .before .before .before .pre in
+    record { fits = omega (arith, cell-passed _ _ _ _ _ (pre .1) .cell-inside, usable-healthy _ _ _ (pre .0) .shape .blocks-max) }
+
+add-store-cell : tie.Need-add-store-cell
+add-store-cell c =
+    let pre = c .before .before .before .before .before .before .before .before .before .before .before .pre in
+    record { fits = omega (arith, cell-passed _ _ _ _ _ (pre .1) .cell-inside, usable-healthy _ _ _ (pre .0) .shape .blocks-max) }
+
+store-cell-requires : tie.Need-store-cell-requires
+store-cell-requires c κs =
+    let pre = c .before .before .before .before .before .before .before .before .before .before .before .pre in
+    let passed = cell-passed _ _ _ _ _ (pre .1) in
+    (usable-ready _ _ _ (pre .0), passed .cell-inside, passed .inside)
+
+acceptance-requires : tie.Need-acceptance-requires
+acceptance-requires c κs = search needs
+
+same-length : tie.Need-same-length
+same-length c = search needs
+
+same-length-2 : tie.Need-same-length-2
+same-length-2 c = search needs
+
+same-length-3 : tie.Need-same-length-3
+same-length-3 c = search needs
+
+same-length-4 : tie.Need-same-length-4
+same-length-4 c = search needs
+
+same-length-5 : tie.Need-same-length-5
+same-length-5 c = search needs
+
+returns : tie.Need-returns
+returns c =
+    let pre = c .before .before .before .before .before .before .before .before .before .before .before .before .before .before .before .before .before .before .before .before .before .before .before .pre in
+    let done = c .before .before .before .before .before .before .before .before .before .before .before .store-cell .ensures in
+    cell-promised _ _ _ _ _ _ (cell-passed _ _ _ _ _ (pre .1)) (pre .0) _ _ _ (done .0) (done .1) (c .acceptance .ensures)
+
+pub store-cell-spec : {M : Type 1} → statement M
+store-cell-spec =
+    tie.close
+    (tie.spec
+    mul-store-cell
+    add-store-cell
+    store-cell-requires
+    acceptance-requires
+    same-length
+    same-length-2
+    same-length-3
+    same-length-4
+    same-length-5
+    returns)

@@ -1,0 +1,54 @@
+-- `inner::acts::store_root` meets its contract.
+use Rattle.inner.proofs.Idle.{usable-ready}
+use Rattle.inner.proofs.Passed.{root-passed}
+use Rattle.inner.proofs.Stored.{root-promised}
+use borrow.Author.Needs.{needs}
+use Rattle.inner.proofs.acts.store_root.Statement.{statement}
+use Rattle.inner.proofs.acts.store_root.Tie as tie
+
+store-root-requires : tie.Need-store-root-requires
+store-root-requires c κs =
+    let pre = c .before .before .before .before .before .before .before .before .before .before .before .before .pre in
+    let passed = root-passed _ _ _ _ (pre .1) in
+    (usable-ready _ _ _ (pre .0), passed .place, passed .inside)
+
+acceptance-requires : tie.Need-acceptance-requires
+acceptance-requires c κs = search needs
+
+same-length : tie.Need-same-length
+same-length c = search needs
+
+same-length-2 : tie.Need-same-length-2
+same-length-2 c = search needs
+
+same-length-3 : tie.Need-same-length-3
+same-length-3 c = search needs
+
+same-length-4 : tie.Need-same-length-4
+same-length-4 c = search needs
+
+same-length-5 : tie.Need-same-length-5
+same-length-5 c = search needs
+
+same-length-6 : tie.Need-same-length-6
+same-length-6 c = search needs
+
+returns : tie.Need-returns
+returns c =
+    let pre = c .before .before .before .before .before .before .before .before .before .before .before .before .before .before .before .before .before .before .before .before .before .before .before .before .before .before .pre in
+    let done = c .before .before .before .before .before .before .before .before .before .before .before .before .before .store-root .ensures in
+    root-promised _ _ _ _ _ (root-passed _ _ _ _ (pre .1)) (pre .0) _ _ _ (done .0) (done .1) (c .acceptance .ensures)
+
+pub store-root-spec : {M : Type 1} → statement M
+store-root-spec =
+    tie.close
+    (tie.spec
+    store-root-requires
+    acceptance-requires
+    same-length
+    same-length-2
+    same-length-3
+    same-length-4
+    same-length-5
+    same-length-6
+    returns)

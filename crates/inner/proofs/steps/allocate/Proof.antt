@@ -1,0 +1,61 @@
+-- `inner::steps::allocate` meets its contract.
+use native.Mathlib.Omega.{arith}
+use Rattle.inner.proofs.Idle.{healthy-blocks, usable-healthy}
+use Rattle.inner.proofs.Allocated.{allocate-accepts, allocate-refused}
+use borrow.Author.Needs.{needs}
+use Rattle.inner.proofs.steps.allocate.Statement.{statement}
+use Rattle.inner.proofs.steps.allocate.Tie as tie
+
+allocate-reply-requires : tie.Need-allocate-reply-requires
+allocate-reply-requires c κs =
+    let healthy = usable-healthy _ _ _ (c .before .before .before .before .before .before .before .pre) in
+    (healthy-blocks _ _ _ healthy, omega (arith, healthy .shape .length-a, healthy .shape .whole-bytes))
+
+same-length : tie.Need-same-length
+same-length c = search needs
+
+returns : tie.Need-returns
+returns c =
+    allocate-refused _ _ _ _ _ (usable-healthy _ _ _ (c .before .before .before .before .before .before .before .before .before .pre)) _ (c .before .allocate-reply .ensures) (c .if1 .taken)
+
+allocate-requires : tie.Need-allocate-requires
+allocate-requires c κs =
+    let tested = c .before .before .before .before .before .before in
+    (tested .before .before .before .before .before .before .before .before .before .pre, allocate-accepts _ _ _ _ _ _ (tested .before .allocate-reply .ensures) (tested .if1 .left))
+
+same-length-2 : tie.Need-same-length-2
+same-length-2 c = search needs
+
+same-length-3 : tie.Need-same-length-3
+same-length-3 c = search needs
+
+same-length-4 : tie.Need-same-length-4
+same-length-4 c = search needs
+
+same-length-5 : tie.Need-same-length-5
+same-length-5 c = search needs
+
+same-length-6 : tie.Need-same-length-6
+same-length-6 c = search needs
+
+same-length-7 : tie.Need-same-length-7
+same-length-7 c = search needs
+
+returns-2 : tie.Need-returns-2
+returns-2 c = search needs
+
+pub allocate-spec : {M : Type 1} → statement M
+allocate-spec =
+    tie.close
+    (tie.spec
+    allocate-reply-requires
+    same-length
+    returns
+    allocate-requires
+    same-length-2
+    same-length-3
+    same-length-4
+    same-length-5
+    same-length-6
+    same-length-7
+    returns-2)

@@ -1,0 +1,61 @@
+-- `inner::steps::store_cell` meets its contract.
+use native.Mathlib.Omega.{arith}
+use Rattle.inner.proofs.Idle.{usable-healthy}
+use Rattle.inner.proofs.Passed.{cell-goes-on, cell-refused}
+use borrow.Author.Needs.{needs}
+use Rattle.inner.proofs.steps.store_cell.Statement.{statement}
+use Rattle.inner.proofs.steps.store_cell.Tie as tie
+
+store-cell-test-requires : tie.Need-store-cell-test-requires
+store-cell-test-requires c κs =
+    let shape = usable-healthy _ _ _ (c .before .before .before .before .before .before .before .before .pre) .shape in
+    (omega (arith, shape .length-a, shape .whole-bytes), omega (arith, shape .length-b, shape .whole-bytes), shape .blocks-max)
+
+same-length : tie.Need-same-length
+same-length c = search needs
+
+same-length-2 : tie.Need-same-length-2
+same-length-2 c = search needs
+
+returns : tie.Need-returns
+returns c =
+    cell-refused _ _ _ _ _ _ (c .before .store-cell-test .ensures) _ (usable-healthy _ _ _ (c .before .before .before .before .before .before .before .before .before .before .pre)) (c .if1 .taken)
+
+store-cell-requires : tie.Need-store-cell-requires
+store-cell-requires c κs =
+    let tested = c .before .before .before .before .before in
+    (tested .before .before .before .before .before .before .before .before .before .before .pre, cell-goes-on _ _ _ _ _ _ (tested .before .store-cell-test .ensures) (tested .if1 .left))
+
+same-length-3 : tie.Need-same-length-3
+same-length-3 c = search needs
+
+same-length-4 : tie.Need-same-length-4
+same-length-4 c = search needs
+
+same-length-5 : tie.Need-same-length-5
+same-length-5 c = search needs
+
+same-length-6 : tie.Need-same-length-6
+same-length-6 c = search needs
+
+same-length-7 : tie.Need-same-length-7
+same-length-7 c = search needs
+
+returns-2 : tie.Need-returns-2
+returns-2 c = search needs
+
+pub store-cell-spec : {M : Type 1} → statement M
+store-cell-spec =
+    tie.close
+    (tie.spec
+    store-cell-test-requires
+    same-length
+    same-length-2
+    returns
+    store-cell-requires
+    same-length-3
+    same-length-4
+    same-length-5
+    same-length-6
+    same-length-7
+    returns-2)

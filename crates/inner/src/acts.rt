@@ -1,0 +1,124 @@
+// The work of the calls that write, once their tests are passed: on an undamaged heap with a cleared waiting list, which they leave
+// cleared.
+ghost use mathlib.Core.Path.{_≡_};
+ghost use Prim.Native.Nat.{_≤_};
+ghost use lib.ListN.{length};
+ghost use Rattle.rules.specs.Heap.{memory};
+ghost use Rattle.rules.specs.Calls.{Call, reply};
+ghost use Rattle.rules.specs.Demand.{Promise};
+ghost use Rattle.inner.specs.Usable.{Usable};
+ghost use Rattle.inner.specs.Replies.{storeRootTest, storeCellTest, allocateReply};
+use crate::tests;
+use blocks::Ref;
+use references::stores;
+use rules::Reply;
+
+// Makes the object of n blocks at block `at`, which the search found, and stores its reference in root r.
+pub fn allocate(
+    blocks: usize,
+    width: usize,
+    a: &mut [u8],
+    b: &mut [u8],
+    counts: &mut [u8],
+    cells: &mut [Ref],
+    roots: &mut [Ref],
+    waiting: &mut [Ref],
+    n: usize,
+    r: usize,
+    at: usize,
+) -> Reply
+    requires { ⌜ Usable blocks width (memory (now a) (now b) (now counts) (now cells) (now roots) (now waiting))
+        × (allocateReply blocks (now a) (length (now roots)) n r ≡ reply 0 at 0) ⌝ }
+    ensures { λ reply.
+        ⌜ Promise blocks width (Call.allocate n r)
+        (memory (now (a .entry)) (now (b .entry)) (now (counts .entry)) (now (cells .entry)) (now (roots .entry)) (now (waiting .entry)))
+        reply
+        (memory (now (a .exit)) (now (b .exit)) (now (counts .exit)) (now (cells .exit)) (now (roots .exit)) (now (waiting .exit))) ⌝ }
+{
+    stores::place(blocks, width, a, b, counts, cells, roots, waiting, n, r, at);
+    tests::acceptance(at)
+}
+
+// Stores v in root r.
+pub fn store_root(
+    blocks: usize,
+    width: usize,
+    a: &mut [u8],
+    b: &mut [u8],
+    counts: &mut [u8],
+    cells: &mut [Ref],
+    roots: &mut [Ref],
+    waiting: &mut [Ref],
+    r: usize,
+    v: Ref,
+) -> Reply
+    requires { ⌜ Usable blocks width (memory (now a) (now b) (now counts) (now cells) (now roots) (now waiting))
+        × (storeRootTest blocks (memory (now a) (now b) (now counts) (now cells) (now roots) (now waiting)) r v .number ≡ 0) ⌝ }
+    ensures { λ reply.
+        ⌜ Promise blocks width (Call.storeRoot r v)
+        (memory (now (a .entry)) (now (b .entry)) (now (counts .entry)) (now (cells .entry)) (now (roots .entry)) (now (waiting .entry)))
+        reply
+        (memory (now (a .exit)) (now (b .exit)) (now (counts .exit)) (now (cells .exit)) (now (roots .exit)) (now (waiting .exit))) ⌝ }
+{
+    let freed = stores::store_root(blocks, width, a, b, counts, cells, roots, waiting, r, v);
+    tests::acceptance(freed)
+}
+
+// Stores v in cell j of the object at block `at`.
+pub fn store_cell(
+    blocks: usize,
+    width: usize,
+    a: &mut [u8],
+    b: &mut [u8],
+    counts: &mut [u8],
+    cells: &mut [Ref],
+    roots: &[Ref],
+    waiting: &mut [Ref],
+    at: usize,
+    j: usize,
+    v: Ref,
+) -> Reply
+    requires { ⌜ Usable blocks width (memory (now a) (now b) (now counts) (now cells) (now roots) (now waiting))
+        × (storeCellTest blocks (memory (now a) (now b) (now counts) (now cells) (now roots) (now waiting)) at j v .number ≡ 0) ⌝ }
+    ensures { λ reply.
+        ⌜ Promise blocks width (Call.storeCell at j v)
+        (memory (now (a .entry)) (now (b .entry)) (now (counts .entry)) (now (cells .entry)) (now (roots .entry)) (now (waiting .entry)))
+        reply
+        (memory (now (a .exit)) (now (b .exit)) (now (counts .exit)) (now (cells .exit)) (now (roots .entry)) (now (waiting .exit))) ⌝ }
+{
+    let freed = stores::store_cell(
+        blocks,
+        width,
+        a,
+        b,
+        counts,
+        cells,
+        roots,
+        waiting,
+        4 * at + j,
+        v,
+    );
+    tests::acceptance(freed)
+}
+
+// Collects.
+pub fn collect(
+    blocks: usize,
+    width: usize,
+    a: &mut [u8],
+    b: &mut [u8],
+    counts: &mut [u8],
+    cells: &mut [Ref],
+    roots: &[Ref],
+    waiting: &mut [Ref],
+) -> Reply
+    requires { ⌜ Usable blocks width (memory (now a) (now b) (now counts) (now cells) (now roots) (now waiting)) ⌝ }
+    ensures { λ reply.
+        ⌜ Promise blocks width Call.collect
+        (memory (now (a .entry)) (now (b .entry)) (now (counts .entry)) (now (cells .entry)) (now (roots .entry)) (now (waiting .entry)))
+        reply
+        (memory (now (a .exit)) (now (b .exit)) (now (counts .exit)) (now (cells .exit)) (now (roots .entry)) (now (waiting .exit))) ⌝ }
+{
+    let freed = collector::collect(blocks, width, a, b, counts, cells, roots, waiting);
+    tests::acceptance(freed)
+}

@@ -1,0 +1,110 @@
+-- Laws of the check: what its reply says of a heap, and what every call that makes the check first promises by it.
+use mathlib.Core.Path.{_≡_, refl, sym, ap, _∙_}
+use mathlib.Core.Bool.{Bool, true, false}
+use mathlib.Core.List.{[]}
+use Prim.Native.Nat.{ℕ}
+use borrow.Author.Tests.{ne-eqb}
+use Rattle.bitmap.specs.Bit.{zeros}
+use Rattle.rules.specs.Heap.{Memory, memory, shaped, countOf, isFirst, sizeAt}
+use Rattle.rules.specs.Damage.{damage}
+use Rattle.rules.specs.Calls.{Call, check, freeBlocks, look, Answer, answer, reply, accepted, require, onSound}
+use Rattle.rules.specs.Demand.{Promise}
+use Rattle.rules.specs.declared.Reply.{Reply}
+use Rattle.rules.proofs.Replies.{on-sound-shaped, on-sound-undamaged, on-sound-next, on-sound-refused}
+use Rattle.inner.specs.Replies.{lookReply}
+
+module _ (N w : ℕ) (h : Memory) where
+  -- ---- the check itself
+
+  pub check-unshaped : shaped N w h ≡ false → Promise N w check h (reply 1 0 0) h
+  unfolding answer onSound require
+  check-unshaped e = record { reply-is = rw e; after-is = rw e }
+
+  pub check-damaged : (kind : ℕ) → shaped N w h ≡ true → kind ≡ damage N w h → (kind ≡ 0 → ⊥) → Promise N w check h (reply 2 kind 0) h
+  unfolding answer onSound require
+  check-damaged kind e is-kind some =
+      let damaged = ne-eqb (damage N w h) 0 (λ none. some (is-kind ∙ none)) in
+      record { reply-is = rw (e, damaged) (ap (λ (k : ℕ). reply 2 k 0) is-kind); after-is = rw (e, damaged) }
+
+  -- ---- a call that makes the check first: `next` is what it answers once that is passed
+
+  module _ (call : Call) (next : Answer) (tests : answer N w h call ≡ onSound N w h next) where
+    pub passed : (x : Reply) → shaped N w h ≡ true → damage N w h ≡ 0 → x ≡ next .0 → h ≡ next .1 → Promise N w call h x h
+    passed x shape undamaged x-is same =
+        let goes-on : answer N w h call ≡ next = tests ∙ on-sound-next N w h next shape undamaged in
+        record { reply-is = x-is ∙ ap (λ (y : Answer). y .0) (sym goes-on); after-is = same ∙ ap (λ (y : Answer). y .1) (sym goes-on) }
+
+    -- where the check refuses, the call is refused alike
+    pub refused-alike : (x : Reply) → Promise N w check h x h → (x .number ≡ 0 → ⊥) → Promise N w call h x h
+    unfolding answer
+    refused-alike x checked fails =
+        let alike : answer N w h call ≡ answer N w h check =
+        tests ∙ on-sound-refused N w h (accepted h 0) next refl (λ e. fails (ap (λ (y : Reply). y .number) (checked .reply-is) ∙ e)) in
+        record {
+          reply-is = checked .reply-is ∙ ap (λ (y : Answer). y .0) (sym alike);
+          after-is = checked .after-is ∙ ap (λ (y : Answer). y .1) (sym alike);
+        }
+
+  -- ---- what passes the check
+
+  module _ (x : Reply) (checked : Promise N w check h x h) (accepts : x .number ≡ 0) where
+    accepted-check : answer N w h check .0 .number ≡ 0
+    accepted-check = ap (λ (y : Reply). y .number) (sym (checked .reply-is)) ∙ accepts
+
+    pub checked-shaped : shaped N w h ≡ true
+    unfolding answer
+    checked-shaped = on-sound-shaped N w h (accepted h 0) accepted-check
+
+    pub checked-undamaged : damage N w h ≡ 0
+    unfolding answer
+    checked-undamaged = on-sound-undamaged N w h (accepted h 0) accepted-check
+
+  -- ---- the calls that read
+
+  pub check-passed : (x : Reply) → shaped N w h ≡ true → damage N w h ≡ 0 → x ≡ reply 0 0 0 → Promise N w check h x h
+  unfolding answer
+  check-passed x shape undamaged x-is = passed check (accepted h 0) refl x shape undamaged x-is refl
+
+  module _ (y : Reply) (checked : Promise N w check h y h) where
+    pub free-blocks-refused : (y .number ≡ 0 → ⊥) → Promise N w freeBlocks h y h
+    unfolding answer
+    free-blocks-refused = refused-alike freeBlocks (accepted h (zeros (h .a))) refl y checked
+
+    pub free-blocks-passed : y .number ≡ 0 → (x : Reply) (n : ℕ) → x ≡ reply 0 n 0 → n ≡ zeros (h .a) → Promise N w freeBlocks h x h
+    unfolding answer
+    free-blocks-passed accepts x n x-is counted =
+        passed freeBlocks (accepted h (zeros (h .a))) refl x
+        (checked-shaped y checked accepts)
+        (checked-undamaged y checked accepts)
+        (x-is ∙ ap (λ (v : ℕ). reply 0 v 0) counted)
+        refl
+
+    module _ (at : ℕ) where
+      looked : Answer
+      looked = require (isFirst N h at) 6 h (reply 0 (sizeAt N h at) (countOf N w h at), h)
+
+      pub look-refused : (y .number ≡ 0 → ⊥) → Promise N w (look at) h y h
+      unfolding answer looked
+      look-refused = refused-alike (look at) looked refl y checked
+
+      -- the maps and the counts alone are read
+      pub look-passed : y .number ≡ 0 → (x : Reply) → x ≡ lookReply N w (memory (h .a) (h .b) (h .counts) [] [] []) at
+          → Promise N w (look at) h x h
+      unfolding answer looked lookReply require
+      look-passed accepts x x-is =
+          passed (look at) looked refl x
+          (checked-shaped y checked accepts)
+          (checked-undamaged y checked accepts)
+          (x-is ∙ same-reply (isFirst N h at))
+          (same-memory (isFirst N h at))
+        where
+          read : Memory → Bool → Answer
+          read g t = require t 6 g (reply 0 (sizeAt N h at) (countOf N w h at), g)
+
+          same-reply : (t : Bool) → read (memory (h .a) (h .b) (h .counts) [] [] []) t .0 ≡ read h t .0
+          same-reply true = refl
+          same-reply false = refl
+
+          same-memory : (t : Bool) → h ≡ read h t .1
+          same-memory true = refl
+          same-memory false = refl

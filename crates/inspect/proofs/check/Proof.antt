@@ -1,0 +1,56 @@
+-- `check` meets its contract: the shape is tested before the damage.
+use mathlib.Core.Path.{_≡_, sym, _∙_}
+use mathlib.Core.Bool.{true}
+use borrow.Author.Needs.{needs}
+use borrow.Author.Tests.{not-true, not-false}
+use Rattle.rules.specs.Heap.{Memory, memory, shaped}
+use Rattle.inspect.proofs.Checked.{check-unshaped, check-damaged, check-passed}
+use Rattle.inspect.proofs.check.Statement.{statement}
+use Rattle.inspect.proofs.check.Tie as tie
+
+-- the lent heap
+abbrev lent : tie.Start → Memory
+lent s =
+    memory (s .args .a .now) (s .args .b .now) (s .args .counts .now) (s .args .cells .now) (s .args .roots .now) (s .args .waiting .now)
+
+abbrev start : tie.After-is-shaped → tie.Start
+start c = c .before .before .before .before .before .before .before
+
+-- past the first test its shape is right
+shape-is : (c : tie.Else1) → let s = start (c .before) in shaped (s .args .blocks) (s .args .width) (lent s) ≡ true
+shape-is c = sym (c .before .is-shaped .ensures) ∙ not-false _ (c .if1 .left)
+
+is-shaped-requires : tie.Need-is-shaped-requires
+is-shaped-requires c κs = search needs
+
+returns : tie.Need-returns
+returns c =
+    check-unshaped _ _ (lent (start (c .before))) (sym (c .before .is-shaped .ensures) ∙ not-true _ (c .if1 .taken))
+
+damage-kind-requires : tie.Need-damage-kind-requires
+damage-kind-requires c κs = shape-is c
+
+returns-2 : tie.Need-returns-2
+returns-2 c =
+    let shaped-here = c .before .before in
+    check-damaged _ _ (lent (start (shaped-here .before))) _ (shape-is shaped-here) (c .before .damage-kind .ensures) (c .if2 .taken)
+
+acceptance-requires : tie.Need-acceptance-requires
+acceptance-requires c κs = search needs
+
+returns-3 : tie.Need-returns-3
+returns-3 c =
+    let undamaged = sym (c .before .before .damage-kind .ensures) ∙ c .before .if2 .left in
+    let shaped-here = c .before .before .before in
+    check-passed _ _ (lent (start (shaped-here .before))) _ (shape-is shaped-here) undamaged (c .acceptance .ensures)
+
+pub check-spec : {M : Type 1} → statement M
+check-spec =
+    tie.close
+    (tie.spec
+    is-shaped-requires
+    returns
+    damage-kind-requires
+    returns-2
+    acceptance-requires
+    returns-3)

@@ -1,0 +1,46 @@
+-- `free_blocks` meets its contract: it is refused as the check refuses, or counts the free blocks.
+use native.Mathlib.Omega.{arith}
+use borrow.Author.Needs.{needs}
+use Rattle.rules.specs.Heap.{Memory, memory}
+use Rattle.rules.proofs.Shape.{Shaped, shape-facts}
+use Rattle.inspect.proofs.Checked.{checked-shaped, free-blocks-refused, free-blocks-passed}
+use Rattle.inspect.proofs.free_blocks.Statement.{statement}
+use Rattle.inspect.proofs.free_blocks.Tie as tie
+
+-- the lent heap
+abbrev lent : tie.Start → Memory
+lent s =
+    memory (s .args .a .now) (s .args .b .now) (s .args .counts .now) (s .args .cells .now) (s .args .roots .now) (s .args .waiting .now)
+
+abbrev start : tie.After-check → tie.Start
+start c = c .before .before .before .before .before .before .before
+
+-- past the check its lengths are right
+right : (c : tie.Else1) → let s = start (c .before) in Shaped (s .args .blocks) (s .args .width) (lent s)
+right c =
+    let s = start (c .before) in
+    shape-facts _ _ (lent s) (checked-shaped _ _ (lent s) _ (c .before .check .ensures) (c .if1 .left))
+
+check-requires : tie.Need-check-requires
+check-requires c κs = search needs
+
+returns : tie.Need-returns
+returns c = free-blocks-refused _ _ (lent (start (c .before))) _ (c .before .check .ensures) (c .if1 .taken)
+
+count-zeros-requires : tie.Need-count-zeros-requires
+count-zeros-requires c κs =
+    let lengths = right c in
+    omega arith
+
+acceptance-requires : tie.Need-acceptance-requires
+acceptance-requires c κs = search needs
+
+returns-2 : tie.Need-returns-2
+returns-2 c =
+    let checked = c .before .before in
+    free-blocks-passed _ _ (lent (start (checked .before))) _ (checked .before .check .ensures) (checked .if1 .left)
+    _ _ (c .acceptance .ensures) (c .before .count-zeros .ensures .0)
+
+pub free-blocks-spec : {M : Type 1} → statement M
+free-blocks-spec =
+    tie.close (tie.spec check-requires returns count-zeros-requires acceptance-requires returns-2)

@@ -1,0 +1,42 @@
+-- `look` meets its contract: it is refused as the check refuses, or reads size and count.
+use mathlib.Core.Path.{sym}
+use native.Mathlib.Omega.{arith}
+use borrow.Author.Needs.{needs}
+use Rattle.rules.specs.Heap.{Memory, memory}
+use Rattle.rules.proofs.Shape.{Shaped, shape-facts}
+use Rattle.inspect.proofs.Checked.{checked-shaped, look-refused, look-passed}
+use Rattle.inspect.proofs.look.Statement.{statement}
+use Rattle.inspect.proofs.look.Tie as tie
+
+-- the lent heap
+abbrev lent : tie.Start → Memory
+lent s =
+    memory (s .args .a .now) (s .args .b .now) (s .args .counts .now) (s .args .cells .now) (s .args .roots .now) (s .args .waiting .now)
+
+abbrev start : tie.After-check → tie.Start
+start c = c .before .before .before .before .before .before .before
+
+-- past the check its lengths are right
+right : (c : tie.Else1) → let s = start (c .before) in Shaped (s .args .blocks) (s .args .width) (lent s)
+right c =
+    let s = start (c .before) in
+    shape-facts _ _ (lent s) (checked-shaped _ _ (lent s) _ (c .before .check .ensures) (c .if1 .left))
+
+check-requires : tie.Need-check-requires
+check-requires c κs = search needs
+
+returns : tie.Need-returns
+returns c = look-refused _ _ (lent (start (c .before))) _ (c .before .check .ensures) _ (c .if1 .taken)
+
+look-reply-requires : tie.Need-look-reply-requires
+look-reply-requires c κs =
+    let lengths = right c in
+    (sym (lengths .whole-bytes), omega arith, omega arith, lengths .width-max, lengths .length-counts)
+
+returns-2 : tie.Need-returns-2
+returns-2 c =
+    let checked = c .before in
+    look-passed _ _ (lent (start (checked .before))) _ (checked .before .check .ensures) _ (checked .if1 .left) _ (c .look-reply .ensures)
+
+pub look-spec : {M : Type 1} → statement M
+look-spec = tie.close (tie.spec check-requires returns look-reply-requires returns-2)

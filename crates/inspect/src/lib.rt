@@ -1,0 +1,104 @@
+// The public calls that only read: check, free blocks, look.
+ghost use Rattle.rules.specs.Heap.{memory};
+ghost use Rattle.rules.specs.Calls.{Call};
+ghost use Rattle.rules.specs.Demand.{Promise};
+use blocks::Ref;
+use damage::kinds;
+use damage::shape;
+use inner::tests;
+use rules::Reply;
+
+// Whether the heap has the right shape and is undamaged: number 1, or 2 with the damage kind, or 0.
+pub fn check(
+    blocks: usize,
+    width: usize,
+    a: &[u8],
+    b: &[u8],
+    counts: &[u8],
+    cells: &[Ref],
+    roots: &[Ref],
+    waiting: &[Ref],
+) -> Reply
+    ensures { λ reply.
+        ⌜ Promise blocks width Call.check
+        (memory (now (a .entry)) (now (b .entry)) (now (counts .entry)) (now (cells .entry)) (now (roots .entry)) (now (waiting .entry)))
+        reply
+        (memory (now (a .entry)) (now (b .entry)) (now (counts .entry)) (now (cells .entry)) (now (roots .entry)) (now (waiting .entry))) ⌝ }
+{
+    if !shape::is_shaped(
+        blocks,
+        width,
+        a.len(),
+        b.len(),
+        counts.len(),
+        cells.len(),
+        roots.len(),
+        waiting.len(),
+    ) {
+        return Reply {
+            number: 1,
+            value: 0,
+            second: 0,
+        };
+    }
+    let kind = kinds::damage_kind(blocks, width, a, b, counts, cells, roots, waiting);
+    if kind != 0 {
+        return Reply {
+            number: 2,
+            value: kind,
+            second: 0,
+        };
+    }
+    tests::acceptance(0)
+}
+
+// The number of free blocks.
+pub fn free_blocks(
+    blocks: usize,
+    width: usize,
+    a: &[u8],
+    b: &[u8],
+    counts: &[u8],
+    cells: &[Ref],
+    roots: &[Ref],
+    waiting: &[Ref],
+) -> Reply
+    ensures { λ reply.
+        ⌜ Promise blocks width Call.freeBlocks
+        (memory (now (a .entry)) (now (b .entry)) (now (counts .entry)) (now (cells .entry)) (now (roots .entry)) (now (waiting .entry)))
+        reply
+        (memory (now (a .entry)) (now (b .entry)) (now (counts .entry)) (now (cells .entry)) (now (roots .entry)) (now (waiting .entry))) ⌝ }
+{
+    let state = check(blocks, width, a, b, counts, cells, roots, waiting);
+    let number = state.number;
+    if number != 0 {
+        return state;
+    }
+    tests::acceptance(bitmap::count_zeros(a))
+}
+
+// The size and the count of the object at block `at`.
+pub fn look(
+    blocks: usize,
+    width: usize,
+    a: &[u8],
+    b: &[u8],
+    counts: &[u8],
+    cells: &[Ref],
+    roots: &[Ref],
+    waiting: &[Ref],
+    at: usize,
+) -> Reply
+    ensures { λ reply.
+        ⌜ Promise blocks width (Call.look at)
+        (memory (now (a .entry)) (now (b .entry)) (now (counts .entry)) (now (cells .entry)) (now (roots .entry)) (now (waiting .entry)))
+        reply
+        (memory (now (a .entry)) (now (b .entry)) (now (counts .entry)) (now (cells .entry)) (now (roots .entry)) (now (waiting .entry))) ⌝ }
+{
+    let checked = check(blocks, width, a, b, counts, cells, roots, waiting);
+    let number = checked.number;
+    if number != 0 {
+        return checked;
+    }
+    tests::look_reply(blocks, width, a, b, counts, at)
+}
