@@ -5,8 +5,11 @@
 //! stands under the sentence of document 01 that it renders.
 //!
 //! Read in this order: heap, chunks, counting, collection, damage, rules. Then claims (demand 3).
-//! The rest writes and reads lists of calls: calls, file, expect, and the generator.
+//! The rest writes and reads lists of calls: calls, file, expect, show, and the generator. Beside these stand
+//! the comparisons with the product: fuzz, and bench with its port.
 
+#[cfg(feature = "library")]
+pub mod bench;
 pub mod calls;
 pub mod chunks;
 pub mod claims;
@@ -17,11 +20,18 @@ pub mod damaging;
 pub mod expect;
 pub mod families;
 pub mod file;
+#[cfg(feature = "library")]
+pub mod fuzz;
 pub mod generate;
 pub mod heap;
+#[cfg(feature = "library")]
+pub mod library;
 pub mod paper;
+pub mod port;
 pub mod random;
 pub mod rules;
+pub mod show;
+pub mod shrink;
 pub mod trace;
 pub mod vectors;
 

@@ -2,7 +2,7 @@
 
 use model::expect::expect;
 use model::families::{generate, FAMILIES};
-use model::{trace, vectors};
+use model::{show, trace, vectors};
 use std::io::{Read, Write};
 use std::process::exit;
 
@@ -10,11 +10,15 @@ const USAGE: &str = "usage:
   model generate FAMILY SEED COUNT   a list of COUNT entries in the file form, to standard output
   model vectors PATH [SEED]          the one large file, written to PATH
   model paper                        the cases P1 to P11 as a file, to standard output
+  model show < OUTPUT                what `calls` printed for the paper cases, beside the calls in words
   model expect < FILE                what the program `calls` must print for a file
   model count < FILE                 what a file meets: calls, replies by number, damage kinds
   model trace SEED COUNT N W         a random list as text, with replies and buffers
   model damaged SEED COUNT           damaged memories as text, with their kinds
   model steps SEED COUNT             single calls as text, each on a memory of its own
+with the product's library, `--features library`:
+  model fuzz SECONDS SEED            random lists and damaged memories, model against library
+  model bench                        times of the library against plain Rust (build it with --release)
 ";
 
 fn main() {
@@ -49,8 +53,41 @@ fn main() {
         ["steps", seed, count] => {
             print(trace::steps(number(seed), number(count) as usize).as_bytes());
         }
+        ["show"] => {
+            let (text, same) = show::paper(&String::from_utf8_lossy(&input()));
+            print(text.as_bytes());
+            exit(if same { 0 } else { 1 });
+        }
+        ["fuzz", seconds, seed] => fuzz(number(seconds), number(seed)),
+        ["bench"] => bench(),
         _ => stop(USAGE),
     }
+}
+
+#[cfg(feature = "library")]
+fn fuzz(seconds: u64, seed: u64) {
+    let (met, difference) = model::fuzz::fuzz(seconds, seed);
+    print(met.lines().as_bytes());
+    if let Some(report) = difference {
+        print(report.as_bytes());
+        exit(1);
+    }
+    print(b"no difference\n");
+}
+
+#[cfg(feature = "library")]
+fn bench() {
+    print(model::bench::bench().as_bytes());
+}
+
+#[cfg(not(feature = "library"))]
+fn fuzz(_seconds: u64, _seed: u64) {
+    stop("built without the library: use --features library\n");
+}
+
+#[cfg(not(feature = "library"))]
+fn bench() {
+    stop("built without the library: use --features library\n");
 }
 
 fn number(word: &str) -> u64 {

@@ -1,7 +1,6 @@
 // The work of the calls that write, once their tests are passed: on an undamaged heap with a cleared waiting list, which they leave
 // cleared.
 ghost use mathlib.Core.Path.{_≡_};
-ghost use Prim.Native.Nat.{_≤_};
 ghost use lib.ListN.{length};
 ghost use Rattle.rules.specs.Heap.{memory};
 ghost use Rattle.rules.specs.Calls.{Call, reply};

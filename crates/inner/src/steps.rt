@@ -1,9 +1,6 @@
 // The calls that write, on an undamaged heap with a cleared waiting list: their tests, and their work where these pass.
-ghost use mathlib.Core.Path.{_≡_};
-ghost use Prim.Native.Nat.{_≤_};
-ghost use lib.ListN.{length};
 ghost use Rattle.rules.specs.Heap.{memory};
-ghost use Rattle.rules.specs.Calls.{Call, reply};
+ghost use Rattle.rules.specs.Calls.{Call};
 ghost use Rattle.rules.specs.Demand.{Promise};
 ghost use Rattle.inner.specs.Usable.{Usable};
 use crate::acts;

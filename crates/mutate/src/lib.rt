@@ -76,12 +76,12 @@ pub fn allocate(
     if number != 0 {
         return state;
     }
-    let test = tests::allocate_reply(blocks, a, roots.len(), n, r);
-    let number = test.number;
+    let found = tests::allocate_reply(blocks, a, roots.len(), n, r);
+    let number = found.number;
     if number != 0 {
-        return test;
+        return found;
     }
-    let at = test.value;
+    let at = found.value;
     extents::clear_all(waiting);
     acts::allocate(blocks, width, a, b, counts, cells, roots, waiting, n, r, at)
 }
@@ -110,10 +110,10 @@ pub fn store_root(
     if number != 0 {
         return state;
     }
-    let test = tests::store_root_test(blocks, a, b, roots, r, v);
-    let number = test.number;
+    let root_test = tests::store_root_test(blocks, a, b, roots, r, v);
+    let number = root_test.number;
     if number != 0 {
-        return test;
+        return root_test;
     }
     extents::clear_all(waiting);
     acts::store_root(blocks, width, a, b, counts, cells, roots, waiting, r, v)
@@ -144,10 +144,10 @@ pub fn store_cell(
     if number != 0 {
         return state;
     }
-    let test = tests::store_cell_test(blocks, a, b, at, j, v);
-    let number = test.number;
+    let cell_test = tests::store_cell_test(blocks, a, b, at, j, v);
+    let number = cell_test.number;
     if number != 0 {
-        return test;
+        return cell_test;
     }
     extents::clear_all(waiting);
     acts::store_cell(blocks, width, a, b, counts, cells, roots, waiting, at, j, v)
@@ -170,10 +170,10 @@ pub fn collect(
         reply
         (memory (now (a .exit)) (now (b .exit)) (now (counts .exit)) (now (cells .exit)) (now (roots .entry)) (now (waiting .exit))) ⌝ }
 {
-    let state = inspect::check(blocks, width, a, b, counts, cells, roots, waiting);
-    let number = state.number;
+    let checked = inspect::check(blocks, width, a, b, counts, cells, roots, waiting);
+    let number = checked.number;
     if number != 0 {
-        return state;
+        return checked;
     }
     extents::clear_all(waiting);
     acts::collect(blocks, width, a, b, counts, cells, roots, waiting)

@@ -1,0 +1,210 @@
+// The public calls for C, under the names of include/huwekapo.h: each slice is a pointer and a length, and each contract is the public
+// call's.
+ghost use Rattle.rules.specs.Heap.{memory};
+ghost use Rattle.rules.specs.Calls.{Call};
+ghost use Rattle.rules.specs.Demand.{Promise};
+ghost use Rattle.replay.specs.Replay.{Replayed};
+use blocks::Ref;
+use rules::Reply;
+
+#[no_mangle]
+pub extern "C" fn huwekapo_format(
+    blocks: usize,
+    width: usize,
+    a: &mut [u8],
+    b: &mut [u8],
+    counts: &mut [u8],
+    cells: &mut [Ref],
+    roots: &mut [Ref],
+    waiting: &mut [Ref],
+) -> Reply
+    ensures { λ reply.
+        ⌜ Promise blocks width Call.format
+        (memory (now (a .entry)) (now (b .entry)) (now (counts .entry)) (now (cells .entry)) (now (roots .entry)) (now (waiting .entry)))
+        reply
+        (memory (now (a .exit)) (now (b .exit)) (now (counts .exit)) (now (cells .exit)) (now (roots .exit)) (now (waiting .exit))) ⌝ }
+{
+    mutate::format(blocks, width, a, b, counts, cells, roots, waiting)
+}
+
+#[no_mangle]
+pub extern "C" fn huwekapo_allocate(
+    blocks: usize,
+    width: usize,
+    a: &mut [u8],
+    b: &mut [u8],
+    counts: &mut [u8],
+    cells: &mut [Ref],
+    roots: &mut [Ref],
+    waiting: &mut [Ref],
+    n: usize,
+    r: usize,
+) -> Reply
+    ensures { λ reply.
+        ⌜ Promise blocks width (Call.allocate n r)
+        (memory (now (a .entry)) (now (b .entry)) (now (counts .entry)) (now (cells .entry)) (now (roots .entry)) (now (waiting .entry)))
+        reply
+        (memory (now (a .exit)) (now (b .exit)) (now (counts .exit)) (now (cells .exit)) (now (roots .exit)) (now (waiting .exit))) ⌝ }
+{
+    mutate::allocate(blocks, width, a, b, counts, cells, roots, waiting, n, r)
+}
+
+#[no_mangle]
+pub extern "C" fn huwekapo_store_root(
+    blocks: usize,
+    width: usize,
+    a: &mut [u8],
+    b: &mut [u8],
+    counts: &mut [u8],
+    cells: &mut [Ref],
+    roots: &mut [Ref],
+    waiting: &mut [Ref],
+    r: usize,
+    v: Ref,
+) -> Reply
+    ensures { λ reply.
+        ⌜ Promise blocks width (Call.storeRoot r v)
+        (memory (now (a .entry)) (now (b .entry)) (now (counts .entry)) (now (cells .entry)) (now (roots .entry)) (now (waiting .entry)))
+        reply
+        (memory (now (a .exit)) (now (b .exit)) (now (counts .exit)) (now (cells .exit)) (now (roots .exit)) (now (waiting .exit))) ⌝ }
+{
+    mutate::store_root(blocks, width, a, b, counts, cells, roots, waiting, r, v)
+}
+
+#[no_mangle]
+pub extern "C" fn huwekapo_store_cell(
+    blocks: usize,
+    width: usize,
+    a: &mut [u8],
+    b: &mut [u8],
+    counts: &mut [u8],
+    cells: &mut [Ref],
+    roots: &[Ref],
+    waiting: &mut [Ref],
+    at: usize,
+    j: usize,
+    v: Ref,
+) -> Reply
+    ensures { λ reply.
+        ⌜ Promise blocks width (Call.storeCell at j v)
+        (memory (now (a .entry)) (now (b .entry)) (now (counts .entry)) (now (cells .entry)) (now (roots .entry)) (now (waiting .entry)))
+        reply
+        (memory (now (a .exit)) (now (b .exit)) (now (counts .exit)) (now (cells .exit)) (now (roots .entry)) (now (waiting .exit))) ⌝ }
+{
+    mutate::store_cell(blocks, width, a, b, counts, cells, roots, waiting, at, j, v)
+}
+
+#[no_mangle]
+pub extern "C" fn huwekapo_collect(
+    blocks: usize,
+    width: usize,
+    a: &mut [u8],
+    b: &mut [u8],
+    counts: &mut [u8],
+    cells: &mut [Ref],
+    roots: &[Ref],
+    waiting: &mut [Ref],
+) -> Reply
+    ensures { λ reply.
+        ⌜ Promise blocks width Call.collect
+        (memory (now (a .entry)) (now (b .entry)) (now (counts .entry)) (now (cells .entry)) (now (roots .entry)) (now (waiting .entry)))
+        reply
+        (memory (now (a .exit)) (now (b .exit)) (now (counts .exit)) (now (cells .exit)) (now (roots .entry)) (now (waiting .exit))) ⌝ }
+{
+    mutate::collect(blocks, width, a, b, counts, cells, roots, waiting)
+}
+
+#[no_mangle]
+pub extern "C" fn huwekapo_check(
+    blocks: usize,
+    width: usize,
+    a: &[u8],
+    b: &[u8],
+    counts: &[u8],
+    cells: &[Ref],
+    roots: &[Ref],
+    waiting: &[Ref],
+) -> Reply
+    ensures { λ reply.
+        ⌜ Promise blocks width Call.check
+        (memory (now (a .entry)) (now (b .entry)) (now (counts .entry)) (now (cells .entry)) (now (roots .entry)) (now (waiting .entry)))
+        reply
+        (memory (now (a .entry)) (now (b .entry)) (now (counts .entry)) (now (cells .entry)) (now (roots .entry)) (now (waiting .entry))) ⌝ }
+{
+    inspect::check(blocks, width, a, b, counts, cells, roots, waiting)
+}
+
+#[no_mangle]
+pub extern "C" fn huwekapo_free_blocks(
+    blocks: usize,
+    width: usize,
+    a: &[u8],
+    b: &[u8],
+    counts: &[u8],
+    cells: &[Ref],
+    roots: &[Ref],
+    waiting: &[Ref],
+) -> Reply
+    ensures { λ reply.
+        ⌜ Promise blocks width Call.freeBlocks
+        (memory (now (a .entry)) (now (b .entry)) (now (counts .entry)) (now (cells .entry)) (now (roots .entry)) (now (waiting .entry)))
+        reply
+        (memory (now (a .entry)) (now (b .entry)) (now (counts .entry)) (now (cells .entry)) (now (roots .entry)) (now (waiting .entry))) ⌝ }
+{
+    inspect::free_blocks(blocks, width, a, b, counts, cells, roots, waiting)
+}
+
+#[no_mangle]
+pub extern "C" fn huwekapo_look(
+    blocks: usize,
+    width: usize,
+    a: &[u8],
+    b: &[u8],
+    counts: &[u8],
+    cells: &[Ref],
+    roots: &[Ref],
+    waiting: &[Ref],
+    at: usize,
+) -> Reply
+    ensures { λ reply.
+        ⌜ Promise blocks width (Call.look at)
+        (memory (now (a .entry)) (now (b .entry)) (now (counts .entry)) (now (cells .entry)) (now (roots .entry)) (now (waiting .entry)))
+        reply
+        (memory (now (a .entry)) (now (b .entry)) (now (counts .entry)) (now (cells .entry)) (now (roots .entry)) (now (waiting .entry))) ⌝ }
+{
+    inspect::look(blocks, width, a, b, counts, cells, roots, waiting, at)
+}
+
+#[no_mangle]
+pub extern "C" fn huwekapo_replay(
+    blocks: usize,
+    width: usize,
+    a: &mut [u8],
+    b: &mut [u8],
+    counts: &mut [u8],
+    cells: &mut [Ref],
+    roots: &mut [Ref],
+    waiting: &mut [Ref],
+    calls: &[u64],
+    replies: &mut [u64],
+) -> Reply
+    ensures { λ reply.
+        ⌜ Replayed blocks width
+        (memory (now (a .entry)) (now (b .entry)) (now (counts .entry)) (now (cells .entry)) (now (roots .entry)) (now (waiting .entry)))
+        (now (calls .entry)) (now (replies .entry)) reply
+        (memory (now (a .exit)) (now (b .exit)) (now (counts .exit)) (now (cells .exit)) (now (roots .exit)) (now (waiting .exit)))
+        (now (replies .exit)) ⌝ }
+{
+    replay::replay(
+        blocks,
+        width,
+        a,
+        b,
+        counts,
+        cells,
+        roots,
+        waiting,
+        calls,
+        replies,
+    )
+}

@@ -1,0 +1,4 @@
+pub mod Codes
+pub mod Reading
+pub mod Start
+pub mod Turns

@@ -1,0 +1,152 @@
+-- The run, turn by turn: what is left of the machine's run after some calls is its run on the calls that are left, from the memory that
+-- stands.
+use mathlib.Core.Path.{_≡_, refl, sym, ap, _∙_}
+use mathlib.Core.List.{List, [], _∷_, _++_, append-assoc}
+use Prim.Native.Nat.{ℕ, suc, _+_, _-_, _*_, _/_, _≤_, _<_}
+use native.Mathlib.Omega.{arith}
+use lib.ListN.{length, take, drop, set, length-set, take-append-drop}
+use lib.Seq.{take-suc-set, drop-set-lt}
+use Rattle.rules.specs.Heap.{Memory}
+use Rattle.rules.specs.Calls.{Call, Answer, answer, run}
+use Rattle.rules.specs.declared.Reply.{Reply}
+use Rattle.inner.specs.Usable.{Usable}
+use Rattle.replay.specs.Encoding.{callAt, callsFrom, callsIn, replyWords}
+use Rattle.replay.specs.Replay.{lastMemory, AsRun}
+use Rattle.replay.specs.Steps.{withReply, Turned}
+
+-- ---- the replies written
+
+-- three elements written at p are what stands behind the first p
+take-three :
+    (l : List ℕ) (p x y z : ℕ) → p + 2 < length l
+    → take (p + 3) (set (set (set l p x) (p + 1) y) (p + 2) z) ≡ take p l ++ (x ∷ y ∷ z ∷ [])
+take-three l p x y z inside =
+    let l1 : List ℕ = set l p x in
+    let l2 : List ℕ = set l1 (p + 1) y in
+    let n1 : length l1 ≡ length l = length-set l p x in
+    let n2 : length l2 ≡ length l1 = length-set l1 (p + 1) y in
+    let p3 : p + 3 ≡ suc (p + 2) = omega arith in
+    let p2 : p + 2 ≡ suc (p + 1) = omega arith in
+    let p1 : p + 1 ≡ suc p = omega arith in
+    let third : take (p + 3) (set l2 (p + 2) z) ≡ take (p + 2) l2 ++ (z ∷ []) =
+    ap (λ (k : ℕ). take k (set l2 (p + 2) z)) p3 ∙ take-suc-set l2 (p + 2) z (omega arith) in
+    let second : take (p + 2) l2 ≡ take (p + 1) l1 ++ (y ∷ []) =
+    ap (λ (k : ℕ). take k l2) p2 ∙ take-suc-set l1 (p + 1) y (omega arith) in
+    let first : take (p + 1) l1 ≡ take p l ++ (x ∷ []) = ap (λ (k : ℕ). take k l1) p1 ∙ take-suc-set l p x (omega arith) in
+    third ∙ rw (second, first) (simp append-assoc)
+
+module _ (replies : List ℕ) (i : ℕ) (x : Reply) where
+  taken-with-reply :
+      3 * i + 2 < length replies
+      → take (3 * (i + 1)) (withReply replies i x) ≡ take (3 * i) replies ++ (x .number ∷ x .value ∷ x .second ∷ [])
+  unfolding withReply
+  taken-with-reply inside =
+      let at : 3 * (i + 1) ≡ 3 * i + 3 = omega arith in
+      ap (λ (k : ℕ). take k (withReply replies i x)) at ∙ take-three replies (3 * i) (x .number) (x .value) (x .second) inside
+
+  dropped-with-reply : (n : ℕ) → i < n → drop (3 * n) (withReply replies i x) ≡ drop (3 * n) replies
+  unfolding withReply
+  dropped-with-reply n l =
+      drop-set-lt (3 * n) _ (3 * i + 2) (x .second) (omega arith)
+      ∙ drop-set-lt (3 * n) _ (3 * i + 1) (x .value) (omega arith)
+      ∙ drop-set-lt (3 * n) replies (3 * i) (x .number) (omega arith)
+
+  length-with-reply : length (withReply replies i x) ≡ length replies
+  unfolding withReply
+  length-with-reply = simp length-set
+
+-- ---- the calls left
+
+call-next :
+    (words : List ℕ) (n i : ℕ) → i < n → callsFrom words i (n - i) ≡ callAt words i ∷ callsFrom words (i + 1) (n - (i + 1))
+unfolding callsFrom
+call-next words n i l =
+    let one : n - i ≡ suc (n - (i + 1)) = omega arith in
+    ap (λ (k : ℕ). callsFrom words i k) one
+
+-- ---- the loop's invariant
+
+-- i calls are made, the memory is h and the replies are `replies`; at the start they were `start` and `before`
+pub record Progress (N w : ℕ) (start : Memory) (words before : List ℕ) (i : ℕ) (h : Memory) (replies : List ℕ) : Type 0 where
+  pub usable : Usable N w h
+  pub made : i ≤ length words / 4
+  pub room : 3 * (length words / 4) ≤ length before
+  pub roots-length : length (h .roots) ≡ length (start .roots)
+  pub replies-length : length replies ≡ length before
+  pub memory-left :
+      lastMemory start (run N w start (callsIn words)) ≡ lastMemory h (run N w h (callsFrom words i (length words / 4 - i)))
+  pub replies-left :
+      replyWords (run N w start (callsIn words)) ++ drop (3 * (length words / 4)) before
+      ≡ take (3 * i) replies ++ (replyWords (run N w h (callsFrom words i (length words / 4 - i))) ++ drop (3 * (length words / 4)) replies)
+
+module _ (N w : ℕ) (start : Memory) (words before : List ℕ) where
+  pub progress-start : Usable N w start → 3 * (length words / 4) ≤ length before → Progress N w start words before 0 start before
+  progress-start u room =
+      let whole : length words / 4 ≡ length words / 4 - 0 = omega arith in
+      record {
+        usable = u;
+        made = omega arith;
+        room = room;
+        roots-length = refl;
+        replies-length = refl;
+        memory-left = ap (λ (k : ℕ). lastMemory start (run N w start (callsFrom words 0 k))) whole;
+        replies-left =
+            ap (λ (k : ℕ). replyWords (run N w start (callsFrom words 0 k)) ++ drop (3 * (length words / 4)) before) whole;
+      }
+
+  pub progress-next :
+      {i : ℕ} {h g : Memory} {replies replies′ : List ℕ} → i < length words / 4 → Usable N w g
+      → length (g .roots) ≡ length (h .roots)
+      → Turned N w h words replies i g replies′ → Progress N w start words before i h replies
+      → Progress N w start words before (i + 1) g replies′
+  unfolding run lastMemory replyWords
+  progress-next {i} {h} {g} {replies} {replies′} l u roots-kept turned p =
+      let n : ℕ = length words / 4 in
+      let x : Answer = answer N w h (callAt words i) in
+      let rest : List Call = callsFrom words (i + 1) (n - (i + 1)) in
+      let next : callsFrom words i (n - i) ≡ callAt words i ∷ rest = call-next words n i l in
+      let left : List ℕ = replyWords (run N w g rest) ++ drop (3 * n) replies′ in
+      let kept : drop (3 * n) replies′ ≡ drop (3 * n) replies =
+      ap (λ (l : List ℕ). drop (3 * n) l) (turned .replies-are) ∙ dropped-with-reply replies i (x .0) n l in
+      let written : take (3 * (i + 1)) replies′ ≡ take (3 * i) replies ++ (x .0 .number ∷ x .0 .value ∷ x .0 .second ∷ []) =
+      ap (λ (l : List ℕ). take (3 * (i + 1)) l) (turned .replies-are)
+      ∙ taken-with-reply replies i (x .0) (omega (arith, p .room, p .replies-length)) in
+      record {
+        usable = u;
+        made = omega arith;
+        room = p .room;
+        roots-length = roots-kept ∙ p .roots-length;
+        replies-length = ap length (turned .replies-are) ∙ length-with-reply replies i (x .0) ∙ p .replies-length;
+        memory-left =
+            p .memory-left
+            ∙ ap (λ (l : List Call). lastMemory h (run N w h l)) next
+            ∙ ap (λ (m : Memory). lastMemory m (run N w m rest)) (sym (turned .after-is));
+        replies-left =
+            p .replies-left
+            ∙ ap (λ (l : List Call). take (3 * i) replies ++ (replyWords (run N w h l) ++ drop (3 * n) replies)) next
+            ∙ ap (λ (m : Memory). take (3 * i) replies
+            ++ (x .0 .number ∷ x .0 .value ∷ x .0 .second ∷ (replyWords (run N w m rest) ++ drop (3 * n) replies)))
+            (sym (turned .after-is))
+            ∙ ap (λ (l : List ℕ). take (3 * i) replies ++ (x .0 .number ∷ x .0 .value ∷ x .0 .second ∷ (replyWords (run N w g rest) ++ l)))
+            (sym kept)
+            ∙ sym (append-assoc (take (3 * i) replies) (x .0 .number ∷ x .0 .value ∷ x .0 .second ∷ []) left)
+            ∙ ap (λ (l : List ℕ). l ++ left) (sym written);
+      }
+
+  pub progress-done :
+      {i : ℕ} {h : Memory} {replies : List ℕ} → length words / 4 ≤ i → Progress N w start words before i h replies
+      → AsRun N w start words before h replies
+  unfolding run lastMemory replyWords callsFrom
+  progress-done {i} {h} {replies} l p =
+      let n : ℕ = length words / 4 in
+      let none : n - i ≡ 0 = omega (arith, p .made) in
+      let all : i ≡ n = omega (arith, p .made) in
+      record {
+        after-is = sym (p .memory-left ∙ ap (λ (k : ℕ). lastMemory h (run N w h (callsFrom words i k))) none);
+        replies-are =
+            sym
+            (p .replies-left
+            ∙ ap (λ (k : ℕ). take (3 * i) replies ++ (replyWords (run N w h (callsFrom words i k)) ++ drop (3 * n) replies)) none
+            ∙ ap (λ (k : ℕ). take (3 * k) replies ++ drop (3 * n) replies) all
+            ∙ take-append-drop (3 * n) replies);
+      }

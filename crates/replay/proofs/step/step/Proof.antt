@@ -1,0 +1,180 @@
+-- `step::step` meets its contract: each code's call is the one made.
+use mathlib.Core.Path.{sym, ap, _∙_}
+use Prim.Native.Nat.{ℕ}
+use native.Mathlib.Omega.{arith}
+use borrow.Author.Needs.{needs}
+use Rattle.rules.specs.Calls.{reply}
+use Rattle.inner.proofs.Idle.{usable-healthy}
+use Rattle.replay.specs.Encoding.{decoded}
+use Rattle.replay.proofs.Codes.{known-code, store-code, promised-as}
+use Rattle.replay.proofs.Reading.{check-promise, look-promise, free-promise}
+use Rattle.replay.proofs.step.step.Statement.{statement}
+use Rattle.replay.proofs.step.step.Tie as tie
+
+format-requires : tie.Need-format-requires
+format-requires c κs = search needs
+
+acceptance-requires : tie.Need-acceptance-requires
+acceptance-requires c κs = search needs
+
+collect-requires : tie.Need-collect-requires
+collect-requires c κs = search needs
+
+look-reply-requires : tie.Need-look-reply-requires
+look-reply-requires c κs =
+    let shape = usable-healthy _ _ _ (c .before .before .before .before .before .before .before .before .before .before .pre .0) .shape in (
+      sym (shape .whole-bytes),
+      omega (arith, shape .length-a, shape .whole-bytes),
+      omega (arith, shape .length-b, shape .whole-bytes),
+      shape .width-max,
+      shape .length-counts,
+    )
+
+count-zeros-requires : tie.Need-count-zeros-requires
+count-zeros-requires c κs =
+    let shape = usable-healthy _ _ _ (c .before .before .before .before .before .before .before .before .pre .0) .shape in
+    omega (arith, shape .length-a, shape .whole-bytes, shape .blocks-max)
+
+acceptance-requires-2 : tie.Need-acceptance-requires-2
+acceptance-requires-2 c κs = search needs
+
+store-step-requires : tie.Need-store-step-requires
+store-step-requires c κs =
+    let pre = c .before .before .before .before .before .before .before .before .before .before .before .before .before .pre in
+    let rest = c .before .before .before .before .before .before .match .rest in
+    let codes =
+    store-code _ (known-code _ _ _ (pre .1)) (rest .0 .0 .0 .0 .1) (rest .0 .0 .0 .1) (rest .0 .0 .1) (rest .0 .1) (rest .1) in
+    (pre .0, pre .1, codes .0, codes .1)
+
+same-length : tie.Need-same-length
+same-length c = search needs
+
+same-length-2 : tie.Need-same-length-2
+same-length-2 c = search needs
+
+same-length-3 : tie.Need-same-length-3
+same-length-3 c = search needs
+
+same-length-4 : tie.Need-same-length-4
+same-length-4 c = search needs
+
+same-length-5 : tie.Need-same-length-5
+same-length-5 c = search needs
+
+same-length-6 : tie.Need-same-length-6
+same-length-6 c = search needs
+
+returns : tie.Need-returns
+unfolding decoded
+returns c = promised-as _ _ 0 _ _ _ (c .before .before .before .before .before .before .before .before .before .before .before .before .before .before .before .before .before .before .before .match .keys1) (c .before .before .before .before .before .before .before .before .before .before .before .before .format .ensures)
+
+returns-2 : tie.Need-returns-2
+unfolding decoded
+returns-2 c =
+    promised-as _ _ 1 _ _ _ (c .before .match .keys2) (check-promise _ _ _ (c .before .before .before .before .before .before .before .before .pre .0) _ (c .acceptance .ensures))
+
+same-length-7 : tie.Need-same-length-7
+same-length-7 c = search needs
+
+same-length-8 : tie.Need-same-length-8
+same-length-8 c = search needs
+
+same-length-9 : tie.Need-same-length-9
+same-length-9 c = search needs
+
+same-length-10 : tie.Need-same-length-10
+same-length-10 c = search needs
+
+same-length-11 : tie.Need-same-length-11
+same-length-11 c = search needs
+
+same-length-12 : tie.Need-same-length-12
+same-length-12 c = search needs
+
+returns-3 : tie.Need-returns-3
+unfolding decoded
+returns-3 c = promised-as _ _ 5 _ _ _ (c .before .before .before .before .before .before .before .before .before .before .before .before .before .before .before .before .before .match .keys3) (c .before .before .before .before .before .before .before .before .before .before .collect .ensures)
+
+same-length-13 : tie.Need-same-length-13
+same-length-13 c = search needs
+
+same-length-14 : tie.Need-same-length-14
+same-length-14 c = search needs
+
+same-length-15 : tie.Need-same-length-15
+same-length-15 c = search needs
+
+returns-4 : tie.Need-returns-4
+unfolding decoded
+returns-4 c =
+    promised-as _ _ 6 _ _ _ (c .before .before .before .before .match .keys4) (look-promise _ _ _ (c .before .before .before .before .before .before .before .before .before .before .before .pre .0) _ _ (c .look-reply .ensures))
+
+same-length-16 : tie.Need-same-length-16
+same-length-16 c = search needs
+
+returns-5 : tie.Need-returns-5
+unfolding decoded
+returns-5 c =
+    let counted = c .acceptance2 .ensures ∙ ap (λ (n : ℕ). reply 0 n 0) (c .before .count-zeros .ensures .0) in
+    promised-as _ _ 7 _ _ _ (c .before .before .before .match .keys5) (free-promise _ _ _ (c .before .before .before .before .before .before .before .before .before .before .pre .0) _ counted)
+
+same-length-17 : tie.Need-same-length-17
+same-length-17 c = search needs
+
+same-length-18 : tie.Need-same-length-18
+same-length-18 c = search needs
+
+same-length-19 : tie.Need-same-length-19
+same-length-19 c = search needs
+
+same-length-20 : tie.Need-same-length-20
+same-length-20 c = search needs
+
+same-length-21 : tie.Need-same-length-21
+same-length-21 c = search needs
+
+same-length-22 : tie.Need-same-length-22
+same-length-22 c = search needs
+
+returns-6 : tie.Need-returns-6
+returns-6 c = search needs
+
+pub step-spec : {M : Type 1} → statement M
+step-spec =
+    tie.close
+    (tie.spec
+    format-requires
+    acceptance-requires
+    collect-requires
+    look-reply-requires
+    count-zeros-requires
+    acceptance-requires-2
+    store-step-requires
+    same-length
+    same-length-2
+    same-length-3
+    same-length-4
+    same-length-5
+    same-length-6
+    returns
+    returns-2
+    same-length-7
+    same-length-8
+    same-length-9
+    same-length-10
+    same-length-11
+    same-length-12
+    returns-3
+    same-length-13
+    same-length-14
+    same-length-15
+    returns-4
+    same-length-16
+    returns-5
+    same-length-17
+    same-length-18
+    same-length-19
+    same-length-20
+    same-length-21
+    same-length-22
+    returns-6)

@@ -1,0 +1,63 @@
+// A whole list of calls in one lent slice, run from a formatted heap: demand 3 as the contract of one function. The heap is formatted
+// here, so it is undamaged, and calls keep it so: no call of the list tests it again.
+ghost use Rattle.rules.specs.Heap.{memory};
+ghost use Rattle.replay.specs.Replay.{Replayed};
+use blocks::Ref;
+use rules::Reply;
+
+pub mod run;
+pub mod step;
+pub mod tests;
+
+// Formats the heap and runs the calls: four words each, the replies three words each. The value is the number of calls. Refused lists, and
+// their numbers, are those of `replayReply`: nothing is written then.
+pub fn replay(
+    blocks: usize,
+    width: usize,
+    a: &mut [u8],
+    b: &mut [u8],
+    counts: &mut [u8],
+    cells: &mut [Ref],
+    roots: &mut [Ref],
+    waiting: &mut [Ref],
+    calls: &[u64],
+    replies: &mut [u64],
+) -> Reply
+    ensures { λ reply.
+        ⌜ Replayed blocks width
+        (memory (now (a .entry)) (now (b .entry)) (now (counts .entry)) (now (cells .entry)) (now (roots .entry)) (now (waiting .entry)))
+        (now (calls .entry)) (now (replies .entry)) reply
+        (memory (now (a .exit)) (now (b .exit)) (now (counts .exit)) (now (cells .exit)) (now (roots .exit)) (now (waiting .exit)))
+        (now (replies .exit)) ⌝ }
+{
+    let test = tests::replay_reply(
+        blocks,
+        width,
+        a.len(),
+        b.len(),
+        counts.len(),
+        cells.len(),
+        roots.len(),
+        waiting.len(),
+        calls,
+        replies.len(),
+    );
+    let number = test.number;
+    if number != 0 {
+        return test;
+    }
+    mutate::format(blocks, width, a, b, counts, cells, roots, waiting);
+    run::run_all(
+        blocks,
+        width,
+        a,
+        b,
+        counts,
+        cells,
+        roots,
+        waiting,
+        calls,
+        replies,
+    );
+    test
+}

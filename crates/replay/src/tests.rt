@@ -1,0 +1,88 @@
+// What can be refused before anything is written.
+ghost use mathlib.Core.Path.{_≡_};
+ghost use Prim.Native.Nat.{_*_, _≤_};
+ghost use lib.ListN.{length};
+ghost use Rattle.rules.specs.Heap.{shape};
+ghost use Rattle.rules.specs.Calls.{reply};
+ghost use Rattle.replay.specs.Encoding.{isCall, areCalls};
+ghost use Rattle.replay.specs.Replay.{replyOn};
+use damage::shape;
+use rules::Reply;
+
+// Whether a code and its arguments are a call.
+fn is_call(code: u64, y: u64, z: u64) -> bool
+    ensures { λ r. ⌜ r ≡ isCall code y z ⌝ }
+{
+    if 8 <= code {
+        return false;
+    }
+    if code == 3 {
+        return y < 65536;
+    }
+    if code == 4 {
+        return z < 65536;
+    }
+    true
+}
+
+// Whether each of the first n calls is a call.
+fn are_calls(calls: &[u64], n: usize) -> bool
+    requires { ⌜ 4 * n ≤ length (now calls) ⌝ }
+    ensures { λ r. ⌜ r ≡ areCalls (now (calls .entry)) n ⌝ }
+{
+    let mut i = 0;
+    while i < n {
+        let at = 4 * i;
+        if !is_call(calls[at], calls[at + 2], calls[at + 3]) {
+            return false;
+        }
+        i += 1;
+    }
+    true
+}
+
+// A refusal.
+fn refusal(number: usize) -> Reply
+    ensures { λ r. ⌜ r ≡ reply number 0 0 ⌝ }
+{
+    Reply {
+        number: number,
+        value: 0,
+        second: 0,
+    }
+}
+
+// The reply of a replay, from the lengths and the calls.
+pub fn replay_reply(
+    blocks: usize,
+    width: usize,
+    a: usize,
+    b: usize,
+    counts: usize,
+    cells: usize,
+    roots: usize,
+    waiting: usize,
+    calls: &[u64],
+    room: usize,
+) -> Reply
+    ensures { λ r. ⌜ r ≡ replyOn (shape blocks width a b counts cells roots waiting) (now (calls .entry)) room ⌝ }
+{
+    if !shape::is_shaped(blocks, width, a, b, counts, cells, roots, waiting) {
+        return refusal(1);
+    }
+    if calls.len() % 4 != 0 {
+        return refusal(10);
+    }
+    let n = calls.len() / 4;
+    if !are_calls(calls, n) {
+        return refusal(9);
+    }
+    if room / 3 < n {
+        return refusal(18);
+    }
+    Reply {
+        number: 0,
+        value: n,
+        second: 0,
+    }
+}

@@ -1,0 +1,45 @@
+/* The first paper case, P1, through the C interface: N is 8, w is 2, and there are 4 roots.
+ *
+ * "Fresh; allocate 2 into root 0: block 0. Allocate 1 into root 1: block 2. Allocate 3 into root 2: block 4. A = 119, B = 185.
+ * Look at 4: size 3, count 1." */
+#include "huwekapo.h"
+
+#include <stdio.h>
+
+enum { BLOCKS = 8, WIDTH = 2, ROOTS = 4 };
+
+static uint8_t a[BLOCKS / 8], b[BLOCKS / 8], counts[WIDTH * BLOCKS / 8];
+static uint16_t cells[4 * BLOCKS], roots[ROOTS], waiting[BLOCKS];
+
+/* The six lent buffers. */
+#define HEAP \
+    BLOCKS, WIDTH, a, sizeof a, b, sizeof b, counts, sizeof counts, cells, 4 * BLOCKS, roots, ROOTS, waiting, BLOCKS
+
+static int failures = 0;
+
+/* Prints a reply, and whether it is the one that the case names. */
+static void expect(const char *call, struct huwekapo_reply reply, size_t number, size_t value, size_t second) {
+    int same = reply.number == number && reply.value == value && reply.second == second;
+    printf("%-26s %zu %zu %zu  %s\n", call, reply.number, reply.value, reply.second, same ? "ok" : "DIFFERENT");
+    failures += !same;
+}
+
+int main(void) {
+    expect("format", huwekapo_format(HEAP), HUWEKAPO_ACCEPTED, 0, 0);
+    expect("allocate 2 into root 0", huwekapo_allocate(HEAP, 2, 0), HUWEKAPO_ACCEPTED, 0, 0);
+    expect("allocate 1 into root 1", huwekapo_allocate(HEAP, 1, 1), HUWEKAPO_ACCEPTED, 2, 0);
+    expect("allocate 3 into root 2", huwekapo_allocate(HEAP, 3, 2), HUWEKAPO_ACCEPTED, 4, 0);
+    printf("A = %d, B = %d\n", a[0], b[0]);
+    failures += a[0] != 119 || b[0] != 185;
+    expect("look at 4", huwekapo_look(HEAP, 4), HUWEKAPO_ACCEPTED, 3, 1);
+    expect("check", huwekapo_check(HEAP), HUWEKAPO_ACCEPTED, 0, 0);
+    /* P2, the first line: "Then allocate 2 into root 3: refused 5, with blocks 3 and 7 free." */
+    expect("allocate 2 into root 3", huwekapo_allocate(HEAP, 2, 3), HUWEKAPO_NO_CHUNK, 0, 0);
+    expect("free blocks", huwekapo_free_blocks(HEAP), HUWEKAPO_ACCEPTED, 2, 0);
+    /* The rest of the calls, so that each is linked and called once. */
+    expect("store 1 in cell 0 of 2", huwekapo_store_cell(HEAP, 2, 0, 1), HUWEKAPO_ACCEPTED, 0, 0);
+    expect("store 0 in root 1", huwekapo_store_root(HEAP, 1, 0), HUWEKAPO_ACCEPTED, 1, 0);
+    expect("collect", huwekapo_collect(HEAP), HUWEKAPO_ACCEPTED, 0, 0);
+    puts(failures == 0 ? "paper: ok" : "paper: DIFFERENT");
+    return failures != 0;
+}

@@ -1,0 +1,11 @@
+#!/bin/bash
+# Builds the proved program `calls`, runs it on the paper cases P1 to P11 of document 01, and prints each call in words beside
+# the program's reply. Ends with status 1 where a reply is not the one of document 01.
+set -eu
+cd "$(dirname "$0")/.."
+rt check calls
+cargo build --quiet --release --manifest-path model/Cargo.toml
+model=model/target/release/model
+"$model" paper >target/paper.calls
+target/bin/calls <target/paper.calls >target/paper.replies
+"$model" show <target/paper.replies

@@ -1,0 +1,160 @@
+/* Huwekapo: a heap of 16-byte blocks in bitmaps, with limited reference counts.
+ *
+ * The caller lends the heap's six buffers to every call, each as a pointer and a length in elements, in this order:
+ *
+ *   a        blocks / 8 bytes           A-map: 1 is allocated, 0 is free
+ *   b        blocks / 8 bytes           B-map: 0 on the last block of each object, 1 everywhere else
+ *   counts   width * blocks / 8 bytes   count maps, the least significant bit first
+ *   cells    4 * blocks numbers         cells 4i to 4i + 3 for block i: 0, or 1 + the first block of an object
+ *   roots    1 to 64 numbers            filled as cells are
+ *   waiting  blocks numbers             working space
+ *
+ * blocks is a power of two from 8 to 8,192; width, the count width, is 1 to 4 bits. Block i is bit i % 8 (bit 0 is the
+ * least) of byte i / 8 of a map.
+ *
+ * Every call may be made with any arguments and any content of the buffers: what is wrong is refused by a number, and a
+ * refusal changes no buffer. The buffers must not overlap, and each pointer must be good for its length, and not null even
+ * where that is 0.
+ *
+ * Link libcapi.a.
+ */
+#ifndef HUWEKAPO_H
+#define HUWEKAPO_H
+
+#include <stddef.h>
+#include <stdint.h>
+
+#ifdef __cplusplus
+extern "C" {
+#endif
+
+/* A number and its values. number is 0 where the call was accepted, else the first of the refusals below that applies.
+ * A refusal carries value 0, or the damage kind for number 2. second is 0 but for an accepted look. */
+struct huwekapo_reply {
+    size_t number;
+    size_t value;
+    size_t second;
+};
+
+enum huwekapo_number {
+    HUWEKAPO_ACCEPTED = 0,
+    HUWEKAPO_MISSHAPEN = 1,    /* N, w, the number of roots or any buffer's length is not as above */
+    HUWEKAPO_DAMAGED = 2,      /* the heap is damaged; the value is the damage kind */
+    HUWEKAPO_BAD_SIZE = 3,     /* n is 0 or above N */
+    HUWEKAPO_BAD_ROOT = 4,     /* r is not below the number of roots */
+    HUWEKAPO_NO_CHUNK = 5,     /* no chunk of s blocks is free */
+    HUWEKAPO_NO_OBJECT = 6,    /* a is not a first block (or not below N) */
+    HUWEKAPO_BAD_CELL = 7,     /* j is not below 4 * size */
+    HUWEKAPO_BAD_REFERENCE = 8, /* v is neither 0 nor 1 + a first block */
+    HUWEKAPO_NO_CALL = 9,       /* replay: a call of the list is none */
+    HUWEKAPO_CUT_OFF = 10,      /* replay: the list ends inside a call */
+    HUWEKAPO_SHORT_REPLIES = 18 /* replay: the list of replies is too short */
+};
+
+enum huwekapo_damage {
+    HUWEKAPO_END_ON_FREE = 1,         /* a 0 in the B-map on a free block */
+    HUWEKAPO_OPEN_END = 2,            /* an allocated block with B bit 1 whose next block is free or past the end */
+    HUWEKAPO_UNALIGNED = 3,           /* an object whose first block is not a multiple of the least power of two that is
+                                         its size or more */
+    HUWEKAPO_DANGLING_REFERENCE = 4,  /* a cell of a free block that isn't 0, or a cell or root that is neither 0 nor
+                                         1 + a first block */
+    HUWEKAPO_WRONG_COUNT = 5,         /* a count other than 0 where no object starts; an object with count 0; a count below
+                                         capacity that differs from the number of all cells and roots naming the object */
+    HUWEKAPO_WRONG_NUMBER_OF_ENDS = 6 /* the number of objects differs from the number of 0 bits in the B-map */
+};
+
+/* Makes an empty heap of whatever the buffers held. Refusals: 1. */
+struct huwekapo_reply huwekapo_format(size_t blocks, size_t width,
+                                      uint8_t *a, size_t a_length,
+                                      uint8_t *b, size_t b_length,
+                                      uint8_t *counts, size_t counts_length,
+                                      uint16_t *cells, size_t cells_length,
+                                      uint16_t *roots, size_t roots_length,
+                                      uint16_t *waiting, size_t waiting_length);
+
+/* Tests the whole heap. Refusals: 1, 2. */
+struct huwekapo_reply huwekapo_check(size_t blocks, size_t width,
+                                     const uint8_t *a, size_t a_length,
+                                     const uint8_t *b, size_t b_length,
+                                     const uint8_t *counts, size_t counts_length,
+                                     const uint16_t *cells, size_t cells_length,
+                                     const uint16_t *roots, size_t roots_length,
+                                     const uint16_t *waiting, size_t waiting_length);
+
+/* Allocates n blocks into root r. The value is the first block. Refusals: 1, 2, 3, 4, 5. */
+struct huwekapo_reply huwekapo_allocate(size_t blocks, size_t width,
+                                        uint8_t *a, size_t a_length,
+                                        uint8_t *b, size_t b_length,
+                                        uint8_t *counts, size_t counts_length,
+                                        uint16_t *cells, size_t cells_length,
+                                        uint16_t *roots, size_t roots_length,
+                                        uint16_t *waiting, size_t waiting_length,
+                                        size_t n, size_t r);
+
+/* Stores v in root r. The value is the number of blocks freed. Refusals: 1, 2, 4, 8. */
+struct huwekapo_reply huwekapo_store_root(size_t blocks, size_t width,
+                                          uint8_t *a, size_t a_length,
+                                          uint8_t *b, size_t b_length,
+                                          uint8_t *counts, size_t counts_length,
+                                          uint16_t *cells, size_t cells_length,
+                                          uint16_t *roots, size_t roots_length,
+                                          uint16_t *waiting, size_t waiting_length,
+                                          size_t r, uint16_t v);
+
+/* Stores v in cell j of the object at block `at`. The value is the number of blocks freed. Refusals: 1, 2, 6, 7, 8. */
+struct huwekapo_reply huwekapo_store_cell(size_t blocks, size_t width,
+                                          uint8_t *a, size_t a_length,
+                                          uint8_t *b, size_t b_length,
+                                          uint8_t *counts, size_t counts_length,
+                                          uint16_t *cells, size_t cells_length,
+                                          const uint16_t *roots, size_t roots_length,
+                                          uint16_t *waiting, size_t waiting_length,
+                                          size_t at, size_t j, uint16_t v);
+
+/* Frees the objects that no root reaches, and counts the references of the others anew. The value is the number of blocks
+ * freed. Refusals: 1, 2. */
+struct huwekapo_reply huwekapo_collect(size_t blocks, size_t width,
+                                       uint8_t *a, size_t a_length,
+                                       uint8_t *b, size_t b_length,
+                                       uint8_t *counts, size_t counts_length,
+                                       uint16_t *cells, size_t cells_length,
+                                       const uint16_t *roots, size_t roots_length,
+                                       uint16_t *waiting, size_t waiting_length);
+
+/* Looks at the object at block `at`. The value is its size in blocks, second its count. Refusals: 1, 2, 6. */
+struct huwekapo_reply huwekapo_look(size_t blocks, size_t width,
+                                    const uint8_t *a, size_t a_length,
+                                    const uint8_t *b, size_t b_length,
+                                    const uint8_t *counts, size_t counts_length,
+                                    const uint16_t *cells, size_t cells_length,
+                                    const uint16_t *roots, size_t roots_length,
+                                    const uint16_t *waiting, size_t waiting_length,
+                                    size_t at);
+
+/* The value is the number of free blocks. Refusals: 1, 2. */
+struct huwekapo_reply huwekapo_free_blocks(size_t blocks, size_t width,
+                                           const uint8_t *a, size_t a_length,
+                                           const uint8_t *b, size_t b_length,
+                                           const uint8_t *counts, size_t counts_length,
+                                           const uint16_t *cells, size_t cells_length,
+                                           const uint16_t *roots, size_t roots_length,
+                                           const uint16_t *waiting, size_t waiting_length);
+
+/* Formats the heap and runs a list of calls, four words each: 0 format; 1 check; 2 allocate n r; 3 store in root r v; 4 store in
+ * cell at j v; 5 collect; 6 look at; 7 free blocks. Words that a call does not name are not looked at. The reply of call i goes to
+ * places 3i, 3i + 1 and 3i + 2 of replies. The value is the number of calls. Refusals, which write nothing: 1, 10, 9, 18. */
+struct huwekapo_reply huwekapo_replay(size_t blocks, size_t width,
+                                      uint8_t *a, size_t a_length,
+                                      uint8_t *b, size_t b_length,
+                                      uint8_t *counts, size_t counts_length,
+                                      uint16_t *cells, size_t cells_length,
+                                      uint16_t *roots, size_t roots_length,
+                                      uint16_t *waiting, size_t waiting_length,
+                                      const uint64_t *calls, size_t calls_length,
+                                      uint64_t *replies, size_t replies_length);
+
+#ifdef __cplusplus
+}
+#endif
+
+#endif

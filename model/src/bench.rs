@@ -1,0 +1,241 @@
+//! Times of the product's library against the port in plain safe Rust: one run, same input, buffers warm.
+
+use crate::heap::{first_blocks, free_count, size, Memory};
+use crate::library::{shared, unique};
+use crate::port::{self, Lent};
+use crate::random::Random;
+use huwekapo::lent;
+use std::fmt::Write;
+use std::hint::black_box;
+use std::time::{Duration, Instant};
+
+const WIDTH: usize = 3;
+const ROOTS: usize = 64;
+const BLOCKS: usize = 8192;
+const CALLS: usize = 200_000;
+const MANY_CALLS: usize = 1_000_000;
+
+/// All figures, as text.
+pub fn bench() -> String {
+    let mut out = String::new();
+    let list = mixed_calls(BLOCKS, CALLS, 1);
+    say_what(&mut out, &list);
+    calls(&mut out, &list);
+    calls(&mut out, &mixed_calls(BLOCKS, MANY_CALLS, 3));
+    check(&mut out, &list);
+    growth(&mut out);
+    out
+}
+
+/// The port's view of a memory.
+fn lend(memory: &mut Memory) -> Lent<'_> {
+    Lent {
+        a: &mut memory.a,
+        b: &mut memory.b,
+        counts: &mut memory.counts,
+        cells: &mut memory.cells,
+        roots: &mut memory.roots,
+        waiting: &mut memory.waiting,
+    }
+}
+
+/// The first roots hold tables, objects of many cells, so that most of the heap is in use.
+const TABLES: usize = 6;
+
+/// A list of calls, four words each, that fills a heap, tangles it and lets parts of it go. Each call is carried
+/// out by the port, so that the next one fits.
+fn mixed_calls(blocks: usize, count: usize, seed: u64) -> Vec<u64> {
+    let mut random = Random::new(seed);
+    let mut memory = Memory::zeros(blocks, WIDTH, ROOTS);
+    let mut list: Vec<u64> = Vec::with_capacity(4 * count);
+    while list.len() < 4 * count {
+        let words = match list.len() / 4 {
+            0 => [0; 4],
+            k if k <= TABLES => [2, blocks as u64 / 128, k as u64 - 1, 0],
+            _ => some_call(&mut random, blocks, &memory),
+        };
+        list.extend(words);
+        port::step(blocks, WIDTH, &mut lend(&mut memory), &words);
+    }
+    list
+}
+
+/// One call that fits the heap, once the tables are there.
+fn some_call(random: &mut Random, blocks: usize, memory: &Memory) -> [u64; 4] {
+    let r = TABLES + random.below(ROOTS - TABLES);
+    let owner = if random.percent(70) {
+        memory.roots[random.below(TABLES)] as usize
+    } else {
+        memory.roots[random.below(ROOTS)] as usize
+    };
+    let held = memory.roots[random.below(ROOTS)] as u64;
+    match random.below(1000) {
+        0..=249 => [2, 1 + random.below(6) as u64, r as u64, 0],
+        250..=399 => [3, r as u64, held, 0],
+        400..=449 => [3, r as u64, 0, 0],
+        450..=849 if owner != 0 => {
+            let cells = 4 * size(blocks, memory, owner - 1);
+            let v = memory.roots[r] as u64;
+            [4, owner as u64 - 1, random.below(cells) as u64, v]
+        }
+        850..=979 if held != 0 => [6, held - 1, 0, 0],
+        980..=997 => [7, 0, 0, 0],
+        998 => [5, 0, 0, 0],
+        _ => [1, 0, 0, 0],
+    }
+}
+
+/// What the list does.
+fn say_what(out: &mut String, list: &[u64]) {
+    let mut memory = Memory::zeros(BLOCKS, WIDTH, ROOTS);
+    let mut replies = vec![0; list.len() / 4 * 3];
+    port::replay(BLOCKS, WIDTH, &mut lend(&mut memory), list, &mut replies);
+    let calls = |kind: u64| list.chunks(4).filter(|call| call[0] == kind).count();
+    let kinds: Vec<String> = [2, 3, 4, 5, 6, 7]
+        .map(|kind| calls(kind).to_string())
+        .to_vec();
+    let accepted = replies.chunks(3).filter(|reply| reply[0] == 0).count();
+    let objects = first_blocks(BLOCKS, &memory).len();
+    let free = free_count(BLOCKS, &memory);
+    writeln!(
+        out,
+        "the list: allocate, store in a root, store in a cell, collect, look, free blocks: {}",
+        kinds.join(", ")
+    )
+    .unwrap();
+    writeln!(
+        out,
+        "  {accepted} of {CALLS} accepted; at the end {objects} objects, {free} free blocks"
+    )
+    .unwrap();
+}
+
+/// The least of seven times of each of two, taken by turns after one turn that warms up: other work on the machine
+/// can only add to a time.
+fn by_turns(mut one: impl FnMut(), mut other: impl FnMut()) -> [Duration; 2] {
+    let mut least = [Duration::MAX; 2];
+    for turn in 0..8 {
+        let start = Instant::now();
+        one();
+        let middle = Instant::now();
+        other();
+        if turn > 0 {
+            least[0] = least[0].min(middle - start);
+            least[1] = least[1].min(middle.elapsed());
+        }
+    }
+    least
+}
+
+fn ratio([library, port]: [Duration; 2]) -> String {
+    let ratio = library.as_secs_f64() / port.as_secs_f64();
+    format!("library {library:>12.3?}   plain Rust {port:>12.3?}   ratio {ratio:.3}")
+}
+
+/// The inner calls, by the library's run of a list and by the port's. Replies and buffers must be equal.
+fn calls(out: &mut String, list: &[u64]) {
+    let mut memories = [0, 1].map(|_| Memory::zeros(BLOCKS, WIDTH, ROOTS));
+    let mut replies = [0, 1].map(|_| vec![0u64; list.len() / 4 * 3]);
+    let [first, second] = &mut memories;
+    let [by_library, by_port] = &mut replies;
+    let times = by_turns(
+        || {
+            let reply = lent::replay(unique(BLOCKS, WIDTH, first), black_box(list), by_library);
+            assert_eq!(reply.number, 0);
+        },
+        || {
+            let answer = port::replay(BLOCKS, WIDTH, &mut lend(second), black_box(list), by_port);
+            assert_eq!(answer.number, 0);
+        },
+    );
+    assert!(memories[0] == memories[1] && replies[0] == replies[1]);
+    let count = list.len() / 4;
+    let rate = count as f64 / times[0].as_secs_f64();
+    writeln!(
+        out,
+        "{count} mixed calls, N = {BLOCKS}, w = {WIDTH}: {}",
+        ratio(times)
+    )
+    .unwrap();
+    writeln!(out, "  {rate:.0} calls a second by the library").unwrap();
+}
+
+/// A heap as a list of calls leaves it.
+fn used(blocks: usize, list: &[u64]) -> Memory {
+    let mut memory = Memory::zeros(blocks, WIDTH, ROOTS);
+    let mut replies = vec![0; list.len() / 4 * 3];
+    port::replay(blocks, WIDTH, &mut lend(&mut memory), list, &mut replies);
+    memory
+}
+
+/// One whole-heap check, out of many.
+fn check(out: &mut String, list: &[u64]) {
+    let times = check_times(BLOCKS, list);
+    writeln!(out, "a check, N = {BLOCKS}, w = {WIDTH}: {}", ratio(times)).unwrap();
+}
+
+fn check_times(blocks: usize, list: &[u64]) -> [Duration; 2] {
+    const ROUNDS: u32 = 50;
+    let memory = used(blocks, list);
+    let mut other = memory.clone();
+    let other = lend(&mut other);
+    let times = by_turns(
+        || {
+            for _ in 0..ROUNDS {
+                let reply = lent::check(shared(blocks, WIDTH, black_box(&memory)));
+                assert_eq!(reply.number, 0);
+            }
+        },
+        || {
+            for _ in 0..ROUNDS {
+                let answer = port::check(blocks, WIDTH, black_box(&other));
+                assert_eq!(answer.number, 0);
+            }
+        },
+    );
+    times.map(|time| time / ROUNDS)
+}
+
+/// A collection, with the check that the public call makes before it.
+fn collect_times(blocks: usize, list: &[u64]) -> [Duration; 2] {
+    const ROUNDS: u32 = 50;
+    let mut memory = used(blocks, list);
+    let mut other = memory.clone();
+    let times = by_turns(
+        || {
+            for _ in 0..ROUNDS {
+                let reply = lent::collect(unique(blocks, WIDTH, black_box(&mut memory)));
+                assert_eq!(reply.number, 0);
+            }
+        },
+        || {
+            for _ in 0..ROUNDS {
+                let mut m = lend(black_box(&mut other));
+                assert_eq!(port::check(blocks, WIDTH, &m).number, 0);
+                m.waiting.fill(0);
+                port::collect(blocks, WIDTH, &mut m);
+            }
+        },
+    );
+    assert!(memory == other);
+    times.map(|time| time / ROUNDS)
+}
+
+/// Check and collect on heaps of growing size.
+fn growth(out: &mut String) {
+    for blocks in [1024, 2048, 4096, 8192] {
+        let list = mixed_calls(blocks, 8 * blocks, 2);
+        writeln!(
+            out,
+            "N = {blocks}: check   {}",
+            ratio(check_times(blocks, &list))
+        )
+        .unwrap();
+        writeln!(
+            out,
+            "N = {blocks}: collect {}",
+            ratio(collect_times(blocks, &list))
+        )
+        .unwrap();
+    }
+}

@@ -1,0 +1,117 @@
+//! Bits, counts, first blocks, sizes, chunks and extents.
+
+pub fn get_bit(map: &[u8], i: usize) -> u8 {
+    (map[i / 8] >> (i % 8)) % 2
+}
+
+pub fn set_bit(map: &mut [u8], i: usize, v: u8) {
+    let k = i % 8;
+    let b = map[i / 8];
+    map[i / 8] = b - (((b >> k) % 2) << k) + (v << k);
+}
+
+fn fill_bits(map: &mut [u8], from: usize, count: usize, v: u8) {
+    for i in 0..count {
+        set_bit(map, from + i, v);
+    }
+}
+
+pub fn count_zeros(map: &[u8]) -> usize {
+    let mut n = 0;
+    for byte in map {
+        n += 8 - byte.count_ones() as usize;
+    }
+    n
+}
+
+pub fn get_count(counts: &[u8], bytes: usize, width: usize, block: usize) -> u8 {
+    let mut count = 0;
+    let mut from = 0;
+    for k in 0..width {
+        let to = from + bytes;
+        count += get_bit(&counts[from..to], block) << k;
+        from = to;
+    }
+    count
+}
+
+pub fn set_count(counts: &mut [u8], bytes: usize, width: usize, block: usize, value: u8) {
+    let mut from = 0;
+    for k in 0..width {
+        let to = from + bytes;
+        set_bit(&mut counts[from..to], block, (value >> k) % 2);
+        from = to;
+    }
+}
+
+pub fn is_first(blocks: usize, a: &[u8], b: &[u8], i: usize) -> bool {
+    if blocks <= i || get_bit(a, i) == 0 {
+        return false;
+    }
+    i == 0 || get_bit(a, i - 1) == 0 || get_bit(b, i - 1) == 0
+}
+
+pub fn object_size(blocks: usize, b: &[u8], i: usize) -> usize {
+    let mut at = i;
+    while at < blocks {
+        if get_bit(b, at) == 0 {
+            return at + 1 - i;
+        }
+        at += 1;
+    }
+    blocks - i
+}
+
+pub fn is_reference(blocks: usize, a: &[u8], b: &[u8], v: u16) -> bool {
+    v == 0 || is_first(blocks, a, b, v as usize - 1)
+}
+
+pub fn chunk_size(n: usize) -> usize {
+    let mut size = 1;
+    while size < n {
+        size *= 2;
+    }
+    size
+}
+
+fn chunk_is_free(a: &[u8], at: usize, size: usize) -> bool {
+    if size == 1 {
+        return get_bit(a, at) == 0;
+    }
+    let half = size / 2;
+    chunk_is_free(a, at, half) && chunk_is_free(a, at + half, half)
+}
+
+pub fn some_chunk_free(a: &[u8], at: usize, count: usize, size: usize) -> bool {
+    if count == size {
+        return chunk_is_free(a, at, size);
+    }
+    let half = count / 2;
+    some_chunk_free(a, at, half, size) || some_chunk_free(a, at + half, half, size)
+}
+
+pub fn lowest_chunk(blocks: usize, a: &[u8], size: usize) -> usize {
+    let mut at = 0;
+    'chunks: loop {
+        if blocks <= at {
+            break at;
+        }
+        for i in 0..size {
+            if get_bit(a, at + i) != 0 {
+                at += size;
+                continue 'chunks;
+            }
+        }
+        break at;
+    }
+}
+
+pub fn mark_extent(a: &mut [u8], b: &mut [u8], i: usize, n: usize) {
+    fill_bits(a, i, n, 1);
+    set_bit(b, i + n - 1, 0);
+}
+
+pub fn clear_extent(a: &mut [u8], b: &mut [u8], i: usize, n: usize) {
+    fill_bits(a, i, n, 0);
+    set_bit(b, i + n - 1, 1);
+}

@@ -1,0 +1,45 @@
+//! The product's algorithms once more, function by function, in plain safe Rust: what the benchmark holds the
+//! product's times against, and makes its list with. It is no model: nothing here says what is right.
+
+mod blocks;
+mod damage;
+mod references;
+mod replay;
+
+pub use damage::check;
+pub use references::collect;
+pub use replay::{replay, step};
+
+/// The six lent buffers.
+pub struct Lent<'a> {
+    pub a: &'a mut [u8],
+    pub b: &'a mut [u8],
+    pub counts: &'a mut [u8],
+    pub cells: &'a mut [u16],
+    pub roots: &'a mut [u16],
+    pub waiting: &'a mut [u16],
+}
+
+/// A number and two values.
+#[derive(Clone, Copy, Debug, PartialEq, Eq)]
+pub struct Answer {
+    pub number: usize,
+    pub value: usize,
+    pub second: usize,
+}
+
+fn refusal(number: usize) -> Answer {
+    Answer {
+        number,
+        value: 0,
+        second: 0,
+    }
+}
+
+fn acceptance(value: usize) -> Answer {
+    Answer {
+        number: 0,
+        value,
+        second: 0,
+    }
+}

@@ -1,0 +1,149 @@
+//! Counting, release, the two stores, placing, and the collection.
+
+use super::blocks::{clear_extent, get_count, is_first, mark_extent, object_size, set_count};
+use super::Lent;
+
+fn capacity(width: usize) -> u8 {
+    (1u8 << width) - 1
+}
+
+fn count_up(blocks: usize, width: usize, counts: &mut [u8], v: u16) {
+    if v == 0 {
+        return;
+    }
+    let block = v as usize - 1;
+    let count = get_count(counts, blocks / 8, width, block);
+    if count != capacity(width) {
+        set_count(counts, blocks / 8, width, block, count + 1);
+    }
+}
+
+fn count_down(
+    blocks: usize,
+    width: usize,
+    counts: &mut [u8],
+    waiting: &mut [u16],
+    v: u16,
+    top: usize,
+) -> usize {
+    if v == 0 {
+        return top;
+    }
+    let block = v as usize - 1;
+    let count = get_count(counts, blocks / 8, width, block);
+    if count == 0 || count == capacity(width) {
+        return top;
+    }
+    set_count(counts, blocks / 8, width, block, count - 1);
+    if count == 1 {
+        waiting[top] = v - 1;
+        return top + 1;
+    }
+    top
+}
+
+fn let_go(blocks: usize, width: usize, m: &mut Lent, v: u16) -> usize {
+    let mut freed = 0;
+    let mut top = count_down(blocks, width, m.counts, m.waiting, v, 0);
+    while 0 < top {
+        top -= 1;
+        let i = m.waiting[top] as usize;
+        m.waiting[top] = 0;
+        let n = object_size(blocks, m.b, i);
+        clear_extent(m.a, m.b, i, n);
+        for j in 4 * i..4 * i + 4 * n {
+            let v = m.cells[j];
+            m.cells[j] = 0;
+            top = count_down(blocks, width, m.counts, m.waiting, v, top);
+        }
+        freed += n;
+    }
+    freed
+}
+
+fn put_root(blocks: usize, width: usize, m: &mut Lent, r: usize, v: u16) -> usize {
+    let old = m.roots[r];
+    m.roots[r] = v;
+    let_go(blocks, width, m, old)
+}
+
+pub fn store_root(blocks: usize, width: usize, m: &mut Lent, r: usize, v: u16) -> usize {
+    count_up(blocks, width, m.counts, v);
+    put_root(blocks, width, m, r, v)
+}
+
+pub fn store_cell(blocks: usize, width: usize, m: &mut Lent, c: usize, v: u16) -> usize {
+    count_up(blocks, width, m.counts, v);
+    let old = m.cells[c];
+    m.cells[c] = v;
+    let_go(blocks, width, m, old)
+}
+
+pub fn place(blocks: usize, width: usize, m: &mut Lent, n: usize, r: usize, i: usize) -> usize {
+    mark_extent(m.a, m.b, i, n);
+    set_count(m.counts, blocks / 8, width, i, 1);
+    for j in 4 * i..4 * i + 4 * n {
+        m.cells[j] = 0;
+    }
+    put_root(blocks, width, m, r, (i + 1) as u16)
+}
+
+fn visit(
+    blocks: usize,
+    width: usize,
+    counts: &mut [u8],
+    waiting: &mut [u16],
+    v: u16,
+    top: usize,
+) -> usize {
+    if v == 0 {
+        return top;
+    }
+    let block = v as usize - 1;
+    let count = get_count(counts, blocks / 8, width, block);
+    if count == 0 {
+        set_count(counts, blocks / 8, width, block, 1);
+        waiting[top] = v - 1;
+        return top + 1;
+    }
+    if count < capacity(width) {
+        set_count(counts, blocks / 8, width, block, count + 1);
+    }
+    top
+}
+
+fn mark(blocks: usize, width: usize, m: &mut Lent) {
+    for byte in m.counts.iter_mut() {
+        *byte = 0;
+    }
+    let mut top = 0;
+    for r in 0..m.roots.len() {
+        top = visit(blocks, width, m.counts, m.waiting, m.roots[r], top);
+    }
+    while 0 < top {
+        top -= 1;
+        let i = m.waiting[top] as usize;
+        m.waiting[top] = 0;
+        let n = object_size(blocks, m.b, i);
+        for j in 4 * i..4 * i + 4 * n {
+            top = visit(blocks, width, m.counts, m.waiting, m.cells[j], top);
+        }
+    }
+}
+
+/// The full collection, on an undamaged heap with a cleared waiting list. The number of blocks freed.
+pub fn collect(blocks: usize, width: usize, m: &mut Lent) -> usize {
+    mark(blocks, width, m);
+    let mut freed = 0;
+    for i in 0..blocks {
+        if is_first(blocks, m.a, m.b, i) && get_count(m.counts, blocks / 8, width, i) == 0 {
+            let n = object_size(blocks, m.b, i);
+            clear_extent(m.a, m.b, i, n);
+            for j in 4 * i..4 * i + 4 * n {
+                m.cells[j] = 0;
+            }
+            freed += n;
+        }
+    }
+    freed
+}

@@ -1,0 +1,126 @@
+//! A list of calls on a heap that is formatted first: the inner calls, with no further test for damage.
+
+use super::blocks::{
+    chunk_size, count_zeros, get_count, is_first, is_reference, lowest_chunk, object_size,
+    some_chunk_free,
+};
+use super::damage::is_shaped;
+use super::references::{collect, place, store_cell, store_root};
+use super::{acceptance, refusal, Answer, Lent};
+
+fn format(m: &mut Lent) {
+    m.a.fill(0);
+    m.b.fill(255);
+    m.counts.fill(0);
+    m.cells.fill(0);
+    m.roots.fill(0);
+    m.waiting.fill(0);
+}
+
+fn allocate(blocks: usize, width: usize, m: &mut Lent, n: usize, r: usize) -> Answer {
+    if n == 0 || blocks < n {
+        return refusal(3);
+    }
+    if m.roots.len() <= r {
+        return refusal(4);
+    }
+    let size = chunk_size(n);
+    if !some_chunk_free(m.a, 0, blocks, size) {
+        return refusal(5);
+    }
+    let at = lowest_chunk(blocks, m.a, size);
+    place(blocks, width, m, n, r, at);
+    acceptance(at)
+}
+
+fn put_in_root(blocks: usize, width: usize, m: &mut Lent, r: usize, v: u16) -> Answer {
+    if m.roots.len() <= r {
+        return refusal(4);
+    }
+    if !is_reference(blocks, m.a, m.b, v) {
+        return refusal(8);
+    }
+    acceptance(store_root(blocks, width, m, r, v))
+}
+
+fn put_in_cell(blocks: usize, width: usize, m: &mut Lent, at: usize, j: usize, v: u16) -> Answer {
+    if !is_first(blocks, m.a, m.b, at) {
+        return refusal(6);
+    }
+    if 4 * object_size(blocks, m.b, at) <= j {
+        return refusal(7);
+    }
+    if !is_reference(blocks, m.a, m.b, v) {
+        return refusal(8);
+    }
+    acceptance(store_cell(blocks, width, m, 4 * at + j, v))
+}
+
+fn look(blocks: usize, width: usize, m: &Lent, at: usize) -> Answer {
+    if !is_first(blocks, m.a, m.b, at) {
+        return refusal(6);
+    }
+    Answer {
+        number: 0,
+        value: object_size(blocks, m.b, at),
+        second: get_count(m.counts, blocks / 8, width, at) as usize,
+    }
+}
+
+/// One call of four words, on an undamaged heap with a cleared waiting list.
+pub fn step(blocks: usize, width: usize, m: &mut Lent, call: &[u64]) -> Answer {
+    let (x, y) = (call[1] as usize, call[2] as usize);
+    match call[0] {
+        0 => {
+            format(m);
+            acceptance(0)
+        }
+        2 => allocate(blocks, width, m, x, y),
+        3 => put_in_root(blocks, width, m, x, call[2] as u16),
+        4 => put_in_cell(blocks, width, m, x, y, call[3] as u16),
+        5 => acceptance(collect(blocks, width, m)),
+        6 => look(blocks, width, m, x),
+        7 => acceptance(count_zeros(m.a)),
+        _ => acceptance(0),
+    }
+}
+
+/// Whether four words are a call.
+fn is_call(call: &[u64]) -> bool {
+    match call[0] {
+        3 => call[2] < 65_536,
+        4 => call[3] < 65_536,
+        code => code < 8,
+    }
+}
+
+/// Formats, then runs calls of four words each and writes replies of three words each.
+pub fn replay(
+    blocks: usize,
+    width: usize,
+    m: &mut Lent,
+    calls: &[u64],
+    replies: &mut [u64],
+) -> Answer {
+    if !is_shaped(blocks, width, m) {
+        return refusal(1);
+    }
+    if !calls.len().is_multiple_of(4) {
+        return refusal(10);
+    }
+    if !calls.chunks_exact(4).all(is_call) {
+        return refusal(9);
+    }
+    let count = calls.len() / 4;
+    if replies.len() / 3 < count {
+        return refusal(18);
+    }
+    format(m);
+    for (call, reply) in calls.chunks_exact(4).zip(replies.chunks_exact_mut(3)) {
+        let answer = step(blocks, width, m, call);
+        reply[0] = answer.number as u64;
+        reply[1] = answer.value as u64;
+        reply[2] = answer.second as u64;
+    }
+    acceptance(count)
+}

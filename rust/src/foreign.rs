@@ -1,0 +1,171 @@
+//! The functions of libcapi.a, as include/huwekapo.h declares them. A slice is a pointer and a length.
+
+use crate::lent::Reply;
+use crate::Ref;
+
+extern "C" {
+    pub fn huwekapo_format(
+        blocks: usize,
+        width: usize,
+        a: *mut u8,
+        a_length: usize,
+        b: *mut u8,
+        b_length: usize,
+        counts: *mut u8,
+        counts_length: usize,
+        cells: *mut Ref,
+        cells_length: usize,
+        roots: *mut Ref,
+        roots_length: usize,
+        waiting: *mut Ref,
+        waiting_length: usize,
+    ) -> Reply;
+
+    pub fn huwekapo_check(
+        blocks: usize,
+        width: usize,
+        a: *const u8,
+        a_length: usize,
+        b: *const u8,
+        b_length: usize,
+        counts: *const u8,
+        counts_length: usize,
+        cells: *const Ref,
+        cells_length: usize,
+        roots: *const Ref,
+        roots_length: usize,
+        waiting: *const Ref,
+        waiting_length: usize,
+    ) -> Reply;
+
+    pub fn huwekapo_allocate(
+        blocks: usize,
+        width: usize,
+        a: *mut u8,
+        a_length: usize,
+        b: *mut u8,
+        b_length: usize,
+        counts: *mut u8,
+        counts_length: usize,
+        cells: *mut Ref,
+        cells_length: usize,
+        roots: *mut Ref,
+        roots_length: usize,
+        waiting: *mut Ref,
+        waiting_length: usize,
+        n: usize,
+        r: usize,
+    ) -> Reply;
+
+    pub fn huwekapo_store_root(
+        blocks: usize,
+        width: usize,
+        a: *mut u8,
+        a_length: usize,
+        b: *mut u8,
+        b_length: usize,
+        counts: *mut u8,
+        counts_length: usize,
+        cells: *mut Ref,
+        cells_length: usize,
+        roots: *mut Ref,
+        roots_length: usize,
+        waiting: *mut Ref,
+        waiting_length: usize,
+        r: usize,
+        v: Ref,
+    ) -> Reply;
+
+    pub fn huwekapo_store_cell(
+        blocks: usize,
+        width: usize,
+        a: *mut u8,
+        a_length: usize,
+        b: *mut u8,
+        b_length: usize,
+        counts: *mut u8,
+        counts_length: usize,
+        cells: *mut Ref,
+        cells_length: usize,
+        roots: *const Ref,
+        roots_length: usize,
+        waiting: *mut Ref,
+        waiting_length: usize,
+        at: usize,
+        j: usize,
+        v: Ref,
+    ) -> Reply;
+
+    pub fn huwekapo_collect(
+        blocks: usize,
+        width: usize,
+        a: *mut u8,
+        a_length: usize,
+        b: *mut u8,
+        b_length: usize,
+        counts: *mut u8,
+        counts_length: usize,
+        cells: *mut Ref,
+        cells_length: usize,
+        roots: *const Ref,
+        roots_length: usize,
+        waiting: *mut Ref,
+        waiting_length: usize,
+    ) -> Reply;
+
+    pub fn huwekapo_look(
+        blocks: usize,
+        width: usize,
+        a: *const u8,
+        a_length: usize,
+        b: *const u8,
+        b_length: usize,
+        counts: *const u8,
+        counts_length: usize,
+        cells: *const Ref,
+        cells_length: usize,
+        roots: *const Ref,
+        roots_length: usize,
+        waiting: *const Ref,
+        waiting_length: usize,
+        at: usize,
+    ) -> Reply;
+
+    pub fn huwekapo_free_blocks(
+        blocks: usize,
+        width: usize,
+        a: *const u8,
+        a_length: usize,
+        b: *const u8,
+        b_length: usize,
+        counts: *const u8,
+        counts_length: usize,
+        cells: *const Ref,
+        cells_length: usize,
+        roots: *const Ref,
+        roots_length: usize,
+        waiting: *const Ref,
+        waiting_length: usize,
+    ) -> Reply;
+
+    pub fn huwekapo_replay(
+        blocks: usize,
+        width: usize,
+        a: *mut u8,
+        a_length: usize,
+        b: *mut u8,
+        b_length: usize,
+        counts: *mut u8,
+        counts_length: usize,
+        cells: *mut Ref,
+        cells_length: usize,
+        roots: *mut Ref,
+        roots_length: usize,
+        waiting: *mut Ref,
+        waiting_length: usize,
+        calls: *const u64,
+        calls_length: usize,
+        replies: *mut u64,
+        replies_length: usize,
+    ) -> Reply;
+}

@@ -1,0 +1,148 @@
+//! A heap that owns its buffers.
+
+use crate::lent::{self, Reply, Shared, Unique};
+use crate::{Ref, Refusal};
+
+/// The six buffers of a heap.
+#[derive(Clone, Debug, Default, PartialEq, Eq)]
+pub struct Buffers {
+    pub a: Vec<u8>,
+    pub b: Vec<u8>,
+    pub counts: Vec<u8>,
+    pub cells: Vec<Ref>,
+    pub roots: Vec<Ref>,
+    pub waiting: Vec<Ref>,
+}
+
+/// A heap of some number of blocks, with counts of some width.
+#[derive(Clone, Debug, PartialEq, Eq)]
+pub struct Heap {
+    blocks: usize,
+    width: usize,
+    buffers: Buffers,
+}
+
+/// What a look at an object finds.
+#[derive(Clone, Copy, Debug, PartialEq, Eq)]
+pub struct Look {
+    pub size: usize,
+    pub count: usize,
+}
+
+impl Heap {
+    /// A formatted heap: blocks is a power of two from 8 to 8,192, the width 1 to 4, and there are 1 to 64
+    /// roots.
+    pub fn new(blocks: usize, width: usize, roots: usize) -> Result<Heap, Refusal> {
+        // Numbers that are too large are refused by the library; no buffers of that size are made for it.
+        let bytes = blocks.min(8192) / 8;
+        let buffers = Buffers {
+            a: vec![0; bytes],
+            b: vec![0; bytes],
+            counts: vec![0; width.min(4) * bytes],
+            cells: vec![0; 4 * blocks.min(8192)],
+            roots: vec![0; roots.min(65)],
+            waiting: vec![0; blocks.min(8192)],
+        };
+        let mut heap = Heap::from_buffers(blocks, width, buffers);
+        heap.format()?;
+        Ok(heap)
+    }
+
+    /// A heap of given buffers, which may hold anything: every call tests them.
+    pub fn from_buffers(blocks: usize, width: usize, buffers: Buffers) -> Heap {
+        Heap {
+            blocks,
+            width,
+            buffers,
+        }
+    }
+
+    /// The buffers as they are.
+    pub fn buffers(&self) -> &Buffers {
+        &self.buffers
+    }
+
+    /// The buffers, given back.
+    pub fn into_buffers(self) -> Buffers {
+        self.buffers
+    }
+
+    /// Makes it an empty heap.
+    pub fn format(&mut self) -> Result<(), Refusal> {
+        value(lent::format(self.unique())).map(|_| ())
+    }
+
+    /// Tests the whole heap.
+    pub fn check(&self) -> Result<(), Refusal> {
+        value(lent::check(self.shared())).map(|_| ())
+    }
+
+    /// Allocates n blocks into root r. The first block.
+    pub fn allocate(&mut self, n: usize, r: usize) -> Result<usize, Refusal> {
+        value(lent::allocate(self.unique(), n, r))
+    }
+
+    /// Stores v, 0 or 1 + a first block, in root r. The number of blocks freed.
+    pub fn store_root(&mut self, r: usize, v: Ref) -> Result<usize, Refusal> {
+        value(lent::store_root(self.unique(), r, v))
+    }
+
+    /// Stores v, 0 or 1 + a first block, in cell j of the object at a block. The number of blocks freed.
+    pub fn store_cell(&mut self, at: usize, j: usize, v: Ref) -> Result<usize, Refusal> {
+        value(lent::store_cell(self.unique(), at, j, v))
+    }
+
+    /// Frees what no root reaches, and counts the rest anew. The number of blocks freed.
+    pub fn collect(&mut self) -> Result<usize, Refusal> {
+        value(lent::collect(self.unique()))
+    }
+
+    /// The size and the count of the object at a block.
+    pub fn look(&self, at: usize) -> Result<Look, Refusal> {
+        let reply = lent::look(self.shared(), at);
+        let size = value(reply)?;
+        Ok(Look {
+            size,
+            count: reply.second,
+        })
+    }
+
+    /// The number of free blocks.
+    pub fn free_blocks(&self) -> Result<usize, Refusal> {
+        value(lent::free_blocks(self.shared()))
+    }
+
+    fn shared(&self) -> Shared<'_> {
+        Shared {
+            blocks: self.blocks,
+            width: self.width,
+            a: &self.buffers.a,
+            b: &self.buffers.b,
+            counts: &self.buffers.counts,
+            cells: &self.buffers.cells,
+            roots: &self.buffers.roots,
+            waiting: &self.buffers.waiting,
+        }
+    }
+
+    fn unique(&mut self) -> Unique<'_> {
+        Unique {
+            blocks: self.blocks,
+            width: self.width,
+            a: &mut self.buffers.a,
+            b: &mut self.buffers.b,
+            counts: &mut self.buffers.counts,
+            cells: &mut self.buffers.cells,
+            roots: &mut self.buffers.roots,
+            waiting: &mut self.buffers.waiting,
+        }
+    }
+}
+
+/// The value of an acceptance, or the refusal.
+fn value(reply: Reply) -> Result<usize, Refusal> {
+    match Refusal::of(reply) {
+        None => Ok(reply.value),
+        Some(refusal) => Err(refusal),
+    }
+}

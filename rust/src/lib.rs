@@ -1,0 +1,35 @@
+//! A heap of 16-byte blocks in bitmaps, with limited reference counts. The work is done by a proved library;
+//! this crate lends it buffers and gives its refusals names.
+//!
+//! [`Heap`] owns its buffers. [`lent`] has the same calls on buffers of the caller's.
+//!
+//! ```
+//! use huwekapo::{Heap, Look, Refusal};
+//!
+//! // 8 blocks, counts of 2 bits, 4 roots.
+//! let mut heap = Heap::new(8, 2, 4)?;
+//! assert_eq!(heap.allocate(2, 0)?, 0);
+//! assert_eq!(heap.allocate(1, 1)?, 2);
+//! assert_eq!(heap.allocate(3, 2)?, 4);
+//! assert_eq!(heap.look(4)?, Look { size: 3, count: 1 });
+//!
+//! // Blocks 3 and 7 are free, but no two of them together.
+//! assert_eq!(heap.allocate(2, 3), Err(Refusal::NoChunk));
+//! assert_eq!(Refusal::NoChunk.to_string(), "5: no chunk of s blocks is free");
+//! assert_eq!(heap.free_blocks()?, 2);
+//!
+//! // Clearing root 2 lets go of the object at block 4.
+//! assert_eq!(heap.store_root(2, 0)?, 3);
+//! # Ok::<(), Refusal>(())
+//! ```
+
+mod foreign;
+mod heap;
+pub mod lent;
+mod refusal;
+
+pub use heap::{Buffers, Heap, Look};
+pub use refusal::{Damage, Refusal};
+
+/// A cell or root: 0, or 1 + the first block of an object.
+pub type Ref = u16;

@@ -1,0 +1,133 @@
+//! Refusals and damage kinds, with the words that the rules give them.
+
+use crate::lent::Reply;
+use std::fmt;
+
+/// Why a call was refused. It changed nothing then.
+#[derive(Clone, Copy, Debug, PartialEq, Eq, Hash)]
+pub enum Refusal {
+    Misshapen,
+    Damaged(Damage),
+    BadSize,
+    BadRoot,
+    NoChunk,
+    NoObject,
+    BadCell,
+    BadReference,
+}
+
+/// What a damaged heap has, the first kind that applies.
+#[derive(Clone, Copy, Debug, PartialEq, Eq, Hash)]
+pub enum Damage {
+    EndOnFree,
+    OpenEnd,
+    Unaligned,
+    DanglingReference,
+    WrongCount,
+    WrongNumberOfEnds,
+}
+
+impl Refusal {
+    /// The refusal of a reply; none where it is an acceptance.
+    pub(crate) fn of(reply: Reply) -> Option<Refusal> {
+        match reply.number {
+            0 => None,
+            1 => Some(Refusal::Misshapen),
+            2 => Some(Refusal::Damaged(Damage::of(reply.value))),
+            3 => Some(Refusal::BadSize),
+            4 => Some(Refusal::BadRoot),
+            5 => Some(Refusal::NoChunk),
+            6 => Some(Refusal::NoObject),
+            7 => Some(Refusal::BadCell),
+            8 => Some(Refusal::BadReference),
+            number => unreachable!("the library has no refusal {number}"),
+        }
+    }
+
+    /// The refusal's number.
+    pub fn number(self) -> usize {
+        match self {
+            Refusal::Misshapen => 1,
+            Refusal::Damaged(_) => 2,
+            Refusal::BadSize => 3,
+            Refusal::BadRoot => 4,
+            Refusal::NoChunk => 5,
+            Refusal::NoObject => 6,
+            Refusal::BadCell => 7,
+            Refusal::BadReference => 8,
+        }
+    }
+}
+
+impl Damage {
+    fn of(kind: usize) -> Damage {
+        match kind {
+            1 => Damage::EndOnFree,
+            2 => Damage::OpenEnd,
+            3 => Damage::Unaligned,
+            4 => Damage::DanglingReference,
+            5 => Damage::WrongCount,
+            6 => Damage::WrongNumberOfEnds,
+            kind => unreachable!("the library has no damage kind {kind}"),
+        }
+    }
+
+    /// The number of the kind.
+    pub fn kind(self) -> usize {
+        match self {
+            Damage::EndOnFree => 1,
+            Damage::OpenEnd => 2,
+            Damage::Unaligned => 3,
+            Damage::DanglingReference => 4,
+            Damage::WrongCount => 5,
+            Damage::WrongNumberOfEnds => 6,
+        }
+    }
+}
+
+impl fmt::Display for Refusal {
+    fn fmt(&self, f: &mut fmt::Formatter) -> fmt::Result {
+        let words = match self {
+            Refusal::Misshapen => {
+                "N, w, the number of roots or any buffer's length is not as it must be"
+            }
+            Refusal::Damaged(damage) => return write!(f, "2: the heap is damaged, kind {damage}"),
+            Refusal::BadSize => "n is 0 or above N",
+            Refusal::BadRoot => "r is not below the number of roots",
+            Refusal::NoChunk => "no chunk of s blocks is free",
+            Refusal::NoObject => "a is not a first block (or not below N)",
+            Refusal::BadCell => "j is not below 4 × size",
+            Refusal::BadReference => "v is neither 0 nor 1 + a first block",
+        };
+        write!(f, "{}: {words}", self.number())
+    }
+}
+
+impl fmt::Display for Damage {
+    fn fmt(&self, f: &mut fmt::Formatter) -> fmt::Result {
+        let words = match self {
+            Damage::EndOnFree => "a 0 in the B-map on a free block",
+            Damage::OpenEnd => {
+                "an allocated block with B bit 1 whose next block is free or past the end"
+            }
+            Damage::Unaligned => {
+                "an object whose first block is not a multiple of the least power of two that is its size \
+                 or more"
+            }
+            Damage::DanglingReference => {
+                "a cell of a free block that isn't 0, or a cell or root that is neither 0 nor 1 + a first \
+                 block"
+            }
+            Damage::WrongCount => {
+                "a count other than 0 where no object starts; an object with count 0; a count below \
+                 capacity that differs from the number of all cells and roots naming the object"
+            }
+            Damage::WrongNumberOfEnds => {
+                "the number of objects differs from the number of 0 bits in the B-map"
+            }
+        };
+        write!(f, "{}: {words}", self.kind())
+    }
+}
+
+impl std::error::Error for Refusal {}

@@ -1,0 +1,158 @@
+//! The paper cases through the Rust interface: 8 blocks, width 2 and 4 roots unless said.
+
+use huwekapo::{Damage, Heap, Look, Refusal};
+
+fn fresh(width: usize) -> Heap {
+    Heap::new(8, width, 4).expect("a good shape")
+}
+
+fn maps(heap: &Heap) -> (u8, u8) {
+    (heap.buffers().a[0], heap.buffers().b[0])
+}
+
+fn seen(size: usize, count: usize) -> Result<Look, Refusal> {
+    Ok(Look { size, count })
+}
+
+#[test]
+fn p1_p2() {
+    let mut heap = fresh(2);
+    assert_eq!(heap.allocate(2, 0), Ok(0));
+    assert_eq!(heap.allocate(1, 1), Ok(2));
+    assert_eq!(heap.allocate(3, 2), Ok(4));
+    assert_eq!(maps(&heap), (119, 185));
+    assert_eq!(heap.look(4), seen(3, 1));
+    assert_eq!(heap.allocate(2, 3), Err(Refusal::NoChunk));
+    assert_eq!(heap.free_blocks(), Ok(2));
+    assert_eq!(heap.allocate(1, 3), Ok(3));
+}
+
+#[test]
+fn p3() {
+    let mut heap = fresh(2);
+    assert_eq!(heap.allocate(5, 0), Ok(0));
+    assert_eq!(heap.allocate(3, 1), Err(Refusal::NoChunk));
+    assert_eq!(heap.allocate(2, 1), Ok(6));
+}
+
+#[test]
+fn p4_p5() {
+    let mut heap = fresh(2);
+    assert_eq!(heap.allocate(1, 0), Ok(0));
+    assert_eq!(heap.store_root(1, 1), Ok(0));
+    assert_eq!(heap.store_root(0, 0), Ok(0));
+    assert_eq!(heap.look(0), seen(1, 1));
+    assert_eq!(heap.store_root(1, 0), Ok(1));
+    assert_eq!(heap.look(0), Err(Refusal::NoObject));
+    assert_eq!(heap.allocate(1, 0), Ok(0));
+    assert_eq!(heap.store_root(1, 1), Ok(0));
+    assert_eq!(heap.store_root(2, 1), Ok(0));
+    for r in 0..3 {
+        assert_eq!(heap.store_root(r, 0), Ok(0));
+    }
+    assert_eq!(heap.look(0), seen(1, 3));
+    assert_eq!(heap.collect(), Ok(1));
+}
+
+#[test]
+fn p6() {
+    let mut heap = fresh(1);
+    assert_eq!(heap.allocate(1, 0), Ok(0));
+    assert_eq!(heap.store_root(0, 0), Ok(0));
+    assert_eq!(heap.collect(), Ok(1));
+}
+
+#[test]
+fn p7() {
+    let mut heap = fresh(2);
+    assert_eq!(heap.allocate(1, 0), Ok(0));
+    assert_eq!(heap.allocate(1, 1), Ok(1));
+    assert_eq!(heap.store_cell(0, 0, 2), Ok(0));
+    assert_eq!(heap.store_cell(1, 0, 1), Ok(0));
+    assert_eq!(heap.store_root(0, 0), Ok(0));
+    assert_eq!(heap.store_root(1, 0), Ok(0));
+    assert_eq!(heap.look(0), seen(1, 1));
+    assert_eq!(heap.look(1), seen(1, 1));
+    assert_eq!(heap.collect(), Ok(2));
+}
+
+#[test]
+fn p8() {
+    let mut heap = fresh(2);
+    assert_eq!(heap.allocate(2, 0), Ok(0));
+    assert_eq!(heap.allocate(1, 1), Ok(2));
+    assert_eq!(heap.store_cell(0, 8, 3), Err(Refusal::BadCell));
+    assert_eq!(heap.store_cell(0, 7, 3), Ok(0));
+    assert_eq!(heap.store_root(1, 0), Ok(0));
+    assert_eq!(heap.store_root(0, 0), Ok(3));
+}
+
+#[test]
+fn p9() {
+    let mut heap = fresh(2);
+    assert_eq!(heap.allocate(1, 0), Ok(0));
+    assert_eq!(heap.store_root(0, 1), Ok(0));
+    assert_eq!(heap.look(0), seen(1, 1));
+    assert_eq!(heap.store_root(1, 1), Ok(0));
+    assert_eq!(heap.store_root(1, 1), Ok(0));
+    assert_eq!(heap.look(0), seen(1, 3));
+}
+
+#[test]
+fn p10_and_the_other_refusals() {
+    let mut heap = fresh(2);
+    for (n, r) in [(0, 0), (9, 0), (0, 4), (9, usize::MAX)] {
+        assert_eq!(heap.allocate(n, r), Err(Refusal::BadSize));
+    }
+    assert_eq!(heap.allocate(8, 4), Err(Refusal::BadRoot));
+    assert_eq!(heap.allocate(8, 0), Ok(0));
+    assert_eq!(heap.store_root(1, 2), Err(Refusal::BadReference));
+    assert_eq!(heap.store_cell(1, 0, 0), Err(Refusal::NoObject));
+    assert_eq!(heap.look(usize::MAX), Err(Refusal::NoObject));
+}
+
+#[test]
+fn p11() {
+    for (a, b, damage) in [
+        (0, 254, Damage::EndOnFree),
+        (1, 255, Damage::OpenEnd),
+        (6, 251, Damage::Unaligned),
+    ] {
+        let mut buffers = fresh(2).into_buffers();
+        buffers.a[0] = a;
+        buffers.b[0] = b;
+        let heap = Heap::from_buffers(8, 2, buffers);
+        assert_eq!(heap.check(), Err(Refusal::Damaged(damage)));
+    }
+}
+
+#[test]
+fn shapes() {
+    assert!(Heap::new(8192, 4, 64).is_ok());
+    for (blocks, width, roots) in [
+        (4, 2, 4),
+        (12, 2, 4),
+        (16_384, 2, 4),
+        (usize::MAX, 2, 4),
+        (8, 0, 4),
+        (8, 5, 4),
+        (8, usize::MAX, 4),
+        (8, 2, 0),
+        (8, 2, 65),
+        (8, 2, usize::MAX),
+    ] {
+        assert_eq!(Heap::new(blocks, width, roots), Err(Refusal::Misshapen));
+    }
+}
+
+#[test]
+fn words() {
+    assert_eq!(
+        Refusal::Damaged(Damage::EndOnFree).to_string(),
+        "2: the heap is damaged, kind 1: a 0 in the B-map on a free block"
+    );
+    assert_eq!(
+        Refusal::BadRoot.to_string(),
+        "4: r is not below the number of roots"
+    );
+}
