@@ -5,9 +5,9 @@ ghost use Rattle.replay.specs.Replay.{Replayed};
 use blocks::Ref;
 use rules::Reply;
 
-pub mod run;
-pub mod step;
-pub mod tests;
+mod run;
+mod step;
+mod tests;
 
 // Formats the heap and runs the calls: four words each, the replies three words each. The value is the number of calls. Refused lists, and
 // their numbers, are those of `replayReply`: nothing is written then.

@@ -56,7 +56,7 @@ fn run_one(
 }
 
 // Makes every call, and writes every reply.
-pub fn run_all(
+pub(crate) fn run_all(
     blocks: usize,
     width: usize,
     a: &mut [u8],

@@ -79,7 +79,7 @@ fn store_step(
 }
 
 // The call that the four words stand for.
-pub fn step(
+pub(crate) fn step(
     blocks: usize,
     width: usize,
     a: &mut [u8],

@@ -53,7 +53,7 @@ fn refusal(number: usize) -> Reply
 }
 
 // The reply of a replay, from the lengths and the calls.
-pub fn replay_reply(
+pub(crate) fn replay_reply(
     blocks: usize,
     width: usize,
     a: usize,
