@@ -1,8 +1,8 @@
 -- Laws of the two searches for a free chunk: `lowestFrom`, as the loop over the chunks goes, and `someFree`, as the recursion on
 -- halves goes. Both find a chunk or neither does.
 use mathlib.Core.Path.{_≡_, refl, sym, ap, _∙_}
-use mathlib.Core.Bool.{Bool, true, false, true≢false, false≢true}
-use mathlib.Core.Option.{Option, none, some, Option·some-injective, Option·none-ne-some}
+use mathlib.Core.Bool.{Bool, true, false, true≢false}
+use mathlib.Core.Option.{Option, none, some}
 use mathlib.Core.List.{List}
 use Prim.Native.Nat.{ℕ, zero, suc, _+_, _*_, _/_, _^_, _≤_, _<_}
 use native.Mathlib.Nat.{add-zero, add-suc, suc-mul, one-mul, mul-div-cancel, mul-le-mul-right, two-pow-succ}
@@ -173,39 +173,12 @@ some-found (suc d) k a at =
     (some-found d k a (at + 2 ^ d * 2 ^ k))
     ∙ ap found (sym (lowest-parts (2 ^ d) (2 ^ d) k a at) ∙ ap (λ (x : ℕ). lowestFrom x k a at) (sym (two-pow-succ d)))
 
-lowest-inside : (n k : ℕ) (a : List ℕ) (at i : ℕ) → lowestFrom n k a at ≡ some i → i + 2 ^ k ≤ at + n * 2 ^ k
-unfolding lowestFrom
-lowest-inside zero k a at i e = absurd (Option·none-ne-some i e)
-lowest-inside (suc n) k a at i e = go (chunkFree k a at) (lowest-inside n k a (at + 2 ^ k) i) e
-  where
-    go : (free : Bool)
-        → (lowestFrom n k a (at + 2 ^ k) ≡ some i → i + 2 ^ k ≤ at + 2 ^ k + n * 2 ^ k)
-        → elim free [ true ↦ some at | false ↦ lowestFrom n k a (at + 2 ^ k) ] ≡ some i
-        → i + 2 ^ k ≤ at + suc n * 2 ^ k
-    go true next e = omega (arith, Option·some-injective at i e, suc-mul n (2 ^ k))
-    go false next e = omega (arith, next e, suc-mul n (2 ^ k))
-
 not-found : (o : Option ℕ) → found o ≡ false → o ≡ none
 unfolding found
 not-found none e = refl
 not-found (some i) e = absurd (true≢false e)
 
-found-some : (o : Option ℕ) (other : ℕ) → found o ≡ true → o ≡ some (orElse other o)
-unfolding found
-found-some none other e = absurd (false≢true e)
-found-some (some i) other e = refl
-
 -- for a caller that asks `some_chunk_free` first, over the whole heap
 module _ (N d k : ℕ) (a : List ℕ) (e : N ≡ 2 ^ d * 2 ^ k) where
-  -- where no chunk is free there is no lowest ..
   pub none-lowest : someFree d k a 0 ≡ false → lowestFree N k a ≡ none
   none-lowest f = not-found (lowestFree N k a) (ap found (lowest-chunks N d k a e) ∙ sym (some-found d k a 0) ∙ f)
-
-  -- .. and where one is, the lowest is what `lowest_chunk` returns, and lies in the heap
-  pub some-lowest : someFree d k a 0 ≡ true → lowestFree N k a ≡ some (orElse N (lowestFree N k a))
-  some-lowest t = found-some (lowestFree N k a) N (ap found (lowest-chunks N d k a e) ∙ sym (some-found d k a 0) ∙ t)
-
-  pub lowest-in-heap : someFree d k a 0 ≡ true → orElse N (lowestFree N k a) + 2 ^ k ≤ N
-  lowest-in-heap t =
-      let i = orElse N (lowestFree N k a) in
-      omega (arith, lowest-inside (2 ^ d) k a 0 i (sym (lowest-chunks N d k a e) ∙ some-lowest t))

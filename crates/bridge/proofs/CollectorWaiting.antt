@@ -1,13 +1,13 @@
--- The collector's procedure doesn't read the waiting list: neither what it leaves nor what it frees depends on it.
+-- The collector's procedure doesn't read the waiting list, and leaves it as it is.
 use mathlib.Core.Path.{_≡_, refl, ap, _∙_}
 use mathlib.Core.Bool.{Bool, true, false}
 use mathlib.Core.List.{List, [], _∷_}
-use Prim.Native.Nat.{ℕ, zero, suc, _+_, _*_, _/_}
+use Prim.Native.Nat.{ℕ, zero, suc, _*_, _/_}
 use lib.ListN.{length, replicate}
 use Rattle.rules.specs.Heap.{Memory, withCounts, withWaiting, sizeAt}
 use Rattle.rules.specs.Store.{Work, work, freed}
 use Rattle.collector.specs.Mark.{visitEach, scan, markCounts}
-use Rattle.collector.specs.Sweep.{isUnmarked, sweepOne, sweepOneBlocks, sweep, sweepBlocks, collectBy, collectBlocks}
+use Rattle.collector.specs.Sweep.{isUnmarked, sweepOne, sweep, collectBy}
 
 module _ (N w : ℕ) (x : List ℕ) where
   scan-waiting : (fuel : ℕ) (h : Memory) (counts stack : List ℕ) → scan fuel N w (withWaiting x h) counts stack ≡ scan fuel N w h counts stack
@@ -24,12 +24,9 @@ module _ (N w : ℕ) (x : List ℕ) where
       let s : Work = visitEach N w (work (replicate (w * (N / 8)) 0) []) (h .roots) 0 (length (h .roots)) in
       scan-waiting N h (s .counts) (s .stack)
 
-  -- one step of the sweep, and the blocks that it frees
+  -- one step of the sweep
   abbrev sweptOne : Memory → ℕ → Memory
   sweptOne g n = elim (isUnmarked N w g n) [ true ↦ freed N w g n (sizeAt N g n) | false ↦ g ]
-
-  abbrev oneBlocks : Memory → ℕ → ℕ
-  oneBlocks g n = elim (isUnmarked N w g n) [ true ↦ sizeAt N g n | false ↦ 0 ]
 
   choose-waiting :
       (t : Bool) (g k : Memory) → elim t [ true ↦ withWaiting x g | false ↦ withWaiting x k ] ≡ withWaiting x (elim t [ true ↦ g | false ↦ k ])
@@ -43,18 +40,7 @@ module _ (N w : ℕ) (x : List ℕ) where
       let g : Memory = sweep N w h n in
       ap (λ (k : Memory). sweptOne k n) (sweep-waiting h n) ∙ choose-waiting (isUnmarked N w g n) (freed N w g n (sizeAt N g n)) g
 
-  sweep-blocks-waiting : (h : Memory) (n : ℕ) → sweepBlocks N w (withWaiting x h) n ≡ sweepBlocks N w h n
-  unfolding sweepBlocks sweepOneBlocks isUnmarked
-  sweep-blocks-waiting h zero = refl
-  sweep-blocks-waiting h (suc n) =
-      ap (λ (m : ℕ). m + oneBlocks (sweep N w (withWaiting x h) n) n) (sweep-blocks-waiting h n)
-      ∙ ap (λ (k : Memory). sweepBlocks N w h n + oneBlocks k n) (sweep-waiting h n)
-
   module _ (h : Memory) where
     pub collect-by-waiting : collectBy N w (withWaiting x h) ≡ withWaiting x (collectBy N w h)
     unfolding collectBy
     collect-by-waiting = rw (mark-waiting h) (sweep-waiting (withCounts (markCounts N w h) h) N)
-
-    pub collect-blocks-waiting : collectBlocks N w (withWaiting x h) ≡ collectBlocks N w h
-    unfolding collectBlocks
-    collect-blocks-waiting = rw (mark-waiting h) (sweep-blocks-waiting (withCounts (markCounts N w h) h) N)

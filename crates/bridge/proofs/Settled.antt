@@ -1,16 +1,15 @@
 -- The inner calls of the code are handed a healthy memory whose waiting list is cleared. Such a memory is ready for them; and as the rules
--- of the stores and of the allocation don't read the waiting list, neither what they do nor what they free depends on the clearing.
-use mathlib.Core.Path.{_≡_, refl, sym, ap}
+-- of the stores and of the allocation don't read the waiting list, what they do doesn't depend on the clearing.
+use mathlib.Core.Path.{_≡_, refl, sym}
 use mathlib.Core.List.{List, [], _∷_}
 use Prim.Native.Nat.{ℕ, zero, suc, _+_}
 use native.Mathlib.Decide.{decLt}
 use native.Mathlib.Omega.{arith}
 use lib.ListN.{length, getD, set, List·getD-eq-default}
-use Rattle.rules.specs.Heap.{Memory, withCounts, withCells, withRoots, withWaiting, sizeAt}
+use Rattle.rules.specs.Heap.{Memory, withCounts, withCells, withRoots, withWaiting}
 use Rattle.rules.specs.Store.{countUp, freed, release, letGo, putRoot, putCell, placed, storeRootIn, storeCellIn, allocateIn}
 use Rattle.rules.specs.Calls.{settled}
 use Rattle.references.specs.Ready.{Ready}
-use Rattle.references.specs.Blocks.{releasedBlocks, letGoBlocks, putRootBlocks, putCellBlocks, storeRootBlocks, storeCellBlocks, allocateBlocks}
 use Rattle.theory.proofs.Memories.Slots.{root-slot, cell-slot}
 use Rattle.theory.proofs.Memories.Healthy.{Healthy}
 use Rattle.theory.proofs.Memories.ViewRelease.{workAfter, memoryAfter}
@@ -51,20 +50,9 @@ module _ (N w : ℕ) (x : List ℕ) where
   release-waiting (suc fuel) h [] = refl
   release-waiting (suc fuel) h (b ∷ rest) = release-waiting fuel (memoryAfter N w h b rest) ((workAfter N w h b rest) .stack)
 
-  released-waiting : (fuel : ℕ) (h : Memory) (stack : List ℕ) → releasedBlocks fuel N w (withWaiting x h) stack ≡ releasedBlocks fuel N w h stack
-  unfolding releasedBlocks freed
-  released-waiting zero h stack = refl
-  released-waiting (suc fuel) h [] = refl
-  released-waiting (suc fuel) h (b ∷ rest) =
-      ap (λ (n : ℕ). sizeAt N h b + n) (released-waiting fuel (memoryAfter N w h b rest) ((workAfter N w h b rest) .stack))
-
   let-go-waiting : (h : Memory) (v : ℕ) → letGo N w (withWaiting x h) v ≡ withWaiting x (letGo N w h v)
   unfolding letGo
   let-go-waiting h v = release-waiting N (memoryLeft N w h v) ((workLeft N w h v) .stack)
-
-  let-go-blocks-waiting : (h : Memory) (v : ℕ) → letGoBlocks N w (withWaiting x h) v ≡ letGoBlocks N w h v
-  unfolding letGoBlocks
-  let-go-blocks-waiting h v = released-waiting N (memoryLeft N w h v) ((workLeft N w h v) .stack)
 
   module _ (h : Memory) where
     raised : ℕ → Memory
@@ -74,22 +62,10 @@ module _ (N w : ℕ) (x : List ℕ) where
     unfolding storeRootIn putRoot raised
     store-root-waiting r v = let-go-waiting (withRoots (set (h .roots) r v) (raised v)) (getD (h .roots) r 0)
 
-    pub store-root-blocks-waiting : (r v : ℕ) → storeRootBlocks N w (withWaiting x h) r v ≡ storeRootBlocks N w h r v
-    unfolding storeRootBlocks putRootBlocks raised
-    store-root-blocks-waiting r v = let-go-blocks-waiting (withRoots (set (h .roots) r v) (raised v)) (getD (h .roots) r 0)
-
     pub store-cell-waiting : (c v : ℕ) → storeCellIn N w (withWaiting x h) c v ≡ withWaiting x (storeCellIn N w h c v)
     unfolding storeCellIn putCell raised
     store-cell-waiting c v = let-go-waiting (withCells (set (h .cells) c v) (raised v)) (getD (h .cells) c 0)
 
-    pub store-cell-blocks-waiting : (c v : ℕ) → storeCellBlocks N w (withWaiting x h) c v ≡ storeCellBlocks N w h c v
-    unfolding storeCellBlocks putCellBlocks raised
-    store-cell-blocks-waiting c v = let-go-blocks-waiting (withCells (set (h .cells) c v) (raised v)) (getD (h .cells) c 0)
-
     pub allocate-waiting : (n r i : ℕ) → allocateIn N w (withWaiting x h) n r i ≡ withWaiting x (allocateIn N w h n r i)
     unfolding allocateIn putRoot placed
     allocate-waiting n r i = let-go-waiting (withRoots (set (h .roots) r (i + 1)) (placed N w h i n)) (getD (h .roots) r 0)
-
-    pub allocate-blocks-waiting : (n r i : ℕ) → allocateBlocks N w (withWaiting x h) n r i ≡ allocateBlocks N w h n r i
-    unfolding allocateBlocks putRootBlocks placed
-    allocate-blocks-waiting n r i = let-go-blocks-waiting (withRoots (set (h .roots) r (i + 1)) (placed N w h i n)) (getD (h .roots) r 0)

@@ -14,7 +14,7 @@ use blocks::objects;
 use rules::Reply;
 
 // A refusal.
-fn refusal(number: usize) -> Reply
+pub fn refusal(number: usize) -> Reply
     ensures { λ r. ⌜ r ≡ reply number 0 0 ⌝ }
 {
     Reply {

@@ -3,10 +3,10 @@ ghost use mathlib.Core.Path.{_≡_};
 ghost use Prim.Native.Nat.{_*_, _≤_};
 ghost use lib.ListN.{length};
 ghost use Rattle.rules.specs.Heap.{shape};
-ghost use Rattle.rules.specs.Calls.{reply};
 ghost use Rattle.replay.specs.Encoding.{isCall, areCalls};
 ghost use Rattle.replay.specs.Replay.{replyOn};
 use damage::shape;
+use inner::tests::refusal;
 use rules::Reply;
 
 // Whether a code and its arguments are a call.
@@ -39,17 +39,6 @@ fn are_calls(calls: &[u64], n: usize) -> bool
         i += 1;
     }
     true
-}
-
-// A refusal.
-fn refusal(number: usize) -> Reply
-    ensures { λ r. ⌜ r ≡ reply number 0 0 ⌝ }
-{
-    Reply {
-        number: number,
-        value: 0,
-        second: 0,
-    }
 }
 
 // The reply of a replay, from the lengths and the calls.

@@ -8,12 +8,10 @@ use native.Mathlib.Nat.{add-zero}
 use native.Mathlib.Decide.{ℕ-discrete}
 use native.Mathlib.Omega.{arith}
 use lib.Dec.{ltb, eqb}
-use lib.ListN.{length, getD, set, length-set}
-use lib.Seq.{getD-set-same, getD-set-other}
+use lib.ListN.{length, getD}
 use borrow.Author.Tests.{ltb-true, lt-ltb, eqb-true, eqb-false, eq-eqb, ne-eqb, not-true}
 use Rattle.bitmap.specs.Bit.{bitAt, one, countBelow}
 use Rattle.bitmap.proofs.Maps.{bit-at-lt}
-use Rattle.bitmap.proofs.Zeros.{count-change}
 use Rattle.rules.specs.Heap.{isFree, isLast, firstIn, sizeFrom, refIn, holding}
 use Rattle.rules.proofs.Tests.{and-true, true-and, or-true, true-or}
 
@@ -151,16 +149,3 @@ holding-nil v = refl
 pub holding-cons : (v x : ℕ) (l : List ℕ) → holding v (x ∷ l) ≡ one (eqb x v) + holding v l
 unfolding holding
 holding-cons v x l = count-first (λ j. eqb (getD (x ∷ l) j 0) v) (length l)
-
--- a place written
-pub holding-set : (v : ℕ) (l : List ℕ) (i x : ℕ) → i < length l
-    → holding v (set l i x) + one (eqb (getD l i 0) v) ≡ holding v l + one (eqb x v)
-unfolding holding
-holding-set v l i x h =
-    omega (
-      arith,
-      count-change (λ j. eqb (getD (set l i x) j 0) v) (λ j. eqb (getD l j 0) v) (length l) i h
-          (λ j u ne. ap (λ (y : ℕ). eqb y v) (getD-set-other l i j x 0 ne)),
-      ap (λ (n : ℕ). countBelow (λ j. eqb (getD (set l i x) j 0) v) n) (length-set l i x),
-      ap (λ (y : ℕ). one (eqb y v)) (getD-set-same l i x 0 h),
-    )
