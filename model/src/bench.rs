@@ -2,7 +2,7 @@
 
 use crate::heap::{first_blocks, free_count, size, Memory};
 use crate::library::{shared, unique};
-use crate::port::{self, Lent};
+use crate::port::{self, lend};
 use crate::random::Random;
 use huwekapo::lent;
 use std::fmt::Write;
@@ -25,18 +25,6 @@ pub fn bench() -> String {
     check(&mut out, &list);
     growth(&mut out);
     out
-}
-
-/// The port's view of a memory.
-fn lend(memory: &mut Memory) -> Lent<'_> {
-    Lent {
-        a: &mut memory.a,
-        b: &mut memory.b,
-        counts: &mut memory.counts,
-        cells: &mut memory.cells,
-        roots: &mut memory.roots,
-        waiting: &mut memory.waiting,
-    }
 }
 
 /// The first roots hold tables, objects of many cells, so that most of the heap is in use.

@@ -2,20 +2,9 @@
 //! same work.
 
 use model::generate::Desk;
-use model::port::{self, Lent};
+use model::port::{self, lend};
 use model::random::Random;
 use model::{apply, Call, Memory};
-
-fn lend(memory: &mut Memory) -> Lent<'_> {
-    Lent {
-        a: &mut memory.a,
-        b: &mut memory.b,
-        counts: &mut memory.counts,
-        cells: &mut memory.cells,
-        roots: &mut memory.roots,
-        waiting: &mut memory.waiting,
-    }
-}
 
 #[test]
 fn port_is_the_model_on_random_lists() {

@@ -14,7 +14,7 @@ use Rattle.rules.proofs.Replies.{on-sound-shaped, on-sound-undamaged, on-sound-
 use Rattle.rules.proofs.Tests.{true-and, require-true, require-passed}
 use Rattle.rules.proofs.Shape.{shape-facts}
 use Rattle.rules.proofs.Chunks.{lowest-some, refused-none-free, none-free-refused}
-use Rattle.theory.specs.Statements.{Usable, CallsKeepUndamaged, FormatMakesUndamaged, RefusedExactly, Lowest, LowestTaken}
+use Rattle.theory.specs.Statements.{Undamaged, CallsKeepUndamaged, FormatMakesUndamaged, RefusedExactly, Lowest, LowestTaken}
 use Rattle.theory.specs.Statements.{EveryListHasAChain, ObjectsAreEnds}
 use Rattle.theory.proofs.Maps.Extents.{sizesOf}
 use Rattle.theory.proofs.Maps.Parse.{parse}
@@ -26,26 +26,26 @@ use Rattle.theory.proofs.EachCall.Served.{on-sound}
 use Rattle.theory.proofs.EachCall.Answers.{answer-served}
 use Rattle.theory.proofs.Demand.{every-list, demand3}
 
-usable : (N w : ℕ) (h : Memory) → Healthy N w h → Usable N w h
-usable N w h healthy = record { right-shape = healthy-shaped N w h healthy; no-damage = healthy-no-damage N w h healthy }
+healthy-undamaged : (N w : ℕ) (h : Memory) → Healthy N w h → Undamaged N w h
+healthy-undamaged N w h healthy = record { right-shape = healthy-shaped N w h healthy; no-damage = healthy-no-damage N w h healthy }
 
-healthy : (N w : ℕ) (h : Memory) → Usable N w h → Healthy N w h
-healthy N w h u = healthy-facts N w h (u .right-shape) (u .no-damage)
+undamaged-healthy : (N w : ℕ) (h : Memory) → Undamaged N w h → Healthy N w h
+undamaged-healthy N w h u = healthy-facts N w h (u .right-shape) (u .no-damage)
 
 pub calls-keep-undamaged : CallsKeepUndamaged
-calls-keep-undamaged N w h u call = usable N w (answer N w h call .1) (answer-served N w h (healthy N w h u) call .keep)
+calls-keep-undamaged N w h u call = healthy-undamaged N w (answer N w h call .1) (answer-served N w h (undamaged-healthy N w h u) call .keep)
 
 pub format-makes-undamaged : FormatMakesUndamaged
-format-makes-undamaged N w h fits = usable N w _ (formatted-healthy N w h (shape-facts N w h fits))
+format-makes-undamaged N w h fits = healthy-undamaged N w _ (formatted-healthy N w h (shape-facts N w h fits))
 
 -- an allocation whose other tests pass is answered by the search
 allocation-answer :
-    (N w : ℕ) (h : Memory) → Usable N w h → (n r : ℕ) → 1 ≤ n → n ≤ N → r < length (h .roots)
+    (N w : ℕ) (h : Memory) → Undamaged N w h → (n r : ℕ) → 1 ≤ n → n ≤ N → r < length (h .roots)
     → answer N w h (allocate n r) ≡ allocation N w h n r (lowestFree N (exponent n) (h .a))
 unfolding answer
 allocation-answer N w h u n r low high inside =
     let found : Answer = allocation N w h n r (lowestFree N (exponent n) (h .a)) in
-    on-sound N w h (healthy N w h u) _
+    on-sound N w h (undamaged-healthy N w h u) _
     ∙ require-true (leb 1 n && leb n N) 3 h _ (true-and (leb 1 n) (leb n N) (le-leb 1 n low) (le-leb n N high))
     ∙ require-true (ltb r (length (h .roots))) 4 h found (lt-ltb r (length (h .roots)) inside)
 

@@ -14,16 +14,16 @@ use Rattle.rules.specs.Calls.{Call, allocate, answer}
 use Rattle.rules.specs.Demand.{Made, Chain, callsOf}
 
 -- the heap passes the tests of numbers 1 and 2
-pub record Usable (N w : ℕ) (h : Memory) : Type 0 where
+pub record Undamaged (N w : ℕ) (h : Memory) : Type 0 where
   pub right-shape : shaped N w h ≡ true
   pub no-damage : damage N w h ≡ 0
 
 -- "the proved fact that calls keep a heap undamaged"; a format makes one
 abbrev pub CallsKeepUndamaged : Type 0
-CallsKeepUndamaged = (N w : ℕ) (h : Memory) → Usable N w h → (call : Call) → Usable N w (answer N w h call .1)
+CallsKeepUndamaged = (N w : ℕ) (h : Memory) → Undamaged N w h → (call : Call) → Undamaged N w (answer N w h call .1)
 
 abbrev pub FormatMakesUndamaged : Type 0
-FormatMakesUndamaged = (N w : ℕ) (h : Memory) → shaped N w h ≡ true → Usable N w (formatted N w (length (h .roots)))
+FormatMakesUndamaged = (N w : ℕ) (h : Memory) → shaped N w h ≡ true → Undamaged N w (formatted N w (length (h .roots)))
 
 -- some block of the chunk of 2 ^ k blocks at block i is used
 abbrev pub UsedChunk : List ℕ → (k i : ℕ) → Type 0
@@ -32,7 +32,7 @@ UsedChunk a k i = (j : ℕ) × (i ≤ j) × (j < i + 2 ^ k) × (bitAt a j ≡ 1)
 -- "5 if no chunk of s blocks is free", and only then: every chunk, being "s blocks starting at a multiple of s", has a used block
 abbrev pub RefusedExactly : Type 0
 RefusedExactly =
-    (N w : ℕ) (h : Memory) → Usable N w h → (n r : ℕ) → 1 ≤ n → n ≤ N → r < length (h .roots)
+    (N w : ℕ) (h : Memory) → Undamaged N w h → (n r : ℕ) → 1 ≤ n → n ≤ N → r < length (h .roots)
     → (answer N w h (allocate n r) .0 .number ≡ 5)
     ↔ ((c : ℕ) → (c + 1) * 2 ^ exponent n ≤ N → UsedChunk (h .a) (exponent n) (c * 2 ^ exponent n))
 

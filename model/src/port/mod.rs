@@ -6,6 +6,8 @@ mod damage;
 mod references;
 mod replay;
 
+use crate::heap::Memory;
+
 pub use damage::check;
 pub use references::collect;
 pub use replay::{replay, step};
@@ -18,6 +20,18 @@ pub struct Lent<'a> {
     pub cells: &'a mut [u16],
     pub roots: &'a mut [u16],
     pub waiting: &'a mut [u16],
+}
+
+/// A memory, lent to the port.
+pub fn lend(memory: &mut Memory) -> Lent<'_> {
+    Lent {
+        a: &mut memory.a,
+        b: &mut memory.b,
+        counts: &mut memory.counts,
+        cells: &mut memory.cells,
+        roots: &mut memory.roots,
+        waiting: &mut memory.waiting,
+    }
 }
 
 /// A number and two values.
