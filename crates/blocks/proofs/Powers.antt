@@ -1,10 +1,10 @@
 -- Laws of powers of two, which chunks have as sizes, and of `exponent`, the exponent of the least power that is n or more.
 use mathlib.Core.Path.{_≡_, refl, ap, _∙_}
 use Prim.Native.Nat.{ℕ, zero, suc, _+_, _-_, _*_, _/_, _^_, _≤_, _<_}
-use native.Mathlib.Nat.{pow-suc, sub-zero, mul-assoc, mul-comm}
+use native.Mathlib.Nat.{pow-suc, sub-zero}
 use native.Mathlib.Decide.{decLt}
 use native.Mathlib.Omega.{arith}
-use lib.Pow.{pow-pos, pow-mono, pow-add}
+use lib.Pow.{pow-mono}
 use borrow.Author.Tests.{le-leb, lt-leb}
 use Rattle.rules.specs.Heap.{exponent, exponentFrom}
 
@@ -22,14 +22,6 @@ exponent-lt k j h = elim (decLt k j) [ yes l ↦ l | no l ↦ absurd (omega (ari
 pub half-power : (size k : ℕ) → size ≡ 2 ^ k → (size ≡ 1 → ⊥) → (j : ℕ) × (size / 2 ≡ 2 ^ j)
 half-power size zero e more = absurd (more e)
 half-power size (suc j) e more = (j, omega (arith, pow-suc 2 j))
-
--- 2 ^ (d + 1) chunks of `size` blocks are twice 2 ^ d chunks
-pub twice-chunks : (d size : ℕ) → 2 ^ suc d * size ≡ 2 ^ d * size + 2 ^ d * size
-twice-chunks d size =
-    omega (arith, ap (λ (x : ℕ). x * size) (pow-suc 2 d), mul-assoc (2 ^ d) 2 size, mul-comm 2 size, mul-assoc (2 ^ d) size 2)
-
-pub chunks-positive : (d k : ℕ) → 0 < 2 ^ d * 2 ^ k
-chunks-positive d k = omega (arith, pow-add 2 d k, pow-pos (d + k))
 
 -- ---- the exponent, as its search goes: k is tried, and n - k more
 

@@ -1,9 +1,9 @@
-// Free chunks of the A-map: the size of chunk that an object asks for, whether any is free (an or-tree), and the lowest one.
+// Free chunks of the A-map: the size of chunk that an object asks for, whether any is free (by an or-tree), and the lowest one.
 ghost use mathlib.Core.Path.{_≡_};
 ghost use Prim.Native.Nat.{ℕ, _+_, _*_, _^_, _<_, _≤_};
 ghost use lib.ListN.{length};
 ghost use Rattle.rules.specs.Heap.{exponent, chunkFree, lowestFree};
-ghost use Rattle.blocks.specs.Search.{someFree, orElse};
+ghost use Rattle.blocks.specs.Search.{isFound, orElse};
 
 // The least power of two that is n or more.
 pub fn chunk_size(n: usize) -> usize
@@ -35,21 +35,22 @@ pub fn chunk_is_free(a: &[u8], at: usize, size: usize) -> bool
     }
 }
 
-// Whether a chunk of `size` blocks is free among the `count` blocks from block `at` on, by halves of these down to one chunk.
-pub fn some_chunk_free(a: &[u8], at: usize, count: usize, size: usize) -> bool
-    requires { ⌜ ((d : ℕ) × (k : ℕ) × (size ≡ 2 ^ k) × (count ≡ 2 ^ d * 2 ^ k)) ⌝ }
-    requires { ⌜ (at + count ≤ 8 * length (now a)) × (at + count < 2 ^ 64) ⌝ }
-    ensures { λ r. ⌜ ((d k : ℕ) → size ≡ 2 ^ k → count ≡ 2 ^ d * 2 ^ k → r ≡ someFree d k (now (a .entry)) at) ⌝ }
+// Whether some chunk of `size` blocks is free. One whose first block is used is not; the or-tree judges the others.
+pub fn some_chunk_free(blocks: usize, a: &[u8], size: usize) -> bool
+    requires { ⌜ ((d : ℕ) × (k : ℕ) × (size ≡ 2 ^ k) × (blocks ≡ 2 ^ d * 2 ^ k)) ⌝ }
+    requires { ⌜ (blocks ≤ 8 * length (now a)) × (blocks ≤ 65536) ⌝ }
+    ensures { λ r. ⌜ ((k : ℕ) → size ≡ 2 ^ k → r ≡ isFound (lowestFree blocks k (now (a .entry)))) ⌝ }
 {
-    if count == size {
-        return chunk_is_free(a, at, size);
+    let mut at = 0;
+    while at < blocks {
+        if bitmap::get_bit(a, at) == 0 {
+            if chunk_is_free(a, at, size) {
+                return true;
+            }
+        }
+        at += size;
     }
-    let half = count / 2;
-    if some_chunk_free(a, at, half, size) {
-        true
-    } else {
-        some_chunk_free(a, at + half, half, size)
-    }
+    false
 }
 
 // The first block of the lowest free chunk of `size` blocks, or `blocks` where none is free.

@@ -72,7 +72,7 @@ fn find_place(blocks: usize, a: &[u8], n: usize) -> usize
     ensures { λ r. ⌜ r ≡ orElse blocks (lowestFree blocks (exponent n) (now (a .entry))) ⌝ }
 {
     let size = chunks::chunk_size(n);
-    if !chunks::some_chunk_free(a, 0, blocks, size) {
+    if !chunks::some_chunk_free(blocks, a, size) {
         return blocks;
     }
     chunks::lowest_chunk(blocks, a, size)

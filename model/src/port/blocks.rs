@@ -82,12 +82,15 @@ fn chunk_is_free(a: &[u8], at: usize, size: usize) -> bool {
     chunk_is_free(a, at, half) && chunk_is_free(a, at + half, half)
 }
 
-pub fn some_chunk_free(a: &[u8], at: usize, count: usize, size: usize) -> bool {
-    if count == size {
-        return chunk_is_free(a, at, size);
+pub fn some_chunk_free(blocks: usize, a: &[u8], size: usize) -> bool {
+    let mut at = 0;
+    while at < blocks {
+        if get_bit(a, at) == 0 && chunk_is_free(a, at, size) {
+            return true;
+        }
+        at += size;
     }
-    let half = count / 2;
-    some_chunk_free(a, at, half, size) || some_chunk_free(a, at + half, half, size)
+    false
 }
 
 pub fn lowest_chunk(blocks: usize, a: &[u8], size: usize) -> usize {

@@ -25,7 +25,7 @@ fn allocate(blocks: usize, width: usize, m: &mut Lent, n: usize, r: usize) -> An
         return refusal(4);
     }
     let size = chunk_size(n);
-    if !some_chunk_free(m.a, 0, blocks, size) {
+    if !some_chunk_free(blocks, m.a, size) {
         return refusal(5);
     }
     let at = lowest_chunk(blocks, m.a, size);

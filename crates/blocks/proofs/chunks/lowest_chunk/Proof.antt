@@ -1,12 +1,14 @@
 -- `chunks::lowest_chunk` meets its contract. The chunks' loop: the search has come to block `at`. The blocks' loop: the first i
 -- blocks of the chunk are free. The measures are what is left of the heap and of the chunk.
-use mathlib.Core.Path.{_≡_, refl, ap, _∙_}
-use Prim.Native.Nat.{ℕ, _≤_, _<_, _-_, _+_}
+use mathlib.Core.Path.{_≡_, refl, sym, ap, _∙_}
+use Prim.Native.Nat.{ℕ, _≤_, _<_, _-_, _+_, _^_}
 use native.Mathlib.Omega.{arith}
 use lib.Pow.{pow-pos}
 use borrow.Author.Count.{below-more}
 use Rattle.bitmap.specs.Bit.{bitAt}
-use Rattle.blocks.proofs.LowestChunk.{Reached, reached-start, reached-inside, reached-next, reached-end, reached-free}
+use Rattle.blocks.specs.Search.{orElse}
+use Rattle.blocks.proofs.FreeChunks.{all-free}
+use Rattle.blocks.proofs.LowestChunk.{Reached, reached-start, reached-inside, reached-used, reached-end, reached-free}
 use Rattle.blocks.proofs.chunks.lowest_chunk.Statement.{statement}
 use Rattle.blocks.proofs.chunks.lowest_chunk.Tie as tie
 
@@ -69,7 +71,7 @@ chunks-again c =
     let used : bitAt a (at + i) ≡ 0 → ⊥ =
     λ e. c .if2 .taken (c .before .get-bit .ensures .0 ∙ ap (λ (x : ℕ). bitAt a (x + i)) same ∙ e) in
     rw same
-    (reached-next (s .args .blocks) a (s .args .size) at (o .chunks .inv) (omega arith) i (omega arith) used)
+    (reached-used (s .args .blocks) a (s .args .size) at (o .chunks .inv) (omega arith) i (omega arith) used)
 
 add-i : tie.Need-add-i Inv-loop μ-loop Inv-chunks μ-chunks
 add-i c = omega arith
@@ -86,10 +88,11 @@ loop-again c =
     (omega arith, omega arith, below-more (λ (j : ℕ). bitAt a (o .chunks .at + j) ≡ 0) (l .loop .i) (l .loop .inv .2) free)
 
 returns : tie.Need-returns Inv-loop μ-loop Inv-chunks μ-chunks
-returns c =
+returns c k e =
     let o = c .before in
     let s = o .before .before in
-    reached-end (s .args .blocks) (s .args .a .now) (s .args .size) (o .chunks .at) (positive s) (o .chunks .inv) (omega arith)
+    let none-free = reached-end (s .args .blocks) (s .args .a .now) (s .args .size) (o .chunks .at) (positive s) (o .chunks .inv) in
+    omega (arith, ap (orElse (s .args .blocks)) (none-free (omega arith) k e))
 
 returns-2 : tie.Need-returns-2 Inv-loop μ-loop Inv-chunks μ-chunks
 returns-2 c k e =
@@ -98,8 +101,9 @@ returns-2 c k e =
     let s = o .before .before in
     let a = s .args .a .now in
     let at = o .chunks .at in
-    let free : (i : ℕ) → i < s .args .size → bitAt a (at + i) ≡ 0 = λ i j. l .loop .inv .2 i (omega arith) in
-    l .loop .inv .1 ∙ reached-free (s .args .blocks) a (s .args .size) at (o .chunks .inv) (omega arith) free k e
+    let free : (i : ℕ) → i < 2 ^ k → bitAt a (at + i) ≡ 0 = λ i j. l .loop .inv .2 i (omega arith) in
+    let lowest = reached-free (s .args .blocks) a (s .args .size) at (o .chunks .inv) (omega arith) k e (all-free k a at free) in
+    l .loop .inv .1 ∙ sym (ap (orElse (s .args .blocks)) lowest)
 
 pub lowest-chunk-spec : {M : Type 1} → statement M
 lowest-chunk-spec =

@@ -3,9 +3,9 @@ use mathlib.Core.Path.{_≡_, sym, ap, _∙_}
 use Prim.Native.Nat.{ℕ, _*_, _^_}
 use native.Mathlib.Omega.{arith}
 use borrow.Author.Tests.{not-true}
-use Rattle.rules.specs.Heap.{exponent}
+use Rattle.rules.specs.Heap.{exponent, lowestFree}
 use Rattle.blocks.specs.Search.{orElse}
-use Rattle.blocks.proofs.LowestChunk.{none-lowest}
+use Rattle.blocks.proofs.LowestChunk.{not-found}
 use Rattle.rules.proofs.Shape.{blocks-le}
 use Rattle.inner.proofs.Places.{chunks-of}
 use Rattle.inner.proofs.tests.find_place.Statement.{statement}
@@ -30,12 +30,12 @@ some-chunk-free-requires c κs =
     (sizes c, (omega arith, omega arith))
 
 returns : tie.Need-returns
-unfolding sizes
 returns c =
     let s = c .before .before .before .before in
-    let (d, k, size-is, chunks) = sizes (c .before .before) in
-    let none-free = sym (c .before .some-chunk-free .ensures d k size-is chunks) ∙ not-true _ (c .if1 .taken) in
-    sym (ap (orElse (s .args .blocks)) (none-lowest (s .args .blocks) d k (s .args .a .now) chunks none-free))
+    let size = c .before .before in
+    let searched = c .before .some-chunk-free .ensures (exponent (s .args .n)) (size .chunk-size .ensures .0) in
+    let lowest = lowestFree (s .args .blocks) (exponent (s .args .n)) (s .args .a .now) in
+    sym (ap (orElse (s .args .blocks)) (not-found lowest (sym searched ∙ not-true _ (c .if1 .taken))))
 
 lowest-chunk-requires : tie.Need-lowest-chunk-requires
 lowest-chunk-requires c κs =
