@@ -87,22 +87,6 @@ zeros-set-bit map i v h e =
       ap (λ (x : ℕ). one (eqb x 0)) (bit-set-same map i v h e),
     )
 
--- a run of 0 bits that become 1
-pub zeros-fill-ones : (map : List ℕ) (from n : ℕ) → from + n ≤ 8 * length map
-    → ((i : ℕ) → from ≤ i → i < from + n → bitAt map i ≡ 0) → zeros (fillBits map from n 1) + n ≡ zeros map
-unfolding fillBits
-zeros-fill-ones map from zero h all = omega arith
-zeros-fill-ones map from (suc n) h all =
-    let before : List ℕ = fillBits map from n 1 in
-    let was : bitAt before (from + n) ≡ 0 =
-    bit-fill-out map from n 1 (from + n) (omega arith) (inr (omega arith)) ∙ all (from + n) (omega arith) (omega arith) in
-    omega (
-      arith,
-      zeros-fill-ones map from n (omega arith) (λ i l u. all i l (omega arith)),
-      zeros-set-bit before (from + n) 1 (omega (arith, length-fill map from n 1)) (omega arith),
-      ap (λ (x : ℕ). one (eqb x 0)) was,
-    )
-
 -- a run of 1 bits that become 0
 pub zeros-fill-zeros : (map : List ℕ) (from n : ℕ) → from + n ≤ 8 * length map
     → ((i : ℕ) → from ≤ i → i < from + n → bitAt map i ≡ 1) → zeros (fillBits map from n 0) ≡ zeros map + n

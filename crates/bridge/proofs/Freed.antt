@@ -1,22 +1,20 @@
--- The number of blocks that a store or an allocation frees, counted along its release, is the growth of the A-map's zeros.
+-- The number of blocks that a store frees, counted along its release, is the growth of the A-map's zeros.
 use mathlib.Core.Path.{_≡_}
 use mathlib.Core.Bool.{true}
 use mathlib.Core.List.{List, [], _∷_}
-use mathlib.Core.Option.{some}
-use Prim.Native.Nat.{ℕ, zero, suc, _+_, _-_, _*_, _≤_, _<_}
+use Prim.Native.Nat.{ℕ, zero, suc, _+_, _-_, _*_, _<_}
 use native.Mathlib.Omega.{arith}
 use lib.ListN.{length}
 use Rattle.bitmap.specs.Bit.{fillBits, zeros}
-use Rattle.bitmap.proofs.Zeros.{zeros-fill-ones, zeros-fill-zeros}
-use Rattle.rules.specs.Heap.{Memory, isFirst, sizeAt, exponent, lowestFree, isRef}
-use Rattle.rules.specs.Store.{freed, release, letGo, putRoot, putCell, placed, storeRootIn, storeCellIn, allocateIn}
-use Rattle.references.specs.Blocks.{releasedBlocks, letGoBlocks, putRootBlocks, putCellBlocks, storeRootBlocks, storeCellBlocks, allocateBlocks}
-use Rattle.rules.proofs.Chunks.{room}
+use Rattle.bitmap.proofs.Zeros.{zeros-fill-zeros}
+use Rattle.rules.specs.Heap.{Memory, isFirst, sizeAt, isRef}
+use Rattle.rules.specs.Store.{freed, release, letGo, putRoot, putCell, storeRootIn, storeCellIn}
+use Rattle.references.specs.Blocks.{releasedBlocks, letGoBlocks, putRootBlocks, putCellBlocks, storeRootBlocks, storeCellBlocks}
 use Rattle.theory.proofs.Graphs.Balance.{waits-head}
 use Rattle.theory.proofs.Memories.View.{view}
 use Rattle.theory.proofs.Memories.Healthy.{Healthy}
 use Rattle.theory.proofs.Memories.ViewRelease.{Releasing, size-there, releasing-next}
-use Rattle.theory.proofs.Memories.Stores.{store-root, store-cell, allocate-root}
+use Rattle.theory.proofs.Memories.Stores.{store-root, store-cell}
 
 -- the blocks of the first that waits
 freed-zeros :
@@ -48,16 +46,3 @@ module _ (N w : ℕ) (h : Memory) (healthy : Healthy N w h) where
       → zeros ((storeCellIn N w h (4 * a + j) v) .a) - zeros (h .a) ≡ storeCellBlocks N w h (4 * a + j) v
   unfolding storeCellIn putCell letGo storeCellBlocks putCellBlocks letGoBlocks
   store-cell-freed a j v first l ref = omega (arith, release-zeros N w N (store-cell N w h healthy v ref a j first l .releasing))
-
-  -- the blocks of the new object are free no longer
-  pub allocate-freed :
-      (n r i : ℕ) → 1 ≤ n → r < length (h .roots) → lowestFree N (exponent n) (h .a) ≡ some i
-      → zeros ((allocateIn N w h n r i) .a) + n ≡ zeros (h .a) + allocateBlocks N w h n r i
-  unfolding allocateIn placed putRoot letGo allocateBlocks putRootBlocks letGoBlocks
-  allocate-freed n r i some-blocks l found =
-      let free = room N (h .a) n i found in
-      omega (
-        arith,
-        release-zeros N w N (allocate-root N w h healthy n i (omega arith) free r l .releasing),
-        zeros-fill-ones (h .a) i n (omega (arith, free .inside, healthy .represents .length-a)) (free .free),
-      )

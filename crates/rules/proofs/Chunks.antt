@@ -154,11 +154,6 @@ module _ (N k : ℕ) (a : List ℕ) where
   lowest-cases = rw (zero-mul (2 ^ k)) at (search-from (N / 2 ^ k) 0 (omega arith) (λ d l. absurd (omega arith)))
 
   -- of two lowest ones none is lower
-  not-lower : (i j : ℕ) → Lowest N k a i → Lowest N k a j → i < j → ⊥
-  not-lower i j p q l =
-      let e : i / 2 ^ k * 2 ^ k ≡ i = omega (arith, div-add-mod' i (2 ^ k), p .aligned) in
-      free-not-used a i (2 ^ k) (p .free) (rw e at (q .lowest (i / 2 ^ k) (rw e l)))
-
   not-none : (i : ℕ) → Lowest N k a i → NoneFree N k a → ⊥
   not-none i p full =
       let e : i / 2 ^ k * 2 ^ k ≡ i = omega (arith, div-add-mod' i (2 ^ k), p .aligned) in
@@ -168,15 +163,6 @@ module _ (N k : ℕ) (a : List ℕ) where
   lowest-some i e = elim lowest-cases [
     | inl f ↦ let q : f .0 ≡ i = cc (f .2) in rw q at (f .1)
     | inr m ↦ let z : _≡_ {A = ℕ} 0 1 = cc (m .1) in absurd (omega arith)
-  ]
-
-  pub some-lowest : (i : ℕ) → Lowest N k a i → lowestFree N k a ≡ some i
-  some-lowest i p = elim lowest-cases [
-    | inl f ↦ f .2 ∙ ap some (elim (decLt i (f .0)) [
-      | yes l ↦ absurd (not-lower i (f .0) p (f .1) l)
-      | no l ↦ elim (decLt (f .0) i) [ yes u ↦ absurd (not-lower (f .0) i (f .1) p u) | no u ↦ omega arith ]
-    ])
-    | inr m ↦ absurd (not-none i p (m .0))
   ]
 
   pub lowest-none : lowestFree N k a ≡ none → NoneFree N k a

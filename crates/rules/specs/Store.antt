@@ -61,7 +61,8 @@ freed N w h i n =
     (withCounts (setCount (N / 8) w (h .counts) i 0)
     (withCells (clearCells (h .cells) (4 * i) (4 * n)) h)))
 
--- The waiting objects are freed, the last one first, until none waits. Each step frees one object, so N steps are enough.
+-- The waiting objects are freed, the last one first, until none waits. Each step frees one object, so N steps are enough (proved as
+-- `NStepsSuffice`).
 unfoldable pub release : (steps : ℕ) → ℕ → ℕ → Memory → List ℕ → Memory
 release zero N w h stack = h
 release (suc f) N w h [] = h

@@ -8,20 +8,23 @@ use lib.ListN.{length}
 use lib.Dec.{leb, ltb}
 use borrow.Author.Tests.{le-leb, lt-ltb}
 use Rattle.rules.specs.Heap.{Memory, exponent, lowestFree}
+use Rattle.rules.specs.Store.{letGo, putRoot, putCell, storeRootIn, storeCellIn, placed, allocateIn}
 use Rattle.rules.specs.Calls.{allocate, Answer, require, onSound, allocation, answer}
 use Rattle.rules.specs.Demand.{Demand3}
 use Rattle.rules.proofs.Replies.{on-sound-shaped, on-sound-undamaged, on-sound-next}
 use Rattle.rules.proofs.Tests.{true-and, require-true, require-passed}
 use Rattle.rules.proofs.Shape.{shape-facts}
-use Rattle.rules.proofs.Chunks.{lowest-some, refused-none-free, none-free-refused}
+use Rattle.rules.proofs.Chunks.{lowest-some, room, refused-none-free, none-free-refused}
 use Rattle.theory.specs.Statements.{Undamaged, CallsKeepUndamaged, FormatMakesUndamaged, RefusedExactly, Lowest, LowestTaken}
-use Rattle.theory.specs.Statements.{EveryListHasAChain, ObjectsAreEnds}
+use Rattle.theory.specs.Statements.{EveryListHasAChain, NStepsSuffice, ObjectsAreEnds}
 use Rattle.theory.proofs.Maps.Extents.{sizesOf}
 use Rattle.theory.proofs.Maps.Parse.{parse}
 use Rattle.theory.proofs.Maps.Totals.{objects-ends}
 use Rattle.theory.proofs.Maps.Undamaged.{kinds-delimited}
 use Rattle.theory.proofs.Memories.Healthy.{Healthy, healthy-facts, healthy-shaped, healthy-no-damage}
 use Rattle.theory.proofs.Memories.Formatted.{formatted-healthy}
+use Rattle.theory.proofs.Memories.Fuel.{steps-suffice}
+use Rattle.theory.proofs.Memories.Stores.{store-root, store-cell, allocate-root}
 use Rattle.theory.proofs.EachCall.Served.{on-sound}
 use Rattle.theory.proofs.EachCall.Answers.{answer-served}
 use Rattle.theory.proofs.Demand.{every-list, demand3}
@@ -82,6 +85,18 @@ lowest-taken N w h n r accepted =
 
 pub every-list-has-a-chain : EveryListHasAChain
 every-list-has-a-chain = every-list
+
+pub n-steps-suffice : NStepsSuffice
+unfolding storeRootIn storeCellIn allocateIn placed putRoot putCell letGo
+n-steps-suffice N w h u steps enough =
+    let fine = undamaged-healthy N w h u in
+    record {
+      in-root = λ r v l ref. steps-suffice N w steps _ _ (store-root N w h fine v ref r l .releasing) enough;
+      in-cell = λ a j v first l ref. steps-suffice N w steps _ _ (store-cell N w h fine v ref a j first l .releasing) enough;
+      new = λ n r i some-blocks l found.
+          steps-suffice N w steps _ _
+          (allocate-root N w h fine n i (omega arith) (room N (h .a) n i found) r l .releasing) enough;
+    }
 
 pub objects-are-ends : ObjectsAreEnds
 objects-are-ends N w h fits one two =

@@ -4,12 +4,13 @@ use Prim.Native.Nat.{ℕ, _+_, _*_, _%_, _^_, _≤_, _<_}
 use mathlib.Core.Path.{_≡_}
 use mathlib.Core.Logic.{_↔_}
 use mathlib.Core.Bool.{true, false}
-use mathlib.Core.List.{List}
-use lib.ListN.{length}
+use mathlib.Core.List.{List, []}
+use mathlib.Core.Option.{some}
+use lib.ListN.{length, getD, set}
 use Rattle.bitmap.specs.Bit.{bitAt, countBelow, zeros}
-use Rattle.rules.specs.Heap.{Memory, shaped, isFirst, exponent}
+use Rattle.rules.specs.Heap.{Memory, withCounts, withCells, withRoots, shaped, isFirst, sizeAt, isRef, exponent, lowestFree}
 use Rattle.rules.specs.Damage.{someBelow, endOnFree, openEnd, damage}
-use Rattle.rules.specs.Store.{formatted}
+use Rattle.rules.specs.Store.{formatted, countUp, work, countDown, release, storeRootIn, storeCellIn, placed, allocateIn}
 use Rattle.rules.specs.Calls.{Call, allocate, answer}
 use Rattle.rules.specs.Demand.{Made, Chain, callsOf}
 
@@ -52,6 +53,25 @@ LowestTaken =
 -- no hypothesis of demand 3 is empty: every list of calls has a chain
 abbrev pub EveryListHasAChain : Type 0
 EveryListHasAChain = (N w : ℕ) (h : Memory) (calls : List Call) → (made : List Made) × (callsOf made ≡ calls) × Chain N w h made
+
+-- `letGo` with a number of steps of one's own in place of N
+abbrev pub letGoIn : (steps N w : ℕ) → Memory → ℕ → Memory
+letGoIn steps N w h v = let s = countDown N w (work (h .counts) []) v in release steps N w (withCounts (s .counts) h) (s .stack)
+
+-- "so N steps are enough": whoever gives a store or an allocation more steps to let go of the old object ends in the same heap
+pub record StepsSuffice (N w : ℕ) (h : Memory) (steps : ℕ) : Type 0 where
+  pub in-root : (r v : ℕ) → r < length (h .roots) → isRef N h v ≡ true
+      → let written : Memory = withRoots (set (h .roots) r v) (withCounts (countUp N w (h .counts) v) h) in
+      letGoIn steps N w written (getD (h .roots) r 0) ≡ storeRootIn N w h r v
+  pub in-cell : (a j v : ℕ) → isFirst N h a ≡ true → j < 4 * sizeAt N h a → isRef N h v ≡ true
+      → let written : Memory = withCells (set (h .cells) (4 * a + j) v) (withCounts (countUp N w (h .counts) v) h) in
+      letGoIn steps N w written (getD (h .cells) (4 * a + j) 0) ≡ storeCellIn N w h (4 * a + j) v
+  pub new : (n r i : ℕ) → 1 ≤ n → r < length (h .roots) → lowestFree N (exponent n) (h .a) ≡ some i
+      → let written : Memory = withRoots (set (h .roots) r (i + 1)) (placed N w h i n) in
+      letGoIn steps N w written (getD (h .roots) r 0) ≡ allocateIn N w h n r i
+
+abbrev pub NStepsSuffice : Type 0
+NStepsSuffice = (N w : ℕ) (h : Memory) → Undamaged N w h → (steps : ℕ) → N ≤ steps → StepsSuffice N w h steps
 
 -- a heap without damage kinds 1 and 2 has as many objects as 0 bits in the B-map
 abbrev pub ObjectsAreEnds : Type 0

@@ -1,10 +1,8 @@
--- The N steps that the rules give a release are enough: nothing waits when they are used up, so more steps would change nothing; and at
--- most N objects wait at any time.
+-- The N steps that the rules give a release are enough: nothing waits when they are used up, so more steps would change nothing.
 use mathlib.Core.Path.{_≡_, refl, ap}
 use mathlib.Core.List.{List, [], _∷_}
 use Prim.Native.Nat.{ℕ, zero, suc, _+_, _≤_}
 use native.Mathlib.Omega.{arith}
-use lib.ListN.{length}
 use Rattle.rules.specs.Heap.{Memory}
 use Rattle.rules.specs.Store.{freed, release}
 use Rattle.theory.proofs.Graphs.Occurrences.{occurrences}
@@ -12,11 +10,6 @@ use Rattle.theory.proofs.Graphs.Balance.{waits-bound, waits-head, fewer
 use Rattle.theory.proofs.Maps.Extents.{sizesOf, length-sizes-of}
 use Rattle.theory.proofs.Memories.View.{view}
 use Rattle.theory.proofs.Memories.ViewRelease.{Releasing, releasing-next, sizes-after, memoryAfter, workAfter}
-
--- N places are enough for what waits
-pub waiting-fits : (N w : ℕ) (h : Memory) (stack : List ℕ) → Releasing N w h stack → length stack ≤ N
-waiting-fits N w h stack before =
-    omega (arith, waits-bound stack (view N w h) (before .waits), length-sizes-of N (h .a) (h .b))
 
 steps-left :
     (N w fuel steps : ℕ) (h : Memory) (stack : List ℕ) → Releasing N w h stack → N ≤ occurrences 0 (sizesOf N (h .a) (h .b)) + fuel
