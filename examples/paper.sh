@@ -1,6 +1,6 @@
 #!/bin/bash
-# Builds the proved program `calls`, runs it on the paper cases P1 to P11 of document 01, and prints each call in words beside
-# the program's reply. Ends with status 1 where a reply is not the one of document 01.
+# Builds the program `calls`, which makes the proved calls, runs it on the paper cases P1 to P11 of document 01, and prints each
+# call in words beside the program's reply. Ends with status 1 where a reply is not the one of document 01.
 set -eu
 cd "$(dirname "$0")/.."
 rt check calls

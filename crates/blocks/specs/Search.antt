@@ -1,4 +1,4 @@
--- What the two searches answer, for contracts of private functions: whether a chunk was found, and where.
+-- What the two searches answer, for contracts of inner functions: whether a chunk was found, and where.
 use Prim.Native.Nat.{ℕ}
 use mathlib.Core.Bool.{Bool, true, false}
 use mathlib.Core.Option.{Option, none, some}

@@ -1,4 +1,4 @@
-// Free chunks of the A-map: the size of chunk that an object asks for, whether any is free (by an or-tree), and the lowest one.
+// Free chunks of the A-map: the size of chunk that an object asks for, whether one is free (the or-tree), whether any is, and the lowest.
 ghost use mathlib.Core.Path.{_≡_};
 ghost use Prim.Native.Nat.{ℕ, _+_, _*_, _^_, _<_, _≤_};
 ghost use lib.ListN.{length};

@@ -1,4 +1,4 @@
-// The extent of one object, written and cleared: its A bits, its last B bit, its cells.
+// The extent of one object, written and cleared: its A bits, its last B bit, its cells. And a list of references, all cleared.
 use crate::Ref;
 ghost use mathlib.Core.Path.{_≡_};
 ghost use Prim.Native.Nat.{_+_, _-_, _*_, _^_, _<_, _≤_};

@@ -3,8 +3,8 @@ pub mod chunks;
 pub mod extents;
 pub mod objects;
 
-// A cell or root: 0, or 1 + the first block of an object. To widen references, change this type and MAX_BLOCKS, and `maxBlocks`
-// and `isBlocks` of the rules.
+// A cell or root: 0, or 1 + the first block of an object. To widen references, the first places to change are this type,
+// MAX_BLOCKS, `doublings` of the rules and `cellNumbers` of the replay.
 pub type Ref = u16;
 
 // The largest heap, in blocks.

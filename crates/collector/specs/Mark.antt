@@ -1,5 +1,6 @@
 -- What the collector's marking computes, as total functions of the lent lists. A count that is not 0 is the mark: an object is put on
--- the stack when its count leaves 0. That this gives the rules' collection is shown for undamaged heaps in the theory.
+-- the stack when its count leaves 0. That this gives the rules' collection is shown for undamaged heaps in crate `bridge`
+-- (CollectorProcedure).
 use Prim.Native.Nat.{ℕ, zero, suc, _+_, _-_, _*_, _/_}
 use mathlib.Core.Bool.{true, false}
 use mathlib.Core.List.{List, [], _∷_}

@@ -1,5 +1,5 @@
 // The full collection: counts are cleared, every reference of the roots and of the reached objects is counted anew, and what is left
-// at 0 is freed. A count that is not 0 is the mark. Expects an undamaged heap and a cleared waiting list, and leaves it cleared.
+// at 0 is freed. A count that is not 0 is the mark. It asks for `Ready` lists and leaves the waiting list cleared.
 pub mod mark;
 pub mod sweep;
 

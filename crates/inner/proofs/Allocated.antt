@@ -17,7 +17,7 @@ use Rattle.rules.specs.declared.Reply.{Reply}
 use Rattle.rules.proofs.Tests.{and-true}
 use Rattle.rules.proofs.Chunks.{room}
 use Rattle.theory.proofs.Memories.Healthy.{Healthy}
-use Rattle.theory.proofs.EachCall.Served.{on-sound}
+use Rattle.theory.proofs.EachCall.Served.{on-undamaged}
 use Rattle.bridge.proofs.Settled.{allocate-waiting}
 use Rattle.inner.specs.Usable.{Usable}
 use Rattle.inner.specs.Replies.{found, allocateReply}
@@ -87,7 +87,7 @@ module _ (N w : ℕ) (h : Memory) (n r : ℕ) where
       → answer N w h (allocate n r) ≡ (allocateReply N (h .a) (length (h .roots)) n r, h)
   unfolding answer allocateReply
   allocate-stopped healthy fails =
-      on-sound N w h healthy _
+      on-undamaged N w h healthy _
       ∙ tested-stops N w h n r (leb 1 n && leb n N) (ltb r (length (h .roots))) (lowestFree N (exponent n) (h .a)) fails
 
   pub allocate-refused :
@@ -100,7 +100,7 @@ module _ (N w : ℕ) (h : Memory) (n r : ℕ) where
   module _ (at : ℕ) (free : Found N (h .a) (length (h .roots)) n r at) where
     pub allocate-answered : Healthy N w h → answer N w h (allocate n r) ≡ accepted (settled N (allocateIn N w h n r at)) at
     unfolding answer require allocation
-    allocate-answered healthy = on-sound N w h healthy _ ∙ rw (free .size-test, free .place-test, free .lowest)
+    allocate-answered healthy = on-undamaged N w h healthy _ ∙ rw (free .size-test, free .place-test, free .lowest)
 
     pub allocate-promised :
         Usable N w h → (x : Reply) (g : Memory) → g ≡ allocateIn N w h n r at → x ≡ reply 0 at 0 → Promise N w (allocate n r) h x g

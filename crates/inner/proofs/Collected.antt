@@ -9,7 +9,7 @@ use Rattle.rules.specs.Demand.{Promise}
 use Rattle.rules.specs.declared.Reply.{Reply}
 use Rattle.collector.specs.Sweep.{collectBy, collectBlocks}
 use Rattle.theory.proofs.Memories.Healthy.{Healthy}
-use Rattle.theory.proofs.EachCall.Served.{on-sound}
+use Rattle.theory.proofs.EachCall.Served.{on-undamaged}
 use Rattle.bridge.proofs.Bytewise.{Bytewise}
 use Rattle.bridge.proofs.CollectorProcedure.{collect-by-is, collect-blocks-is}
 use Rattle.bridge.proofs.CollectorWaiting.{collect-by-waiting}
@@ -20,7 +20,7 @@ use Rattle.inner.proofs.Stored.{freeing-promised}
 module _ (N w : ℕ) (h : Memory) where
   pub collect-answered : Healthy N w h → answer N w h collect ≡ freeing N h (collected N w h)
   unfolding answer
-  collect-answered healthy = on-sound N w h healthy (freeing N h (collected N w h))
+  collect-answered healthy = on-undamaged N w h healthy (freeing N h (collected N w h))
 
   pub collect-promised :
       Usable N w h → Bytewise h → (freed : ℕ) (x : Reply) (g : Memory) → g ≡ collectBy N w h → freed ≡ collectBlocks N w h

@@ -7,10 +7,10 @@ use lib.Dec.{leb, ltb}
 use lib.ListN.{length, replicate}
 use Rattle.rules.specs.Heap.{Memory, shaped, isFirst, sizeAt, exponent, lowestFree, isRef}
 use Rattle.rules.specs.Store.{formatted}
-use Rattle.rules.specs.Calls.{Call, format, check, collect, freeBlocks, allocate, storeRoot, storeCell, look, Answer, require, onSound, freeing, allocation, answer}
+use Rattle.rules.specs.Calls.{Call, format, check, collect, freeBlocks, allocate, storeRoot, storeCell, look, Answer, require, onUndamaged, freeing, allocation, answer}
 use Rattle.rules.specs.Demand.{Promise}
 use Rattle.rules.specs.declared.Reply.{Reply}
-use Rattle.rules.proofs.Replies.{on-sound-next}
+use Rattle.rules.proofs.Replies.{on-undamaged-next}
 use Rattle.theory.proofs.Theorems.{calls-keep-undamaged}
 use Rattle.inner.specs.Usable.{Usable}
 
@@ -23,8 +23,8 @@ module _ (N w : ℕ) (h : Memory) (usable : Usable N w h) where
   require-idle true number next idle = idle
   require-idle false number next idle = usable .idle
 
-  on-sound-idle : (next : Answer) → Idle next → Idle (onSound N w h next)
-  on-sound-idle next idle = subst Idle (sym (on-sound-next N w h next (usable .shape-is) (usable .undamaged))) idle
+  on-undamaged-idle : (next : Answer) → Idle next → Idle (onUndamaged N w h next)
+  on-undamaged-idle next idle = subst Idle (sym (on-undamaged-next N w h next (usable .shape-is) (usable .undamaged))) idle
 
   allocation-idle : (n r : ℕ) (o : Option ℕ) → Idle (allocation N w h n r o)
   unfolding allocation
@@ -34,19 +34,19 @@ module _ (N w : ℕ) (h : Memory) (usable : Usable N w h) where
   answer-idle : (c : Call) → Idle (answer N w h c)
   unfolding answer freeing formatted
   answer-idle format = require-idle (shaped N w h) 1 _ refl
-  answer-idle check = on-sound-idle _ (usable .idle)
-  answer-idle freeBlocks = on-sound-idle _ (usable .idle)
-  answer-idle collect = on-sound-idle _ refl
+  answer-idle check = on-undamaged-idle _ (usable .idle)
+  answer-idle freeBlocks = on-undamaged-idle _ (usable .idle)
+  answer-idle collect = on-undamaged-idle _ refl
   answer-idle (allocate n r) =
-      on-sound-idle _
+      on-undamaged-idle _
       (require-idle (leb 1 n && leb n N) 3 _
       (require-idle (ltb r (length (h .roots))) 4 _ (allocation-idle n r (lowestFree N (exponent n) (h .a)))))
   answer-idle (storeRoot r v) =
-      on-sound-idle _ (require-idle (ltb r (length (h .roots))) 4 _ (require-idle (isRef N h v) 8 _ refl))
+      on-undamaged-idle _ (require-idle (ltb r (length (h .roots))) 4 _ (require-idle (isRef N h v) 8 _ refl))
   answer-idle (storeCell a j v) =
-      on-sound-idle _
+      on-undamaged-idle _
       (require-idle (isFirst N h a) 6 _ (require-idle (ltb j (4 * sizeAt N h a)) 7 _ (require-idle (isRef N h v) 8 _ refl)))
-  answer-idle (look a) = on-sound-idle _ (require-idle (isFirst N h a) 6 _ (usable .idle))
+  answer-idle (look a) = on-undamaged-idle _ (require-idle (isFirst N h a) 6 _ (usable .idle))
 
   pub usable-kept : (c : Call) (x : Reply) (g : Memory) → Promise N w c h x g → Usable N w g
   usable-kept c x g promise =

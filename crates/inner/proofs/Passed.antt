@@ -17,7 +17,7 @@ use Rattle.rules.specs.declared.Reply.{Reply}
 use Rattle.rules.proofs.Tests.{require-true, require-passed}
 use Rattle.rules.proofs.Objects.{first-facts, size-le, ref-facts}
 use Rattle.theory.proofs.Memories.Healthy.{Healthy}
-use Rattle.theory.proofs.EachCall.Served.{on-sound}
+use Rattle.theory.proofs.EachCall.Served.{on-undamaged}
 use Rattle.inner.specs.Replies.{storeRootTest, storeCellTest}
 use Rattle.inner.proofs.Idle.{promised}
 
@@ -71,7 +71,7 @@ module _ (N : ℕ) (h : Memory) (r v : ℕ) where
       (w : ℕ) → Healthy N w h → (storeRootTest N h r v .number ≡ 0 → ⊥) → answer N w h (storeRoot r v) ≡ (storeRootTest N h r v, h)
   unfolding answer storeRootTest
   root-stopped w healthy fails =
-      on-sound N w h healthy _
+      on-undamaged N w h healthy _
       ∙ require-stops (ltb r (length (h .roots))) 4 (require (isRef N h v) 8 h (accepted h 0)) _
       (require-stops (isRef N h v) 8 (accepted h 0) (freeing N h (storeRootIn N w h r v)) (λ n. absurd (n refl)))
       fails
@@ -136,7 +136,7 @@ module _ (N : ℕ) (h : Memory) (a j v : ℕ) where
       (w : ℕ) → Healthy N w h → (storeCellTest N h a j v .number ≡ 0 → ⊥) → answer N w h (storeCell a j v) ≡ (storeCellTest N h a j v, h)
   unfolding answer storeCellTest
   cell-stopped w healthy fails =
-      on-sound N w h healthy _
+      on-undamaged N w h healthy _
       ∙ require-stops (isFirst N h a) 6 cellTest _
       (require-stops (ltb j (4 * sizeAt N h a)) 7 refTest _
       (require-stops (isRef N h v) 8 (accepted h 0) (freeing N h (storeCellIn N w h (4 * a + j) v)) (λ n. absurd (n refl))))

@@ -13,7 +13,7 @@ use Rattle.rules.specs.declared.Reply.{Reply}
 use Rattle.rules.proofs.Tests.{require-true}
 use Rattle.references.specs.Blocks.{storeRootBlocks, storeCellBlocks}
 use Rattle.theory.proofs.Memories.Healthy.{Healthy}
-use Rattle.theory.proofs.EachCall.Served.{on-sound}
+use Rattle.theory.proofs.EachCall.Served.{on-undamaged}
 use Rattle.bridge.proofs.Settled.{store-root-waiting, store-cell-waiting}
 use Rattle.bridge.proofs.Freed.{store-root-freed, store-cell-freed}
 use Rattle.inner.specs.Usable.{Usable}
@@ -32,7 +32,7 @@ module _ (N w : ℕ) (h : Memory) (r v : ℕ) (passed : RootPassed N h r v) wher
   pub root-answered : Healthy N w h → answer N w h (storeRoot r v) ≡ freeing N h (storeRootIn N w h r v)
   unfolding answer
   root-answered healthy =
-      on-sound N w h healthy _
+      on-undamaged N w h healthy _
       ∙ require-true (ltb r (length (h .roots))) 4 h _ (lt-ltb r (length (h .roots)) (passed .place))
       ∙ require-true (isRef N h v) 8 h (freeing N h (storeRootIn N w h r v)) (passed .ref)
 
@@ -52,7 +52,7 @@ module _ (N w : ℕ) (h : Memory) (a j v : ℕ) (passed : CellPassed N h a j v) 
   pub cell-answered : Healthy N w h → answer N w h (storeCell a j v) ≡ freeing N h (storeCellIn N w h (4 * a + j) v)
   unfolding answer
   cell-answered healthy =
-      on-sound N w h healthy _
+      on-undamaged N w h healthy _
       ∙ require-true (isFirst N h a) 6 h _ (passed .first)
       ∙ require-true (ltb j (4 * sizeAt N h a)) 7 h _ (lt-ltb j (4 * sizeAt N h a) (passed .place))
       ∙ require-true (isRef N h v) 8 h (freeing N h (storeCellIn N w h (4 * a + j) v)) (passed .ref)

@@ -1,5 +1,5 @@
 -- The replies that depend on the arguments and on the heap before the call alone, once numbers 1 and 2 are passed: for contracts of
--- private functions. Each is a part of the rules' `answer`.
+-- inner functions. Each is a part of the rules' `answer`.
 use Prim.Native.Nat.{ℕ, _*_}
 use mathlib.Core.Bool.{true, false, _&&_}
 use mathlib.Core.List.{List}

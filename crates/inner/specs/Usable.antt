@@ -1,5 +1,4 @@
--- What the inner calls ask for: a heap that every test of numbers 1 and 2 passes, with its waiting list cleared. For contracts of private
--- functions.
+-- What the inner calls ask for: a heap that is refused with neither 1 nor 2, and its waiting list cleared. For contracts of inner functions.
 use Prim.Native.Nat.{ℕ}
 use mathlib.Core.Path.{_≡_}
 use mathlib.Core.Bool.{true}

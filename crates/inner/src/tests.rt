@@ -49,7 +49,7 @@ pub fn store_root_test(blocks: usize, a: &[u8], b: &[u8], roots: &[Ref], r: usiz
     acceptance(0)
 }
 
-// The tests of a store in cell j of the object at block at.
+// The tests of a store in cell j of the object at block `at`.
 pub fn store_cell_test(blocks: usize, a: &[u8], b: &[u8], at: usize, j: usize, v: Ref) -> Reply
     requires { ⌜ (blocks ≤ 8 * length (now a)) × (blocks ≤ 8 * length (now b)) × (blocks ≤ maxBlocks) ⌝ }
     ensures { λ t. ⌜ t ≡ storeCellTest blocks (memory (now (a .entry)) (now (b .entry)) [] [] [] []) at j v ⌝ }
@@ -99,7 +99,7 @@ pub fn allocate_reply(blocks: usize, a: &[u8], roots: usize, n: usize, r: usize)
     acceptance(at)
 }
 
-// The reply of a look at block at.
+// The reply of a look at block `at`.
 pub fn look_reply(
     blocks: usize,
     width: usize,

@@ -7,31 +7,31 @@ use borrow.Author.Tests.{ne-eqb}
 use Rattle.bitmap.specs.Bit.{zeros}
 use Rattle.rules.specs.Heap.{Memory, memory, shaped, countOf, isFirst, sizeAt}
 use Rattle.rules.specs.Damage.{damage}
-use Rattle.rules.specs.Calls.{Call, check, freeBlocks, look, Answer, answer, reply, accepted, require, onSound}
+use Rattle.rules.specs.Calls.{Call, check, freeBlocks, look, Answer, answer, reply, accepted, require, onUndamaged}
 use Rattle.rules.specs.Demand.{Promise}
 use Rattle.rules.specs.declared.Reply.{Reply}
-use Rattle.rules.proofs.Replies.{on-sound-shaped, on-sound-undamaged, on-sound-next, on-sound-refused}
+use Rattle.rules.proofs.Replies.{on-undamaged-shaped, on-undamaged-no-damage, on-undamaged-next, on-undamaged-refused}
 use Rattle.inner.specs.Replies.{lookReply}
 
 module _ (N w : ℕ) (h : Memory) where
   -- ---- the check itself
 
   pub check-unshaped : shaped N w h ≡ false → Promise N w check h (reply 1 0 0) h
-  unfolding answer onSound require
+  unfolding answer onUndamaged require
   check-unshaped e = record { reply-is = rw e; after-is = rw e }
 
   pub check-damaged : (kind : ℕ) → shaped N w h ≡ true → kind ≡ damage N w h → (kind ≡ 0 → ⊥) → Promise N w check h (reply 2 kind 0) h
-  unfolding answer onSound require
+  unfolding answer onUndamaged require
   check-damaged kind e is-kind some =
       let damaged = ne-eqb (damage N w h) 0 (λ none. some (is-kind ∙ none)) in
       record { reply-is = rw (e, damaged) (ap (λ (k : ℕ). reply 2 k 0) is-kind); after-is = rw (e, damaged) }
 
   -- ---- a call that makes the check first: `next` is what it answers once that is passed
 
-  module _ (call : Call) (next : Answer) (tests : answer N w h call ≡ onSound N w h next) where
+  module _ (call : Call) (next : Answer) (tests : answer N w h call ≡ onUndamaged N w h next) where
     pub passed : (x : Reply) → shaped N w h ≡ true → damage N w h ≡ 0 → x ≡ next .0 → h ≡ next .1 → Promise N w call h x h
     passed x shape undamaged x-is same =
-        let goes-on : answer N w h call ≡ next = tests ∙ on-sound-next N w h next shape undamaged in
+        let goes-on : answer N w h call ≡ next = tests ∙ on-undamaged-next N w h next shape undamaged in
         record { reply-is = x-is ∙ ap (λ (y : Answer). y .0) (sym goes-on); after-is = same ∙ ap (λ (y : Answer). y .1) (sym goes-on) }
 
     -- where the check refuses, the call is refused alike
@@ -39,7 +39,7 @@ module _ (N w : ℕ) (h : Memory) where
     unfolding answer
     refused-alike x checked fails =
         let alike : answer N w h call ≡ answer N w h check =
-        tests ∙ on-sound-refused N w h (accepted h 0) next refl (λ e. fails (ap (λ (y : Reply). y .number) (checked .reply-is) ∙ e)) in
+        tests ∙ on-undamaged-refused N w h (accepted h 0) next refl (λ e. fails (ap (λ (y : Reply). y .number) (checked .reply-is) ∙ e)) in
         record {
           reply-is = checked .reply-is ∙ ap (λ (y : Answer). y .0) (sym alike);
           after-is = checked .after-is ∙ ap (λ (y : Answer). y .1) (sym alike);
@@ -53,11 +53,11 @@ module _ (N w : ℕ) (h : Memory) where
 
     pub checked-shaped : shaped N w h ≡ true
     unfolding answer
-    checked-shaped = on-sound-shaped N w h (accepted h 0) accepted-check
+    checked-shaped = on-undamaged-shaped N w h (accepted h 0) accepted-check
 
     pub checked-undamaged : damage N w h ≡ 0
     unfolding answer
-    checked-undamaged = on-sound-undamaged N w h (accepted h 0) accepted-check
+    checked-undamaged = on-undamaged-no-damage N w h (accepted h 0) accepted-check
 
   -- ---- the calls that read
 

@@ -119,7 +119,7 @@ pub fn store_root(
     acts::store_root(blocks, width, a, b, counts, cells, roots, waiting, r, v)
 }
 
-// Stores v in cell j of the object at block at. The value is the number of blocks freed.
+// Stores v in cell j of the object at block `at`. The value is the number of blocks freed.
 pub fn store_cell(
     blocks: usize,
     width: usize,

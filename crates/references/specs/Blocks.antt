@@ -1,5 +1,5 @@
 -- The number of blocks that a release frees, counted as it goes. That this is the growth of the A-map's zeros, as the rules have it, is
--- shown for undamaged heaps in the theory.
+-- shown for the two stores on undamaged heaps in crate `bridge` (Freed).
 use Prim.Native.Nat.{ℕ, zero, suc, _+_, _*_}
 use mathlib.Core.List.{List, [], _∷_}
 use lib.ListN.{getD, set}

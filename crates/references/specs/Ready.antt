@@ -1,5 +1,5 @@
--- What the inner calls ask of the lent lists: their lengths, that no reference points past the heap, and a cleared waiting list. An
--- undamaged heap of right shape meets it once its waiting list is cleared. For contracts of private functions.
+-- What counting, stores and collection ask of the lent lists: their lengths, that no reference points past the heap, and a cleared waiting list. An
+-- undamaged heap of right shape meets it once its waiting list is cleared. For contracts of inner functions.
 use Prim.Native.Nat.{ℕ, _*_, _/_, _≤_}
 use mathlib.Core.Path.{_≡_}
 use mathlib.Core.List.{List}

@@ -1,4 +1,4 @@
-// A count up, and a count down that tells whether it came to 0.
+// The capacity of a count, and a count up. The count down is in release.rt, since it may put an object on the waiting list.
 ghost use mathlib.Core.Path.{_≡_};
 ghost use Prim.Native.Nat.{_≤_, _<_};
 ghost use Rattle.rules.specs.Heap.{capacity};

@@ -31,7 +31,7 @@ fn count_down(
     }
     let block = v as usize - 1;
     let count = planes::get_count(counts, blocks / 8, width, block);
-    // An object that something names never has count 0.
+    // Never so on an undamaged heap, where what is named has a count; it keeps `count - 1` in range.
     if count == 0 {
         return top;
     }

@@ -5,17 +5,17 @@ use mathlib.Core.List.{[]}
 use Prim.Native.Nat.{ℕ}
 use Rattle.bitmap.specs.Bit.{zeros}
 use Rattle.rules.specs.Heap.{Memory, memory, isFirst, sizeAt, countOf}
-use Rattle.rules.specs.Calls.{Answer, check, look, freeBlocks, reply, accepted, require, onSound, answer}
+use Rattle.rules.specs.Calls.{Answer, check, look, freeBlocks, reply, accepted, require, onUndamaged, answer}
 use Rattle.rules.specs.Demand.{Promise}
 use Rattle.rules.specs.declared.Reply.{Reply}
-use Rattle.rules.proofs.Replies.{on-sound-next}
+use Rattle.rules.proofs.Replies.{on-undamaged-next}
 use Rattle.inner.specs.Usable.{Usable}
 use Rattle.inner.specs.Replies.{lookReply}
 use Rattle.inner.proofs.Idle.{promised}
 
 module _ (N w : ℕ) (h : Memory) (usable : Usable N w h) where
-  passed : (next : Answer) → onSound N w h next ≡ next
-  passed next = on-sound-next N w h next (usable .shape-is) (usable .undamaged)
+  passed : (next : Answer) → onUndamaged N w h next ≡ next
+  passed next = on-undamaged-next N w h next (usable .shape-is) (usable .undamaged)
 
   pub check-promise : (r : Reply) → r ≡ reply 0 0 0 → Promise N w check h r h
   unfolding answer

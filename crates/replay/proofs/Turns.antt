@@ -7,12 +7,11 @@ use native.Mathlib.Omega.{arith}
 use lib.ListN.{length, take, drop, set, length-set, take-append-drop}
 use lib.Seq.{take-suc-set, drop-set-lt}
 use Rattle.rules.specs.Heap.{Memory}
-use Rattle.rules.specs.Calls.{Call, Answer, answer, run}
+use Rattle.rules.specs.Calls.{Call, Answer, answer, run, lastMemory}
 use Rattle.rules.specs.declared.Reply.{Reply}
 use Rattle.inner.specs.Usable.{Usable}
 use Rattle.replay.specs.Encoding.{callAt, callsFrom, callsIn, replyWords}
-use Rattle.replay.specs.Replay.{lastMemory, AsRun}
-use Rattle.replay.specs.Steps.{withReply, Turned}
+use Rattle.replay.specs.Steps.{withReply, Turned, AsRun}
 
 -- ---- the replies written
 

@@ -1,5 +1,5 @@
 // A whole list of calls in one lent slice, run from a formatted heap: demand 3 as the contract of one function. The heap is formatted
-// here, so it is undamaged, and calls keep it so: no call of the list tests it again.
+// here, so it is undamaged, and calls keep it so: no call of the list tests it.
 ghost use Rattle.rules.specs.Heap.{memory};
 ghost use Rattle.replay.specs.Replay.{Replayed};
 use blocks::Ref;

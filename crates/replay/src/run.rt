@@ -6,8 +6,7 @@ ghost use lib.ListN.{length};
 ghost use Rattle.rules.specs.Heap.{memory};
 ghost use Rattle.inner.specs.Usable.{Usable};
 ghost use Rattle.replay.specs.Encoding.{isCallAt, areCalls};
-ghost use Rattle.replay.specs.Replay.{AsRun};
-ghost use Rattle.replay.specs.Steps.{Turned};
+ghost use Rattle.replay.specs.Steps.{Turned, AsRun};
 use crate::step;
 use blocks::Ref;
 

@@ -9,20 +9,19 @@ use damage::shape;
 use inner::tests::refusal;
 use rules::Reply;
 
-// Whether a code and its arguments are a call.
+// How many numbers a cell can hold.
+const CELL_NUMBERS: u64 = 65536;
+
+// Whether a code and its arguments are a call. All other codes are answered 9.
 fn is_call(code: u64, y: u64, z: u64) -> bool
     ensures { λ r. ⌜ r ≡ isCall code y z ⌝ }
 {
-    if 8 <= code {
-        return false;
+    match code {
+        3 => y < CELL_NUMBERS,
+        4 => z < CELL_NUMBERS,
+        0..=7 => true,
+        _ => false,
     }
-    if code == 3 {
-        return y < 65536;
-    }
-    if code == 4 {
-        return z < 65536;
-    }
-    true
 }
 
 // Whether each of the first n calls is a call.

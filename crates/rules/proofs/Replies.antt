@@ -8,7 +8,7 @@ use lib.Dec.{eqb}
 use borrow.Author.Tests.{eq-eqb, eqb-true}
 use Rattle.rules.specs.Heap.{Memory, shaped}
 use Rattle.rules.specs.Damage.{damage}
-use Rattle.rules.specs.Calls.{Answer, reply, refused, require, onSound}
+use Rattle.rules.specs.Calls.{Answer, reply, refused, require, onUndamaged}
 use Rattle.rules.proofs.Tests.{require-passed}
 
 module _ (N w : ℕ) (h : Memory) where
@@ -17,25 +17,25 @@ module _ (N w : ℕ) (h : Memory) where
   undamaged-passed next true e p = eqb-true (damage N w h) 0 e
   undamaged-passed next false e p = absurd (omega arith)
 
-  pub on-sound-shaped : (next : Answer) → onSound N w h next .0 .number ≡ 0 → shaped N w h ≡ true
-  unfolding onSound
-  on-sound-shaped next p = require-passed (shaped N w h) 1 h _ (omega arith) p
+  pub on-undamaged-shaped : (next : Answer) → onUndamaged N w h next .0 .number ≡ 0 → shaped N w h ≡ true
+  unfolding onUndamaged
+  on-undamaged-shaped next p = require-passed (shaped N w h) 1 h _ (omega arith) p
 
-  pub on-sound-undamaged : (next : Answer) → onSound N w h next .0 .number ≡ 0 → damage N w h ≡ 0
-  unfolding onSound require
-  on-sound-undamaged next p =
-      undamaged-passed next (eqb (damage N w h) 0) refl (rw (on-sound-shaped next p) at p)
+  pub on-undamaged-no-damage : (next : Answer) → onUndamaged N w h next .0 .number ≡ 0 → damage N w h ≡ 0
+  unfolding onUndamaged require
+  on-undamaged-no-damage next p =
+      undamaged-passed next (eqb (damage N w h) 0) refl (rw (on-undamaged-shaped next p) at p)
 
   -- a heap that passes both is answered by the call itself
-  pub on-sound-next : (next : Answer) → shaped N w h ≡ true → damage N w h ≡ 0 → onSound N w h next ≡ next
-  unfolding onSound require
-  on-sound-next next shape undamaged = rw (shape, eq-eqb (damage N w h) 0 undamaged)
+  pub on-undamaged-next : (next : Answer) → shaped N w h ≡ true → damage N w h ≡ 0 → onUndamaged N w h next ≡ next
+  unfolding onUndamaged require
+  on-undamaged-next next shape undamaged = rw (shape, eq-eqb (damage N w h) 0 undamaged)
 
   -- a heap that fails one is refused alike by every call that tests for both
-  pub on-sound-refused :
-      (next other : Answer) → next .0 .number ≡ 0 → (onSound N w h next .0 .number ≡ 0 → ⊥) → onSound N w h other ≡ onSound N w h next
-  unfolding onSound require
-  on-sound-refused next other accepted fails = go (shaped N w h) (eqb (damage N w h) 0) fails
+  pub on-undamaged-refused :
+      (next other : Answer) → next .0 .number ≡ 0 → (onUndamaged N w h next .0 .number ≡ 0 → ⊥) → onUndamaged N w h other ≡ onUndamaged N w h next
+  unfolding onUndamaged require
+  on-undamaged-refused next other accepted fails = go (shaped N w h) (eqb (damage N w h) 0) fails
     where
       tested : Bool → Bool → Answer → Answer
       tested s t x = elim s [ true ↦ elim t [ true ↦ x | false ↦ (reply 2 (damage N w h) 0, h) ] | false ↦ refused h 1 ]

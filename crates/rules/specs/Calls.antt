@@ -27,7 +27,7 @@ Answer = Reply × Memory
 abbrev pub reply : ℕ → ℕ → ℕ → Reply
 reply number value second = record { number = number; value = value; second = second }
 
--- "Number 0 is acceptance." Here with one value, and a memory that is not written
+-- "Number 0 is acceptance." Here with one value; h is the memory after the call
 abbrev pub accepted : Memory → ℕ → Answer
 accepted h value = (reply 0 value 0, h)
 
@@ -40,12 +40,12 @@ unfoldable pub require : Bool → ℕ → Memory → Answer → Answer
 require test number h next = elim test [ true ↦ next | false ↦ refused h number ]
 
 -- "1 as before; 2 if the heap is damaged", with the damage kind as its value; then what the call itself answers
-unfoldable pub onSound : ℕ → ℕ → Memory → Answer → Answer
-onSound N w h next =
+unfoldable pub onUndamaged : ℕ → ℕ → Memory → Answer → Answer
+onUndamaged N w h next =
     let kind = damage N w h in
     require (shaped N w h) 1 h (elim (eqb kind 0) [ true ↦ next | false ↦ (reply 2 kind 0, h) ])
 
--- an accepted call that may free: the waiting list is left all 0
+-- "each accepted call that allocates, stores a reference or may free an object .. leave it all 0": the waiting list
 abbrev pub settled : ℕ → Memory → Memory
 settled N h = withWaiting (replicate N 0) h
 
@@ -53,36 +53,42 @@ settled N h = withWaiting (replicate N 0) h
 unfoldable pub freeing : ℕ → Memory → Memory → Answer
 freeing N h g = accepted (settled N g) (zeros (g .a) - zeros (h .a))
 
--- "5 if no chunk of s blocks is free"; else "the value is the first block"
+-- "5 if no chunk of s blocks is free"; else "The value is the first block."
 unfoldable pub allocation : ℕ → ℕ → Memory → ℕ → ℕ → Option ℕ → Answer
 allocation N w h n r none = refused h 5
 allocation N w h n r (some i) = accepted (settled N (allocateIn N w h n r i)) i
 
--- each list of refusals "is in order, and the first number that applies is given"
+-- Each list of refusals "is in order, and the first number that applies is given". "Cells of an object are numbered .. beginning with the
+-- first cell of its first block": cell j of the object at block a is number 4 * a + j of all cells.
 unfoldable pub answer : ℕ → ℕ → Memory → Call → Answer
 answer N w h format = require (shaped N w h) 1 h (accepted (formatted N w (length (h .roots))) 0)
-answer N w h check = onSound N w h (accepted h 0)
-answer N w h freeBlocks = onSound N w h (accepted h (zeros (h .a)))
-answer N w h collect = onSound N w h (freeing N h (collected N w h))
+answer N w h check = onUndamaged N w h (accepted h 0)
+answer N w h freeBlocks = onUndamaged N w h (accepted h (zeros (h .a)))
+answer N w h collect = onUndamaged N w h (freeing N h (collected N w h))
 answer N w h (allocate n r) =
-    onSound N w h
+    onUndamaged N w h
     (require (leb 1 n && leb n N) 3 h
     (require (ltb r (length (h .roots))) 4 h
     (allocation N w h n r (lowestFree N (exponent n) (h .a)))))
 answer N w h (storeRoot r v) =
-    onSound N w h
+    onUndamaged N w h
     (require (ltb r (length (h .roots))) 4 h
     (require (isRef N h v) 8 h
     (freeing N h (storeRootIn N w h r v))))
 answer N w h (storeCell a j v) =
-    onSound N w h
+    onUndamaged N w h
     (require (isFirst N h a) 6 h
     (require (ltb j (4 * sizeAt N h a)) 7 h
     (require (isRef N h v) 8 h
     (freeing N h (storeCellIn N w h (4 * a + j) v)))))
-answer N w h (look a) = onSound N w h (require (isFirst N h a) 6 h (reply 0 (sizeAt N h a) (countOf N w h a), h))
+answer N w h (look a) = onUndamaged N w h (require (isFirst N h a) 6 h (reply 0 (sizeAt N h a) (countOf N w h a), h))
 
 -- the plain machine on a list of calls: each answer, from the memory that the one before left
 unfoldable pub run : ℕ → ℕ → Memory → List Call → List Answer
 run N w h [] = []
 run N w h (c ∷ cs) = let x = answer N w h c in x ∷ run N w (x .1) cs
+
+-- the memory after the last of the answers
+unfoldable pub lastMemory : Memory → List Answer → Memory
+lastMemory h [] = h
+lastMemory h (x ∷ xs) = lastMemory (x .1) xs

@@ -5,7 +5,7 @@ use mathlib.Core.List.{List, [], _∷_, map}
 use lib.ListN.{getD}
 use Rattle.rules.specs.Heap.{Memory, withA, withB}
 use Rattle.rules.specs.Store.{formatted}
-use Rattle.rules.specs.Calls.{Call, check, collect, freeBlocks, allocate, storeRoot, storeCell, look, Answer, reply, run}
+use Rattle.rules.specs.Calls.{Call, check, collect, freeBlocks, allocate, storeRoot, storeCell, look, reply, run, lastMemory}
 use Rattle.rules.specs.declared.Reply.{Reply}
 
 -- calls on a heap of 8 blocks, each with the reply it is to get, and the bytes of the A-map and the B-map after the last
@@ -73,7 +73,9 @@ cases =
     ∷ (storeRoot 1 1, gives 0) ∷ (look 0, shows 1 2) ∷ (storeRoot 0 1, gives 0) ∷ (look 0, shows 1 3)
     ∷ (storeRoot 0 0, gives 0) ∷ (look 0, shows 1 3) ∷ [])
     -- P10
-    ∷ case 2 (fresh 2) 255 127 ((allocate 0 9, refuses 3) ∷ (allocate 9 9, refuses 3) ∷ (allocate 8 0, gives 0) ∷ [])
+    ∷ case 2 (fresh 2) 255 127
+    ((allocate 0 0, refuses 3) ∷ (allocate 9 0, refuses 3) ∷ (allocate 0 4, refuses 3) ∷ (allocate 9 4, refuses 3)
+    ∷ (allocate 8 0, gives 0) ∷ [])
     -- P11
     ∷ case 2 (freshBut 0 254) 0 254 ((check, damaged 1) ∷ [])
     ∷ case 2 (freshBut 1 255) 1 255 ((check, damaged 2) ∷ [])
@@ -104,18 +106,13 @@ readings =
     ∷ case 2 (fresh 2) 1 254 ((allocate 1 0, gives 0) ∷ (storeRoot 1 1, gives 0) ∷ (collect, gives 0) ∷ (look 0, shows 1 2) ∷ [])
     ∷ []
 
--- the memory after the last of the answers
-unfoldable pub after : Memory → List Answer → Memory
-after h [] = h
-after h (x ∷ xs) = after (x .1) xs
-
 -- what the rules give for a case: the replies and the two bytes
 unfoldable pub outcome : Case → List Reply × ℕ × ℕ
 outcome c =
     let answers = run 8 (c .width) (c .before) (map (λ s. s .0) (c .steps)) in
-    let h = after (c .before) answers in
+    let h = lastMemory (c .before) answers in
     (map (λ x. x .0) answers, getD (h .a) 0 0, getD (h .b) 0 0)
 
--- what document 01 says
+-- what the case says
 unfoldable pub expected : Case → List Reply × ℕ × ℕ
 expected c = (map (λ s. s .1) (c .steps), c .a, c .b)

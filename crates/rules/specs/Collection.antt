@@ -10,18 +10,18 @@ use Rattle.rules.specs.Heap.{Memory, withCounts, capacity, isFirst, size
 use Rattle.rules.specs.Damage.{someBelow}
 use Rattle.rules.specs.Store.{freed}
 
--- cell number j of all cells is one of the object at block i
-unfoldable pub isCellOf : ℕ → Memory → ℕ → ℕ → Bool
+-- "cells 4i to 4i + 3 for block i": cell number j of all cells is one of the object at block i
+unfoldable pub isCellOf : (N : ℕ) → Memory → (i j : ℕ) → Bool
 isCellOf N h i j = leb (4 * i) j && ltb j (4 * (i + sizeAt N h i))
 
--- cell number j belongs to an object that is in the set
-unfoldable pub cellOfSet : ℕ → Memory → (ℕ → Bool) → ℕ → Bool
-cellOfSet N h set j = someBelow (λ i. isFirst N h i && set i && isCellOf N h i j) N
+-- cell number j belongs to a chosen object
+unfoldable pub cellOfChosen : (N : ℕ) → Memory → (chosen : ℕ → Bool) → (j : ℕ) → Bool
+cellOfChosen N h chosen j = someBelow (λ i. isFirst N h i && chosen i && isCellOf N h i j) N
 
--- "the number of roots and cells of .. objects that name it": of the objects that are in the set, and the object at block i
-unfoldable pub referencesFrom : ℕ → Memory → (ℕ → Bool) → ℕ → ℕ
-referencesFrom N h set i =
-    holding (i + 1) (h .roots) + countBelow (λ j. elim (eqb (getD (h .cells) j 0) (i + 1)) [ true ↦ cellOfSet N h set j | false ↦ false ]) (4 * N)
+-- "the number of roots and cells of .. objects that name it": here the roots and the cells of chosen objects that name block i
+unfoldable pub referencesFrom : (N : ℕ) → Memory → (chosen : ℕ → Bool) → (i : ℕ) → ℕ
+referencesFrom N h chosen i =
+    holding (i + 1) (h .roots) + countBelow (λ j. elim (eqb (getD (h .cells) j 0) (i + 1)) [ true ↦ cellOfChosen N h chosen j | false ↦ false ]) (4 * N)
 
 -- the list of what f gives at the numbers below n
 unfoldable pub tabulate : (ℕ → Bool) → ℕ → List Bool
@@ -36,12 +36,13 @@ marked marks i = getD marks i false
 unfoldable pub reachedNext : ℕ → Memory → List Bool → List Bool
 reachedNext N h marks = tabulate (λ i. isFirst N h i && ltb 0 (referencesFrom N h (marked marks) i)) N
 
--- as many rounds, from no mark
+-- the marks after that many rounds, from none
 unfoldable pub reachedIn : (rounds : ℕ) → ℕ → Memory → List Bool
 reachedIn zero N h = replicate N false
 reachedIn (suc k) N h = reachedNext N h (reachedIn k N h)
 
--- Every round but the last finds an object more, so N rounds find all.
+-- A round that adds no mark is the last that matters, and there are at most N objects: N rounds find all (proved as `ReachedIsLed`,
+-- theory/specs/Statements.antt).
 unfoldable pub reached : ℕ → Memory → List Bool
 reached N h = reachedIn N N h
 

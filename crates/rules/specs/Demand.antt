@@ -15,8 +15,8 @@ use Rattle.rules.specs.declared.Reply.{Reply}
 
 -- ---- what a public function promises of one call
 
--- "each call's number and values, and every bit, cell and root after it, are equal to the machine's"; the waiting list too. Every public
--- function's `ensures` is this.
+-- The reply and every lent number after the call, the waiting list too, are the rules'. The `ensures` of each of the eight public calls is
+-- this.
 pub record Promise (N w : ℕ) (call : Call) (before : Memory) (reply : Reply) (after : Memory) : Type 0 where
   pub reply-is : reply ≡ answer N w before call .0
   pub after-is : after ≡ answer N w before call .1
@@ -129,14 +129,15 @@ pub data Holds (N w : ℕ) : Memory → List Made → Type 0 where
       {h : Memory} {m : Made} {ms : List Made} → Sound N w h → NoEarlyFree N (m .call) h (m .reply) (m .after)
       → Collects N w (m .call) h (m .reply) (m .after) → Holds N w (m .after) ms → Holds N w h (m ∷ ms)
 
--- the calls of a list as made, and what the plain machine has to give for them
+-- the calls of a list as made, and their replies and memories in the form of answers
 abbrev pub callsOf : List Made → List Call
 callsOf made = map (λ m. m .call) made
 
 abbrev pub answersOf : List Made → List Answer
 answersOf made = map (λ m. (m .reply, m .after)) made
 
--- "The plain machine it is held against is the rules of demand 2, carried out from that heap on the list's calls alone."
+-- "The plain machine it is held against is the rules of demand 2, carried out from that heap on the list's calls alone: each call's
+-- number and values, and every bit, cell and root after it, are equal to the machine's."
 pub record Claim (N w : ℕ) (start : Memory) (made : List Made) : Type 0 where
   pub machine : answersOf made ≡ run N w start (callsOf made)
   pub holds : Holds N w start made

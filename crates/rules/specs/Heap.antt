@@ -1,5 +1,5 @@
 -- Document 01, "The lent heap": the lists of numbers that the caller lends, and what is read off them. N is the number of blocks
--- and w the count width, as in the document. Definitions that read one list take that list, the others the whole memory.
+-- and w the count width, as in the document. Definitions that code cites take the lists they read; the others take the whole memory.
 use Prim.Native.Nat.{ℕ, zero, suc, _+_, _-_, _*_, _/_, _^_}
 use mathlib.Core.Bool.{Bool, true, false, not, _&&_, _||_}
 use mathlib.Core.List.{List, [], _∷_}
@@ -9,7 +9,7 @@ use lib.Dec.{leb, ltb, eqb}
 use Rattle.bitmap.specs.Bit.{bitAt, countBelow}
 use Rattle.planes.specs.Plane.{countAt}
 
--- the six lent buffers
+-- the six lent buffers; the last is the "Waiting list: N unsigned 16-bit numbers of working space."
 pub record Memory : Type 0 where
   pub a : List ℕ
   pub b : List ℕ
@@ -43,18 +43,22 @@ withWaiting x h = memory (h .a) (h .b) (h .counts) (h .cells) (h .roots) x
 
 -- ---- sizes
 
--- the largest heap
-abbrev pub maxBlocks : ℕ
-maxBlocks = 8192
+-- the smallest heap doubled this often is the largest
+abbrev pub doublings : ℕ
+doublings = 10
 
--- "a power of two from 8 to 8,192": k doublings of 8 are tried
-unfoldable pub isPowerFrom : ℕ → ℕ → ℕ → Bool
+-- the largest heap: 8,192
+abbrev pub maxBlocks : ℕ
+maxBlocks = 8 * 2 ^ doublings
+
+-- n is p, or p doubled at most k times
+unfoldable pub isPowerFrom : (k p n : ℕ) → Bool
 isPowerFrom zero p n = eqb n p
 isPowerFrom (suc k) p n = elim (eqb n p) [ true ↦ true | false ↦ isPowerFrom k (p * 2) n ]
 
--- 8 doubled ten times is the largest heap
+-- "a power of two from 8 to 8,192"
 abbrev pub isBlocks : ℕ → Bool
-isBlocks n = isPowerFrom 10 8 n
+isBlocks n = isPowerFrom doublings 8 n
 
 -- every test passes
 unfoldable pub all : List Bool → Bool
@@ -97,8 +101,8 @@ firstIn N a b i = ltb i N && not (isFree a i) && (eqb i 0 || isFree a (i - 1) ||
 abbrev pub isFirst : ℕ → Memory → ℕ → Bool
 isFirst N h i = firstIn N (h .a) (h .b) i
 
--- "Its object runs to the first 0 in the B-map from there." How many blocks that are; n of them are left in the heap.
-unfoldable pub sizeFrom : ℕ → List ℕ → ℕ → ℕ
+-- "Its object runs to the first 0 in the B-map from there." The number of its blocks, with n blocks from i to the heap's end.
+unfoldable pub sizeFrom : (n : ℕ) → List ℕ → (i : ℕ) → ℕ
 sizeFrom zero b i = 0
 sizeFrom (suc n) b i = elim (isLast b i) [ true ↦ 1 | false ↦ suc (sizeFrom n b (i + 1)) ]
 
@@ -107,26 +111,27 @@ sizeAt N h i = sizeFrom (N - i) (h .b) i
 
 -- ---- chunks
 
--- the exponent of "the least power of two that is n or more": k and the numbers above it are tried
-unfoldable pub exponentFrom : ℕ → ℕ → ℕ → ℕ
+-- the exponent of "the least power of two that is n or more": k and the numbers above it are tried, f of them at most
+unfoldable pub exponentFrom : (f k n : ℕ) → ℕ
 exponentFrom zero k n = k
 exponentFrom (suc f) k n = elim (leb n (2 ^ k)) [ true ↦ k | false ↦ exponentFrom f (k + 1) n ]
 
+-- n tries are enough (proved as `LeastPower`, theory/specs/Statements.antt)
 unfoldable pub exponent : ℕ → ℕ
 exponent n = exponentFrom n 0 n
 
 -- "A chunk of one block is free when its A bit is 0; a larger one when both of its halves are." The chunk of 2 ^ k blocks from i.
-unfoldable pub chunkFree : ℕ → List ℕ → ℕ → Bool
+unfoldable pub chunkFree : (k : ℕ) → List ℕ → (i : ℕ) → Bool
 chunkFree zero a i = isFree a i
 chunkFree (suc k) a i = elim (chunkFree k a i) [ true ↦ chunkFree k a (i + 2 ^ k) | false ↦ false ]
 
 -- the lowest free chunk among the n chunks of 2 ^ k blocks from block i on
-unfoldable pub lowestFrom : ℕ → ℕ → List ℕ → ℕ → Option ℕ
+unfoldable pub lowestFrom : (n k : ℕ) → List ℕ → (i : ℕ) → Option ℕ
 lowestFrom zero k a i = none
 lowestFrom (suc n) k a i = elim (chunkFree k a i) [ true ↦ some i | false ↦ lowestFrom n k a (i + 2 ^ k) ]
 
 -- "The lowest free chunk of s blocks is taken": s is 2 ^ k, and a chunk is "s blocks starting at a multiple of s"
-unfoldable pub lowestFree : ℕ → ℕ → List ℕ → Option ℕ
+unfoldable pub lowestFree : (N k : ℕ) → List ℕ → Option ℕ
 lowestFree N k a = lowestFrom (N / 2 ^ k) k a 0
 
 -- ---- references

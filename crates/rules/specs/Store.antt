@@ -62,7 +62,7 @@ freed N w h i n =
     (withCells (clearCells (h .cells) (4 * i) (4 * n)) h)))
 
 -- The waiting objects are freed, the last one first, until none waits. Each step frees one object, so N steps are enough (proved as
--- `NStepsSuffice`).
+-- `NStepsSuffice`, theory/specs/Statements.antt).
 unfoldable pub release : (steps : ℕ) → ℕ → ℕ → Memory → List ℕ → Memory
 release zero N w h stack = h
 release (suc f) N w h [] = h
@@ -72,11 +72,14 @@ release (suc f) N w h (i ∷ rest) =
     let s = countDownEach N w (work (g .counts) rest) (h .cells) (4 * i) (4 * n) in
     release f N w (withCounts (s .counts) g) (s .stack)
 
--- "then the old object, if any, is counted down", with all that this frees
-unfoldable pub letGo : ℕ → ℕ → Memory → ℕ → Memory
-letGo N w h v =
+-- "then the old object, if any, is counted down", with all that this frees in the given number of steps
+abbrev pub letGoIn : (steps N w : ℕ) → Memory → (v : ℕ) → Memory
+letGoIn steps N w h v =
     let s = countDown N w (work (h .counts) []) v in
-    release N N w (withCounts (s .counts) h) (s .stack)
+    release steps N w (withCounts (s .counts) h) (s .stack)
+
+unfoldable pub letGo : (N w : ℕ) → Memory → (v : ℕ) → Memory
+letGo N w h v = letGoIn N N w h v
 
 -- ---- stores
 

@@ -1,4 +1,4 @@
-// The rules of document 01 are the definitions in specs/. Here is only the answer of every call, which code and rules share.
+// The rules of document 01 are the definitions in specs/. Here is only the reply of every call, which code and rules share.
 
 // "A reply is a number and a value (two values for the look)." `second` is 0 but for a call with two values. It is laid out as in C, so
 // that the exported calls hand it on as it is.

@@ -6,17 +6,18 @@ use Prim.Native.Nat.{ℕ, _≤_, _<_}
 use native.Mathlib.Omega.{arith}
 use lib.ListN.{length}
 use lib.Dec.{leb, ltb}
+use lib.Pow.{pow-mono}
 use borrow.Author.Tests.{le-leb, lt-ltb}
 use Rattle.rules.specs.Heap.{Memory, exponent, lowestFree}
 use Rattle.rules.specs.Store.{letGo, putRoot, putCell, storeRootIn, storeCellIn, placed, allocateIn}
-use Rattle.rules.specs.Calls.{allocate, Answer, require, onSound, allocation, answer}
+use Rattle.rules.specs.Calls.{allocate, Answer, require, onUndamaged, allocation, answer}
 use Rattle.rules.specs.Demand.{Demand3}
-use Rattle.rules.proofs.Replies.{on-sound-shaped, on-sound-undamaged, on-sound-next}
+use Rattle.rules.proofs.Replies.{on-undamaged-shaped, on-undamaged-no-damage, on-undamaged-next}
 use Rattle.rules.proofs.Tests.{true-and, require-true, require-passed}
 use Rattle.rules.proofs.Shape.{shape-facts}
-use Rattle.rules.proofs.Chunks.{lowest-some, room, refused-none-free, none-free-refused}
+use Rattle.rules.proofs.Chunks.{exponent-covers, exponent-least, lowest-some, room, refused-none-free, none-free-refused}
 use Rattle.theory.specs.Statements.{Undamaged, CallsKeepUndamaged, FormatMakesUndamaged, RefusedExactly, Lowest, LowestTaken}
-use Rattle.theory.specs.Statements.{EveryListHasAChain, NStepsSuffice, ObjectsAreEnds}
+use Rattle.theory.specs.Statements.{LeastPower, NStepsSuffice, ReachedIsLed, EveryListHasAChain, ObjectsAreEnds}
 use Rattle.theory.proofs.Maps.Extents.{sizesOf}
 use Rattle.theory.proofs.Maps.Parse.{parse}
 use Rattle.theory.proofs.Maps.Totals.{objects-ends}
@@ -25,7 +26,8 @@ use Rattle.theory.proofs.Memories.Healthy.{Healthy, healthy-facts, heal
 use Rattle.theory.proofs.Memories.Formatted.{formatted-healthy}
 use Rattle.theory.proofs.Memories.Fuel.{steps-suffice}
 use Rattle.theory.proofs.Memories.Stores.{store-root, store-cell, allocate-root}
-use Rattle.theory.proofs.EachCall.Served.{on-sound}
+use Rattle.theory.proofs.Memories.Rounds.{reached-led, led-reached}
+use Rattle.theory.proofs.EachCall.Served.{on-undamaged}
 use Rattle.theory.proofs.EachCall.Answers.{answer-served}
 use Rattle.theory.proofs.Demand.{every-list, demand3}
 
@@ -41,6 +43,9 @@ calls-keep-undamaged N w h u call = healthy-undamaged N w (answer N w h call .1)
 pub format-makes-undamaged : FormatMakesUndamaged
 format-makes-undamaged N w h fits = healthy-undamaged N w _ (formatted-healthy N w h (shape-facts N w h fits))
 
+pub least-power : LeastPower
+least-power n = (exponent-covers n, λ k l. pow-mono {i = exponent n} {j = k} (exponent-least n k l))
+
 -- an allocation whose other tests pass is answered by the search
 allocation-answer :
     (N w : ℕ) (h : Memory) → Undamaged N w h → (n r : ℕ) → 1 ≤ n → n ≤ N → r < length (h .roots)
@@ -48,7 +53,7 @@ allocation-answer :
 unfolding answer
 allocation-answer N w h u n r low high inside =
     let found : Answer = allocation N w h n r (lowestFree N (exponent n) (h .a)) in
-    on-sound N w h (undamaged-healthy N w h u) _
+    on-undamaged N w h (undamaged-healthy N w h u) _
     ∙ require-true (leb 1 n && leb n N) 3 h _ (true-and (leb 1 n) (leb n N) (le-leb 1 n low) (le-leb n N high))
     ∙ require-true (ltb r (length (h .roots))) 4 h found (lt-ltb r (length (h .roots)) inside)
 
@@ -72,16 +77,19 @@ lowest-taken N w h n r accepted =
     let found : Answer = allocation N w h n r (lowestFree N (exponent n) (h .a)) in
     let placed : Answer = require (ltb r (length (h .roots))) 4 h found in
     let sized : Answer = require (leb 1 n && leb n N) 3 h placed in
-    let passed : onSound N w h sized ≡ sized =
-    on-sound-next N w h sized (on-sound-shaped N w h sized accepted) (on-sound-undamaged N w h sized accepted) in
+    let passed : onUndamaged N w h sized ≡ sized =
+    on-undamaged-next N w h sized (on-undamaged-shaped N w h sized accepted) (on-undamaged-no-damage N w h sized accepted) in
     let size = require-passed (leb 1 n && leb n N) 3 h placed (omega arith) (rw passed at accepted) in
     let at-root : sized ≡ placed = require-true (leb 1 n && leb n N) 3 h placed size in
     let root = require-passed (ltb r (length (h .roots))) 4 h found (omega arith) (rw (passed, at-root) at accepted) in
     let at-search : placed ≡ found = require-true (ltb r (length (h .roots))) 4 h found root in
-    let answered : onSound N w h sized ≡ found = passed ∙ at-root ∙ at-search in
+    let answered : onUndamaged N w h sized ≡ found = passed ∙ at-root ∙ at-search in
     subst (λ (x : Answer). Lowest N (h .a) n (x .0 .value)) (sym answered)
     (found-lowest N w h n r (lowestFree N (exponent n) (h .a)) refl
     (subst (λ (x : Answer). x .0 .number ≡ 0) answered accepted))
+
+pub reached-is-led : ReachedIsLed
+reached-is-led N h b = (reached-led N h b, led-reached N h b)
 
 pub every-list-has-a-chain : EveryListHasAChain
 every-list-has-a-chain = every-list

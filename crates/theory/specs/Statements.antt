@@ -4,17 +4,18 @@ use Prim.Native.Nat.{ℕ, _+_, _*_, _%_, _^_, _≤_, _<_}
 use mathlib.Core.Path.{_≡_}
 use mathlib.Core.Logic.{_↔_}
 use mathlib.Core.Bool.{true, false}
-use mathlib.Core.List.{List, []}
+use mathlib.Core.List.{List}
 use mathlib.Core.Option.{some}
 use lib.ListN.{length, getD, set}
 use Rattle.bitmap.specs.Bit.{bitAt, countBelow, zeros}
 use Rattle.rules.specs.Heap.{Memory, withCounts, withCells, withRoots, shaped, isFirst, sizeAt, isRef, exponent, lowestFree}
 use Rattle.rules.specs.Damage.{someBelow, endOnFree, openEnd, damage}
-use Rattle.rules.specs.Store.{formatted, countUp, work, countDown, release, storeRootIn, storeCellIn, placed, allocateIn}
+use Rattle.rules.specs.Store.{formatted, countUp, letGoIn, storeRootIn, storeCellIn, placed, allocateIn}
 use Rattle.rules.specs.Calls.{Call, allocate, answer}
-use Rattle.rules.specs.Demand.{Made, Chain, callsOf}
+use Rattle.rules.specs.Collection.{marked, reached}
+use Rattle.rules.specs.Demand.{Leads, Made, Chain, callsOf}
 
--- the heap passes the tests of numbers 1 and 2
+-- right shape and no damage: refused with neither 1 nor 2
 pub record Undamaged (N w : ℕ) (h : Memory) : Type 0 where
   pub right-shape : shaped N w h ≡ true
   pub no-damage : damage N w h ≡ 0
@@ -25,6 +26,10 @@ CallsKeepUndamaged = (N w : ℕ) (h : Memory) → Undamaged N w h → (call : Ca
 
 abbrev pub FormatMakesUndamaged : Type 0
 FormatMakesUndamaged = (N w : ℕ) (h : Memory) → shaped N w h ≡ true → Undamaged N w (formatted N w (length (h .roots)))
+
+-- 2 ^ exponent n is "the least power of two that is n or more"
+abbrev pub LeastPower : Type 0
+LeastPower = (n : ℕ) → (n ≤ 2 ^ exponent n) × ((k : ℕ) → n ≤ 2 ^ k → 2 ^ exponent n ≤ 2 ^ k)
 
 -- some block of the chunk of 2 ^ k blocks at block i is used
 abbrev pub UsedChunk : List ℕ → (k i : ℕ) → Type 0
@@ -37,7 +42,7 @@ RefusedExactly =
     → (answer N w h (allocate n r) .0 .number ≡ 5)
     ↔ ((c : ℕ) → (c + 1) * 2 ^ exponent n ≤ N → UsedChunk (h .a) (exponent n) (c * 2 ^ exponent n))
 
--- An accepted allocation takes the lowest free chunk: the value is a multiple of s, the n blocks from it lie in the heap and were free, and
+-- An accepted allocation takes the lowest free chunk: the value is a multiple of s, the s blocks from it lie in the heap and were free, and
 -- every lower chunk has a used block. Extents stay aligned and disjoint (`Sound`, in demand 3).
 pub record Lowest (N : ℕ) (a : List ℕ) (n i : ℕ) : Type 0 where
   pub aligned : i % 2 ^ exponent n ≡ 0
@@ -50,15 +55,15 @@ LowestTaken =
     (N w : ℕ) (h : Memory) (n r : ℕ) → answer N w h (allocate n r) .0 .number ≡ 0
     → Lowest N (h .a) n (answer N w h (allocate n r) .0 .value)
 
--- no hypothesis of demand 3 is empty: every list of calls has a chain
+-- The N rounds of `reached` are enough: what they mark is exactly what a root leads to.
+abbrev pub ReachedIsLed : Type 0
+ReachedIsLed = (N : ℕ) (h : Memory) (b : ℕ) → (marked (reached N h) b ≡ true) ↔ Leads N h b
+
+-- the hypothesis `Chain` of demand 3 can always be met: every list of calls has a chain
 abbrev pub EveryListHasAChain : Type 0
 EveryListHasAChain = (N w : ℕ) (h : Memory) (calls : List Call) → (made : List Made) × (callsOf made ≡ calls) × Chain N w h made
 
--- `letGo` with a number of steps of one's own in place of N
-abbrev pub letGoIn : (steps N w : ℕ) → Memory → ℕ → Memory
-letGoIn steps N w h v = let s = countDown N w (work (h .counts) []) v in release steps N w (withCounts (s .counts) h) (s .stack)
-
--- "so N steps are enough": whoever gives a store or an allocation more steps to let go of the old object ends in the same heap
+-- The N steps of `release` are enough: with more of them a store or an allocation ends in the same heap.
 pub record StepsSuffice (N w : ℕ) (h : Memory) (steps : ℕ) : Type 0 where
   pub in-root : (r v : ℕ) → r < length (h .roots) → isRef N h v ≡ true
       → let written : Memory = withRoots (set (h .roots) r v) (withCounts (countUp N w (h .counts) v) h) in

@@ -13,7 +13,7 @@ use Rattle.rules.specs.Calls.{Call, format, check, collect, freeBlocks, allocat
 use Rattle.rules.specs.Demand.{Collects}
 use Rattle.rules.proofs.Tests.{and-true}
 use Rattle.theory.proofs.Memories.Healthy.{Healthy}
-use Rattle.theory.proofs.EachCall.Served.{Served, unchanged, refused-served, require-served, on-sound-served, format-served}
+use Rattle.theory.proofs.EachCall.Served.{Served, unchanged, refused-served, require-served, on-undamaged-served, format-served}
 use Rattle.theory.proofs.EachCall.StoresServed.{storeRoot-served, storeCell-served, allocate-served}
 use Rattle.theory.proofs.EachCall.CollectionServed.{collect-served}
 
@@ -28,29 +28,29 @@ pub answer-served : (N w : ℕ) (h : Memory) → Healthy N w h → (c : Call) �
 unfolding answer Collects
 answer-served N w h healthy format =
     require-served N w h healthy (shaped N w h) 1 (omega arith) (λ t. format-served N w h healthy)
-answer-served N w h healthy check = on-sound-served N w h healthy (unchanged N w h healthy check (reply 0 0 0) tt)
+answer-served N w h healthy check = on-undamaged-served N w h healthy (unchanged N w h healthy check (reply 0 0 0) tt)
 answer-served N w h healthy freeBlocks =
-    on-sound-served N w h healthy (unchanged N w h healthy freeBlocks (reply 0 (zeros (h .a)) 0) tt)
-answer-served N w h healthy collect = on-sound-served N w h healthy (collect-served N w h healthy)
+    on-undamaged-served N w h healthy (unchanged N w h healthy freeBlocks (reply 0 (zeros (h .a)) 0) tt)
+answer-served N w h healthy collect = on-undamaged-served N w h healthy (collect-served N w h healthy)
 answer-served N w h healthy (allocate n r) =
-    on-sound-served N w h healthy
+    on-undamaged-served N w h healthy
     (require-served N w h healthy (leb 1 n && leb n N) 3 (omega arith) λ size.
     (require-served N w h healthy (ltb r (length (h .roots))) 4 (omega arith) λ place.
     let sizes = and-true (leb 1 n) (leb n N) size in
     allocation-served N w h healthy n r (leb-true 1 n (sizes .0)) (leb-true n N (sizes .1))
     (ltb-true r (length (h .roots)) place) (lowestFree N (exponent n) (h .a)) refl))
 answer-served N w h healthy (storeRoot r v) =
-    on-sound-served N w h healthy
+    on-undamaged-served N w h healthy
     (require-served N w h healthy (ltb r (length (h .roots))) 4 (omega arith) λ place.
     (require-served N w h healthy (isRef N h v) 8 (omega arith) λ ref.
     storeRoot-served N w h healthy r v (ltb-true r (length (h .roots)) place) ref))
 answer-served N w h healthy (storeCell a j v) =
-    on-sound-served N w h healthy
+    on-undamaged-served N w h healthy
     (require-served N w h healthy (isFirst N h a) 6 (omega arith) λ first.
     (require-served N w h healthy (ltb j (4 * sizeAt N h a)) 7 (omega arith) λ place.
     (require-served N w h healthy (isRef N h v) 8 (omega arith) λ ref.
     storeCell-served N w h healthy a j v first (ltb-true j (4 * sizeAt N h a) place) ref)))
 answer-served N w h healthy (look a) =
-    on-sound-served N w h healthy
+    on-undamaged-served N w h healthy
     (require-served N w h healthy (isFirst N h a) 6 (omega arith) λ first.
     unchanged N w h healthy (look a) (reply 0 (sizeAt N h a) (countOf N w h a)) tt)

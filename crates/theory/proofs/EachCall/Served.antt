@@ -8,10 +8,10 @@ use native.Mathlib.Omega.{arith}
 use lib.ListN.{length, getD}
 use Rattle.rules.specs.Heap.{Memory}
 use Rattle.rules.specs.Store.{formatted}
-use Rattle.rules.specs.Calls.{Call, format, check, collect, freeBlocks, allocate, storeRoot, storeCell, look, Answer, reply, accepted, refused, require, onSound}
+use Rattle.rules.specs.Calls.{Call, format, check, collect, freeBlocks, allocate, storeRoot, storeCell, look, Answer, reply, accepted, refused, require, onUndamaged}
 use Rattle.rules.specs.Demand.{Leads, root, cell, written, stored, NoEarlyFree, Collects}
 use Rattle.rules.specs.declared.Reply.{Reply}
-use Rattle.rules.proofs.Replies.{on-sound-next}
+use Rattle.rules.proofs.Replies.{on-undamaged-next}
 use Rattle.theory.proofs.Memories.Healthy.{Healthy, healthy-shaped, healthy-no-damage}
 use Rattle.theory.proofs.Memories.Formatted.{zeros-at, formatted-healthy}
 
@@ -51,11 +51,11 @@ module _ (N w : ℕ) (h : Memory) (healthy : Healthy N w h) where
   require-served {c} false number nonzero served = refused-served c number nonzero
 
   -- a healthy memory is not refused for its shape or for damage
-  pub on-sound : (next : Answer) → onSound N w h next ≡ next
-  on-sound next = on-sound-next N w h next (healthy-shaped N w h healthy) (healthy-no-damage N w h healthy)
+  pub on-undamaged : (next : Answer) → onUndamaged N w h next ≡ next
+  on-undamaged next = on-undamaged-next N w h next (healthy-shaped N w h healthy) (healthy-no-damage N w h healthy)
 
-  pub on-sound-served : {c : Call} {next : Answer} → Served N w c h next → Served N w c h (onSound N w h next)
-  on-sound-served {c} {next} served = subst (λ (x : Answer). Served N w c h x) (sym (on-sound next)) served
+  pub on-undamaged-served : {c : Call} {next : Answer} → Served N w c h next → Served N w c h (onUndamaged N w h next)
+  on-undamaged-served {c} {next} served = subst (λ (x : Answer). Served N w c h x) (sym (on-undamaged next)) served
 
   -- ---- the format
 

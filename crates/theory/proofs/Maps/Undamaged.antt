@@ -21,7 +21,7 @@ use Rattle.theory.proofs.Maps.Extents.{Delimited, Represents, sizesOf}
 use Rattle.theory.proofs.Maps.Parse.{parse}
 use Rattle.theory.proofs.Maps.Totals.{objects-ends}
 
-pub record Undamaged (N w : ℕ) (h : Memory) : Type 0 where
+pub record DamageFree (N w : ℕ) (h : Memory) : Type 0 where
   -- kinds 1 and 2
   pub delimited : Delimited N (h .a) (h .b)
   -- kind 3
@@ -36,7 +36,7 @@ pub record Undamaged (N w : ℕ) (h : Memory) : Type 0 where
   pub counted : (i : ℕ) → isFirst N h i ≡ true → (countOf N w h i ≡ capacity w) ⊎ (countOf N w h i ≡ references h i)
 
 -- the sizes of an undamaged heap
-pub undamaged-represents : (N w : ℕ) (h : Memory) → Shaped N w h → Undamaged N w h → Represents N (h .a) (h .b) (sizesOf N (h .a) (h .b))
+pub undamaged-represents : (N w : ℕ) (h : Memory) → Shaped N w h → DamageFree N w h → Represents N (h .a) (h .b) (sizesOf N (h .a) (h .b))
 undamaged-represents N w h s u =
     parse N (h .a) (h .b) (omega (arith, s .length-a, s .whole-bytes)) (omega (arith, s .length-b, s .whole-bytes)) (u .delimited)
 
@@ -182,7 +182,7 @@ kinds-delimited N w h one two =
       goes-on = λ i l. kind2-facts N w h i (some-false (openEnd N h) N two i l);
     }
 
-pub damage-facts : (N w : ℕ) (h : Memory) → damage N w h ≡ 0 → Undamaged N w h
+pub damage-facts : (N w : ℕ) (h : Memory) → damage N w h ≡ 0 → DamageFree N w h
 unfolding damage badRoot
 damage-facts N w h e = record {
   delimited = kinds-delimited N w h (absent 0) (absent 1);
@@ -207,7 +207,7 @@ damage-facts N w h e = record {
     inside i f = first-facts N (h .a) (h .b) i f .inside
 
 -- kind 6 follows from the others
-pub damage-test : (N w : ℕ) (h : Memory) → Shaped N w h → Undamaged N w h → damage N w h ≡ 0
+pub damage-test : (N w : ℕ) (h : Memory) → Shaped N w h → DamageFree N w h → damage N w h ≡ 0
 unfolding damage badRoot badEnds
 damage-test N w h s u =
     kinds-absent (kinds N w h)

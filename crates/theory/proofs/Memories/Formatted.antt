@@ -14,7 +14,7 @@ use Rattle.rules.specs.Store.{formatted}
 use Rattle.rules.proofs.Shape.{Shaped, formatted-shaped}
 use Rattle.rules.proofs.Objects.{first-facts, ref-test}
 use Rattle.theory.proofs.Maps.Extents.{represents-delimited, formatted-represents}
-use Rattle.theory.proofs.Maps.Undamaged.{Undamaged}
+use Rattle.theory.proofs.Maps.Undamaged.{DamageFree}
 use Rattle.theory.proofs.Memories.Healthy.{Healthy, undamaged-healthy}
 
 pub zeros-at : (n i : ℕ) → _≡_ {A = ℕ} (getD (replicate n 0) i 0) 0
@@ -30,7 +30,7 @@ module _ (N w : ℕ) (h : Memory) (shape : Shaped N w h) where
   no-object i f =
       omega (arith, first-facts N (replicate (N / 8) 0) (replicate (N / 8) 255) i f .used, bit-all-zero (N / 8) i)
 
-  formatted-undamaged : Undamaged N w (formatted N w (length (h .roots)))
+  formatted-undamaged : DamageFree N w (formatted N w (length (h .roots)))
   unfolding formatted
   formatted-undamaged =
       let a : List ℕ = replicate (N / 8) 0 in

@@ -18,7 +18,7 @@ use Rattle.rules.proofs.Tests.{test-cases}
 use Rattle.rules.proofs.Shape.{Shaped, shape-facts, shape-test}
 use Rattle.rules.proofs.Objects.{bit-cases, first-facts, ref-test}
 use Rattle.theory.proofs.Maps.Extents.{Represents, sizesOf, length-tabulate, getD-tabulate, length-sizes-of, size-not-first, sized-first, first-size, extent, represents-delimited}
-use Rattle.theory.proofs.Maps.Undamaged.{Undamaged, undamaged-represents, damage-facts, damage-test}
+use Rattle.theory.proofs.Maps.Undamaged.{DamageFree, undamaged-represents, damage-facts, damage-test}
 use Rattle.theory.proofs.Graphs.Occurrences.{equals-none, occurrences, occurrences-nil, occurrences-find, nonzero-inside}
 use Rattle.theory.proofs.Graphs.Graph.{size, count, slot, Owns}
 use Rattle.theory.proofs.Graphs.Balance.{Law, unreferenced, unreferenced-absent, unreferenced-counted, all-counted, named-object}
@@ -44,7 +44,7 @@ view-count N w h b l = getD-tabulate N (countOf N w h) b l
 
 -- ---- no damage makes a healthy memory
 
-module _ (N w : ℕ) (h : Memory) (shape : Shaped N w h) (undamaged : Undamaged N w h) where
+module _ (N w : ℕ) (h : Memory) (shape : Shaped N w h) (undamaged : DamageFree N w h) where
   represents : Represents N (h .a) (h .b) (sizesOf N (h .a) (h .b))
   represents = undamaged-represents N w h shape undamaged
 
@@ -180,8 +180,8 @@ module _ (N w : ℕ) (h : Memory) (healthy : Healthy N w h) where
   free-unowned j z (inl l) = omega arith
   free-unowned j z (inr (x, own)) = omega (arith, healthy .represents .used x (j / 4) (omega arith) (omega arith))
 
-  pub healthy-undamaged : Undamaged N w h
-  healthy-undamaged =
+  pub healthy-damage-free : DamageFree N w h
+  healthy-damage-free =
       record {
         delimited = represents-delimited N (h .a) (h .b) (sizesOf N (h .a) (h .b)) (healthy .represents);
         aligned = λ i f.
@@ -216,4 +216,4 @@ pub healthy-shaped : (N w : ℕ) (h : Memory) → Healthy N w h → shaped N w h
 healthy-shaped N w h healthy = shape-test N w h (healthy .shape)
 
 pub healthy-no-damage : (N w : ℕ) (h : Memory) → Healthy N w h → damage N w h ≡ 0
-healthy-no-damage N w h healthy = damage-test N w h (healthy .shape) (healthy-undamaged N w h healthy)
+healthy-no-damage N w h healthy = damage-test N w h (healthy .shape) (healthy-damage-free N w h healthy)

@@ -14,7 +14,7 @@ use borrow.Author.Tests.{leb-true, le-leb, ltb-true, lt-ltb, eqb-true, eq-eqb, n
 use Rattle.bitmap.specs.Bit.{countBelow}
 use Rattle.rules.specs.Heap.{Memory, isFirst, sizeAt, holding}
 use Rattle.rules.specs.Damage.{someBelow}
-use Rattle.rules.specs.Collection.{isCellOf, cellOfSet, referencesFrom, tabulate, marked, reachedNext, reachedIn, reached}
+use Rattle.rules.specs.Collection.{isCellOf, cellOfChosen, referencesFrom, tabulate, marked, reachedNext, reachedIn, reached}
 use Rattle.rules.specs.Demand.{Leads, root, cell}
 use Rattle.rules.proofs.Tests.{test-cases, and-true, true-and, and-false, some-true, true-some, some-false}
 use Rattle.rules.proofs.Objects.{first-facts, size-le}
@@ -51,8 +51,8 @@ module _ (N : ℕ) (h : Memory) where
     pub from : 4 * a ≤ j
     pub below : j < 4 * (a + sizeAt N h a)
 
-  pub cell-of-set : (set : ℕ → Bool) (j : ℕ) → cellOfSet N h set j ≡ true → (a : ℕ) × CellOf set j a
-  unfolding cellOfSet isCellOf
+  pub cell-of-set : (set : ℕ → Bool) (j : ℕ) → cellOfChosen N h set j ≡ true → (a : ℕ) × CellOf set j a
+  unfolding cellOfChosen isCellOf
   cell-of-set set j e =
       let found = some-true (λ i. isFirst N h i && set i && isCellOf N h i j) N e in
       let a = found .0 in
@@ -68,8 +68,8 @@ module _ (N : ℕ) (h : Memory) where
         },
       )
 
-  pub of-set-cell : (set : ℕ → Bool) (j a : ℕ) → CellOf set j a → cellOfSet N h set j ≡ true
-  unfolding cellOfSet isCellOf
+  pub of-set-cell : (set : ℕ → Bool) (j a : ℕ) → CellOf set j a → cellOfChosen N h set j ≡ true
+  unfolding cellOfChosen isCellOf
   of-set-cell set j a c =
       true-some (λ i. isFirst N h i && set i && isCellOf N h i j) N a (first-facts N (h .a) (h .b) a (c .first) .inside)
       (true-and (isFirst N h a && set a) (isCellOf N h a j) (true-and (isFirst N h a) (set a) (c .first) (c .chosen))
@@ -79,7 +79,7 @@ module _ (N : ℕ) (h : Memory) where
 
   -- cell number j names the object at block b and belongs to an object in the set
   abbrev pub namesFrom : (ℕ → Bool) → ℕ → ℕ → Bool
-  namesFrom set b j = elim (eqb (getD (h .cells) j 0) (b + 1)) [ true ↦ cellOfSet N h set j | false ↦ false ]
+  namesFrom set b j = elim (eqb (getD (h .cells) j 0) (b + 1)) [ true ↦ cellOfChosen N h set j | false ↦ false ]
 
   data NamedFrom (set : ℕ → Bool) (b : ℕ) : Type 0 where
     by-root : (r : ℕ) → r < length (h .roots) → getD (h .roots) r 0 ≡ 1 + b → NamedFrom set b
@@ -97,7 +97,7 @@ module _ (N : ℕ) (h : Memory) where
     where
       cells : (j : ℕ) → namesFrom set b j ≡ true → NamedFrom set b
       cells j e =
-          let both = then-true (eqb (getD (h .cells) j 0) (b + 1)) (cellOfSet N h set j) e in
+          let both = then-true (eqb (getD (h .cells) j 0) (b + 1)) (cellOfChosen N h set j) e in
           let owner = cell-of-set set j (both .1) in
           by-cell j (owner .0) (owner .1) (omega (arith, eqb-true (getD (h .cells) j 0) (b + 1) (both .0)))
 
@@ -113,7 +113,7 @@ module _ (N : ℕ) (h : Memory) where
       omega (
         arith,
         found-count (namesFrom set b) (4 * N) j inside
-            (true-then (eqb (getD (h .cells) j 0) (b + 1)) (cellOfSet N h set j)
+            (true-then (eqb (getD (h .cells) j 0) (b + 1)) (cellOfChosen N h set j)
             (eq-eqb (getD (h .cells) j 0) (b + 1) (omega arith))
             (of-set-cell set j a c)),
       )

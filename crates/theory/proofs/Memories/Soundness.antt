@@ -12,19 +12,19 @@ use borrow.Author.Tests.{eqb-true, lt-ltb, le-leb}
 use Rattle.bitmap.specs.Bit.{countBelow}
 use Rattle.bitmap.proofs.Zeros.{count-same}
 use Rattle.rules.specs.Heap.{Memory, isFirst, sizeAt, exponent, holding, references}
-use Rattle.rules.specs.Collection.{isCellOf, cellOfSet, referencesFrom}
+use Rattle.rules.specs.Collection.{isCellOf, cellOfChosen, referencesFrom}
 use Rattle.rules.specs.Demand.{Object, Names, by-root, by-cell, numberOfReferences, InExtent, Sound}
 use Rattle.rules.proofs.Tests.{true-and, true-some}
 use Rattle.rules.proofs.Objects.{bit-cases}
 use Rattle.theory.proofs.Maps.Extents.{sizesOf}
-use Rattle.theory.proofs.Maps.Undamaged.{Undamaged}
+use Rattle.theory.proofs.Maps.Undamaged.{DamageFree}
 use Rattle.theory.proofs.Memories.Slots.{ref-first}
-use Rattle.theory.proofs.Memories.Healthy.{Healthy, healthy-undamaged}
+use Rattle.theory.proofs.Memories.Healthy.{Healthy, healthy-damage-free}
 use Rattle.theory.proofs.Memories.Leads.{object-size, size-object}
 
 module _ (N w : ℕ) (h : Memory) (healthy : Healthy N w h) where
-  undamaged : Undamaged N w h
-  undamaged = healthy-undamaged N w h healthy
+  undamaged : DamageFree N w h
+  undamaged = healthy-damage-free N w h healthy
 
   -- ---- extents
 
@@ -53,15 +53,15 @@ module _ (N w : ℕ) (h : Memory) (healthy : Healthy N w h) where
       ref-first N h (getD (h .cells) (4 * a + j) 0) b (undamaged .cell-refs (4 * a + j) (omega (arith, same .0))) (omega arith)
 
   -- a cell that holds a name is one of an object
-  owned-cell : (j b : ℕ) → j < 4 * N → getD (h .cells) j 0 ≡ b + 1 → cellOfSet N h (isFirst N h) j ≡ true
-  unfolding cellOfSet isCellOf
+  owned-cell : (j b : ℕ) → j < 4 * N → getD (h .cells) j 0 ≡ b + 1 → cellOfChosen N h (isFirst N h) j ≡ true
+  unfolding cellOfChosen isCellOf
   owned-cell j b l e =
       elim (bit-cases (h .a) (j / 4)) [
         | inl z ↦ absurd (omega (arith, undamaged .free-cells j l z))
         | inr u ↦ let o = healthy .represents .owner (j / 4) u in found (o .0) (covers (o .0) (j / 4) (o .1) (o .2))
       ]
     where
-      found : (x : ℕ) → InExtent N h (j / 4) x → cellOfSet N h (isFirst N h) j ≡ true
+      found : (x : ℕ) → InExtent N h (j / 4) x → cellOfChosen N h (isFirst N h) j ≡ true
       found x extent =
           true-some
           (λ i. isFirst N h i && isFirst N h i && isCellOf N h i j)
@@ -85,13 +85,13 @@ module _ (N w : ℕ) (h : Memory) (healthy : Healthy N w h) where
       ap
       (λ (n : ℕ). holding (b + 1) (h .roots) + n)
       (count-same
-      (λ j. elim (eqb (getD (h .cells) j 0) (b + 1)) [ true ↦ cellOfSet N h (isFirst N h) j | false ↦ false ])
+      (λ j. elim (eqb (getD (h .cells) j 0) (b + 1)) [ true ↦ cellOfChosen N h (isFirst N h) j | false ↦ false ])
       (λ j. eqb (getD (h .cells) j 0) (b + 1))
       (4 * N)
       (λ j l.
       passed
       (eqb (getD (h .cells) j 0) (b + 1))
-      (cellOfSet N h (isFirst N h) j)
+      (cellOfChosen N h (isFirst N h) j)
       (λ e. owned-cell j b l (eqb-true (getD (h .cells) j 0) (b + 1) e)))
       ∙ ap (λ (n : ℕ). countBelow (λ j. eqb (getD (h .cells) j 0) (b + 1)) n) (sym (healthy .shape .length-cells)))
     where

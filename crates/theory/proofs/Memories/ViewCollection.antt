@@ -13,7 +13,7 @@ use borrow.Author.Tests.{eqb-false, ne-eqb, not-true}
 use Rattle.bitmap.specs.Bit.{countBelow}
 use Rattle.bitmap.proofs.Zeros.{count-same}
 use Rattle.rules.specs.Heap.{Memory, capacity, countOf, isFirst, holding}
-use Rattle.rules.specs.Collection.{cellOfSet, referencesFrom, marked, reached, swept, collected}
+use Rattle.rules.specs.Collection.{cellOfChosen, referencesFrom, marked, reached, swept, collected}
 use Rattle.rules.proofs.Tests.{test-cases, true-and}
 use Rattle.rules.proofs.Counting.{then-all, then-none}
 use Rattle.theory.proofs.Maps.Extents.{tabulate, length-tabulate, getD-tabulate, length-sizes-of, size-first, size-not-first, sized-first, represents-is}
@@ -110,7 +110,7 @@ module _ (N w : ℕ) (h : Memory) (healthy : Healthy N w h) where
       ∙ ap (λ (slots : List ℕ). getD slots (r + j) 0) (collect-swept .slots-are)
 
   -- a cell of an object that is marked stands, any other is 0
-  live : (j : ℕ) → cellOfSet N h (marked marks) j ≡ true → Live r before (r + j)
+  live : (j : ℕ) → cellOfChosen N h (marked marks) j ≡ true → Live r before (r + j)
   live j e =
       let owner = cell-of-set N h (marked marks) j e in
       let a = owner .0 in
@@ -118,7 +118,7 @@ module _ (N w : ℕ) (h : Memory) (healthy : Healthy N w h) where
       let same = size-first N (h .a) (h .b) a (c .first) in
       inr (a, marked-reach a (c .chosen), (omega (arith, c .from), omega (arith, c .below)))
 
-  dead : (j : ℕ) → cellOfSet N h (marked marks) j ≡ false → Live r before (r + j) → ⊥
+  dead : (j : ℕ) → cellOfChosen N h (marked marks) j ≡ false → Live r before (r + j) → ⊥
   dead j e (inl l) = omega arith
   dead j e (inr (x, reach, own)) =
       let first = sized-first N (h .a) (h .b) x (omega (arith, own)) in
@@ -131,13 +131,13 @@ module _ (N w : ℕ) (h : Memory) (healthy : Healthy N w h) where
   names-left :
       (b j : ℕ) → eqb (getD (left .cells) j 0) (b + 1) ≡ namesFrom N h (marked marks) b j
   names-left b j =
-      elim (test-cases (cellOfSet N h (marked marks) j)) [
+      elim (test-cases (cellOfChosen N h (marked marks) j)) [
         | inl e ↦
             ap (λ (v : ℕ). eqb v (b + 1)) (cell-left j ∙ is-collected .live (r + j) (live j e) ∙ cell-slot h j)
-            ∙ sym (then-all (eqb (getD (h .cells) j 0) (b + 1)) (cellOfSet N h (marked marks) j) e)
+            ∙ sym (then-all (eqb (getD (h .cells) j 0) (b + 1)) (cellOfChosen N h (marked marks) j) e)
         | inr e ↦
             ne-eqb (getD (left .cells) j 0) (b + 1) (λ q. omega (arith, cell-left j, is-collected .dead (r + j) (dead j e)))
-            ∙ sym (then-none (eqb (getD (h .cells) j 0) (b + 1)) (cellOfSet N h (marked marks) j) e)
+            ∙ sym (then-none (eqb (getD (h .cells) j 0) (b + 1)) (cellOfChosen N h (marked marks) j) e)
       ]
 
   cells-left :
