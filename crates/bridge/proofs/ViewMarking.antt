@@ -60,7 +60,7 @@ module _ (N w : ℕ) (whole : 8 * (N / 8) ≡ N) (counts : List ℕ) (len : leng
         counts-are = ap (λ (s : Work). countsOf N w (s .counts)) (visit-next b) ∙ counts-up N w whole counts len (suc b) l;
         stack-is =
             ap (λ (s : Work). s .stack) (visit-next b)
-            ∙ ap (λ (c : ℕ). met c b stack) (sym (getD-tabulate N (countAt (N / 8) w counts) b (omega arith)));
+            ∙ ap (λ (c : ℕ). met c b stack) (sym (getD-tabulate 0 N (countAt (N / 8) w counts) b (omega arith)));
       }
 
 -- each of the n references from place j on, where the slots from slot i on hold the same
@@ -86,7 +86,7 @@ no-counts N w n =
     (length-tabulate N (countAt (N / 8) w (replicate n 0)) ∙ sym (length-replicate N 0))
     (λ b l.
     let inside : b < N = omega (arith, length-tabulate N (countAt (N / 8) w (replicate n 0))) in
-    getD-tabulate N (countAt (N / 8) w (replicate n 0)) b inside ∙ count-all-zero (N / 8) w n b ∙ sym (getD-replicate N b 0 0 inside))
+    getD-tabulate 0 N (countAt (N / 8) w (replicate n 0)) b inside ∙ count-all-zero (N / 8) w n b ∙ sym (getD-replicate N b 0 0 inside))
 
 module _ (N w : ℕ) (h : Memory) (healthy : Healthy N w h) where
   abbrev r : ℕ

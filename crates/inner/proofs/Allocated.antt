@@ -15,7 +15,7 @@ use Rattle.rules.specs.Calls.{allocate, reply, accepted, require, allocation, s
 use Rattle.rules.specs.Demand.{Promise}
 use Rattle.rules.specs.declared.Reply.{Reply}
 use Rattle.rules.proofs.Tests.{and-true}
-use Rattle.rules.proofs.Chunks.{room}
+use Rattle.theory.proofs.Maps.LowestChunk.{room}
 use Rattle.theory.proofs.Memories.Healthy.{Healthy}
 use Rattle.theory.proofs.EachCall.Served.{on-undamaged}
 use Rattle.bridge.proofs.Settled.{allocate-waiting}

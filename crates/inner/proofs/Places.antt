@@ -11,7 +11,8 @@ use borrow.Author.Tests.{le-leb, lt-ltb}
 use Rattle.rules.specs.Heap.{isBlocks, exponent, lowestFree}
 use Rattle.rules.specs.Calls.{reply}
 use Rattle.rules.proofs.Shape.{blocks-power}
-use Rattle.rules.proofs.Chunks.{exponent-least, room}
+use Rattle.rules.proofs.Chunks.{exponent-least}
+use Rattle.theory.proofs.Maps.LowestChunk.{room}
 use Rattle.blocks.specs.Search.{orElse}
 use Rattle.inner.specs.Replies.{found, allocateReply}
 

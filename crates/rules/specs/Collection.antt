@@ -24,9 +24,9 @@ referencesFrom N h chosen i =
     holding (i + 1) (h .roots) + countBelow (λ j. elim (eqb (getD (h .cells) j 0) (i + 1)) [ true ↦ cellOfChosen N h chosen j | false ↦ false ]) (4 * N)
 
 -- the list of what f gives at the numbers below n
-unfoldable pub tabulate : (ℕ → Bool) → ℕ → List Bool
-tabulate f zero = []
-tabulate f (suc n) = f 0 ∷ tabulate (λ i. f (suc i)) n
+unfoldable pub tabulate : {A : Type 0} → (n : ℕ) → (ℕ → A) → List A
+tabulate zero f = []
+tabulate (suc n) f = f 0 ∷ tabulate n (λ i. f (suc i))
 
 -- a set of blocks as a list of N marks
 abbrev pub marked : List Bool → ℕ → Bool
@@ -34,7 +34,7 @@ marked marks i = getD marks i false
 
 -- "An object is reached if a root names it or a cell of a reached object does": what one round of this finds from what is marked
 unfoldable pub reachedNext : ℕ → Memory → List Bool → List Bool
-reachedNext N h marks = tabulate (λ i. isFirst N h i && ltb 0 (referencesFrom N h (marked marks) i)) N
+reachedNext N h marks = tabulate N (λ i. isFirst N h i && ltb 0 (referencesFrom N h (marked marks) i))
 
 -- the marks after that many rounds, from none
 unfoldable pub reachedIn : (rounds : ℕ) → ℕ → Memory → List Bool

@@ -1,6 +1,7 @@
--- The two maps: the sizes they stand for, and the damage test as facts.
+-- The two maps: the sizes they stand for, free chunks, and the damage test as facts.
 pub mod Extents
 pub mod Parse
+pub mod LowestChunk
 pub mod Moves
 pub mod Totals
 pub mod Undamaged

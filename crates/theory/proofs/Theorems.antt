@@ -15,10 +15,11 @@ use Rattle.rules.specs.Demand.{Demand3}
 use Rattle.rules.proofs.Replies.{on-undamaged-shaped, on-undamaged-no-damage, on-undamaged-next}
 use Rattle.rules.proofs.Tests.{true-and, require-true, require-passed}
 use Rattle.rules.proofs.Shape.{shape-facts}
-use Rattle.rules.proofs.Chunks.{exponent-covers, exponent-least, lowest-some, room, refused-none-free, none-free-refused}
+use Rattle.rules.proofs.Chunks.{exponent-covers, exponent-least}
 use Rattle.theory.specs.Statements.{Undamaged, CallsKeepUndamaged, FormatMakesUndamaged, RefusedExactly, Lowest, LowestTaken}
 use Rattle.theory.specs.Statements.{LeastPower, NStepsSuffice, ReachedIsLed, EveryListHasAChain, ObjectsAreEnds}
 use Rattle.theory.proofs.Maps.Extents.{sizesOf}
+use Rattle.theory.proofs.Maps.LowestChunk.{lowest-some, room, refused-none-free, none-free-refused}
 use Rattle.theory.proofs.Maps.Parse.{parse}
 use Rattle.theory.proofs.Maps.Totals.{objects-ends}
 use Rattle.theory.proofs.Maps.Undamaged.{kinds-delimited}
@@ -64,12 +65,10 @@ refused-exactly N w h u n r low high inside =
 -- what is accepted was found
 found-lowest :
     (N w : ℕ) (h : Memory) (n r : ℕ) (found : Option ℕ) → lowestFree N (exponent n) (h .a) ≡ found
-    → allocation N w h n r found .0 .number ≡ 0 → Lowest N (h .a) n (allocation N w h n r found .0 .value)
+    → allocation N w h n r found .0 .number ≡ 0 → Lowest N (exponent n) (h .a) (allocation N w h n r found .0 .value)
 unfolding allocation
 found-lowest N w h n r none e accepted = absurd (omega arith)
-found-lowest N w h n r (some i) e accepted =
-    let low = lowest-some N (exponent n) (h .a) i e in
-    record { aligned = low .aligned; inside = low .inside; free = low .free; lowest = low .lowest }
+found-lowest N w h n r (some i) e accepted = lowest-some N (exponent n) (h .a) i e
 
 pub lowest-taken : LowestTaken
 unfolding answer
@@ -84,7 +83,7 @@ lowest-taken N w h n r accepted =
     let root = require-passed (ltb r (length (h .roots))) 4 h found (omega arith) (rw (passed, at-root) at accepted) in
     let at-search : placed ≡ found = require-true (ltb r (length (h .roots))) 4 h found root in
     let answered : onUndamaged N w h sized ≡ found = passed ∙ at-root ∙ at-search in
-    subst (λ (x : Answer). Lowest N (h .a) n (x .0 .value)) (sym answered)
+    subst (λ (x : Answer). Lowest N (exponent n) (h .a) (x .0 .value)) (sym answered)
     (found-lowest N w h n r (lowestFree N (exponent n) (h .a)) refl
     (subst (λ (x : Answer). x .0 .number ≡ 0) answered accepted))
 

@@ -35,25 +35,29 @@ LeastPower = (n : ℕ) → (n ≤ 2 ^ exponent n) × ((k : ℕ) → n ≤ 2 ^ k 
 abbrev pub UsedChunk : List ℕ → (k i : ℕ) → Type 0
 UsedChunk a k i = (j : ℕ) × (i ≤ j) × (j < i + 2 ^ k) × (bitAt a j ≡ 1)
 
--- "5 if no chunk of s blocks is free", and only then: every chunk, being "s blocks starting at a multiple of s", has a used block
+-- every chunk of 2 ^ k blocks of the heap, being "s blocks starting at a multiple of s", has a used block
+abbrev pub NoneFree : (N k : ℕ) → List ℕ → Type 0
+NoneFree N k a = (c : ℕ) → (c + 1) * 2 ^ k ≤ N → UsedChunk a k (c * 2 ^ k)
+
+-- "5 if no chunk of s blocks is free", and only then
 abbrev pub RefusedExactly : Type 0
 RefusedExactly =
     (N w : ℕ) (h : Memory) → Undamaged N w h → (n r : ℕ) → 1 ≤ n → n ≤ N → r < length (h .roots)
-    → (answer N w h (allocate n r) .0 .number ≡ 5)
-    ↔ ((c : ℕ) → (c + 1) * 2 ^ exponent n ≤ N → UsedChunk (h .a) (exponent n) (c * 2 ^ exponent n))
+    → (answer N w h (allocate n r) .0 .number ≡ 5) ↔ NoneFree N (exponent n) (h .a)
 
--- An accepted allocation takes the lowest free chunk: the value is a multiple of s, the s blocks from it lie in the heap and were free, and
--- every lower chunk has a used block. Extents stay aligned and disjoint (`Sound`, in demand 3).
-pub record Lowest (N : ℕ) (a : List ℕ) (n i : ℕ) : Type 0 where
-  pub aligned : i % 2 ^ exponent n ≡ 0
-  pub inside : i + 2 ^ exponent n ≤ N
-  pub free : (j : ℕ) → i ≤ j → j < i + 2 ^ exponent n → bitAt a j ≡ 0
-  pub lowest : (c : ℕ) → c * 2 ^ exponent n < i → UsedChunk a (exponent n) (c * 2 ^ exponent n)
+-- The lowest free chunk of s = 2 ^ k blocks starts at block i: i is a multiple of s, the s blocks from it lie in the heap and are free, and
+-- every lower chunk has a used block.
+pub record Lowest (N k : ℕ) (a : List ℕ) (i : ℕ) : Type 0 where
+  pub aligned : i % 2 ^ k ≡ 0
+  pub inside : i + 2 ^ k ≤ N
+  pub free : (j : ℕ) → i ≤ j → j < i + 2 ^ k → bitAt a j ≡ 0
+  pub lowest : (c : ℕ) → c * 2 ^ k < i → UsedChunk a k (c * 2 ^ k)
 
+-- "The lowest free chunk of s blocks is taken": its first block is the value. Extents stay aligned and disjoint (`Sound`, in demand 3).
 abbrev pub LowestTaken : Type 0
 LowestTaken =
     (N w : ℕ) (h : Memory) (n r : ℕ) → answer N w h (allocate n r) .0 .number ≡ 0
-    → Lowest N (h .a) n (answer N w h (allocate n r) .0 .value)
+    → Lowest N (exponent n) (h .a) (answer N w h (allocate n r) .0 .value)
 
 -- The N rounds of `reached` are enough: what they mark is exactly what a root leads to.
 abbrev pub ReachedIsLed : Type 0

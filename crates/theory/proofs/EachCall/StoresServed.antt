@@ -15,7 +15,7 @@ use Rattle.rules.specs.Store.{placed, putRoot, putCell, storeRootIn, storeCellI
 use Rattle.rules.specs.Calls.{allocate, storeRoot, storeCell, accepted, settled, freeing}
 use Rattle.rules.specs.Demand.{Object, written, stored, Collects}
 use Rattle.theory.proofs.Maps.Extents.{Represents, sizesOf, length-sizes-of}
-use Rattle.rules.proofs.Chunks.{Room, room}
+use Rattle.theory.proofs.Maps.LowestChunk.{Room, room}
 use Rattle.theory.proofs.Graphs.Graph as graph
 use Rattle.theory.proofs.Graphs.Graph.{Graph, size, raise, place, finish}
 use Rattle.theory.proofs.Graphs.Balance.{Balanced, Waits}

@@ -3,7 +3,7 @@
 use mathlib.Core.Path.{_≡_, refl, sym, ap, _∙_}
 use mathlib.Core.Logic.{_≢_, _⊎_, inl, inr}
 use mathlib.Core.Bool.{true, false, true≢false}
-use mathlib.Core.List.{List, [], _∷_}
+use mathlib.Core.List.{List}
 use Prim.Native.Nat.{ℕ, zero, suc, _+_, _-_, _*_, _/_, _≤_, _<_}
 use native.Mathlib.Decide.{ℕ-discrete, decLt}
 use native.Mathlib.Omega.{arith}
@@ -12,6 +12,7 @@ use lib.Seq.{ext-getD}
 use Rattle.bitmap.specs.Bit.{bitAt, Bytes}
 use Rattle.bitmap.proofs.Maps.{bit-all-zero, bit-all-one, map-ext}
 use Rattle.rules.specs.Heap.{firstIn, sizeFrom}
+use Rattle.rules.specs.Collection.{tabulate}
 use Rattle.rules.proofs.Tests.{test-cases}
 use Rattle.rules.proofs.Objects.{bit-cases, Starts, first-facts, first-test, size-is}
 
@@ -36,21 +37,16 @@ pub record Delimited (N : ℕ) (a b : List ℕ) : Type 0 where
 
 -- ---- the sizes that two maps have
 
--- the list of what f gives at the numbers below n
-pub tabulate : ℕ → (ℕ → ℕ) → List ℕ
-tabulate zero f = []
-tabulate (suc n) f = f 0 ∷ tabulate n (λ i. f (suc i))
-
-pub length-tabulate : (n : ℕ) (f : ℕ → ℕ) → length (tabulate n f) ≡ n
+pub length-tabulate : {A : Type 0} (n : ℕ) (f : ℕ → A) → length (tabulate n f) ≡ n
 unfolding tabulate
 length-tabulate zero f = refl
 length-tabulate (suc n) f = ap suc (length-tabulate n (λ i. f (suc i)))
 
-pub getD-tabulate : (n : ℕ) (f : ℕ → ℕ) (i : ℕ) → i < n → getD (tabulate n f) i 0 ≡ f i
+pub getD-tabulate : {A : Type 0} (d : A) (n : ℕ) (f : ℕ → A) (i : ℕ) → i < n → getD (tabulate n f) i d ≡ f i
 unfolding tabulate
-getD-tabulate zero f i l = absurd (omega arith)
-getD-tabulate (suc n) f zero l = refl
-getD-tabulate (suc n) f (suc i) l = getD-tabulate n (λ k. f (suc k)) i (omega arith)
+getD-tabulate d zero f i l = absurd (omega arith)
+getD-tabulate d (suc n) f zero l = refl
+getD-tabulate d (suc n) f (suc i) l = getD-tabulate d n (λ k. f (suc k)) i (omega arith)
 
 -- the size where an object starts, else 0
 sizeOrNone : ℕ → List ℕ → List ℕ → ℕ → ℕ
@@ -65,12 +61,12 @@ length-sizes-of N a b = length-tabulate N (sizeOrNone N a b)
 
 pub size-first : (N : ℕ) (a b : List ℕ) (i : ℕ) → firstIn N a b i ≡ true → getD (sizesOf N a b) i 0 ≡ sizeFrom (N - i) b i
 unfolding sizesOf sizeOrNone
-size-first N a b i f = getD-tabulate N (sizeOrNone N a b) i (first-facts N a b i f .inside) ∙ rw (f, sizeOrNone)
+size-first N a b i f = getD-tabulate 0 N (sizeOrNone N a b) i (first-facts N a b i f .inside) ∙ rw (f, sizeOrNone)
 
 pub size-not-first : (N : ℕ) (a b : List ℕ) (i : ℕ) → firstIn N a b i ≡ false → getD (sizesOf N a b) i 0 ≡ 0
 unfolding sizesOf sizeOrNone
 size-not-first N a b i f = elim (decLt i N) [
-  | yes l ↦ getD-tabulate N (sizeOrNone N a b) i l ∙ rw (f, sizeOrNone)
+  | yes l ↦ getD-tabulate 0 N (sizeOrNone N a b) i l ∙ rw (f, sizeOrNone)
   | no l ↦ List·getD-eq-default (sizesOf N a b) 0 {n = i} (omega (arith, length-sizes-of N a b))
 ]
 

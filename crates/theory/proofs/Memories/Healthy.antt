@@ -40,7 +40,7 @@ pub capacity-positive : (w : ℕ) → 1 ≤ w → 0 < capacity w
 capacity-positive w l = omega (arith, pow-mono {i = 1} {j = w} l)
 
 pub view-count : (N w : ℕ) (h : Memory) (b : ℕ) → b < N → count (view N w h) b ≡ countOf N w h b
-view-count N w h b l = getD-tabulate N (countOf N w h) b l
+view-count N w h b l = getD-tabulate 0 N (countOf N w h) b l
 
 -- ---- no damage makes a healthy memory
 

@@ -14,25 +14,14 @@ use borrow.Author.Tests.{leb-true, le-leb, ltb-true, lt-ltb, eqb-true, eq-eqb, n
 use Rattle.bitmap.specs.Bit.{countBelow}
 use Rattle.rules.specs.Heap.{Memory, isFirst, sizeAt, holding}
 use Rattle.rules.specs.Damage.{someBelow}
-use Rattle.rules.specs.Collection.{isCellOf, cellOfChosen, referencesFrom, tabulate, marked, reachedNext, reachedIn, reached}
+use Rattle.rules.specs.Collection.{isCellOf, cellOfChosen, referencesFrom, marked, reachedNext, reachedIn, reached}
 use Rattle.rules.specs.Demand.{Leads, root, cell}
 use Rattle.rules.proofs.Tests.{test-cases, and-true, true-and, and-false, some-true, true-some, some-false}
 use Rattle.rules.proofs.Objects.{first-facts, size-le}
+use Rattle.theory.proofs.Maps.Extents.{length-tabulate, getD-tabulate}
 use Rattle.rules.proofs.Counting.{count-found, found-count, count-grows, count-all, then-true, true-then}
 
 -- ---- a list of marks
-
-tabulate-at : (f : ℕ → Bool) (n i : ℕ) → i < n → getD (tabulate f n) i false ≡ f i
-unfolding tabulate
-tabulate-at f zero i l = absurd (omega arith)
-tabulate-at f (suc n) zero l = refl
-tabulate-at f (suc n) (suc i) l = tabulate-at (λ k. f (suc k)) n i (omega arith)
-
-tabulate-past : (f : ℕ → Bool) (n i : ℕ) → n ≤ i → getD (tabulate f n) i false ≡ false
-unfolding tabulate
-tabulate-past f zero i l = refl
-tabulate-past f (suc n) zero l = absurd (omega arith)
-tabulate-past f (suc n) (suc i) l = tabulate-past (λ k. f (suc k)) n i (omega arith)
 
 none-marked : (n i : ℕ) → marked (replicate n false) i ≡ false
 none-marked n i =
@@ -125,7 +114,7 @@ module _ (N : ℕ) (h : Memory) where
 
   next-at : (marks : List Bool) (b : ℕ) → b < N → marked (reachedNext N h marks) b ≡ (isFirst N h b && ltb 0 (referencesFrom N h (marked marks) b))
   unfolding reachedNext
-  next-at marks b l = tabulate-at (λ i. isFirst N h i && ltb 0 (referencesFrom N h (marked marks) i)) N b l
+  next-at marks b l = getD-tabulate false N (λ i. isFirst N h i && ltb 0 (referencesFrom N h (marked marks) i)) b l
 
   next-inside : (marks : List Bool) (b : ℕ) → marked (reachedNext N h marks) b ≡ true → b < N
   unfolding reachedNext
@@ -133,8 +122,8 @@ module _ (N : ℕ) (h : Memory) where
       elim (decLt b N) [
         | yes l ↦ l
         | no l ↦
-            absurd
-            (false≢true (sym (tabulate-past (λ i. isFirst N h i && ltb 0 (referencesFrom N h (marked marks) i)) N b (omega arith)) ∙ e))
+            let past = length-tabulate N (λ i. isFirst N h i && ltb 0 (referencesFrom N h (marked marks) i)) in
+            absurd (false≢true (sym (List·getD-eq-default (reachedNext N h marks) false {n = b} (omega (arith, past))) ∙ e))
       ]
 
   next-facts : (marks : List Bool) (b : ℕ) → marked (reachedNext N h marks) b ≡ true → (isFirst N h b ≡ true) × NamedFrom (marked marks) b

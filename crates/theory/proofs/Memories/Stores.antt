@@ -18,7 +18,7 @@ use Rattle.rules.specs.Store.{Work, work, countUp, countDown, placed, letGo}
 use Rattle.rules.proofs.Objects.{first-facts}
 use Rattle.theory.proofs.Maps.Extents.{Represents, sizesOf, length-sizes-of, first-size, extent, represents-is}
 use Rattle.theory.proofs.Maps.Moves.{clear-of, placed-represents}
-use Rattle.rules.proofs.Chunks.{Room}
+use Rattle.theory.proofs.Maps.LowestChunk.{Room}
 use Rattle.theory.proofs.Graphs.Stretch.{Inside, side, stretch-length, stretch-out, clear, clear-in}
 use Rattle.theory.proofs.Graphs.Graph as graph
 use Rattle.theory.proofs.Graphs.Graph.{Graph, size, slot, firstSlot, Owns, raise, write, place, swap, swapStack, finish, store, allocate}

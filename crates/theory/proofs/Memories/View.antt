@@ -3,7 +3,8 @@
 use Prim.Native.Nat.{ℕ}
 use mathlib.Core.List.{_++_}
 use Rattle.rules.specs.Heap.{Memory, countOf}
-use Rattle.theory.proofs.Maps.Extents.{tabulate, sizesOf}
+use Rattle.rules.specs.Collection.{tabulate}
+use Rattle.theory.proofs.Maps.Extents.{sizesOf}
 use Rattle.theory.proofs.Graphs.Graph.{Graph}
 
 abbrev pub view : ℕ → ℕ → Memory → Graph

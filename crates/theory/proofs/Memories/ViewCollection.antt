@@ -13,10 +13,10 @@ use borrow.Author.Tests.{eqb-false, ne-eqb, not-true}
 use Rattle.bitmap.specs.Bit.{countBelow}
 use Rattle.bitmap.proofs.Zeros.{count-same}
 use Rattle.rules.specs.Heap.{Memory, capacity, countOf, isFirst, holding}
-use Rattle.rules.specs.Collection.{cellOfChosen, referencesFrom, marked, reached, swept, collected}
+use Rattle.rules.specs.Collection.{cellOfChosen, referencesFrom, marked, reached, swept, collected, tabulate}
 use Rattle.rules.proofs.Tests.{test-cases, true-and}
 use Rattle.rules.proofs.Counting.{then-all, then-none}
-use Rattle.theory.proofs.Maps.Extents.{tabulate, length-tabulate, getD-tabulate, length-sizes-of, size-first, size-not-first, sized-first, represents-is}
+use Rattle.theory.proofs.Maps.Extents.{length-tabulate, getD-tabulate, length-sizes-of, size-first, size-not-first, sized-first, represents-is}
 use Rattle.theory.proofs.Graphs.Occurrences.{occurrences}
 use Rattle.theory.proofs.Graphs.Graph.{Graph, count, slot}
 use Rattle.theory.proofs.Graphs.Balance.{named-object}
@@ -199,7 +199,7 @@ module _ (N w : ℕ) (h : Memory) (healthy : Healthy N w h) where
       (length-tabulate N (countOf N w (collected N w h)) ∙ sym (is-collected .counts-length ∙ length-sizes-of N (h .a) (h .b)))
       (λ b l.
       let inside : b < N = omega (arith, length-tabulate N (countOf N w (collected N w h))) in
-      getD-tabulate N (countOf N w (collected N w h)) b inside ∙ count-after b inside))
+      getD-tabulate 0 N (countOf N w (collected N w h)) b inside ∙ count-after b inside))
       (collect-swept .slots-are)
 
   pub collected-shows : Shows N w r (collected N w h) after

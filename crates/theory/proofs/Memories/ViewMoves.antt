@@ -13,9 +13,10 @@ use borrow.Author.Tests.{eq-eqb, ne-eqb}
 use Rattle.planes.specs.Plane.{countAt, setCount}
 use Rattle.planes.proofs.Counts.{count-lt, count-set-same, count-set-other, length-set-count}
 use Rattle.rules.specs.Heap.{capacity}
+use Rattle.rules.specs.Collection.{tabulate}
 use Rattle.rules.specs.Store.{Work, work, countUp, countDown, countDownEach, clearCells}
 use Rattle.theory.proofs.Graphs.Stretch.{stretch, clear}
-use Rattle.theory.proofs.Maps.Extents.{tabulate, length-tabulate, getD-tabulate}
+use Rattle.theory.proofs.Maps.Extents.{length-tabulate, getD-tabulate}
 use Rattle.theory.proofs.Graphs.Graph as graph
 use Rattle.theory.proofs.Graphs.Graph.{lowered, lowered-stuck, lowered-other, pushLast}
 
@@ -44,7 +45,7 @@ module _ (N w : ℕ) (whole : 8 * (N / 8) ≡ N) (counts : List ℕ) (len : leng
   counts-length = length-tabulate N (countAt (N / 8) w counts)
 
   counts-at : (i : ℕ) → i < N → getD (countsOf N w counts) i 0 ≡ countAt (N / 8) w counts i
-  counts-at i l = getD-tabulate N (countAt (N / 8) w counts) i l
+  counts-at i l = getD-tabulate 0 N (countAt (N / 8) w counts) i l
 
   -- a count written
   pub counts-set : (i v : ℕ) → i < N → v < 2 ^ w → countsOf N w (setCount (N / 8) w counts i v) ≡ set (countsOf N w counts) i v
@@ -59,11 +60,11 @@ module _ (N w : ℕ) (whole : 8 * (N / 8) ≡ N) (counts : List ℕ) (len : leng
       same : (j : ℕ) → j < N → Dec (j ≡ i) → getD (countsOf N w after) j 0 ≡ getD (set (countsOf N w counts) i v) j 0
       same j m (yes e) =
           rw e
-          (getD-tabulate N (countAt (N / 8) w after) i l
+          (getD-tabulate 0 N (countAt (N / 8) w after) i l
           ∙ count-set-same (N / 8) w counts i v (omega arith) (omega arith) u
           ∙ sym (getD-set-same (countsOf N w counts) i v 0 (omega (arith, counts-length))))
       same j m (no d) =
-          getD-tabulate N (countAt (N / 8) w after) j m
+          getD-tabulate 0 N (countAt (N / 8) w after) j m
           ∙ count-set-other (N / 8) w counts i v j (omega arith) (omega arith) d
           ∙ sym (getD-set-other (countsOf N w counts) i j v 0 d ∙ counts-at j m)
 
