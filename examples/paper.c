@@ -1,4 +1,4 @@
-/* The first paper case, P1, through the C interface: N is 8, w is 2, and there are 4 roots.
+/* The first paper case, P1, through the C interface: 8 blocks, width 2 and 4 roots.
  *
  * "Fresh; allocate 2 into root 0: block 0. Allocate 1 into root 1: block 2. Allocate 3 into root 2: block 4. A = 119, B = 185.
  * Look at 4: size 3, count 1." */
@@ -15,13 +15,47 @@ static uint16_t cells[4 * BLOCKS], roots[ROOTS], waiting[BLOCKS];
 #define HEAP \
     BLOCKS, WIDTH, a, sizeof a, b, sizeof b, counts, sizeof counts, cells, 4 * BLOCKS, roots, ROOTS, waiting, BLOCKS
 
+/* P1 as a list for replay, with one word behind the replies. */
+static const uint64_t p1[] = {2, 2, 0, 0, 2, 1, 1, 0, 2, 3, 2, 0, 6, 4, 0, 0};
+static uint64_t replies[13];
+
 static int failures = 0;
 
-/* Prints a reply, and whether it is the one that the case names. */
-static void expect(const char *call, struct huwekapo_reply reply, size_t number, size_t value, size_t second) {
-    int same = reply.number == number && reply.value == value && reply.second == second;
-    printf("%-26s %zu %zu %zu  %s\n", call, reply.number, reply.value, reply.second, same ? "ok" : "DIFFERENT");
+/* Ends a line with whether what it shows is what the case names. */
+static void verdict(int same) {
+    puts(same ? "ok" : "DIFFERENT");
     failures += !same;
+}
+
+/* A reply, and the one that the case names. */
+static void expect(const char *call, struct huwekapo_reply reply, size_t number, size_t value, size_t second) {
+    printf("%-26s %zu %zu %zu  ", call, reply.number, reply.value, reply.second);
+    verdict(reply.number == number && reply.value == value && reply.second == second);
+}
+
+/* The two maps of P1. */
+static void expect_maps(void) {
+    printf("A = %d, B = %d  ", a[0], b[0]);
+    verdict(a[0] == 119 && b[0] == 185);
+}
+
+/* The reply of a call of the list. */
+static struct huwekapo_reply replied(size_t call) {
+    struct huwekapo_reply reply = {(size_t)replies[3 * call], (size_t)replies[3 * call + 1], (size_t)replies[3 * call + 2]};
+    return reply;
+}
+
+/* P1 once more, as one list: the same replies and maps, and nothing written behind the replies. */
+static void replay_p1(void) {
+    replies[12] = 7;
+    expect("replay P1", huwekapo_replay(HEAP, p1, 16, replies, 13), HUWEKAPO_ACCEPTED, 4, 0);
+    expect("  allocate 2 into root 0", replied(0), HUWEKAPO_ACCEPTED, 0, 0);
+    expect("  allocate 1 into root 1", replied(1), HUWEKAPO_ACCEPTED, 2, 0);
+    expect("  allocate 3 into root 2", replied(2), HUWEKAPO_ACCEPTED, 4, 0);
+    expect("  look at 4", replied(3), HUWEKAPO_ACCEPTED, 3, 1);
+    expect_maps();
+    printf("behind the replies  %d  ", (int)replies[12]);
+    verdict(replies[12] == 7);
 }
 
 int main(void) {
@@ -29,8 +63,7 @@ int main(void) {
     expect("allocate 2 into root 0", huwekapo_allocate(HEAP, 2, 0), HUWEKAPO_ACCEPTED, 0, 0);
     expect("allocate 1 into root 1", huwekapo_allocate(HEAP, 1, 1), HUWEKAPO_ACCEPTED, 2, 0);
     expect("allocate 3 into root 2", huwekapo_allocate(HEAP, 3, 2), HUWEKAPO_ACCEPTED, 4, 0);
-    printf("A = %d, B = %d\n", a[0], b[0]);
-    failures += a[0] != 119 || b[0] != 185;
+    expect_maps();
     expect("look at 4", huwekapo_look(HEAP, 4), HUWEKAPO_ACCEPTED, 3, 1);
     expect("check", huwekapo_check(HEAP), HUWEKAPO_ACCEPTED, 0, 0);
     /* P2, the first line: "Then allocate 2 into root 3: refused 5, with blocks 3 and 7 free." */
@@ -40,6 +73,7 @@ int main(void) {
     expect("store 1 in cell 0 of 2", huwekapo_store_cell(HEAP, 2, 0, 1), HUWEKAPO_ACCEPTED, 0, 0);
     expect("store 0 in root 1", huwekapo_store_root(HEAP, 1, 0), HUWEKAPO_ACCEPTED, 1, 0);
     expect("collect", huwekapo_collect(HEAP), HUWEKAPO_ACCEPTED, 0, 0);
+    replay_p1();
     puts(failures == 0 ? "paper: ok" : "paper: DIFFERENT");
     return failures != 0;
 }

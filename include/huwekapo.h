@@ -13,8 +13,11 @@
  * least) of byte i / 8 of a map.
  *
  * Every call may be made with any arguments and any content of the buffers: what is wrong is refused by a number, and a
- * refusal changes no buffer. The buffers must not overlap, and each pointer must be good for its length, and not null even
- * where that is 0.
+ * refusal changes no buffer. Format, allocate, both stores, collect and replay leave `waiting` all 0 when accepted; check,
+ * look and free blocks write nothing.
+ *
+ * The buffers, and the two lists of replay, must not overlap, and each pointer must be good for its length, and not null
+ * even where that is 0.
  *
  * Link libcapi.a.
  */
@@ -28,8 +31,9 @@
 extern "C" {
 #endif
 
-/* A number and its values. number is 0 where the call was accepted, else the first of the refusals below that applies.
- * A refusal carries value 0, or the damage kind for number 2. second is 0 but for an accepted look. */
+/* A number and its values. `number` is 0 where the call was accepted, else the first that applies of the refusals that the
+ * call names, in the order in which it names them. A refusal carries value 0, or the damage kind for number 2. `second` is 0
+ * but for an accepted look. */
 struct huwekapo_reply {
     size_t number;
     size_t value;
@@ -38,17 +42,18 @@ struct huwekapo_reply {
 
 enum huwekapo_number {
     HUWEKAPO_ACCEPTED = 0,
-    HUWEKAPO_MISSHAPEN = 1,    /* N, w, the number of roots or any buffer's length is not as above */
-    HUWEKAPO_DAMAGED = 2,      /* the heap is damaged; the value is the damage kind */
-    HUWEKAPO_BAD_SIZE = 3,     /* n is 0 or above N */
-    HUWEKAPO_BAD_ROOT = 4,     /* r is not below the number of roots */
-    HUWEKAPO_NO_CHUNK = 5,     /* no chunk of s blocks is free */
-    HUWEKAPO_NO_OBJECT = 6,    /* a is not a first block (or not below N) */
-    HUWEKAPO_BAD_CELL = 7,     /* j is not below 4 * size */
+    HUWEKAPO_MISSHAPEN = 1,     /* blocks, width, the number of roots or any buffer's length is not as it must be */
+    HUWEKAPO_DAMAGED = 2,       /* the heap is damaged; the value is the damage kind */
+    HUWEKAPO_BAD_SIZE = 3,      /* n is 0 or above blocks */
+    HUWEKAPO_BAD_ROOT = 4,      /* r is not below the number of roots */
+    HUWEKAPO_NO_CHUNK = 5,      /* no chunk is free: a chunk is s blocks starting at a multiple of s, s the least power of
+                                   two that is n or more */
+    HUWEKAPO_NO_OBJECT = 6,     /* `at` is not a first block (or not below blocks) */
+    HUWEKAPO_BAD_CELL = 7,      /* j is not below 4 times the object's size */
     HUWEKAPO_BAD_REFERENCE = 8, /* v is neither 0 nor 1 + a first block */
-    HUWEKAPO_NO_CALL = 9,       /* replay: a call of the list is none */
-    HUWEKAPO_CUT_OFF = 10,      /* replay: the list ends inside a call */
-    HUWEKAPO_SHORT_REPLIES = 18 /* replay: the list of replies is too short */
+    HUWEKAPO_NO_CALL = 9,       /* an entry is no call: its code is above 7, or the v of a store above 65,535 */
+    HUWEKAPO_CUT_OFF = 10,      /* the list ends inside a call */
+    HUWEKAPO_SHORT_REPLIES = 18 /* `replies` is too short for the replies of all calls */
 };
 
 enum huwekapo_damage {
@@ -63,7 +68,7 @@ enum huwekapo_damage {
     HUWEKAPO_WRONG_NUMBER_OF_ENDS = 6 /* the number of objects differs from the number of 0 bits in the B-map */
 };
 
-/* Makes an empty heap of whatever the buffers held. Refusals: 1. */
+/* Makes an empty heap of whatever the buffers held: b is all ones, every other buffer all 0. The value is 0. Refusals: 1. */
 struct huwekapo_reply huwekapo_format(size_t blocks, size_t width,
                                       uint8_t *a, size_t a_length,
                                       uint8_t *b, size_t b_length,
@@ -72,7 +77,7 @@ struct huwekapo_reply huwekapo_format(size_t blocks, size_t width,
                                       uint16_t *roots, size_t roots_length,
                                       uint16_t *waiting, size_t waiting_length);
 
-/* Tests the whole heap. Refusals: 1, 2. */
+/* Tests the whole heap. The value is 0. Refusals: 1, 2. */
 struct huwekapo_reply huwekapo_check(size_t blocks, size_t width,
                                      const uint8_t *a, size_t a_length,
                                      const uint8_t *b, size_t b_length,
@@ -121,7 +126,7 @@ struct huwekapo_reply huwekapo_collect(size_t blocks, size_t width,
                                        const uint16_t *roots, size_t roots_length,
                                        uint16_t *waiting, size_t waiting_length);
 
-/* Looks at the object at block `at`. The value is its size in blocks, second its count. Refusals: 1, 2, 6. */
+/* Looks at the object at block `at`. The value is its size in blocks, `second` its count. Refusals: 1, 2, 6. */
 struct huwekapo_reply huwekapo_look(size_t blocks, size_t width,
                                     const uint8_t *a, size_t a_length,
                                     const uint8_t *b, size_t b_length,
@@ -131,7 +136,7 @@ struct huwekapo_reply huwekapo_look(size_t blocks, size_t width,
                                     const uint16_t *waiting, size_t waiting_length,
                                     size_t at);
 
-/* The value is the number of free blocks. Refusals: 1, 2. */
+/* Counts the free blocks. The value is their number. Refusals: 1, 2. */
 struct huwekapo_reply huwekapo_free_blocks(size_t blocks, size_t width,
                                            const uint8_t *a, size_t a_length,
                                            const uint8_t *b, size_t b_length,
@@ -140,9 +145,20 @@ struct huwekapo_reply huwekapo_free_blocks(size_t blocks, size_t width,
                                            const uint16_t *roots, size_t roots_length,
                                            const uint16_t *waiting, size_t waiting_length);
 
-/* Formats the heap and runs a list of calls, four words each: 0 format; 1 check; 2 allocate n r; 3 store in root r v; 4 store in
- * cell at j v; 5 collect; 6 look at; 7 free blocks. Words that a call does not name are not looked at. The reply of call i goes to
- * places 3i, 3i + 1 and 3i + 2 of replies. The value is the number of calls. Refusals, which write nothing: 1, 10, 9, 18. */
+/* Formats the heap and runs a list of calls, each an entry of four words, a code and arguments:
+ *
+ *   0             format
+ *   1             check
+ *   2, n, r       allocate
+ *   3, r, v       store_root
+ *   4, at, j, v   store_cell
+ *   5             collect
+ *   6, at         look
+ *   7             free_blocks
+ *
+ * Words that a call does not name are not looked at. The reply of call i goes to places 3i, 3i + 1 and 3i + 2 of `replies`;
+ * words of `replies` behind the last reply keep their content. The value is the number of calls. Refusals, which write
+ * nothing: 1, 10, 9, 18. */
 struct huwekapo_reply huwekapo_replay(size_t blocks, size_t width,
                                       uint8_t *a, size_t a_length,
                                       uint8_t *b, size_t b_length,

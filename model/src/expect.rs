@@ -116,7 +116,8 @@ pub fn buffer_lines(memory: &Memory) -> [String; 6] {
     ]
 }
 
-fn numbers<T: Display>(list: &[T]) -> String {
+/// One such line.
+pub(crate) fn numbers<T: Display>(list: &[T]) -> String {
     let words: Vec<String> = list.iter().map(|number| number.to_string()).collect();
     words.join(" ")
 }

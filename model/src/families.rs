@@ -354,6 +354,34 @@ pub fn damage(desk: &mut Desk, count: usize) {
     }
 }
 
+/// Headers that no heap has.
+pub const BAD_SHAPES: [[u64; 3]; 13] = [
+    [0, 2, 4],
+    [1, 2, 4],
+    [4, 2, 4],
+    [7, 1, 1],
+    [12, 2, 4],
+    [24, 2, 4],
+    [48, 3, 4],
+    [8, 0, 4],
+    [8, 5, 4],
+    [8, 2, 0],
+    [8, 2, 65],
+    [16, 1, 65],
+    [0, 0, 0],
+];
+
+/// Another length for a buffer of this length, which isn't 0; seldom the same one.
+pub fn wrong_length(random: &mut Random, length: usize) -> usize {
+    match random.below(5) {
+        0 => length - 1,
+        1 => length + 1,
+        2 => 0,
+        3 => 2 * length,
+        _ => random.below(length + 1),
+    }
+}
+
 /// Buffers lent too long or too short, and headers that no heap has.
 pub fn wrong_lengths(desk: &mut Desk, count: usize) {
     let end = desk.entries.len() + count;
@@ -370,13 +398,7 @@ pub fn wrong_lengths(desk: &mut Desk, count: usize) {
         }
         let buffer = desk.random.below(6) as u64;
         let length = desk.bench.length(buffer);
-        let wrong = match desk.random.below(5) {
-            0 => length - 1,
-            1 => length + 1,
-            2 => 0,
-            3 => 2 * length,
-            _ => desk.random.below(length + 1),
-        };
+        let wrong = wrong_length(&mut desk.random, length);
         desk.length(buffer, wrong);
         for call in desk.one_of_each() {
             // Format would be accepted where the length is a right one after all (roots).
@@ -387,21 +409,7 @@ pub fn wrong_lengths(desk: &mut Desk, count: usize) {
         desk.length(buffer, length);
         desk.call(Call::Check);
         if desk.random.percent(20) {
-            let bad = desk.random.pick(&[
-                [0, 2, 4],
-                [1, 2, 4],
-                [4, 2, 4],
-                [7, 1, 1],
-                [12, 2, 4],
-                [24, 2, 4],
-                [48, 3, 4],
-                [8, 0, 4],
-                [8, 5, 4],
-                [8, 2, 0],
-                [8, 2, 65],
-                [16, 1, 65],
-                [0, 0, 0],
-            ]);
+            let bad = desk.random.pick(&BAD_SHAPES);
             desk.new_heap(bad);
             desk.call(Call::Format);
             for call in desk.one_of_each() {

@@ -36,6 +36,9 @@ pub enum Entry {
     Unknown(u64),
 }
 
+/// What carries out one call: the model's `apply`, or another.
+pub type Apply = fn(usize, usize, &mut Memory, Call) -> Reply;
+
 impl Entry {
     /// What four words mean. Words that the meaning doesn't use aren't looked at.
     pub fn from_words(words: [u64; 4]) -> Entry {
@@ -73,6 +76,14 @@ impl Entry {
             unknown => Entry::Unknown(unknown),
         }
     }
+
+    /// The call, where the entry is one.
+    pub fn call(self) -> Option<Call> {
+        match self {
+            Entry::Call(call) => Some(call),
+            _ => None,
+        }
+    }
 }
 
 /// A heap as the program lends it: the buffers at their present lengths, and what lies beyond each of them.
@@ -85,21 +96,58 @@ pub struct Bench {
 }
 
 impl Bench {
-    /// Zeroed buffers, not formatted; none where the numbers are too large.
+    /// Zeroed buffers, not formatted; none where the numbers are too large for a file.
     pub fn new(blocks: u64, width: u64, roots: u64) -> Option<Bench> {
         if blocks > MOST_BLOCKS || width > MOST_WIDTH || roots > MOST_ROOTS {
             return None;
         }
-        Some(Bench {
-            blocks: blocks as usize,
-            width: width as usize,
-            memory: Memory::zeros(blocks as usize, width as usize, roots as usize),
+        Some(Bench::of_any_size([blocks, width, roots]))
+    }
+
+    /// Zeroed buffers, not formatted.
+    pub fn of_any_size(shape: [u64; 3]) -> Bench {
+        let [blocks, width, roots] = shape.map(|number| number as usize);
+        Bench {
+            blocks,
+            width,
+            memory: Memory::zeros(blocks, width, roots),
             beyond: Memory::default(),
-        })
+        }
     }
 
     pub fn call(&mut self, call: Call) -> Reply {
         apply(self.blocks, self.width, &mut self.memory, call)
+    }
+
+    /// Carries out an entry, a call by the given function. The reply, where it is a call; what is out of range
+    /// does nothing.
+    pub fn carry_out(&mut self, entry: Entry, apply: Apply) -> Option<Reply> {
+        match entry {
+            Entry::Call(call) => {
+                return Some(apply(self.blocks, self.width, &mut self.memory, call));
+            }
+            Entry::Load {
+                buffer,
+                index,
+                value,
+            } => {
+                self.load(buffer, index, value);
+            }
+            Entry::Length { buffer, length } => {
+                self.set_length(buffer, length);
+            }
+            Entry::New {
+                blocks,
+                width,
+                roots,
+            } => {
+                if let Some(next) = Bench::new(blocks, width, roots) {
+                    *self = next;
+                }
+            }
+            Entry::ValueDoesNotFit | Entry::Unknown(_) => {}
+        }
+        None
     }
 
     /// Writes one number into a lent buffer; false where the buffer, the index or the value is out of range.

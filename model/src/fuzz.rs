@@ -1,63 +1,96 @@
-//! Fresh random lists and damaged memories, on the model and on the product's library side by side.
+//! Fresh random lists and damaged memories, on the model and on the product's library side by side: call by
+//! call, and then the calls of the list as one replay, as they are and spoilt.
 
+use crate::compare::{call_by_call, replayed};
 use crate::damaging::some_damage;
-use crate::expect::buffer_lines;
 use crate::families::{random as random_calls, some_shape, FAMILIES};
-use crate::file::{Bench, Entry};
+use crate::file::Entry;
 use crate::generate::Desk;
-use crate::library;
+use crate::met::{Met, TOO_MANY_BLOCKS};
 use crate::random::Random;
-use crate::rules::Reply;
-use crate::show::{buffer_name, entry_in_words};
 use crate::shrink::shrink;
+use crate::spoiling::some_replay;
 use crate::Call;
-use std::fmt::Write;
 use std::time::{Duration, Instant};
-
-/// What a run of the fuzz met.
-#[derive(Clone, Debug, Default)]
-pub struct Met {
-    pub lists: usize,
-    pub calls: usize,
-    /// Replies by number, 0 to 8.
-    pub numbers: [usize; 9],
-    /// Damage kinds by kind.
-    pub kinds: [usize; 7],
-}
 
 /// After the first difference the search goes on for so many seconds, for a shorter list that shows one.
 const FURTHER: Duration = Duration::from_secs(5);
+
+/// A difference, with the length of the list that shows it.
+struct Found {
+    length: usize,
+    text: String,
+}
 
 /// Runs lists for so many seconds. What was met, and a difference, as text.
 pub fn fuzz(seconds: u64, seed: u64) -> (Met, Option<String>) {
     let mut end = Instant::now() + Duration::from_secs(seconds);
     let mut random = Random::new(seed);
     let mut met = Met::default();
-    let mut shortest: Option<([u64; 3], Vec<[u64; 4]>)> = None;
+    let mut shortest: Option<Found> = None;
     while Instant::now() < end {
         let desk = some_list(&mut random);
         met.lists += 1;
-        if compare(desk.header, &desk.entries, &mut met).is_none() {
+        let Some(found) = try_list(&desk, &mut random, &mut met) else {
             continue;
-        }
-        let differs =
-            |entries: &[[u64; 4]]| compare(desk.header, entries, &mut Met::default()).is_some();
-        let short = shrink(&desk.entries, differs);
+        };
         match &shortest {
-            None => {
-                shortest = Some((desk.header, short));
-                end = end.min(Instant::now() + FURTHER);
-            }
-            Some((_, before)) if short.len() < before.len() => {
-                shortest = Some((desk.header, short));
-            }
+            None => end = end.min(Instant::now() + FURTHER),
+            Some(before) if before.length <= found.length => continue,
             Some(_) => {}
         }
+        shortest = Some(found);
     }
-    (met, shortest.map(|(header, list)| report(header, &list)))
+    (met, shortest.map(|found| found.text))
 }
 
-/// A list of one family, or calls on a damaged memory; seldom on a large heap, where the model is slow.
+/// A list call by call, and its calls replayed, as they are and spoilt.
+fn try_list(desk: &Desk, random: &mut Random, met: &mut Met) -> Option<Found> {
+    let found = cut_down(&desk.entries, met, |entries, met| {
+        call_by_call(desk.header, entries, met)
+    });
+    if found.is_some() {
+        return found;
+    }
+    let calls = calls_of(desk, random);
+    let seed = random.word();
+    [false, true].into_iter().find_map(|spoilt| {
+        cut_down(&calls, met, |calls, met| {
+            replayed(&some_replay(seed, desk.header, calls, spoilt), met)
+        })
+    })
+}
+
+/// The calls of a list without its first entry, a format: a replay has to format by itself. Seldom only a few of
+/// them, or none.
+fn calls_of(desk: &Desk, random: &mut Random) -> Vec<[u64; 4]> {
+    let most = if random.percent(10) {
+        random.below(5)
+    } else {
+        usize::MAX
+    };
+    let is_call = |words: &&[u64; 4]| Entry::from_words(**words).call().is_some();
+    let entries = desk.entries.iter().skip(1);
+    entries.filter(is_call).take(most).copied().collect()
+}
+
+/// The difference that a list shows, if any, shown by a list that is as short as can be.
+fn cut_down(
+    list: &[[u64; 4]],
+    met: &mut Met,
+    difference: impl Fn(&[[u64; 4]], &mut Met) -> Option<String>,
+) -> Option<Found> {
+    difference(list, met)?;
+    let again = |list: &[[u64; 4]]| difference(list, &mut Met::default());
+    let short = shrink(list, |list| again(list).is_some());
+    Some(Found {
+        length: short.len(),
+        text: again(&short)?,
+    })
+}
+
+/// A list of one family, or calls on a damaged memory; seldom on a large heap, where the model is slow, or on
+/// one that is too large.
 fn some_list(random: &mut Random) -> Desk {
     let seed = random.word();
     let mut own = Random::new(seed);
@@ -66,20 +99,22 @@ fn some_list(random: &mut Random) -> Desk {
         shape[2] = 1 + own.below(64) as u64;
     }
     let kind = own.below(100);
-    if kind < 2 {
-        shape[0] = own.pick(&[256, 512, 1024, 2048, 4096, 8192]);
-    }
+    shape[0] = match kind {
+        0..=1 => own.pick(&[256, 512, 1024, 2048, 4096, 8192]),
+        2 => TOO_MANY_BLOCKS as u64,
+        _ => shape[0],
+    };
     let mut desk = Desk::new(own, shape);
     let count = 20 + desk.random.below(150);
-    if kind < 1 {
-        damaged_calls(&mut desk, 16);
-    } else if kind < 2 {
-        random_calls(&mut desk, 16);
-    } else if kind < 25 {
-        damaged_calls(&mut desk, count);
-    } else {
-        let (_, write) = desk.random.pick(&FAMILIES);
-        write(&mut desk, count);
+    match kind {
+        0 => damaged_calls(&mut desk, 16),
+        1 => random_calls(&mut desk, 16),
+        2 => every_call(&mut desk),
+        3..=24 => damaged_calls(&mut desk, count),
+        _ => {
+            let (_, write) = desk.random.pick(&FAMILIES);
+            write(&mut desk, count);
+        }
     }
     desk
 }
@@ -95,120 +130,11 @@ fn damaged_calls(desk: &mut Desk, count: usize) {
     for (buffer, index, value) in some_damage(&mut desk.random, &desk.bench, kind) {
         desk.load(buffer, index, value);
     }
+    every_call(desk);
+}
+
+fn every_call(desk: &mut Desk) {
     for call in desk.one_of_each() {
         desk.call(call);
-    }
-}
-
-/// A reply and a memory that differ after an entry.
-struct Difference {
-    entry: usize,
-    model: Option<Reply>,
-    library: Option<Reply>,
-    memories: [Bench; 2],
-}
-
-/// Runs a list on both, comparing the reply and every buffer after every entry.
-fn compare(header: [u64; 3], entries: &[[u64; 4]], met: &mut Met) -> Option<Difference> {
-    let [blocks, width, roots] = header;
-    let mut model = Bench::new(blocks, width, roots).expect("a header that is not too large");
-    let mut library = model.clone();
-    for (entry, words) in entries.iter().enumerate() {
-        let mut replies = [None, None];
-        match Entry::from_words(*words) {
-            Entry::Call(call) => {
-                let reply = model.call(call);
-                let (blocks, width) = (library.blocks, library.width);
-                let other = library::apply(blocks, width, &mut library.memory, call);
-                met.calls += 1;
-                met.numbers[reply.number] += 1;
-                if reply.number == 2 {
-                    met.kinds[reply.value] += 1;
-                }
-                replies = [Some(reply), Some(other)];
-            }
-            Entry::Load {
-                buffer,
-                index,
-                value,
-            } => {
-                model.load(buffer, index, value);
-                library.load(buffer, index, value);
-            }
-            Entry::Length { buffer, length } => {
-                model.set_length(buffer, length);
-                library.set_length(buffer, length);
-            }
-            Entry::New {
-                blocks,
-                width,
-                roots,
-            } => {
-                if let Some(next) = Bench::new(blocks, width, roots) {
-                    library = next.clone();
-                    model = next;
-                }
-            }
-            Entry::ValueDoesNotFit | Entry::Unknown(_) => {}
-        }
-        if replies[0] != replies[1] || model.memory != library.memory {
-            let [of_model, of_library] = replies;
-            return Some(Difference {
-                entry,
-                model: of_model,
-                library: of_library,
-                memories: [model, library],
-            });
-        }
-    }
-    None
-}
-
-/// A short list that shows a difference, in words and numbers, with both replies and the buffers that differ.
-fn report(header: [u64; 3], entries: &[[u64; 4]]) -> String {
-    let difference = compare(header, entries, &mut Met::default()).expect("a list that differs");
-    let [blocks, width, roots] = header;
-    let mut out = format!("a difference: {blocks} blocks, width {width}, {roots} roots\n");
-    for words in &entries[..=difference.entry] {
-        let [c, x, y, z] = words;
-        writeln!(out, "  {c} {x} {y} {z}   {}", entry_in_words(*words)).unwrap();
-    }
-    let numbers = |reply: Option<Reply>| match reply {
-        Some(reply) => format!("{} {} {}", reply.number, reply.value, reply.second),
-        None => "none".to_string(),
-    };
-    writeln!(out, "the model's reply     {}", numbers(difference.model)).unwrap();
-    writeln!(out, "the library's reply   {}", numbers(difference.library)).unwrap();
-    let [model, library] = difference.memories.map(|bench| buffer_lines(&bench.memory));
-    for buffer in 0..6 {
-        if model[buffer] != library[buffer] {
-            let name = buffer_name(buffer as u64);
-            writeln!(out, "{name} by the model     {}", model[buffer]).unwrap();
-            writeln!(out, "{name} by the library   {}", library[buffer]).unwrap();
-        }
-    }
-    out
-}
-
-impl Met {
-    /// The counts, a line each.
-    pub fn lines(&self) -> String {
-        let by = |list: &[usize]| {
-            let words: Vec<String> = list
-                .iter()
-                .enumerate()
-                .skip(1)
-                .map(|(number, count)| format!("{number}: {count}"))
-                .collect();
-            words.join(", ")
-        };
-        format!(
-            "lists {}, calls {}, accepted {}\nrefusals by number  {}\ndamage by kind      {}\n",
-            self.lists,
-            self.calls,
-            self.numbers[0],
-            by(&self.numbers),
-            by(&self.kinds),
-        )
     }
 }

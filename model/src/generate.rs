@@ -1,7 +1,7 @@
 //! The desk at which lists are written: it carries out each entry on the model as it writes it, so that the
 //! next one can be chosen to fit the heap. Most calls are chosen to be accepted; some are chosen not to be.
 
-use crate::calls::Call;
+use crate::calls::{apply, Call};
 use crate::file::{bytes, Bench, Entry};
 use crate::heap::{first_blocks, misshapen, size};
 use crate::random::Random;
@@ -15,14 +15,13 @@ pub struct Desk {
 }
 
 impl Desk {
-    /// A desk whose file begins with this header, which isn't too large.
+    /// A desk whose file begins with this header.
     pub fn new(random: Random, header: [u64; 3]) -> Desk {
-        let [blocks, width, roots] = header;
         Desk {
             random,
             header,
             entries: Vec::new(),
-            bench: Bench::new(blocks, width, roots).expect("a header that is too large"),
+            bench: Bench::of_any_size(header),
         }
     }
 
@@ -34,30 +33,7 @@ impl Desk {
     /// Writes any four words, and carries them out.
     pub fn words(&mut self, words: [u64; 4]) -> Option<Reply> {
         self.entries.push(words);
-        match Entry::from_words(words) {
-            Entry::Call(call) => return Some(self.bench.call(call)),
-            Entry::Load {
-                buffer,
-                index,
-                value,
-            } => {
-                self.bench.load(buffer, index, value);
-            }
-            Entry::Length { buffer, length } => {
-                self.bench.set_length(buffer, length);
-            }
-            Entry::New {
-                blocks,
-                width,
-                roots,
-            } => {
-                if let Some(next) = Bench::new(blocks, width, roots) {
-                    self.bench = next;
-                }
-            }
-            Entry::ValueDoesNotFit | Entry::Unknown(_) => {}
-        }
-        None
+        self.bench.carry_out(Entry::from_words(words), apply)
     }
 
     pub fn call(&mut self, call: Call) -> Reply {

@@ -5,8 +5,8 @@
 //! stands under the sentence of document 01 that it renders.
 //!
 //! Read in this order: heap, chunks, counting, collection, damage, rules. Then claims (demand 3).
-//! The rest writes and reads lists of calls: calls, file, expect, show, and the generator. Beside these stand
-//! the comparisons with the product: fuzz, and bench with its port.
+//! The rest writes and reads lists of calls: calls, replay, file, expect, show, and the generator. Beside these
+//! stand the comparisons with the product: fuzz, and bench with its port.
 
 #[cfg(feature = "library")]
 pub mod bench;
@@ -14,6 +14,8 @@ pub mod calls;
 pub mod chunks;
 pub mod claims;
 pub mod collection;
+#[cfg(feature = "library")]
+pub mod compare;
 pub mod counting;
 pub mod damage;
 pub mod damaging;
@@ -26,12 +28,16 @@ pub mod generate;
 pub mod heap;
 #[cfg(feature = "library")]
 pub mod library;
+#[cfg(feature = "library")]
+pub mod met;
 pub mod paper;
 pub mod port;
 pub mod random;
+pub mod replay;
 pub mod rules;
 pub mod show;
 pub mod shrink;
+pub mod spoiling;
 pub mod trace;
 pub mod vectors;
 

@@ -1,4 +1,4 @@
-//! The product: the eight calls of its C library on the model's memories.
+//! The product: the calls of its C library on the model's memories.
 
 use crate::calls::Call;
 use crate::heap::Memory;
@@ -7,7 +7,7 @@ use huwekapo::lent::{self, Shared, Unique};
 
 /// Carries out one call by the library, as `calls::apply` does by the model.
 pub fn apply(blocks: usize, width: usize, memory: &mut Memory, call: Call) -> Reply {
-    let reply = match call {
+    reply_of(match call {
         Call::Format => lent::format(unique(blocks, width, memory)),
         Call::Check => lent::check(shared(blocks, width, memory)),
         Call::Allocate { n, r } => lent::allocate(unique(blocks, width, memory), n, r),
@@ -16,7 +16,21 @@ pub fn apply(blocks: usize, width: usize, memory: &mut Memory, call: Call) -> Re
         Call::Collect => lent::collect(unique(blocks, width, memory)),
         Call::Look { a } => lent::look(shared(blocks, width, memory), a),
         Call::FreeBlocks => lent::free_blocks(shared(blocks, width, memory)),
-    };
+    })
+}
+
+/// Makes a replay by the library, as `replay::replay` does by the model.
+pub fn replay(
+    blocks: usize,
+    width: usize,
+    memory: &mut Memory,
+    words: &[u64],
+    replies: &mut [u64],
+) -> Reply {
+    reply_of(lent::replay(unique(blocks, width, memory), words, replies))
+}
+
+fn reply_of(reply: lent::Reply) -> Reply {
     Reply {
         number: reply.number,
         value: reply.value,

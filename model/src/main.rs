@@ -17,7 +17,7 @@ const USAGE: &str = "usage:
   model damaged SEED COUNT           damaged memories as text, with their kinds
   model steps SEED COUNT             single calls as text, each on a memory of its own
 with the product's library, `--features library`:
-  model fuzz SECONDS SEED            random lists and damaged memories, model against library
+  model fuzz SECONDS SEED            random lists, damaged memories and replays, model against library
   model bench                        times of the library against plain Rust (build it with --release)
 ";
 

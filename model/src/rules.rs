@@ -20,7 +20,7 @@ pub struct Reply {
 }
 
 /// "An accepted call with no value named gives 0".
-fn accepted(value: usize) -> Reply {
+pub(crate) fn accepted(value: usize) -> Reply {
     Reply {
         number: 0,
         value,
@@ -30,7 +30,7 @@ fn accepted(value: usize) -> Reply {
 
 /// "A refusal carries value 0, or the damage kind for number 2 (any further value of a reply is 0 ...), and
 /// changes no buffer."
-fn refused(number: usize) -> Reply {
+pub(crate) fn refused(number: usize) -> Reply {
     Reply {
         number,
         value: 0,

@@ -1,5 +1,4 @@
-//! Lists and damaged memories as plain text, for a test of the formal rules in a scratch file. README.md
-//! states the two forms.
+//! Lists, damaged memories and single calls as plain text. README.md states the three forms.
 
 use crate::calls::Call;
 use crate::damage::damage;

@@ -4,7 +4,8 @@
 use model::generate::Desk;
 use model::port::{self, lend};
 use model::random::Random;
-use model::{apply, Call, Memory};
+use model::replay::replay;
+use model::{Call, Memory};
 
 #[test]
 fn port_is_the_model_on_random_lists() {
@@ -18,21 +19,18 @@ fn port_is_the_model_on_random_lists() {
             desk.call(call);
         }
         let (blocks, width) = (shape[0] as usize, shape[1] as usize);
-        let mut memory = Memory::zeros(blocks, width, 4);
         let list: Vec<u64> = desk.entries.concat();
-        let mut replies = vec![0; desk.entries.len() * 3];
-        let answer = port::replay(blocks, width, &mut lend(&mut memory), &list, &mut replies);
-        assert_eq!(answer.number, 0);
-        assert_eq!(memory, desk.bench.memory, "seed {seed}");
-        assert_eq!(port::check(blocks, width, &lend(&mut memory)).number, 0);
-        let mut by_model = Memory::zeros(blocks, width, 4);
-        for (words, reply) in desk.entries.iter().zip(replies.chunks(3)) {
-            let model::file::Entry::Call(call) = model::file::Entry::from_words(*words) else {
-                panic!("only calls were written");
-            };
-            let expected = apply(blocks, width, &mut by_model, call);
-            let numbers = [expected.number, expected.value, expected.second];
-            assert_eq!(reply, numbers.map(|number| number as u64), "seed {seed}");
-        }
+        let mut memories = [0, 1].map(|_| Memory::zeros(blocks, width, 4));
+        let mut replies = [0, 1].map(|_| vec![0; desk.entries.len() * 3]);
+        let mut lent = lend(&mut memories[0]);
+        let answer = port::replay(blocks, width, &mut lent, &list, &mut replies[0]);
+        let reply = replay(blocks, width, &mut memories[1], &list, &mut replies[1]);
+        assert_eq!((answer.number, answer.value), (reply.number, reply.value));
+        assert_eq!(reply.number, 0);
+        assert_eq!(memories[0], memories[1], "seed {seed}");
+        assert_eq!(replies[0], replies[1], "seed {seed}");
+        assert_eq!(memories[0], desk.bench.memory, "seed {seed}");
+        let [memory, _] = &mut memories;
+        assert_eq!(port::check(blocks, width, &lend(memory)).number, 0);
     }
 }

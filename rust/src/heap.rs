@@ -3,7 +3,7 @@
 use crate::lent::{self, Reply, Shared, Unique};
 use crate::{Ref, Refusal};
 
-/// The six buffers of a heap.
+/// The six buffers of a heap, as [`lent`](crate::lent) has them.
 #[derive(Clone, Debug, Default, PartialEq, Eq)]
 pub struct Buffers {
     pub a: Vec<u8>,
@@ -14,7 +14,8 @@ pub struct Buffers {
     pub waiting: Vec<Ref>,
 }
 
-/// A heap of some number of blocks, with counts of some width.
+/// A heap of some number of blocks, with counts of some width. Format, allocate, both stores and collect leave
+/// `waiting` all 0 when accepted; check, look and free blocks write nothing.
 #[derive(Clone, Debug, PartialEq, Eq)]
 pub struct Heap {
     blocks: usize,
@@ -31,7 +32,7 @@ pub struct Look {
 
 impl Heap {
     /// A formatted heap: blocks is a power of two from 8 to 8,192, the width 1 to 4, and there are 1 to 64
-    /// roots.
+    /// roots. Refusals: 1.
     pub fn new(blocks: usize, width: usize, roots: usize) -> Result<Heap, Refusal> {
         // Numbers that are too large are refused by the library; no buffers of that size are made for it.
         let bytes = blocks.min(8192) / 8;
@@ -67,37 +68,39 @@ impl Heap {
         self.buffers
     }
 
-    /// Makes it an empty heap.
+    /// Makes an empty heap of whatever the buffers held: b is all ones, every other buffer all 0. Refusals: 1.
     pub fn format(&mut self) -> Result<(), Refusal> {
         value(lent::format(self.unique())).map(|_| ())
     }
 
-    /// Tests the whole heap.
+    /// Tests the whole heap. Refusals: 1, 2.
     pub fn check(&self) -> Result<(), Refusal> {
         value(lent::check(self.shared())).map(|_| ())
     }
 
-    /// Allocates n blocks into root r. The first block.
+    /// Allocates n blocks into root r. The value is the first block. Refusals: 1, 2, 3, 4, 5.
     pub fn allocate(&mut self, n: usize, r: usize) -> Result<usize, Refusal> {
         value(lent::allocate(self.unique(), n, r))
     }
 
-    /// Stores v, 0 or 1 + a first block, in root r. The number of blocks freed.
+    /// Stores v in root r. The value is the number of blocks freed. Refusals: 1, 2, 4, 8.
     pub fn store_root(&mut self, r: usize, v: Ref) -> Result<usize, Refusal> {
         value(lent::store_root(self.unique(), r, v))
     }
 
-    /// Stores v, 0 or 1 + a first block, in cell j of the object at a block. The number of blocks freed.
+    /// Stores v in cell j of the object at block `at`. The value is the number of blocks freed. Refusals: 1, 2, 6,
+    /// 7, 8.
     pub fn store_cell(&mut self, at: usize, j: usize, v: Ref) -> Result<usize, Refusal> {
         value(lent::store_cell(self.unique(), at, j, v))
     }
 
-    /// Frees what no root reaches, and counts the rest anew. The number of blocks freed.
+    /// Frees the objects that no root reaches, and counts the references of the others anew. The value is the
+    /// number of blocks freed. Refusals: 1, 2.
     pub fn collect(&mut self) -> Result<usize, Refusal> {
         value(lent::collect(self.unique()))
     }
 
-    /// The size and the count of the object at a block.
+    /// Looks at the object at block `at`: its size in blocks and its count. Refusals: 1, 2, 6.
     pub fn look(&self, at: usize) -> Result<Look, Refusal> {
         let reply = lent::look(self.shared(), at);
         let size = value(reply)?;
@@ -107,7 +110,7 @@ impl Heap {
         })
     }
 
-    /// The number of free blocks.
+    /// Counts the free blocks. The value is their number. Refusals: 1, 2.
     pub fn free_blocks(&self) -> Result<usize, Refusal> {
         value(lent::free_blocks(self.shared()))
     }

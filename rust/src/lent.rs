@@ -1,9 +1,28 @@
-//! The calls on buffers that the caller lends. Any numbers, lengths and contents may be lent: what is wrong is
-//! refused, and a refusal changes nothing.
+//! The calls on buffers that the caller lends. The heap's six buffers, with their lengths in elements:
+//!
+//! ```text
+//! a        blocks / 8 bytes           A-map: 1 is allocated, 0 is free
+//! b        blocks / 8 bytes           B-map: 0 on the last block of each object, 1 everywhere else
+//! counts   width * blocks / 8 bytes   count maps, the least significant bit first
+//! cells    4 * blocks numbers         cells 4i to 4i + 3 for block i: 0, or 1 + the first block of an object
+//! roots    1 to 64 numbers            filled as cells are
+//! waiting  blocks numbers             working space
+//! ```
+//!
+//! blocks is a power of two from 8 to 8,192; width, the count width, is 1 to 4 bits. Block i is bit i % 8 (bit 0 is
+//! the least) of byte i / 8 of a map.
+//!
+//! Every call may be made with any arguments and any content of the buffers: what is wrong is refused by a number,
+//! and a refusal changes no buffer. Format, allocate, both stores, collect and replay leave `waiting` all 0 when
+//! accepted; check, look and free blocks write nothing.
 
 use crate::{foreign, Ref};
 
-/// A number, 0 where the call was accepted, and its values.
+/// A number and its values. `number` is 0 where the call was accepted, else the first that applies of the refusals
+/// that the call names, in the order in which it names them. A refusal carries value 0, or the damage kind for
+/// number 2. `second` is 0 but for an accepted look.
+///
+/// [`Refusal`](crate::Refusal) has the words of numbers 1 to 8, [`replay`] those of its own.
 #[repr(C)]
 #[derive(Clone, Copy, Debug, PartialEq, Eq)]
 pub struct Reply {
@@ -66,49 +85,68 @@ macro_rules! lend {
     }};
 }
 
-/// Makes an empty heap of whatever the buffers held.
+/// Makes an empty heap of whatever the buffers held: b is all ones, every other buffer all 0. The value is 0.
+/// Refusals: 1.
 pub fn format(heap: Unique) -> Reply {
     lend!(huwekapo_format, heap, as_mut_ptr, as_mut_ptr)
 }
 
-/// Tests the whole heap.
+/// Tests the whole heap. The value is 0. Refusals: 1, 2.
 pub fn check(heap: Shared) -> Reply {
     lend!(huwekapo_check, heap, as_ptr, as_ptr)
 }
 
-/// Allocates n blocks into root r. The value is the first block.
+/// Allocates n blocks into root r. The value is the first block. Refusals: 1, 2, 3, 4, 5.
 pub fn allocate(heap: Unique, n: usize, r: usize) -> Reply {
     lend!(huwekapo_allocate, heap, as_mut_ptr, as_mut_ptr, n, r)
 }
 
-/// Stores v in root r. The value is the number of blocks freed.
+/// Stores v in root r. The value is the number of blocks freed. Refusals: 1, 2, 4, 8.
 pub fn store_root(heap: Unique, r: usize, v: Ref) -> Reply {
     lend!(huwekapo_store_root, heap, as_mut_ptr, as_mut_ptr, r, v)
 }
 
-/// Stores v in cell j of the object at a block. The value is the number of blocks freed.
+/// Stores v in cell j of the object at block `at`. The value is the number of blocks freed. Refusals: 1, 2, 6, 7, 8.
 pub fn store_cell(heap: Unique, at: usize, j: usize, v: Ref) -> Reply {
     lend!(huwekapo_store_cell, heap, as_mut_ptr, as_ptr, at, j, v)
 }
 
-/// Frees what no root reaches, and counts the rest anew. The value is the number of blocks freed.
+/// Frees the objects that no root reaches, and counts the references of the others anew. The value is the number of
+/// blocks freed. Refusals: 1, 2.
 pub fn collect(heap: Unique) -> Reply {
     lend!(huwekapo_collect, heap, as_mut_ptr, as_ptr)
 }
 
-/// The size and the count of the object at a block.
+/// Looks at the object at block `at`. The value is its size in blocks, `second` its count. Refusals: 1, 2, 6.
 pub fn look(heap: Shared, at: usize) -> Reply {
     lend!(huwekapo_look, heap, as_ptr, as_ptr, at)
 }
 
-/// The number of free blocks.
+/// Counts the free blocks. The value is their number. Refusals: 1, 2.
 pub fn free_blocks(heap: Shared) -> Reply {
     lend!(huwekapo_free_blocks, heap, as_ptr, as_ptr)
 }
 
-/// Formats, then runs a list of calls of four words each, and writes a reply of three words for each. Refused 1
-/// as format is; 10 where the words are no whole number of calls, 9 where one is no call, 18 where the list for the
-/// replies is too short.
+/// Formats the heap and runs a list of calls, each an entry of four words, a code and arguments:
+///
+/// ```text
+/// 0             format
+/// 1             check
+/// 2, n, r       allocate
+/// 3, r, v       store_root
+/// 4, at, j, v   store_cell
+/// 5             collect
+/// 6, at         look
+/// 7             free_blocks
+/// ```
+///
+/// Words that a call does not name are not looked at. The reply of call i goes to places 3i, 3i + 1 and 3i + 2 of
+/// `replies`; words of `replies` behind the last reply keep their content. The value is the number of calls.
+/// Refusals, which write nothing: 1, 10, 9, 18.
+///
+/// - 10: the list ends inside a call
+/// - 9: an entry is no call: its code is above 7, or the v of a store above 65,535
+/// - 18: `replies` is too short for the replies of all calls
 pub fn replay(heap: Unique, calls: &[u64], replies: &mut [u64]) -> Reply {
     let (list, replies_at) = (calls.as_ptr(), replies.as_mut_ptr());
     lend!(

@@ -1,7 +1,8 @@
 //! A heap of 16-byte blocks in bitmaps, with limited reference counts. The work is done by a proved library;
 //! this crate lends it buffers and gives its refusals names.
 //!
-//! [`Heap`] owns its buffers. [`lent`] has the same calls on buffers of the caller's.
+//! [`Heap`] owns its buffers. [`lent`] has the same calls on buffers of the caller's, and [`lent::replay`], which
+//! runs a list of them.
 //!
 //! ```
 //! use huwekapo::{Heap, Look, Refusal};
@@ -15,7 +16,11 @@
 //!
 //! // Blocks 3 and 7 are free, but no two of them together.
 //! assert_eq!(heap.allocate(2, 3), Err(Refusal::NoChunk));
-//! assert_eq!(Refusal::NoChunk.to_string(), "5: no chunk of s blocks is free");
+//! assert_eq!(
+//!     Refusal::NoChunk.to_string(),
+//!     "5: no chunk is free: a chunk is s blocks starting at a multiple of s, s the least power of two that is \
+//!      n or more"
+//! );
 //! assert_eq!(heap.free_blocks()?, 2);
 //!
 //! // Clearing root 2 lets go of the object at block 4.

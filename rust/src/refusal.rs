@@ -3,7 +3,8 @@
 use crate::lent::Reply;
 use std::fmt;
 
-/// Why a call was refused. It changed nothing then.
+/// Why a call was refused: the first that applies of the refusals that the call names, in the order in which it
+/// names them. A refusal changes no buffer.
 #[derive(Clone, Copy, Debug, PartialEq, Eq, Hash)]
 pub enum Refusal {
     Misshapen,
@@ -89,14 +90,17 @@ impl fmt::Display for Refusal {
     fn fmt(&self, f: &mut fmt::Formatter) -> fmt::Result {
         let words = match self {
             Refusal::Misshapen => {
-                "N, w, the number of roots or any buffer's length is not as it must be"
+                "blocks, width, the number of roots or any buffer's length is not as it must be"
             }
             Refusal::Damaged(damage) => return write!(f, "2: the heap is damaged, kind {damage}"),
-            Refusal::BadSize => "n is 0 or above N",
+            Refusal::BadSize => "n is 0 or above blocks",
             Refusal::BadRoot => "r is not below the number of roots",
-            Refusal::NoChunk => "no chunk of s blocks is free",
-            Refusal::NoObject => "a is not a first block (or not below N)",
-            Refusal::BadCell => "j is not below 4 × size",
+            Refusal::NoChunk => {
+                "no chunk is free: a chunk is s blocks starting at a multiple of s, s the least power of two \
+                 that is n or more"
+            }
+            Refusal::NoObject => "`at` is not a first block (or not below blocks)",
+            Refusal::BadCell => "j is not below 4 times the object's size",
             Refusal::BadReference => "v is neither 0 nor 1 + a first block",
         };
         write!(f, "{}: {words}", self.number())

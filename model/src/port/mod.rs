@@ -1,4 +1,4 @@
-//! The product's algorithms once more, function by function, in plain safe Rust: what the benchmark holds the
+//! The product's work once more, algorithm by algorithm, in plain safe Rust: what the benchmark holds the
 //! product's times against, and makes its list with. It is no model: nothing here says what is right.
 
 mod blocks;

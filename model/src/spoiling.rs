@@ -1,0 +1,133 @@
+//! Replays to be made of a list of calls, and ways to spoil them.
+
+use crate::families::{wrong_length, BAD_SHAPES};
+use crate::file::{Bench, Entry};
+use crate::heap::Memory;
+use crate::random::Random;
+use crate::rules::Reply;
+
+/// What a replay is lent: a heap, the words of the list, and a list for the replies.
+#[derive(Clone, Debug)]
+pub struct Lent {
+    pub bench: Bench,
+    pub words: Vec<u64>,
+    pub replies: Vec<u64>,
+}
+
+/// What makes a replay: the model's `replay`, or another.
+pub type Replay = fn(usize, usize, &mut Memory, &[u64], &mut [u64]) -> Reply;
+
+impl Lent {
+    /// Makes the replay by the given function.
+    pub fn replay(&mut self, replay: Replay) -> Reply {
+        let Bench {
+            blocks,
+            width,
+            memory,
+            ..
+        } = &mut self.bench;
+        replay(*blocks, *width, memory, &self.words, &mut self.replies)
+    }
+}
+
+/// A replay of calls on a heap of a shape, with anything in the heap, in the list of replies and in words that
+/// aren't looked at. The same seed spoils a shorter list in the same ways.
+pub fn some_replay(seed: u64, shape: [u64; 3], calls: &[[u64; 4]], spoilt: bool) -> Lent {
+    let mut random = Random::new(seed);
+    let mut rubbish = Random::new(random.word());
+    let behind = random.below(5);
+    let mut lent = Lent {
+        bench: Bench::of_any_size(shape),
+        words: calls.concat(),
+        replies: vec![0; 3 * calls.len() + behind],
+    };
+    fill_unnamed(&mut rubbish, &mut lent.words);
+    if spoilt {
+        spoil(&mut random, &mut lent);
+    }
+    fill(&mut rubbish, &mut lent.bench.memory);
+    lent.replies.fill_with(|| rubbish.word());
+    lent
+}
+
+/// Anything in the words that a call doesn't name: those that don't change what the call is.
+fn fill_unnamed(random: &mut Random, words: &mut [u64]) {
+    for call in words.chunks_mut(4) {
+        let meant = Entry::from_words([call[0], call[1], call[2], call[3]]);
+        for place in 1..4 {
+            let before = std::mem::replace(&mut call[place], random.word());
+            if Entry::from_words([call[0], call[1], call[2], call[3]]) != meant {
+                call[place] = before;
+            }
+        }
+    }
+}
+
+/// Anything in every buffer.
+fn fill(random: &mut Random, memory: &mut Memory) {
+    for map in [&mut memory.a, &mut memory.b, &mut memory.counts] {
+        map.fill_with(|| random.word() as u8);
+    }
+    for list in [&mut memory.cells, &mut memory.roots, &mut memory.waiting] {
+        list.fill_with(|| random.word() as u16);
+    }
+}
+
+/// Spoils a replay in one way or several.
+fn spoil(random: &mut Random, lent: &mut Lent) {
+    // Cut off last: the others go by whole calls.
+    let ways = [wrong_shape, no_call, short_replies, cut_off];
+    let chosen = random.below(ways.len());
+    for (k, way) in ways.into_iter().enumerate() {
+        if k == chosen || random.percent(25) {
+            way(random, lent);
+        }
+    }
+}
+
+/// A buffer of another length, or numbers that no heap has, with buffers that fit them or not.
+fn wrong_shape(random: &mut Random, lent: &mut Lent) {
+    let bench = &mut lent.bench;
+    match random.below(4) {
+        0 => {
+            let buffer = random.below(6) as u64;
+            let length = wrong_length(random, bench.length(buffer));
+            bench.set_length(buffer, length as u64);
+        }
+        1 => *bench = Bench::of_any_size(random.pick(&BAD_SHAPES)),
+        2 => bench.blocks = random.pick(&[0, 4, 12, 16_384, usize::MAX]),
+        _ => bench.width = random.pick(&[0, 5, 64, usize::MAX]),
+    }
+}
+
+/// An unknown code, or a value that no cell can hold, in place of one of the calls.
+fn no_call(random: &mut Random, lent: &mut Lent) {
+    let code = random.pick(&[8, 9, 10, 11, 255, 256, 258, 1 << 32, u64::MAX]);
+    let value = random.pick(&[65_536, 65_537, 131_072, 1 << 32, u64::MAX]);
+    let words = random.pick(&[[code, 0, 0, 0], [3, 0, value, 0], [4, 0, 0, value]]);
+    let calls = lent.words.len() / 4;
+    if calls > 0 {
+        let place = 4 * random.below(calls);
+        lent.words[place..place + 4].copy_from_slice(&words);
+    }
+}
+
+/// Fewer words for the replies than there are replies.
+fn short_replies(random: &mut Random, lent: &mut Lent) {
+    let due = lent.words.len() / 4 * 3;
+    let missing = match random.below(3) {
+        0 => due,
+        _ => 1 + random.below(4),
+    };
+    lent.replies.truncate(due.saturating_sub(missing));
+}
+
+/// One to three words too many, or too few.
+fn cut_off(random: &mut Random, lent: &mut Lent) {
+    let odd = 1 + random.below(3);
+    if random.percent(50) {
+        lent.words.extend(vec![0; odd]);
+    } else {
+        lent.words.truncate(lent.words.len().saturating_sub(odd));
+    }
+}

@@ -1,0 +1,86 @@
+//! The model's replay of a list: P1, and each refusal before those that come after it.
+
+mod common;
+use common::{fresh, say};
+use model::replay::replay;
+use model::{Call, Memory};
+
+/// The words of calls, one after another.
+fn words(calls: &[Call]) -> Vec<u64> {
+    calls.iter().flat_map(|call| call.words()).collect()
+}
+
+#[test]
+fn p1() {
+    let list = words(&[
+        Call::Allocate { n: 2, r: 0 },
+        Call::Allocate { n: 1, r: 1 },
+        Call::Allocate { n: 3, r: 2 },
+        Call::Look { a: 4 },
+    ]);
+    let mut memory = Memory::zeros(8, 2, 4);
+    memory.waiting.fill(9);
+    let mut replies = [7; 14];
+    let reply = replay(8, 2, &mut memory, &list, &mut replies);
+    assert_eq!((reply.number, reply.value, reply.second), (0, 4, 0));
+    assert_eq!(replies, [0, 0, 0, 0, 2, 0, 0, 4, 0, 0, 3, 1, 7, 7]);
+    assert_eq!((memory.a[0], memory.b[0]), (119, 185));
+    assert_eq!(memory.waiting, [0; 8]);
+}
+
+/// "The list ... may be empty."
+#[test]
+fn an_empty_list() {
+    let mut memory = Memory::zeros(8, 2, 4);
+    let reply = replay(8, 2, &mut memory, &[], &mut []);
+    assert_eq!((reply.number, reply.value), (0, 0));
+    assert_eq!(memory, fresh(8, 2, 4));
+}
+
+/// Each set of the four faults, in the order in which they are refused.
+#[test]
+fn refusals_in_order() {
+    let numbers = [1, 10, 9, 18];
+    for faults in 0..16 {
+        let has = |k: usize| faults >> k & 1 == 1;
+        let blocks = if has(0) { 16_384 } else { 8 };
+        let mut list = words(&[Call::Check, Call::Collect]);
+        if has(1) {
+            list.push(0);
+        }
+        if has(2) {
+            list[4] = 8;
+        }
+        let mut replies = vec![7; if has(3) { 5 } else { 6 }];
+        let mut memory = Memory::zeros(blocks, 2, 4);
+        let reply = replay(blocks, 2, &mut memory, &list, &mut replies);
+        let due = (0..4).find(|k| has(*k)).map_or(0, |k| numbers[k]);
+        let value = if faults == 0 { 2 } else { 0 };
+        assert_eq!((reply.number, reply.value, reply.second), (due, value, 0));
+        if faults != 0 {
+            assert_eq!(memory, Memory::zeros(blocks, 2, 4));
+            assert!(replies.iter().all(|word| *word == 7));
+        }
+    }
+    say("a replay with each set of its four faults");
+}
+
+/// "an unknown code, or a value that no cell can hold"
+#[test]
+fn what_is_no_call() {
+    let most = u64::MAX;
+    for (list, number) in [
+        ([8, 0, 0, 0], 9),
+        ([most, 0, 0, 0], 9),
+        ([3, 0, 65_536, 0], 9),
+        ([3, most, 65_535, most], 0),
+        ([4, 0, 0, 65_536], 9),
+        ([4, most, most, 65_535], 0),
+        ([2, most, most, most], 0),
+        ([7, most, most, most], 0),
+    ] {
+        let mut memory = Memory::zeros(8, 2, 4);
+        let reply = replay(8, 2, &mut memory, &list, &mut [0; 3]);
+        assert_eq!(reply.number, number, "{list:?}");
+    }
+}

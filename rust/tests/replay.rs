@@ -1,0 +1,108 @@
+//! The replay of a list of calls: P1, and each refusal, with what is behind the replies kept.
+
+use huwekapo::lent::{replay, Reply, Unique};
+use huwekapo::{Buffers, Heap};
+
+/// P1: allocate 2, 1 and 3, and look at 4. Words that a call does not name hold anything.
+const P1: [u64; 16] = [2, 2, 0, 9, 2, 1, 1, 9, 2, 3, 2, 9, 6, 4, 9, 9];
+
+/// Buffers for 8 blocks, width 2 and 4 roots, with anything in them.
+fn used() -> Buffers {
+    Buffers {
+        a: vec![0xa5; 1],
+        b: vec![0x5a; 1],
+        counts: vec![0xc3; 2],
+        cells: vec![77; 32],
+        roots: vec![88; 4],
+        waiting: vec![99; 8],
+    }
+}
+
+fn lend(blocks: usize, buffers: &mut Buffers) -> Unique<'_> {
+    Unique {
+        blocks,
+        width: 2,
+        a: &mut buffers.a,
+        b: &mut buffers.b,
+        counts: &mut buffers.counts,
+        cells: &mut buffers.cells,
+        roots: &mut buffers.roots,
+        waiting: &mut buffers.waiting,
+    }
+}
+
+fn reply(number: usize, value: usize) -> Reply {
+    Reply {
+        number,
+        value,
+        second: 0,
+    }
+}
+
+/// The number that refuses a replay. Nothing is written.
+fn refusal(blocks: usize, calls: &[u64], room: usize) -> usize {
+    let mut buffers = used();
+    let mut replies = vec![7; room];
+    let refused = replay(lend(blocks, &mut buffers), calls, &mut replies);
+    assert_ne!(refused.number, 0);
+    assert_eq!(refused, reply(refused.number, 0));
+    assert_eq!(buffers, used());
+    assert_eq!(replies, vec![7; room]);
+    refused.number
+}
+
+#[test]
+fn p1() {
+    let mut buffers = used();
+    let mut replies = [7; 14];
+    let accepted = replay(lend(8, &mut buffers), &P1, &mut replies);
+    assert_eq!(accepted, reply(0, 4));
+    assert_eq!(replies, [0, 0, 0, 0, 2, 0, 0, 4, 0, 0, 3, 1, 7, 7]);
+
+    let mut heap = Heap::new(8, 2, 4).expect("a good shape");
+    for (n, r) in [(2, 0), (1, 1), (3, 2)] {
+        heap.allocate(n, r).expect("a free chunk");
+    }
+    assert_eq!(&buffers, heap.buffers());
+    assert_eq!((buffers.a[0], buffers.b[0]), (119, 185));
+}
+
+#[test]
+fn an_empty_list_formats() {
+    let mut buffers = used();
+    let mut replies = [7; 2];
+    let accepted = replay(lend(8, &mut buffers), &[], &mut replies);
+    assert_eq!(accepted, reply(0, 0));
+    assert_eq!(replies, [7; 2]);
+    assert_eq!(Ok(buffers), Heap::new(8, 2, 4).map(Heap::into_buffers));
+}
+
+#[test]
+fn refusals() {
+    assert_eq!(refusal(16, &P1, 12), 1);
+    for length in 13..16 {
+        assert_eq!(refusal(8, &P1[..length], 12), 10);
+    }
+    for words in [
+        [8, 0, 0, 0],
+        [u64::MAX, 0, 0, 0],
+        [3, 0, 65_536, 0],
+        [4, 0, 0, 65_536],
+    ] {
+        let mut calls = P1;
+        calls[8..12].copy_from_slice(&words);
+        assert_eq!(refusal(8, &calls, 12), 9);
+    }
+    for room in [0, 3, 11] {
+        assert_eq!(refusal(8, &P1, room), 18);
+    }
+}
+
+#[test]
+fn refusals_in_order() {
+    let mut calls = P1;
+    calls[0] = 8;
+    assert_eq!(refusal(8, &calls, 11), 9);
+    assert_eq!(refusal(8, &calls[..15], 8), 10);
+    assert_eq!(refusal(16, &calls[..15], 8), 1);
+}
