@@ -9,3 +9,9 @@ pub type Ref = u16;
 
 // The largest heap, in blocks.
 pub const MAX_BLOCKS: usize = 8192;
+
+// The widest count, in bits.
+pub const MAX_WIDTH: usize = 4;
+
+// The most roots.
+pub const MAX_ROOTS: usize = 64;

@@ -2,6 +2,8 @@
 ghost use mathlib.Core.Path.{_≡_};
 ghost use Rattle.rules.specs.Heap.{isBlocks, shape};
 use blocks::MAX_BLOCKS;
+use blocks::MAX_ROOTS;
+use blocks::MAX_WIDTH;
 
 // Whether n is a power of two from 8 to the largest heap.
 fn is_blocks(n: usize) -> bool
@@ -36,13 +38,13 @@ pub fn is_shaped(
     if width < 1 {
         return false;
     }
-    if 4 < width {
+    if MAX_WIDTH < width {
         return false;
     }
     if roots < 1 {
         return false;
     }
-    if 64 < roots {
+    if MAX_ROOTS < roots {
         return false;
     }
     if a != blocks / 8 {

@@ -16,9 +16,9 @@ use Rattle.inner.specs.Replies.{lookReply}
 module _ (N w : ℕ) (h : Memory) where
   -- ---- the check itself
 
-  pub check-unshaped : shaped N w h ≡ false → Promise N w check h (reply 1 0 0) h
+  pub check-unshaped : (x : Reply) → shaped N w h ≡ false → x ≡ reply 1 0 0 → Promise N w check h x h
   unfolding answer onUndamaged require
-  check-unshaped e = record { reply-is = rw e; after-is = rw e }
+  check-unshaped x e x-is = record { reply-is = rw e x-is; after-is = rw e }
 
   pub check-damaged : (kind : ℕ) → shaped N w h ≡ true → kind ≡ damage N w h → (kind ≡ 0 → ⊥) → Promise N w check h (reply 2 kind 0) h
   unfolding answer onUndamaged require

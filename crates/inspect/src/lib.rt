@@ -35,11 +35,7 @@ pub fn check(
         roots.len(),
         waiting.len(),
     ) {
-        return Reply {
-            number: 1,
-            value: 0,
-            second: 0,
-        };
+        return tests::refusal(1);
     }
     let kind = kinds::damage_kind(blocks, width, a, b, counts, cells, roots, waiting);
     if kind != 0 {

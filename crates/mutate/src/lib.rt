@@ -37,11 +37,7 @@ pub fn format(
         roots.len(),
         waiting.len(),
     ) {
-        return Reply {
-            number: 1,
-            value: 0,
-            second: 0,
-        };
+        return tests::refusal(1);
     }
     bitmap::fill_bytes(a, 0);
     bitmap::fill_bytes(b, 255);

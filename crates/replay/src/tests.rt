@@ -6,6 +6,7 @@ ghost use Rattle.rules.specs.Heap.{shape};
 ghost use Rattle.replay.specs.Encoding.{isCall, areCalls};
 ghost use Rattle.replay.specs.Replay.{replyOn};
 use damage::shape;
+use inner::tests::acceptance;
 use inner::tests::refusal;
 use rules::Reply;
 
@@ -68,9 +69,5 @@ pub(crate) fn replay_reply(
     if room / 3 < n {
         return refusal(18);
     }
-    Reply {
-        number: 0,
-        value: n,
-        second: 0,
-    }
+    acceptance(n)
 }

@@ -23,9 +23,14 @@ shape-is c = sym (c .before .is-shaped .ensures) ∙ not-false _ (c .if1 .left)
 is-shaped-requires : tie.Need-is-shaped-requires
 is-shaped-requires c κs = search needs
 
+refusal-requires : tie.Need-refusal-requires
+refusal-requires c κs = search needs
+
 returns : tie.Need-returns
 returns c =
-    check-unshaped _ _ (lent (start (c .before))) (sym (c .before .is-shaped .ensures) ∙ not-true _ (c .if1 .taken))
+    let tested = c .before in
+    check-unshaped _ _ (lent (start (tested .before))) _ (sym (tested .before .is-shaped .ensures) ∙ not-true _ (tested .if1 .taken))
+    (c .refusal .ensures)
 
 damage-kind-requires : tie.Need-damage-kind-requires
 damage-kind-requires c κs = shape-is c
@@ -49,6 +54,7 @@ check-spec =
     tie.close
     (tie.spec
     is-shaped-requires
+    refusal-requires
     returns
     damage-kind-requires
     returns-2

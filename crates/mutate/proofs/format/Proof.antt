@@ -9,8 +9,13 @@ use Rattle.mutate.proofs.format.Tie as tie
 is-shaped-requires : tie.Need-is-shaped-requires
 is-shaped-requires c κs = search needs
 
+refusal-requires : tie.Need-refusal-requires
+refusal-requires c κs = search needs
+
 returns : tie.Need-returns
-returns c = format-refused _ _ _ (sym (c .before .is-shaped .ensures) ∙ not-true _ (c .if1 .taken))
+returns c =
+    let tested = c .before in
+    format-refused _ _ _ _ (sym (tested .before .is-shaped .ensures) ∙ not-true _ (tested .if1 .taken)) (c .refusal .ensures)
 
 fill-bytes-requires : tie.Need-fill-bytes-requires
 fill-bytes-requires c κs = search needs
@@ -67,6 +72,7 @@ format-spec =
     tie.close
     (tie.spec
     is-shaped-requires
+    refusal-requires
     returns
     fill-bytes-requires
     fill-bytes-requires-2

@@ -73,10 +73,13 @@ returns-4 c =
       unlessFails,
     ) (c .refusal4 .ensures)
 
+acceptance-requires : tie.Need-acceptance-requires
+acceptance-requires c κs = search needs
+
 returns-5 : tie.Need-returns-5
 unfolding replyOn unlessFails
 returns-5 c =
-    let tested = c .before in
+    let tested = c .before .before in
     let args = tested .before .before .before .before .before .before .args in
     rw (
       shaped (tested .before .before .before),
@@ -85,7 +88,7 @@ returns-5 c =
       le-leb (3 * (length (args .calls .now) / 4)) (args .room) (omega arith),
       replyOn,
       unlessFails,
-    ) refl
+    ) (c .acceptance .ensures)
 
 pub replay-reply-spec : {M : Type 1} → statement M
 replay-reply-spec =
@@ -101,4 +104,5 @@ replay-reply-spec =
     returns-3
     refusal-requires-4
     returns-4
+    acceptance-requires
     returns-5)
