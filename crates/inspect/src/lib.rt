@@ -65,10 +65,10 @@ pub fn free_blocks(
         reply
         (memory (now (a .entry)) (now (b .entry)) (now (counts .entry)) (now (cells .entry)) (now (roots .entry)) (now (waiting .entry))) ⌝ }
 {
-    let state = check(blocks, width, a, b, counts, cells, roots, waiting);
-    let number = state.number;
+    let check_reply = check(blocks, width, a, b, counts, cells, roots, waiting);
+    let number = check_reply.number;
     if number != 0 {
-        return state;
+        return check_reply;
     }
     tests::acceptance(bitmap::count_zeros(a))
 }
