@@ -1,5 +1,6 @@
 //! The eight calls as data, and their four words in a file.
 
+use crate::counting::{longest_waiting, Order};
 use crate::heap::Memory;
 use crate::rules::{self, Reply};
 
@@ -39,12 +40,23 @@ impl Call {
 
 /// Carries out one call on the lent memory and gives its reply.
 pub fn apply(blocks: usize, width: usize, memory: &mut Memory, call: Call) -> Reply {
+    apply_in_order(blocks, width, memory, call, &mut longest_waiting)
+}
+
+/// The same, with the order in which objects that wait are freed.
+pub fn apply_in_order(
+    blocks: usize,
+    width: usize,
+    memory: &mut Memory,
+    call: Call,
+    order: Order,
+) -> Reply {
     match call {
         Call::Format => rules::format(blocks, width, memory),
         Call::Check => rules::check(blocks, width, memory),
-        Call::Allocate { n, r } => rules::allocate(blocks, width, memory, n, r),
-        Call::StoreRoot { r, v } => rules::store_root(blocks, width, memory, r, v),
-        Call::StoreCell { a, j, v } => rules::store_cell(blocks, width, memory, a, j, v),
+        Call::Allocate { n, r } => rules::allocate(blocks, width, memory, n, r, order),
+        Call::StoreRoot { r, v } => rules::store_root(blocks, width, memory, r, v, order),
+        Call::StoreCell { a, j, v } => rules::store_cell(blocks, width, memory, a, j, v, order),
         Call::Collect => rules::collect(blocks, width, memory),
         Call::Look { a } => rules::look(blocks, width, memory, a),
         Call::FreeBlocks => rules::free_blocks(blocks, width, memory),

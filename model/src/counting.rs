@@ -22,25 +22,46 @@ pub fn count_up(blocks: usize, width: usize, memory: &mut Memory, v: u16) {
     }
 }
 
+/// Which of the objects that wait to be freed is taken next: a place in the list of their first blocks, which
+/// isn't empty, in the order in which they began to wait.
+///
+/// Document 02, U7: "Implementers differ in the order of taking the objects waiting to be freed. Show that from
+/// an undamaged heap each order ends in the same maps, cells, counts and freed blocks."
+pub type Order<'a> = &'a mut dyn FnMut(&[usize]) -> usize;
+
+/// The model's own order. Document 01 leaves it open.
+pub fn longest_waiting(_waiting: &[usize]) -> usize {
+    0
+}
+
 /// "then the old object, if any, is counted down." "A count-down to 0 frees the object", "and each object
 /// its cells named is counted down likewise, once for each cell."
-pub fn count_down(blocks: usize, width: usize, memory: &mut Memory, old: u16) {
-    // What still is to be counted down, the longest waiting first. Document 01 leaves the order open.
-    let mut to_count_down = std::collections::VecDeque::from([old]);
-    while let Some(v) = to_count_down.pop_front() {
-        if v == 0 {
-            continue;
+pub fn release(blocks: usize, width: usize, memory: &mut Memory, old: u16, order: Order) {
+    let mut waiting = Vec::new();
+    count_down(blocks, width, memory, old, &mut waiting);
+    while !waiting.is_empty() {
+        let first = waiting.remove(order(&waiting));
+        let cells = memory.cells[cell_places(blocks, memory, first)].to_vec();
+        erase(blocks, width, memory, first);
+        for v in cells {
+            count_down(blocks, width, memory, v, &mut waiting);
         }
-        let first = named(blocks, memory, v).expect("an undamaged heap's cells name objects");
-        let now = count(blocks, width, memory, first);
-        if now == capacity(width) {
-            continue;
-        }
-        set_count(blocks, width, memory, first, now - 1);
-        if now - 1 == 0 {
-            to_count_down.extend(&memory.cells[cell_places(blocks, memory, first)]);
-            erase(blocks, width, memory, first);
-        }
+    }
+}
+
+/// One count-down. An object whose count it brings to 0 waits to be freed. "A count at capacity is stuck".
+fn count_down(blocks: usize, width: usize, memory: &mut Memory, v: u16, waiting: &mut Vec<usize>) {
+    if v == 0 {
+        return;
+    }
+    let first = named(blocks, memory, v).expect("an undamaged heap's cells name objects");
+    let now = count(blocks, width, memory, first);
+    if now == capacity(width) {
+        return;
+    }
+    set_count(blocks, width, memory, first, now - 1);
+    if now - 1 == 0 {
+        waiting.push(first);
     }
 }
 

@@ -2,10 +2,12 @@
 //!
 //! "Each list is in order, and the first number that applies is given. No refusal is given when its
 //! condition is false."
+//!
+//! The calls that let go of a reference take the order in which objects that wait are freed (counting.rs).
 
 use crate::chunks::{least_power_of_two, lowest_free_chunk};
 use crate::collection::sweep_and_recount;
-use crate::counting::{count_down, count_up};
+use crate::counting::{count_up, release, Order};
 use crate::damage::damage;
 use crate::heap::{
     count, free_count, is_first_block, misshapen, named, set_bit, set_count, size, Memory,
@@ -88,7 +90,14 @@ pub fn check(blocks: usize, width: usize, memory: &Memory) -> Reply {
 ///
 /// "Allocate: 1, 2; 3 if n is 0 or above N; 4 if r is not below the number of roots; 5 if no chunk of s
 /// blocks is free."
-pub fn allocate(blocks: usize, width: usize, memory: &mut Memory, n: usize, r: usize) -> Reply {
+pub fn allocate(
+    blocks: usize,
+    width: usize,
+    memory: &mut Memory,
+    n: usize,
+    r: usize,
+    order: Order,
+) -> Reply {
     if let Some(reply) = refused_1_or_2(blocks, width, memory) {
         return reply;
     }
@@ -116,7 +125,7 @@ pub fn allocate(blocks: usize, width: usize, memory: &mut Memory, n: usize, r: u
     // "Then the reference is stored in root r as below, except that the new object isn't counted up again."
     let old = memory.roots[r];
     memory.roots[r] = (1 + first) as u16;
-    count_down(blocks, width, memory, old);
+    release(blocks, width, memory, old, order);
     leave_waiting_list_zero(memory);
     // "The value is the first block."
     accepted(first)
@@ -125,7 +134,14 @@ pub fn allocate(blocks: usize, width: usize, memory: &mut Memory, n: usize, r: u
 /// "Store v in root r".
 ///
 /// "Store in a root: 1, 2, 4; 8 if v is neither 0 nor 1 + a first block."
-pub fn store_root(blocks: usize, width: usize, memory: &mut Memory, r: usize, v: u16) -> Reply {
+pub fn store_root(
+    blocks: usize,
+    width: usize,
+    memory: &mut Memory,
+    r: usize,
+    v: u16,
+    order: Order,
+) -> Reply {
     if let Some(reply) = refused_1_or_2(blocks, width, memory) {
         return reply;
     }
@@ -141,7 +157,7 @@ pub fn store_root(blocks: usize, width: usize, memory: &mut Memory, r: usize, v:
     count_up(blocks, width, memory, v);
     let old = memory.roots[r];
     memory.roots[r] = v;
-    count_down(blocks, width, memory, old);
+    release(blocks, width, memory, old, order);
     leave_waiting_list_zero(memory);
     // "The value is the number of blocks freed."
     accepted(free_count(blocks, memory) - free_before)
@@ -157,6 +173,7 @@ pub fn store_cell(
     a: usize,
     j: usize,
     v: u16,
+    order: Order,
 ) -> Reply {
     if let Some(reply) = refused_1_or_2(blocks, width, memory) {
         return reply;
@@ -175,7 +192,7 @@ pub fn store_cell(
     count_up(blocks, width, memory, v);
     let old = memory.cells[4 * a + j];
     memory.cells[4 * a + j] = v;
-    count_down(blocks, width, memory, old);
+    release(blocks, width, memory, old, order);
     leave_waiting_list_zero(memory);
     // "The value is the number of blocks freed."
     accepted(free_count(blocks, memory) - free_before)

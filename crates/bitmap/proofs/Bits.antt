@@ -31,14 +31,14 @@ bit-le b (suc k) =
 
 -- ---- a bit put
 
-put-zero : (b v : ℕ) → putBit b zero v ≡ b / 2 * 2 + v
+pub put-zero : (b v : ℕ) → putBit b zero v ≡ b / 2 * 2 + v
 put-zero b v = omega arith
 
 put-suc : (b k v : ℕ) → putBit b (suc k) v ≡ putBit (b / 2) k v * 2 + b % 2
 put-suc b k v =
     omega (arith, bit-le (b / 2) k, shift-suc (bitOf b (suc k)) k, shift-suc v k, ap (λ (x : ℕ). x * 2 ^ k) (bit-suc b k))
 
-put-half : (b k v : ℕ) → putBit b (suc k) v / 2 ≡ putBit (b / 2) k v
+pub put-half : (b k v : ℕ) → putBit b (suc k) v / 2 ≡ putBit (b / 2) k v
 put-half b k v = omega (arith, put-suc b k v)
 
 -- a number of n bits stays one

@@ -2,3 +2,4 @@ pub mod Bits
 pub mod Maps
 pub mod Runs
 pub mod Zeros
+pub mod Rewrites

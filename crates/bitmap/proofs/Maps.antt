@@ -38,19 +38,19 @@ unfolding setBit
 length-set-bit map i v = length-set map (i / 8) (putBit (getD map (i / 8) 0) (i % 8) v)
 
 -- past the end nothing is written
-set-bit-past-end : (map : List ℕ) (i v : ℕ) → length map ≤ i / 8 → setBit map i v ≡ map
+pub set-bit-past-end : (map : List ℕ) (i v : ℕ) → length map ≤ i / 8 → setBit map i v ≡ map
 unfolding setBit
 set-bit-past-end map i v h = set-out map (i / 8) (putBit (getD map (i / 8) 0) (i % 8) v) h
 
 -- the byte that holds the bit, and the others
-byte-same : (map : List ℕ) (i v : ℕ) → i / 8 < length map → (j : ℕ) → j ≡ i / 8
+pub byte-same : (map : List ℕ) (i v : ℕ) → i / 8 < length map → (j : ℕ) → j ≡ i / 8
     → getD (setBit map i v) j 0 ≡ putBit (getD map j 0) (i % 8) v
 unfolding setBit
 byte-same map i v h j e =
     subst (λ (k : ℕ). getD (setBit map i v) k 0 ≡ putBit (getD map k 0) (i % 8) v) (sym e)
     (getD-set-same map (i / 8) (putBit (getD map (i / 8) 0) (i % 8) v) 0 h)
 
-byte-other : (map : List ℕ) (i v j : ℕ) → j ≢ i / 8 → getD (setBit map i v) j 0 ≡ getD map j 0
+pub byte-other : (map : List ℕ) (i v j : ℕ) → j ≢ i / 8 → getD (setBit map i v) j 0 ≡ getD map j 0
 unfolding setBit
 byte-other map i v j ne = getD-set-other map (i / 8) j (putBit (getD map (i / 8) 0) (i % 8) v) 0 ne
 

@@ -5,25 +5,13 @@ use mathlib.Core.List.{List, [], _∷_}
 use Prim.Native.Nat.{ℕ, zero, suc, _+_, _-_, _*_, _<_}
 use native.Mathlib.Omega.{arith}
 use lib.ListN.{length}
-use Rattle.bitmap.specs.Bit.{fillBits, zeros}
-use Rattle.bitmap.proofs.Zeros.{zeros-fill-zeros}
+use Rattle.bitmap.specs.Bit.{zeros}
 use Rattle.rules.specs.Heap.{Memory, isFirst, sizeAt, isRef}
 use Rattle.rules.specs.Store.{freed, release, letGo, putRoot, putCell, storeRootIn, storeCellIn}
 use Rattle.references.specs.Blocks.{releasedBlocks, letGoBlocks, putRootBlocks, putCellBlocks, storeRootBlocks, storeCellBlocks}
-use Rattle.theory.proofs.Graphs.Balance.{waits-head}
-use Rattle.theory.proofs.Memories.View.{view}
 use Rattle.theory.proofs.Memories.Healthy.{Healthy}
-use Rattle.theory.proofs.Memories.ViewRelease.{Releasing, size-there, releasing-next}
+use Rattle.theory.proofs.Memories.ViewRelease.{Releasing, freed-zeros, releasing-next}
 use Rattle.theory.proofs.Memories.Stores.{store-root, store-cell}
-
--- the blocks of the first that waits
-freed-zeros :
-    (N w : ℕ) (h : Memory) (x : ℕ) (rest : List ℕ) → Releasing N w h (x ∷ rest)
-    → zeros (fillBits (h .a) x (sizeAt N h x) 0) ≡ zeros (h .a) + sizeAt N h x
-freed-zeros N w h x rest before =
-    let same = size-there N w h x rest before in
-    let inside = before .represents .inside x (waits-head (view N w h) x rest (before .waits) .0) in
-    zeros-fill-zeros (h .a) x (sizeAt N h x) (omega (arith, before .represents .length-a)) (λ i l u. before .represents .used x i l (omega arith))
 
 release-zeros :
     (N w fuel : ℕ) {h : Memory} {stack : List ℕ} → Releasing N w h stack

@@ -7,12 +7,11 @@ use native.Mathlib.Decide.{decLt}
 use native.Mathlib.Omega.{arith}
 use lib.ListN.{length, getD, set, List·getD-eq-default}
 use Rattle.rules.specs.Heap.{Memory, withCounts, withCells, withRoots, withWaiting}
-use Rattle.rules.specs.Store.{countUp, freed, release, letGo, putRoot, putCell, placed, storeRootIn, storeCellIn, allocateIn}
+use Rattle.rules.specs.Store.{countUp, freed, workAfter, memoryAfter, release, letGo, putRoot, putCell, placed, storeRootIn, storeCellIn, allocateIn}
 use Rattle.rules.specs.Calls.{settled}
 use Rattle.references.specs.Ready.{Ready}
 use Rattle.theory.proofs.Memories.Slots.{root-slot, cell-slot}
 use Rattle.theory.proofs.Memories.Healthy.{Healthy}
-use Rattle.theory.proofs.Memories.ViewRelease.{workAfter, memoryAfter}
 use Rattle.theory.proofs.Memories.Stores.{workLeft, memoryLeft, slots-named}
 
 pub healthy-ready : (N w : ℕ) (h : Memory) → Healthy N w h → Ready N w (settled N h)

@@ -11,6 +11,7 @@ use native.Mathlib.Omega.{arith}
 use lib.ListN.{length, replicate}
 use Rattle.bitmap.specs.Bit.{bitOf, bitAt, setBit, Bytes}
 use Rattle.bitmap.proofs.Bits.{bit-lt, bit-below, bit-top, bits-ext}
+use Rattle.bitmap.proofs.Rewrites.{Rewritten, same, bit}
 use Rattle.bitmap.proofs.Maps.{bit-at-lt, length-set-bit, bit-set-same, bit-set-other, set-bit-there, bytes-set-bit, bit-all-zero, map-ext}
 use Rattle.planes.specs.Plane.{planeBit, countAt, setCount}
 use Rattle.planes.proofs.Places.{plane-bit-inside, same-block, same-plane, plane-of}
@@ -152,17 +153,25 @@ pub set-count-there : (bytes width : ℕ) (counts : List ℕ) (b v : ℕ) → co
 set-count-there bytes width counts b v e =
     set-bits-there bytes width counts b v (λ k l. sym (count-bit bytes width counts b k l) ∙ ap (λ (x : ℕ). bitOf x k) e)
 
+-- a count is written bit by bit
+pub rewritten-set-count : (bytes width : ℕ) (counts : List ℕ) (b v : ℕ) → Rewritten counts (setCount bytes width counts b v)
+unfolding setCount
+rewritten-set-count bytes zero counts b v = same
+rewritten-set-count bytes (suc k) counts b v = bit (planeBit bytes k b) (bitOf v k) (bit-lt v k) (rewritten-set-count bytes k counts b v)
+
 -- ---- a buffer is known by its counts
+
+pub counts-bits : (bytes width : ℕ) (counts other : List ℕ) → length counts ≡ width * bytes
+    → ((b : ℕ) → b < 8 * bytes → countAt bytes width counts b ≡ countAt bytes width other b)
+    → (i : ℕ) → i < 8 * length counts → bitAt counts i ≡ bitAt other i
+counts-bits bytes width counts other lc h i l = at (plane-of bytes width i (omega arith))
+  where
+    at : ((k : ℕ) × (b : ℕ) × (k < width) × (b < 8 * bytes) × (planeBit bytes k b ≡ i)) → bitAt counts i ≡ bitAt other i
+    at (k, b, hk, hb, e) =
+        ap (bitAt counts) (sym e) ∙ sym (count-bit bytes width counts b k hk) ∙ ap (λ (x : ℕ). bitOf x k) (h b hb)
+        ∙ count-bit bytes width other b k hk ∙ ap (bitAt other) e
 
 pub counts-ext : (bytes width : ℕ) (counts other : List ℕ) → Bytes counts → Bytes other
     → length counts ≡ width * bytes → length other ≡ width * bytes
     → ((b : ℕ) → b < 8 * bytes → countAt bytes width counts b ≡ countAt bytes width other b) → counts ≡ other
-counts-ext bytes width counts other bc bo lc lo h = map-ext counts other bc bo (lc ∙ sym lo) bit
-  where
-    bit : (i : ℕ) → i < 8 * length counts → bitAt counts i ≡ bitAt other i
-    bit i l = at (plane-of bytes width i (omega arith))
-      where
-        at : ((k : ℕ) × (b : ℕ) × (k < width) × (b < 8 * bytes) × (planeBit bytes k b ≡ i)) → bitAt counts i ≡ bitAt other i
-        at (k, b, hk, hb, e) =
-            ap (bitAt counts) (sym e) ∙ sym (count-bit bytes width counts b k hk) ∙ ap (λ (x : ℕ). bitOf x k) (h b hb)
-            ∙ count-bit bytes width other b k hk ∙ ap (bitAt other) e
+counts-ext bytes width counts other bc bo lc lo h = map-ext counts other bc bo (lc ∙ sym lo) (counts-bits bytes width counts other lc h)

@@ -61,16 +61,24 @@ freed N w h i n =
     (withCounts (setCount (N / 8) w (h .counts) i 0)
     (withCells (clearCells (h .cells) (4 * i) (4 * n)) h)))
 
+-- One step: the object at i is taken off and freed while the objects of `rest` go on to wait, "and each object its cells named is counted
+-- down likewise, once for each cell". The counts and what waits then,
+abbrev pub workAfter : ℕ → ℕ → Memory → (i : ℕ) → (rest : List ℕ) → Work
+workAfter N w h i rest =
+    let n = sizeAt N h i in
+    countDownEach N w (work ((freed N w h i n) .counts) rest) (h .cells) (4 * i) (4 * n)
+
+-- and the memory
+abbrev pub memoryAfter : ℕ → ℕ → Memory → (i : ℕ) → (rest : List ℕ) → Memory
+memoryAfter N w h i rest = withCounts ((workAfter N w h i rest) .counts) (freed N w h i (sizeAt N h i))
+
 -- The waiting objects are freed, the last one first, until none waits. Each step frees one object, so N steps are enough (proved as
--- `NStepsSuffice`, theory/specs/Statements.antt).
+-- `NStepsSuffice`, theory/specs/Statements.antt). Every other order ends in the same memory (proved as `OrderUnseen`,
+-- theory/specs/Orders.antt).
 unfoldable pub release : (steps : ℕ) → ℕ → ℕ → Memory → List ℕ → Memory
 release zero N w h stack = h
 release (suc f) N w h [] = h
-release (suc f) N w h (i ∷ rest) =
-    let n = sizeAt N h i in
-    let g = freed N w h i n in
-    let s = countDownEach N w (work (g .counts) rest) (h .cells) (4 * i) (4 * n) in
-    release f N w (withCounts (s .counts) g) (s .stack)
+release (suc f) N w h (i ∷ rest) = release f N w (memoryAfter N w h i rest) ((workAfter N w h i rest) .stack)
 
 -- "then the old object, if any, is counted down", with all that this frees in the given number of steps
 abbrev pub letGoIn : (steps N w : ℕ) → Memory → (v : ℕ) → Memory

@@ -13,3 +13,5 @@ pub mod ViewSweep
 pub mod Rounds
 pub mod Recount
 pub mod ViewCollection
+pub mod SameView
+pub mod Orders

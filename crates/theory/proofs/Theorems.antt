@@ -1,4 +1,4 @@
--- The statements of specs/Statements.antt, proved, and demand 3.
+-- The statements of specs/, proved, and demand 3.
 use mathlib.Core.Path.{_≡_, refl, sym, _∙_, subst}
 use mathlib.Core.Bool.{_&&_}
 use mathlib.Core.Option.{Option, none, some}
@@ -18,6 +18,7 @@ use Rattle.rules.proofs.Shape.{shape-facts}
 use Rattle.rules.proofs.Chunks.{exponent-covers, exponent-least}
 use Rattle.theory.specs.Statements.{Undamaged, CallsKeepUndamaged, FormatMakesUndamaged, RefusedExactly, Lowest, LowestTaken}
 use Rattle.theory.specs.Statements.{LeastPower, NStepsSuffice, ReachedIsLed, EveryListHasAChain, ObjectsAreEnds}
+use Rattle.theory.specs.Orders.{OrderUnseen}
 use Rattle.theory.proofs.Maps.Extents.{sizesOf}
 use Rattle.theory.proofs.Maps.LowestChunk.{lowest-some, room, refused-none-free, none-free-refused}
 use Rattle.theory.proofs.Maps.Parse.{parse}
@@ -26,6 +27,7 @@ use Rattle.theory.proofs.Maps.Undamaged.{kinds-delimited}
 use Rattle.theory.proofs.Memories.Healthy.{Healthy, healthy-facts, healthy-shaped, healthy-no-damage}
 use Rattle.theory.proofs.Memories.Formatted.{formatted-healthy}
 use Rattle.theory.proofs.Memories.Fuel.{steps-suffice}
+use Rattle.theory.proofs.Memories.Orders.{one-end}
 use Rattle.theory.proofs.Memories.Stores.{store-root, store-cell, allocate-root}
 use Rattle.theory.proofs.Memories.Rounds.{reached-led, led-reached}
 use Rattle.theory.proofs.EachCall.Served.{on-undamaged}
@@ -103,6 +105,18 @@ n-steps-suffice N w h u steps enough =
       new = λ n r i some-blocks l found.
           steps-suffice N w steps _ _
           (allocate-root N w h fine n i (omega arith) (room N (h .a) n i found) r l .releasing) enough;
+    }
+
+-- request U7
+pub order-unseen : OrderUnseen
+unfolding storeRootIn storeCellIn allocateIn placed putRoot putCell letGo
+order-unseen N w h u =
+    let fine = undamaged-healthy N w h u in
+    record {
+      in-root = λ r v l ref. one-end N w _ _ (store-root N w h fine v ref r l .releasing);
+      in-cell = λ a j v first l ref. one-end N w _ _ (store-cell N w h fine v ref a j first l .releasing);
+      new = λ n r i some-blocks l found.
+          one-end N w _ _ (allocate-root N w h fine n i (omega arith) (room N (h .a) n i found) r l .releasing);
     }
 
 pub objects-are-ends : ObjectsAreEnds

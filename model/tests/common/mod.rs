@@ -1,6 +1,8 @@
 //! What several test files use.
 #![allow(dead_code)]
 
+use model::families::generate;
+use model::file::{Bench, Entry};
 use model::{apply, claims, Call, Memory, Reply};
 use std::io::Write;
 
@@ -24,4 +26,17 @@ pub fn call_and_claims(blocks: usize, width: usize, memory: &mut Memory, call: C
         panic!("{what}\ncall {call:?}\nreply {reply:?}\nbefore {before:?}\nafter {memory:?}");
     }
     reply
+}
+
+/// Shows every call of a family's list, with the heap before it.
+pub fn each_call(family: &str, seed: u64, entries: usize, mut show: impl FnMut(&Bench, Call)) {
+    let desk = generate(family, seed, entries).unwrap();
+    let mut bench = Bench::of_any_size(desk.header);
+    for words in desk.entries {
+        let entry = Entry::from_words(words);
+        if let Entry::Call(call) = entry {
+            show(&bench, call);
+        }
+        bench.carry_out(entry, apply);
+    }
 }

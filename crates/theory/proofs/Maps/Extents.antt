@@ -166,7 +166,7 @@ module _ (N : ℕ) (a b sizes : List ℕ) (rep : Represents N a b sizes) where
 -- ---- sizes have one pair of maps
 
 module _ (N : ℕ) (a b c d sizes : List ℕ) (p : Represents N a b sizes) (q : Represents N c d sizes) where
-  same-a : (i : ℕ) → bitAt a i ≡ bitAt c i
+  pub same-a : (i : ℕ) → bitAt a i ≡ bitAt c i
   same-a i = elim (bit-cases a i) [
     | inr e ↦ let o = p .owner i e in e ∙ sym (q .used (o .0) i (o .1) (o .2))
     | inl e ↦ elim (bit-cases c i) [
@@ -175,7 +175,7 @@ module _ (N : ℕ) (a b c d sizes : List ℕ) (p : Represents N a b sizes) (q : 
     ]
   ]
 
-  same-b : (i : ℕ) → i < N → bitAt b i ≡ bitAt d i
+  pub same-b : (i : ℕ) → i < N → bitAt b i ≡ bitAt d i
   same-b i l = elim (bit-cases a i) [
     | inl e ↦ p .other i l (no-end e) ∙ sym (q .other i l (no-end e))
     | inr e ↦ let o = p .owner i e in

@@ -4,12 +4,12 @@ use mathlib.Core.List.{List, [], _∷_}
 use Prim.Native.Nat.{ℕ, zero, suc, _+_, _≤_}
 use native.Mathlib.Omega.{arith}
 use Rattle.rules.specs.Heap.{Memory}
-use Rattle.rules.specs.Store.{freed, release}
+use Rattle.rules.specs.Store.{freed, workAfter, memoryAfter, release}
 use Rattle.theory.proofs.Graphs.Occurrences.{occurrences}
 use Rattle.theory.proofs.Graphs.Balance.{waits-bound, waits-head, fewer}
 use Rattle.theory.proofs.Maps.Extents.{sizesOf, length-sizes-of}
 use Rattle.theory.proofs.Memories.View.{view}
-use Rattle.theory.proofs.Memories.ViewRelease.{Releasing, releasing-next, sizes-after, memoryAfter, workAfter}
+use Rattle.theory.proofs.Memories.ViewRelease.{Releasing, releasing-next, sizes-after}
 
 steps-left :
     (N w fuel steps : ℕ) (h : Memory) (stack : List ℕ) → Releasing N w h stack → N ≤ occurrences 0 (sizesOf N (h .a) (h .b)) + fuel

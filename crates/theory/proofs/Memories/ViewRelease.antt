@@ -7,13 +7,14 @@ use native.Mathlib.Nat.{add-assoc}
 use native.Mathlib.Omega.{arith}
 use lib.ListN.{length, set}
 use lib.Seq.{getD-append-add}
-use Rattle.bitmap.specs.Bit.{setBit, fillBits}
+use Rattle.bitmap.specs.Bit.{setBit, fillBits, zeros}
 use Rattle.bitmap.proofs.Maps.{length-set-bit}
 use Rattle.bitmap.proofs.Runs.{length-fill}
+use Rattle.bitmap.proofs.Zeros.{zeros-fill-zeros}
 use Rattle.planes.specs.Plane.{setCount}
 use Rattle.planes.proofs.Counts.{set-count-there}
-use Rattle.rules.specs.Heap.{Memory, withCounts, capacity, sizeAt}
-use Rattle.rules.specs.Store.{Work, work, countDownEach, freed, release}
+use Rattle.rules.specs.Heap.{Memory, capacity, sizeAt}
+use Rattle.rules.specs.Store.{freed, workAfter, memoryAfter, release}
 use Rattle.rules.proofs.Shape.{Shaped}
 use Rattle.theory.proofs.Maps.Extents.{Represents, sizesOf, length-sizes-of, extent, represents-is}
 use Rattle.theory.proofs.Maps.Moves.{freed-represents}
@@ -68,14 +69,6 @@ pub record Releasing (N w : ℕ) (h : Memory) (stack : List ℕ) : Type 0 where
 
 -- ---- one object is freed
 
--- the work that is left when the object at x is freed, and the memory then
-abbrev pub workAfter : ℕ → ℕ → Memory → ℕ → List ℕ → Work
-workAfter N w h x rest =
-    countDownEach N w (work ((freed N w h x (sizeAt N h x)) .counts) rest) (h .cells) (4 * x) (4 * sizeAt N h x)
-
-abbrev pub memoryAfter : ℕ → ℕ → Memory → ℕ → List ℕ → Memory
-memoryAfter N w h x rest = withCounts ((workAfter N w h x rest) .counts) (freed N w h x (sizeAt N h x))
-
 module _ (N w : ℕ) (h : Memory) (shape : Shaped N w h) (positive : 0 < capacity w) (balanced : Balanced (capacity w) (view N w h) 0) where
   -- every slot names a block of the heap
   pub slot-le : (s : ℕ) → slot (view N w h) s ≤ N
@@ -99,6 +92,13 @@ module _ (N w : ℕ) (h : Memory) (x : ℕ) (rest : List ℕ) (before : Releasin
 
   pub size-there : sizeAt N h x ≡ size (view N w h) x
   size-there = extent N (h .a) (h .b) (sizesOf N (h .a) (h .b)) (before .represents) x object
+
+  -- its blocks become free
+  pub freed-zeros : zeros (fillBits (h .a) x (sizeAt N h x) 0) ≡ zeros (h .a) + sizeAt N h x
+  freed-zeros =
+      let same = size-there in
+      let inside = before .represents .inside x object in
+      zeros-fill-zeros (h .a) x (sizeAt N h x) (omega (arith, before .represents .length-a)) (λ i l u. before .represents .used x i l (omega arith))
 
   -- its count is 0 already
   same-counts : setCount (N / 8) w (h .counts) x 0 ≡ h .counts
@@ -128,7 +128,7 @@ module _ (N w : ℕ) (h : Memory) (x : ℕ) (rest : List ℕ) (before : Releasin
       represents-is N (fillBits (h .a) x (sizeAt N h x) 0) (setBit (h .b) (x + sizeAt N h x - 1) 1) (set (sizesOf N (h .a) (h .b)) x 0)
       maps-after
 
-  view-after : view N w (memoryAfter N w h x rest) ≡ graph.free (capacity w) (length (h .roots)) (view N w h) x
+  pub view-after : view N w (memoryAfter N w h x rest) ≡ graph.free (capacity w) (length (h .roots)) (view N w h) x
   unfolding freed graph.free
   view-after =
       graph-is (sym sizes-after) (work-after .counts-are)
