@@ -63,9 +63,9 @@ enum huwekapo_damage {
                                          its size or more */
     HUWEKAPO_DANGLING_REFERENCE = 4,  /* a cell of a free block that isn't 0, or a cell or root that is neither 0 nor
                                          1 + a first block */
-    HUWEKAPO_WRONG_COUNT = 5,         /* a count other than 0 where no object starts; an object with count 0; a count below
+    HUWEKAPO_WRONG_COUNT = 5          /* a count other than 0 where no object starts; an object with count 0; a count below
                                          capacity that differs from the number of all cells and roots naming the object */
-    HUWEKAPO_WRONG_NUMBER_OF_ENDS = 6 /* the number of objects differs from the number of 0 bits in the B-map */
+    /* 6 is not used: it was the number of objects against the 0 bits of the B-map, which kinds 1 and 2 imply */
 };
 
 /* Makes an empty heap of whatever the buffers held: b is all ones, every other buffer all 0. The value is 0. Refusals: 1. */

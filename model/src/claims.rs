@@ -269,7 +269,7 @@ pub fn broken_claim(
         if before != after {
             return Some("a refusal changed a buffer".into());
         }
-        let kinds = if reply.number == 2 { 1..=6 } else { 0..=0 };
+        let kinds = if reply.number == 2 { 1..=5 } else { 0..=0 };
         if !kinds.contains(&reply.value) || reply.second != 0 || reply.number > 8 {
             return Some("a refusal with a wrong value".into());
         }

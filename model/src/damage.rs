@@ -1,4 +1,7 @@
-//! The six kinds of damage. "Each is tested over the whole heap before the next; the first found is reported."
+//! The kinds of damage. "Each is tested over the whole heap before the next; the first found is reported."
+//!
+//! Document 01's kind 6, "The number of objects differs from the number of 0 bits in the B-map", can't be met by
+//! a heap that passes kinds 1 and 2. Document 02, U9: "Then drop the kind; 7 keeps its number." So 6 is no kind.
 //!
 //! "The waiting list may hold anything on entry."
 
@@ -20,20 +23,18 @@ pub fn damage(blocks: usize, width: usize, memory: &Memory) -> usize {
         4
     } else if kind_5(blocks, width, memory) {
         5
-    } else if kind_6(blocks, memory) {
-        6
     } else {
         0
     }
 }
 
 /// "1. A 0 in the B-map on a free block."
-fn kind_1(blocks: usize, memory: &Memory) -> bool {
+pub fn kind_1(blocks: usize, memory: &Memory) -> bool {
     (0..blocks).any(|i| !is_allocated(memory, i) && bit(&memory.b, i) == 0)
 }
 
 /// "2. An allocated block with B bit 1 whose next block is free or past the end."
-fn kind_2(blocks: usize, memory: &Memory) -> bool {
+pub fn kind_2(blocks: usize, memory: &Memory) -> bool {
     (0..blocks).any(|i| {
         is_allocated(memory, i)
             && bit(&memory.b, i) == 1
@@ -69,13 +70,4 @@ fn kind_5(blocks: usize, width: usize, memory: &Memory) -> bool {
         }
         count == 0 || (count < capacity(width) && count != references(memory, i))
     })
-}
-
-/// "6. The number of objects differs from the number of 0 bits in the B-map."
-///
-/// This can't be met: without kind 1 each 0 stands on an allocated block, and without kind 2 each object
-/// ends on such a 0 and each such 0 ends one object. It is tested all the same.
-fn kind_6(blocks: usize, memory: &Memory) -> bool {
-    let zeros = (0..blocks).filter(|i| bit(&memory.b, *i) == 0).count();
-    first_blocks(blocks, memory).len() != zeros
 }

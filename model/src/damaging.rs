@@ -1,5 +1,5 @@
 //! Damage to a sound heap, as a list of numbers to write into its buffers: one way of each kind 1 to 5, and
-//! changes that may or may not be damage. Kind 6 can't be met once kinds 1 and 2 are absent (see damage.rs).
+//! changes that may or may not be damage.
 
 use crate::file::Bench;
 use crate::heap::{capacity, count, first_blocks, is_allocated, size, Memory};
@@ -8,13 +8,16 @@ use crate::random::Random;
 /// A load: buffer (0 a, 1 b, 2 counts, 3 cells, 4 roots, 5 waiting), index, value.
 pub type Load = (u64, usize, u64);
 
-/// Loads that aim at a kind 1 to 5 of damage in a used heap; 0 and 6 aim at nothing: 0 changes only what
-/// may stand in a sound heap, 6 anything. Where a kind isn't possible in this heap it is another, or none.
-pub fn some_damage(random: &mut Random, bench: &Bench, kind: usize) -> Vec<Load> {
+/// The aims of `some_damage`.
+pub const AIMS: usize = 7;
+
+/// Loads that aim at a kind 1 to 5 of damage in a used heap. Two aims are no kind: 0 changes only what may stand
+/// in a sound heap, the last one anything. Where a kind isn't possible in this heap it is another, or none.
+pub fn some_damage(random: &mut Random, bench: &Bench, aim: usize) -> Vec<Load> {
     let (blocks, memory) = (bench.blocks, &bench.memory);
     let free: Vec<usize> = (0..blocks).filter(|i| !is_allocated(memory, *i)).collect();
     let objects = first_blocks(blocks, memory);
-    let loads = match kind {
+    let loads = match aim {
         0 => harmless(random, bench, &objects),
         1 if !free.is_empty() => vec![flip(0, 1, &memory.b, random.pick(&free))],
         2 => open_end(random, blocks, memory, &free, &objects),

@@ -11,8 +11,8 @@ pub struct Tally {
     pub calls: usize,
     /// Replies by number, 0 to 8.
     pub numbers: [usize; 9],
-    /// Damage kinds reported, by kind.
-    pub kinds: [usize; 7],
+    /// Damage kinds reported, by kind, 1 to 5.
+    pub kinds: [usize; 6],
     /// Lines that say what is wrong with an entry.
     pub complaints: usize,
 }

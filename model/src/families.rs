@@ -2,7 +2,7 @@
 
 use crate::calls::Call;
 use crate::chunks::least_power_of_two;
-use crate::damaging;
+use crate::damaging::{some_damage, AIMS};
 use crate::generate::Desk;
 use crate::heap::free_count;
 use crate::random::Random;
@@ -319,7 +319,7 @@ fn star(desk: &mut Desk) {
 pub fn damage(desk: &mut Desk, count: usize) {
     let end = desk.entries.len() + count;
     desk.call(Call::Format);
-    let mut kind = desk.random.below(7);
+    let mut aim = desk.random.below(AIMS);
     while desk.entries.len() < end {
         for _ in 0..6 {
             let call = desk.some_call();
@@ -327,8 +327,8 @@ pub fn damage(desk: &mut Desk, count: usize) {
                 desk.call(call);
             }
         }
-        let loads = damaging::some_damage(&mut desk.random, &desk.bench, kind);
-        kind = (kind + 1) % 7;
+        let loads = some_damage(&mut desk.random, &desk.bench, aim);
+        aim = (aim + 1) % AIMS;
         let undo: Vec<(u64, usize, u64)> = loads
             .iter()
             .map(|(buffer, index, _)| (*buffer, *index, desk.bench.number_at(*buffer, *index)))

@@ -1,8 +1,9 @@
 //! Fresh random lists and damaged memories, on the model and on the product's library side by side: call by
-//! call, and then the calls of the list as one replay, as they are and spoilt.
+//! call, and then the calls of the list as one replay, as they are and spoilt. Before these, the check of every
+//! pair of maps of eight blocks.
 
 use crate::compare::{call_by_call, replayed};
-use crate::damaging::some_damage;
+use crate::damaging::{some_damage, AIMS};
 use crate::families::{random as random_calls, some_shape, FAMILIES};
 use crate::file::Entry;
 use crate::generate::Desk;
@@ -22,11 +23,14 @@ struct Found {
     text: String,
 }
 
-/// Runs lists for so many seconds. What was met, and a difference, as text.
+/// Checks all pairs of maps, then runs lists for so many seconds. What was met, and a difference, as text.
 pub fn fuzz(seconds: u64, seed: u64) -> (Met, Option<String>) {
+    let mut met = Met::default();
+    if let Some(difference) = pairs_of_maps(&mut met) {
+        return (met, Some(difference));
+    }
     let mut end = Instant::now() + Duration::from_secs(seconds);
     let mut random = Random::new(seed);
-    let mut met = Met::default();
     let mut shortest: Option<Found> = None;
     while Instant::now() < end {
         let desk = some_list(&mut random);
@@ -42,6 +46,20 @@ pub fn fuzz(seconds: u64, seed: u64) -> (Met, Option<String>) {
         shortest = Some(found);
     }
     (met, shortest.map(|found| found.text))
+}
+
+/// The check of every pair of an A-map and a B-map of eight blocks, in a heap that is otherwise fresh.
+fn pairs_of_maps(met: &mut Met) -> Option<String> {
+    let shape = [8, 2, 4];
+    (0..65_536).find_map(|pair| {
+        let mut desk = Desk::new(Random::new(0), shape);
+        desk.call(Call::Format);
+        desk.load(0, 0, pair / 256);
+        desk.load(1, 0, pair % 256);
+        desk.call(Call::Check);
+        met.pairs_of_maps += 1;
+        call_by_call(shape, &desk.entries, &mut Met::default())
+    })
 }
 
 /// A list call by call, and its calls replayed, as they are and spoilt.
@@ -126,8 +144,8 @@ fn damaged_calls(desk: &mut Desk, count: usize) {
         let call = desk.some_call();
         desk.call(call);
     }
-    let kind = desk.random.below(7);
-    for (buffer, index, value) in some_damage(&mut desk.random, &desk.bench, kind) {
+    let aim = desk.random.below(AIMS);
+    for (buffer, index, value) in some_damage(&mut desk.random, &desk.bench, aim) {
         desk.load(buffer, index, value);
     }
     every_call(desk);

@@ -12,8 +12,10 @@ pub struct Met {
     pub calls: usize,
     /// Replies by number, 0 to 8.
     pub numbers: [usize; 9],
-    /// Damage kinds by kind.
-    pub kinds: [usize; 7],
+    /// Damage kinds by kind, 1 to 5.
+    pub kinds: [usize; 6],
+    /// Pairs of an A-map and a B-map that were checked.
+    pub pairs_of_maps: usize,
     /// Calls on too many blocks.
     pub too_many_blocks: usize,
     pub replays: usize,
@@ -49,6 +51,7 @@ impl Met {
             "lists {}, calls {}, accepted {}\n\
              refusals by number  {}\n\
              damage by kind      {}\n\
+             pairs of maps checked   {}\n\
              calls on 16,384 blocks  {}\n\
              replays {}, accepted {}, calls in those {}\n\
              refusals of replays {}\n",
@@ -56,7 +59,8 @@ impl Met {
             self.calls,
             self.numbers[0],
             by(&self.numbers, 1..=8),
-            by(&self.kinds, 1..=6),
+            by(&self.kinds, 1..=5),
+            self.pairs_of_maps,
             self.too_many_blocks,
             self.replays,
             self.replay_numbers[0],

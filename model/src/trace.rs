@@ -2,7 +2,7 @@
 
 use crate::calls::Call;
 use crate::damage::damage;
-use crate::damaging::some_damage;
+use crate::damaging::{some_damage, AIMS};
 use crate::expect::buffer_lines;
 use crate::generate::Desk;
 use crate::heap::Memory;
@@ -54,7 +54,7 @@ pub fn damaged(seed: u64, count: usize) -> String {
             let call = desk.some_call();
             desk.call(call);
         }
-        for (buffer, index, value) in some_damage(&mut desk.random, &desk.bench, k % 7) {
+        for (buffer, index, value) in some_damage(&mut desk.random, &desk.bench, k % AIMS) {
             desk.load(buffer, index, value);
         }
         let bench = &desk.bench;
@@ -87,7 +87,7 @@ pub fn steps(seed: u64, count: usize) -> String {
             desk.load(5, i, rubbish);
         }
         if k % 8 == 7 {
-            for (buffer, index, value) in some_damage(&mut desk.random, &desk.bench, k / 8 % 7) {
+            for (buffer, index, value) in some_damage(&mut desk.random, &desk.bench, k / 8 % AIMS) {
                 desk.load(buffer, index, value);
             }
         }

@@ -3,7 +3,7 @@
 mod common;
 use common::{fresh, say};
 use model::claims::unsound;
-use model::damage::damage;
+use model::damage::{damage, kind_1, kind_2};
 use model::heap::*;
 use model::{apply, trace, Call, Memory};
 use std::sync::atomic::{AtomicUsize, Ordering};
@@ -106,32 +106,56 @@ fn each_part_of_each_kind() {
     ));
 }
 
-/// All 65,536 pairs of maps of eight blocks, with count 1 (the capacity of w = 1) at each first block.
-/// Kind 6 is never met. No damage is found exactly where demand 3's claims hold.
+/// All 65,536 pairs of maps of eight blocks, in a heap of count width 1 that is otherwise fresh.
+fn all_pairs_of_maps() -> impl Iterator<Item = Memory> {
+    (0..=u16::MAX).map(|pair| {
+        let mut memory = fresh(8, 1, 1);
+        [memory.a[0], memory.b[0]] = pair.to_be_bytes();
+        memory
+    })
+}
+
+/// With count 1, the capacity, at each first block: no damage is found exactly where demand 3's claims hold.
 #[test]
 fn all_maps_of_eight_blocks() {
-    let mut met = [0; 7];
-    for a in 0..=255u8 {
-        for b in 0..=255u8 {
-            let mut memory = fresh(8, 1, 1);
-            memory.a[0] = a;
-            memory.b[0] = b;
-            for first in first_blocks(8, &memory) {
-                set_count(8, 1, &mut memory, first, 1);
-            }
-            let kind = damage(8, 1, &memory);
-            met[kind] += 1;
-            assert_eq!(kind == 0, unsound(8, 1, &memory).is_none(), "A {a}, B {b}");
+    let mut met = [0; 6];
+    for mut memory in all_pairs_of_maps() {
+        for first in first_blocks(8, &memory) {
+            set_count(8, 1, &mut memory, first, 1);
         }
+        let kind = damage(8, 1, &memory);
+        met[kind] += 1;
+        assert_eq!(kind == 0, unsound(8, 1, &memory).is_none(), "{memory:?}");
     }
-    assert_eq!(met[6], 0);
-    say(&format!("65536 pairs of maps, kinds 0 to 6: {met:?}"));
+    say(&format!("65536 pairs of maps, kinds 0 to 5: {met:?}"));
+}
+
+/// Document 02, U9: "Show that a heap passing kinds 1 and 2 has as many objects as 0 bits in the B-map." Neither
+/// kind alone is enough.
+#[test]
+fn objects_are_the_ends_without_kinds_1_and_2() {
+    let [mut pairs, mut passing, mut passing_1, mut passing_2] = [0; 4];
+    for memory in all_pairs_of_maps() {
+        let differs = first_blocks(8, &memory).len() != memory.b[0].count_zeros() as usize;
+        let passes = [!kind_1(8, &memory), !kind_2(8, &memory)];
+        assert!(!differs || passes != [true, true], "{memory:?}");
+        pairs += 1;
+        passing += usize::from(passes == [true, true]);
+        passing_1 += usize::from(passes[0] && differs);
+        passing_2 += usize::from(passes[1] && differs);
+    }
+    assert_eq!(pairs, 65_536);
+    say(&format!(
+        "{passing} of {pairs} pairs of maps pass kinds 1 and 2; objects and ends differ in {passing_1} that pass \
+         kind 1, and in {passing_2} that pass kind 2"
+    ));
+    assert_eq!((passing, passing_1, passing_2), (1597, 4964, 14_163));
 }
 
 /// The damaged memories that `model damaged` prints: damage and the claims agree, and each call refuses.
 #[test]
 fn random_damage() {
-    let mut met = [0; 7];
+    let mut met = [0; 6];
     for line in trace::damaged(3, 4000).lines() {
         let fields: Vec<Vec<u16>> = line
             .split('|')
@@ -174,6 +198,6 @@ fn random_damage() {
             assert!(kind == 0 || reply.value == kind);
         }
     }
-    assert!(met[..6].iter().all(|number| *number > 100));
-    say(&format!("4000 damaged memories, kinds 0 to 6: {met:?}"));
+    assert!(met.iter().all(|number| *number > 100));
+    say(&format!("4000 damaged memories, kinds 0 to 5: {met:?}"));
 }

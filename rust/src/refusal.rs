@@ -17,7 +17,7 @@ pub enum Refusal {
     BadReference,
 }
 
-/// What a damaged heap has, the first kind that applies.
+/// What a damaged heap has, the first kind that applies. Number 6 is not used.
 #[derive(Clone, Copy, Debug, PartialEq, Eq, Hash)]
 pub enum Damage {
     EndOnFree,
@@ -25,7 +25,6 @@ pub enum Damage {
     Unaligned,
     DanglingReference,
     WrongCount,
-    WrongNumberOfEnds,
 }
 
 impl Refusal {
@@ -68,7 +67,6 @@ impl Damage {
             3 => Damage::Unaligned,
             4 => Damage::DanglingReference,
             5 => Damage::WrongCount,
-            6 => Damage::WrongNumberOfEnds,
             kind => unreachable!("the library has no damage kind {kind}"),
         }
     }
@@ -81,7 +79,6 @@ impl Damage {
             Damage::Unaligned => 3,
             Damage::DanglingReference => 4,
             Damage::WrongCount => 5,
-            Damage::WrongNumberOfEnds => 6,
         }
     }
 }
@@ -125,9 +122,6 @@ impl fmt::Display for Damage {
             Damage::WrongCount => {
                 "a count other than 0 where no object starts; an object with count 0; a count below \
                  capacity that differs from the number of all cells and roots naming the object"
-            }
-            Damage::WrongNumberOfEnds => {
-                "the number of objects differs from the number of 0 bits in the B-map"
             }
         };
         write!(f, "{}: {words}", self.kind())

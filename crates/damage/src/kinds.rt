@@ -40,8 +40,5 @@ pub fn damage_kind(
     if crate::counts::has_bad_count(blocks, width, a, b, counts, cells, roots) {
         return 5;
     }
-    if crate::maps::has_bad_ends(blocks, a, b) {
-        return 6;
-    }
     0
 }

@@ -1,4 +1,4 @@
-// Damage kinds 1, 2, 3 and 6: what the two maps say against each other.
+// Damage kinds 1, 2 and 3: what the two maps say against each other.
 ghost use mathlib.Core.Path.{_≡_};
 ghost use mathlib.Core.Bool.{_||_};
 ghost use mathlib.Core.List.{[]};
@@ -6,7 +6,7 @@ ghost use Prim.Native.Nat.{_*_, _≤_};
 ghost use lib.Dec.{leb};
 ghost use lib.ListN.{length};
 ghost use Rattle.rules.specs.Heap.{memory, maxBlocks, isFree};
-ghost use Rattle.rules.specs.Damage.{someBelow, endOnFree, openEnd, unaligned, badEnds};
+ghost use Rattle.rules.specs.Damage.{someBelow, endOnFree, openEnd, unaligned};
 
 // Kind 1: a 0 in the B-map on a free block.
 pub fn has_end_on_free(blocks: usize, a: &[u8], b: &[u8]) -> bool
@@ -71,20 +71,4 @@ pub fn has_unaligned(blocks: usize, a: &[u8], b: &[u8]) -> bool
         i += 1;
     }
     false
-}
-
-// Kind 6: the number of first blocks differs from the number of 0 bits in the B-map.
-pub fn has_bad_ends(blocks: usize, a: &[u8], b: &[u8]) -> bool
-    requires { ⌜ (blocks ≤ 8 * length (now a)) × (blocks ≤ 8 * length (now b)) × (8 * length (now b) ≤ maxBlocks) ⌝ }
-    ensures { λ r. ⌜ r ≡ badEnds blocks (memory (now (a .entry)) (now (b .entry)) [] [] [] []) ⌝ }
-{
-    let mut objects: usize = 0;
-    let mut i = 0;
-    while i < blocks {
-        if blocks::objects::is_first(blocks, a, b, i) {
-            objects += 1;
-        }
-        i += 1;
-    }
-    objects != bitmap::count_zeros(b)
 }

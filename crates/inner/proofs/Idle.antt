@@ -5,7 +5,7 @@ use mathlib.Core.Bool.{true}
 use Prim.Native.Nat.{ℕ}
 use lib.ListN.{length-replicate}
 use Rattle.rules.specs.Heap.{Memory, isBlocks, shape, shaped}
-use Rattle.rules.specs.Damage.{endOnFree, openEnd, unaligned, badCell, badRoot, badCount, badEnds, damage}
+use Rattle.rules.specs.Damage.{endOnFree, openEnd, unaligned, badCell, badRoot, badCount, damage}
 use Rattle.rules.specs.Calls.{Call, Answer, settled, answer}
 use Rattle.rules.specs.Demand.{Promise}
 use Rattle.rules.specs.declared.Reply.{Reply}
@@ -23,7 +23,7 @@ module _ (N w : ℕ) (h : Memory) where
   healthy-blocks healthy = all-at _ (healthy-shaped N w h healthy) 0
 
   pub settled-usable : shaped N w h ≡ true → damage N w h ≡ 0 → Usable N w (settled N h)
-  unfolding damage endOnFree openEnd unaligned badCell badRoot badCount badEnds
+  unfolding damage endOnFree openEnd unaligned badCell badRoot badCount
   settled-usable fits undamaged =
       let facts = shape-facts N w h fits in
       record {

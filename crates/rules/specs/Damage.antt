@@ -4,7 +4,6 @@ use mathlib.Core.Bool.{Bool, true, false, not, _&&_, _||_}
 use mathlib.Core.List.{List, [], _∷_}
 use lib.ListN.{length, getD}
 use lib.Dec.{leb, ltb, eqb}
-use Rattle.bitmap.specs.Bit.{countBelow, zeros}
 use Rattle.rules.specs.Heap.{Memory, capacity, countOf, isFree, isLast, isFirst, sizeAt, exponent, isRef, references}
 
 -- the test passes at some number below n
@@ -41,9 +40,8 @@ badCount N w h i =
       | false ↦ not (eqb c 0)
     ]
 
--- 6. "The number of objects differs from the number of 0 bits in the B-map."
-unfoldable pub badEnds : ℕ → Memory → Bool
-badEnds N h = not (eqb (countBelow (isFirst N h) N) (zeros (h .b)))
+-- Kind 6, "The number of objects differs from the number of 0 bits in the B-map", went with request U9: where kinds 1 and 2 are absent the
+-- numbers are equal (`ObjectsAreEnds`, theory/specs/Statements.antt). Its number stays unused.
 
 -- the number of the first test that passes, or 0
 unfoldable pub firstKind : List (ℕ × Bool) → ℕ
@@ -59,5 +57,4 @@ damage N w h =
     ∷ (3, someBelow (unaligned N h) N)
     ∷ (4, someBelow (badCell N h) (4 * N) || someBelow (badRoot N h) (length (h .roots)))
     ∷ (5, someBelow (badCount N w h) N)
-    ∷ (6, badEnds N h)
     ∷ [])

@@ -82,7 +82,8 @@ pub record StepsSuffice (N w : ℕ) (h : Memory) (steps : ℕ) : Type 0 where
 abbrev pub NStepsSuffice : Type 0
 NStepsSuffice = (N w : ℕ) (h : Memory) → Undamaged N w h → (steps : ℕ) → N ≤ steps → StepsSuffice N w h steps
 
--- a heap without damage kinds 1 and 2 has as many objects as 0 bits in the B-map
+-- Request U9: "Show that a heap passing kinds 1 and 2 has as many objects as 0 bits in the B-map. Then drop the kind". Kind 6 asked for just
+-- this equality, after kinds 1 and 2, so no heap could have it as the first kind found, and it could go.
 abbrev pub ObjectsAreEnds : Type 0
 ObjectsAreEnds =
     (N w : ℕ) (h : Memory) → shaped N w h ≡ true → someBelow (endOnFree h) N ≡ false → someBelow (openEnd N h) N ≡ false

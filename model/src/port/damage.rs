@@ -1,8 +1,6 @@
 //! The shape test and the damage kinds.
 
-use super::blocks::{
-    chunk_size, count_zeros, get_bit, get_count, is_first, is_reference, object_size,
-};
+use super::blocks::{chunk_size, get_bit, get_count, is_first, is_reference, object_size};
 use super::{acceptance, refusal, Answer, Lent};
 
 const MAX_BLOCKS: usize = 8192;
@@ -101,16 +99,6 @@ fn has_bad_count(blocks: usize, width: usize, m: &Lent) -> bool {
     false
 }
 
-fn has_bad_ends(blocks: usize, a: &[u8], b: &[u8]) -> bool {
-    let mut objects = 0;
-    for i in 0..blocks {
-        if is_first(blocks, a, b, i) {
-            objects += 1;
-        }
-    }
-    objects != count_zeros(b)
-}
-
 /// Numbers 1 and 2.
 pub fn check(blocks: usize, width: usize, m: &Lent) -> Answer {
     if !is_shaped(blocks, width, m) {
@@ -126,8 +114,6 @@ pub fn check(blocks: usize, width: usize, m: &Lent) -> Answer {
         4
     } else if has_bad_count(blocks, width, m) {
         5
-    } else if has_bad_ends(blocks, m.a, m.b) {
-        6
     } else {
         return acceptance(0);
     };

@@ -1,5 +1,4 @@
--- Totals of the two maps: free blocks and sizes make up the heap, and there are as many objects as 0 bits in the B-map, so that damage
--- kind 6 is never the first that is found.
+-- Totals of the two maps: free blocks and sizes make up the heap, and there are as many objects as 0 bits in the B-map (request U9).
 use mathlib.Core.Path.{_≡_, refl, sym, ap, _∙_}
 use mathlib.Core.Logic.{_≢_, _⊎_, inl, inr}
 use mathlib.Core.Bool.{Bool, true, false, not}

@@ -9,17 +9,16 @@ use native.Mathlib.Omega.{arith}
 use lib.Dec.{leb, ltb, eqb}
 use lib.ListN.{length, getD}
 use borrow.Author.Tests.{leb-false, lt-leb, lt-ltb, ltb-true, eqb-true, eqb-false, eq-eqb, ne-eqb, not-false}
-use Rattle.bitmap.specs.Bit.{bitAt, countBelow, zeros}
+use Rattle.bitmap.specs.Bit.{bitAt}
 use Rattle.planes.proofs.Counts.{count-lt}
 use Rattle.rules.specs.Heap.{Memory, capacity, countOf, isFree, isLast, isFirst, sizeAt, exponent, isRef, references}
-use Rattle.rules.specs.Damage.{someBelow, endOnFree, openEnd, unaligned, badCell, badRoot, badCount, badEnds, damage}
+use Rattle.rules.specs.Damage.{someBelow, endOnFree, openEnd, unaligned, badCell, badRoot, badCount, damage}
 use Rattle.rules.proofs.Tests.{test-cases, and-true, true-and, and-false, false-and, or-false, false-or, some-false, false-some}
 use Rattle.rules.proofs.Tests.{done, also, kind-at, kinds-absent}
 use Rattle.rules.proofs.Shape.{Shaped}
 use Rattle.rules.proofs.Objects.{bit-cases, bit-one, one-bit, first-facts}
 use Rattle.theory.proofs.Maps.Extents.{Delimited, Represents, sizesOf}
 use Rattle.theory.proofs.Maps.Parse.{parse}
-use Rattle.theory.proofs.Maps.Totals.{objects-ends}
 
 pub record DamageFree (N w : ℕ) (h : Memory) : Type 0 where
   -- kinds 1 and 2
@@ -170,7 +169,6 @@ kinds N w h =
     ∷ (3, someBelow (unaligned N h) N)
     ∷ (4, someBelow (badCell N h) (4 * N) || someBelow (badRoot N h) (length (h .roots)))
     ∷ (5, someBelow (badCount N w h) N)
-    ∷ (6, badEnds N h)
     ∷ []
 
 -- kinds 1 and 2 are absent
@@ -198,7 +196,7 @@ damage-facts N w h e = record {
     absent : (i : ℕ) → getD (kinds N w h) i (0, false) .1 ≡ false
     absent =
         kind-at (kinds N w h)
-        (also (omega arith) (also (omega arith) (also (omega arith) (also (omega arith) (also (omega arith) (also (omega arith) done)))))) e
+        (also (omega arith) (also (omega arith) (also (omega arith) (also (omega arith) (also (omega arith) done))))) e
 
     slots : (someBelow (badCell N h) (4 * N) ≡ false) × (someBelow (badRoot N h) (length (h .roots)) ≡ false)
     slots = or-false (someBelow (badCell N h) (4 * N)) (someBelow (badRoot N h) (length (h .roots))) (absent 3)
@@ -206,23 +204,18 @@ damage-facts N w h e = record {
     inside : (i : ℕ) → isFirst N h i ≡ true → i < N
     inside i f = first-facts N (h .a) (h .b) i f .inside
 
--- kind 6 follows from the others
-pub damage-test : (N w : ℕ) (h : Memory) → Shaped N w h → DamageFree N w h → damage N w h ≡ 0
-unfolding damage badRoot badEnds
-damage-test N w h s u =
+pub damage-test : (N w : ℕ) (h : Memory) → DamageFree N w h → damage N w h ≡ 0
+unfolding damage badRoot
+damage-test N w h u =
     kinds-absent (kinds N w h)
     (also (false-some (endOnFree h) N (λ i l. kind1-test N w h i (u .delimited .end-used i l)))
     (also (false-some (openEnd N h) N (λ i l. kind2-test N w h i (u .delimited .goes-on i l)))
     (also (false-some (unaligned N h) N (λ i l. kind3-test N w h i (u .aligned i)))
     (also slots
-    (also (false-some (badCount N w h) N (λ i l. kind5-test N w h i (u .no-count i l) (λ f. (u .some-count i f, u .counted i f))))
-    (also (ap not (eq-eqb (countBelow (isFirst N h) N) (zeros (h .b)) ends)) done))))))
+    (also (false-some (badCount N w h) N (λ i l. kind5-test N w h i (u .no-count i l) (λ f. (u .some-count i f, u .counted i f)))) done)))))
   where
     slots : someBelow (badCell N h) (4 * N) || someBelow (badRoot N h) (length (h .roots)) ≡ false
     slots =
         false-or (someBelow (badCell N h) (4 * N)) (someBelow (badRoot N h) (length (h .roots)))
         (false-some (badCell N h) (4 * N) (λ j l. kind4-test N w h j (u .free-cells j l, u .cell-refs j l)))
         (false-some (badRoot N h) (length (h .roots)) (λ r l. ap not (u .root-refs r l)))
-
-    ends : countBelow (isFirst N h) N ≡ zeros (h .b)
-    ends = objects-ends N (h .a) (h .b) (sizesOf N (h .a) (h .b)) (undamaged-represents N w h s u)

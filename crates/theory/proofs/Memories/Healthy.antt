@@ -216,4 +216,4 @@ pub healthy-shaped : (N w : ℕ) (h : Memory) → Healthy N w h → shaped N w h
 healthy-shaped N w h healthy = shape-test N w h (healthy .shape)
 
 pub healthy-no-damage : (N w : ℕ) (h : Memory) → Healthy N w h → damage N w h ≡ 0
-healthy-no-damage N w h healthy = damage-test N w h (healthy .shape) (healthy-damage-free N w h healthy)
+healthy-no-damage N w h healthy = damage-test N w h (healthy-damage-free N w h healthy)

@@ -5,7 +5,7 @@ use Prim.Native.Nat.{_*_}
 use native.Mathlib.Omega.{arith}
 use lib.ListN.{length}
 use Rattle.rules.specs.Heap.{Memory, memory}
-use Rattle.rules.specs.Damage.{someBelow, endOnFree, openEnd, unaligned, badCell, badRoot, badCount, badEnds, firstKind, damage}
+use Rattle.rules.specs.Damage.{someBelow, endOnFree, openEnd, unaligned, badCell, badRoot, badCount, firstKind, damage}
 use Rattle.damage.proofs.References.{cells-within, roots-within}
 use Rattle.rules.proofs.Shape.{Shaped, shape-facts}
 use Rattle.damage.proofs.kinds.damage_kind.Statement.{statement}
@@ -26,7 +26,7 @@ whole s =
 right : (s : tie.Start) → Shaped (s .args .blocks) (s .args .width) (whole s)
 right s = shape-facts (s .args .blocks) (s .args .width) (whole s) (s .pre)
 
--- ---- the seven tests, in the code's order; kind 4 has two
+-- ---- the six tests, in the code's order; kind 4 has two
 
 -- the rule's tests
 abbrev rule-1 : tie.Start → Bool
@@ -47,9 +47,6 @@ rule-5 s = someBelow (badRoot (s .args .blocks) (whole s)) (length (s .args .roo
 abbrev rule-6 : tie.Start → Bool
 rule-6 s = someBelow (badCount (s .args .blocks) (s .args .width) (whole s)) (s .args .blocks)
 
-abbrev rule-7 : tie.Start → Bool
-rule-7 s = badEnds (s .args .blocks) (whole s)
-
 -- where the code starts from
 abbrev start-1 : tie.After-has-end-on-free → tie.Start
 start-1 c = c .before .before .before .before .before .before .before
@@ -68,9 +65,6 @@ start-5 c = start-4 (c .before .before)
 
 abbrev start-6 : tie.After-has-bad-count → tie.Start
 start-6 c = start-5 (c .before .before)
-
-abbrev start-7 : tie.After-has-bad-ends → tie.Start
-start-7 c = start-6 (c .before .before)
 
 -- what each call returns; it reads only some of the buffers
 test-1 : (c : tie.After-has-end-on-free) → c .has-end-on-free .result ≡ rule-1 (start-1 c)
@@ -97,10 +91,6 @@ test-6 : (c : tie.After-has-bad-count) → c .has-bad-count .result ≡ rule-6 (
 unfolding badCount
 test-6 c = c .has-bad-count .ensures
 
-test-7 : (c : tie.After-has-bad-ends) → c .has-bad-ends .result ≡ rule-7 (start-7 c)
-unfolding badEnds
-test-7 c = c .has-bad-ends .ensures
-
 -- past the test
 fails-1 : (c : tie.Else1) → rule-1 (start-1 (c .before)) ≡ false
 fails-1 c = sym (test-1 (c .before)) ∙ c .if1 .left
@@ -119,9 +109,6 @@ fails-5 c = sym (test-5 (c .before)) ∙ c .if5 .left
 
 fails-6 : (c : tie.Else6) → rule-6 (start-6 (c .before)) ≡ false
 fails-6 c = sym (test-6 (c .before)) ∙ c .if6 .left
-
-fails-7 : (c : tie.Else7) → rule-7 (start-7 (c .before)) ≡ false
-fails-7 c = sym (test-7 (c .before)) ∙ c .if7 .left
 
 -- ---- the needs
 
@@ -204,30 +191,15 @@ returns-6 c =
     let c1 = c2 .before .before in
     rw (fails-1 c1, fails-2 c2, fails-3 c3, fails-4 c4, fails-5 c5, sym (test-6 (c .before)) ∙ c .if6 .taken, damage, firstKind)
 
-has-bad-ends-requires : tie.Need-has-bad-ends-requires
-has-bad-ends-requires c κs = let len = right (start-6 (c .before)) in omega arith
-
 returns-7 : tie.Need-returns-7
 unfolding damage firstKind
 returns-7 c =
-    let c6 = c .before .before in
-    let c5 = c6 .before .before in
+    let c5 = c .before .before in
     let c4 = c5 .before .before in
     let c3 = c4 .before .before in
     let c2 = c3 .before .before in
     let c1 = c2 .before .before in
-    rw (fails-1 c1, fails-2 c2, fails-3 c3, fails-4 c4, fails-5 c5, fails-6 c6, sym (test-7 (c .before)) ∙ c .if7 .taken, damage, firstKind)
-
-returns-8 : tie.Need-returns-8
-unfolding damage firstKind
-returns-8 c =
-    let c6 = c .before .before in
-    let c5 = c6 .before .before in
-    let c4 = c5 .before .before in
-    let c3 = c4 .before .before in
-    let c2 = c3 .before .before in
-    let c1 = c2 .before .before in
-    rw (fails-1 c1, fails-2 c2, fails-3 c3, fails-4 c4, fails-5 c5, fails-6 c6, fails-7 c, damage, firstKind)
+    rw (fails-1 c1, fails-2 c2, fails-3 c3, fails-4 c4, fails-5 c5, fails-6 c, damage, firstKind)
 
 pub damage-kind-spec : {M : Type 1} → statement M
 damage-kind-spec =
@@ -245,6 +217,4 @@ damage-kind-spec =
     returns-5
     has-bad-count-requires
     returns-6
-    has-bad-ends-requires
-    returns-7
-    returns-8)
+    returns-7)
