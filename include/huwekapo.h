@@ -96,7 +96,8 @@ struct huwekapo_reply huwekapo_allocate(size_t blocks, size_t width,
                                         uint16_t *waiting, size_t waiting_length,
                                         size_t n, size_t r);
 
-/* Stores v in root r. The value is the number of blocks freed. Refusals: 1, 2, 4, 8. */
+/* Stores v in root r. The value is the number of blocks freed. Where the root holds v already, only the waiting list is
+ * written. Refusals: 1, 2, 4, 8. */
 struct huwekapo_reply huwekapo_store_root(size_t blocks, size_t width,
                                           uint8_t *a, size_t a_length,
                                           uint8_t *b, size_t b_length,
@@ -106,7 +107,8 @@ struct huwekapo_reply huwekapo_store_root(size_t blocks, size_t width,
                                           uint16_t *waiting, size_t waiting_length,
                                           size_t r, uint16_t v);
 
-/* Stores v in cell j of the object at block `at`. The value is the number of blocks freed. Refusals: 1, 2, 6, 7, 8. */
+/* Stores v in cell j of the object at block `at`. The value is the number of blocks freed. Where the cell holds v already,
+ * only the waiting list is written. Refusals: 1, 2, 6, 7, 8. */
 struct huwekapo_reply huwekapo_store_cell(size_t blocks, size_t width,
                                           uint8_t *a, size_t a_length,
                                           uint8_t *b, size_t b_length,

@@ -12,7 +12,7 @@ use crate::rules::Reply;
 use std::collections::BTreeSet;
 
 /// An object: its first block and its size.
-type Object = (usize, usize);
+pub type Object = (usize, usize);
 
 /// All objects of a memory.
 pub fn objects(blocks: usize, memory: &Memory) -> BTreeSet<Object> {
@@ -23,7 +23,7 @@ pub fn objects(blocks: usize, memory: &Memory) -> BTreeSet<Object> {
 }
 
 /// "A reference is a root, or a cell of an object, that isn't 0." All of them, by what they hold.
-fn all_references(blocks: usize, memory: &Memory) -> Vec<u16> {
+pub fn all_references(blocks: usize, memory: &Memory) -> Vec<u16> {
     let mut found: Vec<u16> = memory.roots.clone();
     for (first, size) in objects(blocks, memory) {
         found.extend(&memory.cells[4 * first..4 * (first + size)]);
@@ -124,7 +124,7 @@ pub fn unsound(blocks: usize, width: usize, memory: &Memory) -> Option<String> {
 
 /// "the roots and cells as they stood before the call, with what the call itself stores written in (0
 /// everywhere for a call that formats the heap) and nothing let go yet."
-fn written_in(before: &Memory, call: Call, reply: Reply) -> Memory {
+pub fn written_in(before: &Memory, call: Call, reply: Reply) -> Memory {
     let mut memory = before.clone();
     match call {
         Call::Format => {
@@ -228,6 +228,13 @@ fn wrong_value(
     (!right || reply.second != second).then(|| format!("reply {reply:?} has a wrong value"))
 }
 
+/// Document 02, U2: "an accepted store of the value present changes no buffer but the waiting list".
+fn changed_by_present_value(before: &Memory, call: Call, reply: Reply, after: &Memory) -> bool {
+    let is_store = matches!(call, Call::StoreRoot { .. } | Call::StoreCell { .. });
+    let present = is_store && written_in(before, call, reply) == *before;
+    present && (!after.same_but_for_waiting(before) || reply.value != 0)
+}
+
 /// What an accepted call isn't said to write keeps its content: the other roots, and the cells of the
 /// objects that still stand.
 fn strange_write(
@@ -294,6 +301,9 @@ pub fn broken_claim(
     if call == Call::Format {
         let empty = free_count(blocks, after) == blocks && after.roots.iter().all(|v| *v == 0);
         return (!empty).then(|| "a formatted heap is not empty".into());
+    }
+    if changed_by_present_value(before, call, reply, after) {
+        return Some("a store of the value present changed something".into());
     }
     if let Some(what) = early_free(blocks, before, call, reply, after) {
         return Some(what);

@@ -106,7 +106,7 @@ pub fn near_full(desk: &mut Desk, count: usize) {
     }
 }
 
-/// Counts driven up to the capacity, past it, and down again. A self store raises a count by itself.
+/// Counts driven up to the capacity, past it, and down again, with values stored over themselves on the way.
 pub fn saturation(desk: &mut Desk, count: usize) {
     let end = desk.entries.len() + count;
     desk.call(Call::Format);

@@ -130,11 +130,19 @@ impl Desk {
         }
     }
 
-    pub fn some_root_store(&mut self, percent_zero: usize) -> Call {
-        Call::StoreRoot {
-            r: self.some_root(),
-            v: self.some_value(percent_zero),
+    /// A value to store where this one is present: seldom the same again.
+    fn some_value_over(&mut self, present: Option<u16>, percent_zero: usize) -> u16 {
+        match present {
+            Some(v) if self.random.percent(8) => v,
+            _ => self.some_value(percent_zero),
         }
+    }
+
+    pub fn some_root_store(&mut self, percent_zero: usize) -> Call {
+        let r = self.some_root();
+        let present = self.bench.memory.roots.get(r).copied();
+        let v = self.some_value_over(present, percent_zero);
+        Call::StoreRoot { r, v }
     }
 
     pub fn some_cell_store(&mut self, percent_zero: usize) -> Call {
@@ -149,11 +157,9 @@ impl Desk {
         } else {
             self.random.below(cells)
         };
-        Call::StoreCell {
-            a,
-            j,
-            v: self.some_value(percent_zero),
-        }
+        let present = self.bench.memory.cells.get(4 * a + j).copied();
+        let v = self.some_value_over(present, percent_zero);
+        Call::StoreCell { a, j, v }
     }
 
     pub fn some_look(&mut self) -> Call {

@@ -1,10 +1,11 @@
-//! A model of the heap of document 01, written from that document alone and from none of the product's code.
+//! A model of the heap of document 01, with the requests of document 02 that have landed. It is written from these
+//! documents alone and from none of the product's code.
 //!
 //! It is meant to be read by someone who knows document 01. It goes bit by bit, keeps reached objects in
 //! sets, counts references by looking at every cell and root, and splits chunks by recursion. Each rule
 //! stands under the sentence of document 01 that it renders.
 //!
-//! Read in this order: heap, chunks, counting, collection, damage, rules. Then claims (demand 3).
+//! Read in this order: heap, chunks, counting, collection, damage, rules. Then claims (demand 3) and list_claims (U2).
 //! The rest writes and reads lists of calls: calls, replay, file, expect, show, and the generator. Beside these
 //! stand the comparisons with the product: fuzz, and bench with its port.
 
@@ -28,6 +29,7 @@ pub mod generate;
 pub mod heap;
 #[cfg(feature = "library")]
 pub mod library;
+pub mod list_claims;
 #[cfg(feature = "library")]
 pub mod met;
 pub mod paper;

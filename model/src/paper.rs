@@ -162,7 +162,7 @@ pub fn cases() -> Vec<Case> {
             2,
             vec![
                 // "P9. Count 1, the object stored again in the root that holds it: count 1. With count 2 it
-                // ends at 3, stuck."
+                // ends at 3, stuck." Document 02, U2: "so P9's second half ends at 2."
                 fresh,
                 allocate(1, 0, 0, 0),
                 root(0, 1, 0),
@@ -170,10 +170,12 @@ pub fn cases() -> Vec<Case> {
                 root(1, 1, 0),
                 look(0, 1, 2),
                 root(1, 1, 0),
-                look(0, 1, 3),
+                look(0, 1, 2),
                 root(0, 0, 0),
-                root(1, 0, 0),
-                look(0, 1, 3),
+                look(0, 1, 1),
+                root(1, 0, 1),
+                nothing_at(0),
+                Maps(0, 255),
             ],
         ),
         case(

@@ -131,6 +131,12 @@ pub fn allocate(
     accepted(first)
 }
 
+/// Document 02, U2: "From now on an accepted store of the value present changes no buffer but the waiting list".
+fn store_value_present(memory: &mut Memory) -> Reply {
+    leave_waiting_list_zero(memory);
+    accepted(0)
+}
+
 /// "Store v in root r".
 ///
 /// "Store in a root: 1, 2, 4; 8 if v is neither 0 nor 1 + a first block."
@@ -150,6 +156,9 @@ pub fn store_root(
     }
     if v != 0 && named(blocks, memory, v).is_none() {
         return refused(8);
+    }
+    if v == memory.roots[r] {
+        return store_value_present(memory);
     }
     let free_before = free_count(blocks, memory);
     // "First the object named by v, if v isn't 0, is counted up; then the cell is written; then the old
@@ -186,6 +195,9 @@ pub fn store_cell(
     }
     if v != 0 && named(blocks, memory, v).is_none() {
         return refused(8);
+    }
+    if v == memory.cells[4 * a + j] {
+        return store_value_present(memory);
     }
     let free_before = free_count(blocks, memory);
     // The same three steps as in a root. "The owner of the written cell may itself be freed this way."

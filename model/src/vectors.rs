@@ -44,6 +44,7 @@ pub fn vectors(seed: u64) -> Vec<u8> {
     complaints(&mut desk);
     shapes(&mut desk);
     waiting_list(&mut desk);
+    present_values(&mut desk);
     for round in 0..16 {
         for (_, write) in FAMILIES {
             let shape = some_shape(round, &mut desk.random);
@@ -201,6 +202,97 @@ fn waiting_list(desk: &mut Desk) {
             }
             desk.call(call);
         }
+    }
+}
+
+/// Values stored over themselves (U2), each case on a new heap.
+fn present_values(desk: &mut Desk) {
+    let format = Call::Format;
+    let allocate = |n, r| Call::Allocate { n, r };
+    let root = |r, v| Call::StoreRoot { r, v };
+    let cell = |a, j, v| Call::StoreCell { a, j, v };
+    let look = |a| Call::Look { a };
+    let mut on_new_heap = |shape, calls: &[Call]| {
+        desk.new_heap(shape);
+        for call in calls {
+            desk.call(*call);
+        }
+    };
+    // P9 in a cell. Then the object goes when the last reference does.
+    let p9 = [cell(0, 0, 2), root(1, 0), cell(0, 0, 2), look(1)];
+    let second_half = [
+        cell(0, 1, 2),
+        cell(0, 1, 2),
+        look(1),
+        cell(0, 0, 0),
+        cell(0, 1, 0),
+    ];
+    let fill = [format, allocate(1, 0), allocate(1, 1)];
+    on_new_heap([8, 2, 4], &[&fill[..], &p9, &second_half].concat());
+    // A stuck object over itself, in a root and in a cell.
+    let stick = [format, allocate(1, 0), root(1, 1), cell(0, 2, 1), look(0)];
+    let over = [root(1, 1), cell(0, 2, 1), look(0), Call::Collect, look(0)];
+    on_new_heap([8, 2, 4], &[stick, over].concat());
+    // An unreached object, named by two of its own cells: stored over itself it still can be let go.
+    let unreached = [
+        format,
+        allocate(1, 0),
+        cell(0, 0, 1),
+        root(0, 0),
+        cell(0, 1, 1),
+    ];
+    let over = [
+        cell(0, 0, 1),
+        look(0),
+        cell(0, 1, 0),
+        look(0),
+        cell(0, 0, 0),
+    ];
+    on_new_heap([8, 2, 4], &[unreached, over].concat());
+    // Six roots at width 3, one stored over itself, all cleared: freed, not stuck.
+    let hold = [1, 2, 3, 4, 5, 5].map(|r| root(r, 1));
+    let clear = [0, 1, 2, 3, 4, 5].map(|r| root(r, 0));
+    on_new_heap(
+        [8, 3, 6],
+        &[&[format, allocate(1, 0)], &hold[..], &[look(0)], &clear].concat(),
+    );
+    // "Document 004 counts down first": the new object is held by the old one alone.
+    let held = [
+        format,
+        allocate(1, 0),
+        allocate(1, 1),
+        cell(0, 0, 2),
+        root(1, 0),
+    ];
+    on_new_heap(
+        [8, 2, 4],
+        &[&held[..], &[root(0, 2), look(0), look(1)]].concat(),
+    );
+    let held = [
+        format,
+        allocate(1, 0),
+        allocate(1, 1),
+        allocate(1, 2),
+        cell(1, 0, 3),
+    ];
+    let in_cell = [
+        cell(0, 0, 2),
+        root(1, 0),
+        root(2, 0),
+        cell(0, 0, 3),
+        look(1),
+        look(2),
+    ];
+    on_new_heap([8, 2, 4], &[&held[..], &in_cell].concat());
+    // Rubbish in the waiting list: 0 over 0 in a root and in a cell, and an object over itself.
+    for call in [root(1, 0), cell(0, 3, 0), root(0, 1)] {
+        desk.new_heap([8, 2, 4]);
+        desk.call(format);
+        desk.call(allocate(1, 0));
+        for i in 0..8 {
+            desk.load(5, i, 65_535 - i as u64);
+        }
+        desk.call(call);
     }
 }
 

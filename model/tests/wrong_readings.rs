@@ -292,20 +292,28 @@ fn losing_a_count_when_met_again() {
     say("wrong reading: losing a count when an object is met again");
 }
 
-/// "Document 004 counts down first, which would free an object stored over itself."
+/// "Document 004 counts down first, which would free an object stored over itself." Since U2 that store does nothing;
+/// what tells is a new object held by the old one alone.
 #[test]
 fn counting_down_first() {
     let mut right = fresh(N, 2, 4);
-    run(2, &mut right, &[allocate(1, 0)]);
+    let fill = [allocate(1, 0), allocate(1, 1), cell(0, 0, 2), root(1, 0)];
+    run(2, &mut right, &fill);
     let before = right.clone();
-    assert_eq!(run(2, &mut right, &[root(0, 1)]), [0]);
-    assert_eq!(look(2, &mut right, 0), (0, 1, 1));
+    assert_eq!(run(2, &mut right, &[root(0, 2)]), [1]);
+    assert_eq!(look(2, &mut right, 1), (0, 1, 1));
+    // The old object is let go first, and the new one with it.
     let mut wrong = before.clone();
-    let reply = wrong_clear_counting_stuck_down(2, &mut wrong, 0);
-    wrong.roots[0] = 1;
-    assert_eq!(reply.value, 1);
+    let values = run(2, &mut wrong, &[root(0, 0)]);
+    wrong.roots[0] = 2;
+    assert_eq!(values, [2]);
     assert_eq!(damage(N, 2, &wrong), 4);
-    assert!(broken_claim(N, 2, &before, root(0, 1), reply, &wrong).is_some());
+    let reply = Reply {
+        number: 0,
+        value: 2,
+        second: 0,
+    };
+    assert!(broken_claim(N, 2, &before, root(0, 2), reply, &wrong).is_some());
     say("wrong reading: counting down first");
 }
 

@@ -83,13 +83,14 @@ impl Heap {
         value(lent::allocate(self.unique(), n, r))
     }
 
-    /// Stores v in root r. The value is the number of blocks freed. Refusals: 1, 2, 4, 8.
+    /// Stores v in root r. The value is the number of blocks freed. Where the root holds v already, nothing but the
+    /// waiting list is written. Refusals: 1, 2, 4, 8.
     pub fn store_root(&mut self, r: usize, v: Ref) -> Result<usize, Refusal> {
         value(lent::store_root(self.unique(), r, v))
     }
 
-    /// Stores v in cell j of the object at block `at`. The value is the number of blocks freed. Refusals: 1, 2, 6,
-    /// 7, 8.
+    /// Stores v in cell j of the object at block `at`. The value is the number of blocks freed. Where the cell holds v
+    /// already, nothing but the waiting list is written. Refusals: 1, 2, 6, 7, 8.
     pub fn store_cell(&mut self, at: usize, j: usize, v: Ref) -> Result<usize, Refusal> {
         value(lent::store_cell(self.unique(), at, j, v))
     }

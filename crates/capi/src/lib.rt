@@ -2,7 +2,7 @@
 // call's.
 ghost use Rattle.rules.specs.Heap.{memory};
 ghost use Rattle.rules.specs.Calls.{Call};
-ghost use Rattle.rules.specs.Demand.{Promise};
+ghost use Rattle.rules.specs.Promise.{Promise};
 ghost use Rattle.replay.specs.Replay.{Replayed};
 use blocks::Ref;
 use rules::Reply;

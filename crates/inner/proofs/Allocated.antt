@@ -12,7 +12,7 @@ use borrow.Author.Tests.{leb-true, ltb-true}
 use Rattle.rules.specs.Heap.{Memory, exponent, lowestFree}
 use Rattle.rules.specs.Store.{allocateIn}
 use Rattle.rules.specs.Calls.{allocate, reply, accepted, require, allocation, settled, answer}
-use Rattle.rules.specs.Demand.{Promise}
+use Rattle.rules.specs.Promise.{Promise}
 use Rattle.rules.specs.declared.Reply.{Reply}
 use Rattle.rules.proofs.Tests.{and-true}
 use Rattle.theory.proofs.Maps.LowestChunk.{room}

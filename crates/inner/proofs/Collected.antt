@@ -5,7 +5,7 @@ use lib.ListN.{replicate}
 use Rattle.rules.specs.Heap.{Memory}
 use Rattle.rules.specs.Collection.{collected}
 use Rattle.rules.specs.Calls.{collect, reply, freeing, settled, answer}
-use Rattle.rules.specs.Demand.{Promise}
+use Rattle.rules.specs.Promise.{Promise}
 use Rattle.rules.specs.declared.Reply.{Reply}
 use Rattle.collector.specs.Sweep.{collectBy, collectBlocks}
 use Rattle.theory.proofs.Memories.Healthy.{Healthy}

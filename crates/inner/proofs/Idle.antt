@@ -7,7 +7,7 @@ use lib.ListN.{length-replicate}
 use Rattle.rules.specs.Heap.{Memory, isBlocks, shape, shaped}
 use Rattle.rules.specs.Damage.{endOnFree, openEnd, unaligned, badCell, badRoot, badCount, damage}
 use Rattle.rules.specs.Calls.{Call, Answer, settled, answer}
-use Rattle.rules.specs.Demand.{Promise}
+use Rattle.rules.specs.Promise.{Promise}
 use Rattle.rules.specs.declared.Reply.{Reply}
 use Rattle.rules.proofs.Tests.{all-at}
 use Rattle.rules.proofs.Shape.{shape-facts, shape-test}

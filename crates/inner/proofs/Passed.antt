@@ -12,7 +12,7 @@ use borrow.Author.Tests.{ltb-true}
 use Rattle.rules.specs.Heap.{Memory, memory, isFirst, sizeAt, isRef}
 use Rattle.rules.specs.Store.{storeRootIn, storeCellIn}
 use Rattle.rules.specs.Calls.{storeRoot, storeCell, Answer, accepted, require, freeing, answer}
-use Rattle.rules.specs.Demand.{Promise}
+use Rattle.rules.specs.Promise.{Promise}
 use Rattle.rules.specs.declared.Reply.{Reply}
 use Rattle.rules.proofs.Tests.{require-true, require-passed}
 use Rattle.rules.proofs.Objects.{first-facts, size-le, ref-facts}

@@ -8,7 +8,7 @@ use Rattle.bitmap.specs.Bit.{zeros}
 use Rattle.rules.specs.Heap.{Memory, isFirst, sizeAt, isRef}
 use Rattle.rules.specs.Store.{storeRootIn, storeCellIn}
 use Rattle.rules.specs.Calls.{Call, storeRoot, storeCell, reply, freeing, settled, answer}
-use Rattle.rules.specs.Demand.{Promise}
+use Rattle.rules.specs.Promise.{Promise}
 use Rattle.rules.specs.declared.Reply.{Reply}
 use Rattle.rules.proofs.Tests.{require-true}
 use Rattle.references.specs.Blocks.{storeRootBlocks, storeCellBlocks}

@@ -4,7 +4,7 @@ ghost use mathlib.Core.Path.{_≡_};
 ghost use lib.ListN.{length};
 ghost use Rattle.rules.specs.Heap.{memory};
 ghost use Rattle.rules.specs.Calls.{Call, reply};
-ghost use Rattle.rules.specs.Demand.{Promise};
+ghost use Rattle.rules.specs.Promise.{Promise};
 ghost use Rattle.inner.specs.Usable.{Usable};
 ghost use Rattle.inner.specs.Replies.{storeRootTest, storeCellTest, allocateReply};
 use crate::tests;

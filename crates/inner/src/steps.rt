@@ -1,7 +1,7 @@
 // The calls that write, on an undamaged heap with a cleared waiting list: their tests, and their work where these pass.
 ghost use Rattle.rules.specs.Heap.{memory};
 ghost use Rattle.rules.specs.Calls.{Call};
-ghost use Rattle.rules.specs.Demand.{Promise};
+ghost use Rattle.rules.specs.Promise.{Promise};
 ghost use Rattle.inner.specs.Usable.{Usable};
 use crate::acts;
 use crate::tests;

@@ -8,7 +8,7 @@ use Rattle.bitmap.specs.Bit.{zeros}
 use Rattle.rules.specs.Heap.{Memory, memory, shaped, countOf, isFirst, sizeAt}
 use Rattle.rules.specs.Damage.{damage}
 use Rattle.rules.specs.Calls.{Call, check, freeBlocks, look, Answer, answer, reply, accepted, require, onUndamaged}
-use Rattle.rules.specs.Demand.{Promise}
+use Rattle.rules.specs.Promise.{Promise}
 use Rattle.rules.specs.declared.Reply.{Reply}
 use Rattle.rules.proofs.Replies.{on-undamaged-shaped, on-undamaged-no-damage, on-undamaged-next, on-undamaged-refused}
 use Rattle.inner.specs.Replies.{lookReply}

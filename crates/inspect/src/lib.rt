@@ -1,7 +1,7 @@
 // The public calls that only read: check, free blocks, look.
 ghost use Rattle.rules.specs.Heap.{memory};
 ghost use Rattle.rules.specs.Calls.{Call};
-ghost use Rattle.rules.specs.Demand.{Promise};
+ghost use Rattle.rules.specs.Promise.{Promise};
 use blocks::Ref;
 use damage::kinds;
 use damage::shape;

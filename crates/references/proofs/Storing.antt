@@ -1,6 +1,8 @@
 -- The stores and the placing of a new object, in the code's steps: each hands on a memory that meets what is asked, and what comes of it is
 -- what the rule gives.
-use mathlib.Core.Path.{_≡_, ap, _∙_}
+use mathlib.Core.Path.{_≡_, refl, ap, _∙_}
+use mathlib.Core.Logic.{_≢_}
+use borrow.Author.Tests.{eq-eqb, ne-eqb}
 use mathlib.Core.List.{List, []}
 use Prim.Native.Nat.{ℕ, _+_, _-_, _*_, _/_}
 use lib.ListN.{length, getD, set}
@@ -8,11 +10,32 @@ use Rattle.bitmap.specs.Bit.{setBit, fillBits}
 use Rattle.planes.specs.Plane.{setCount}
 use Rattle.planes.proofs.Counts.{length-set-count}
 use Rattle.rules.specs.Heap.{Memory, memory}
-use Rattle.rules.specs.Store.{countUp, clearCells, letGo, putRoot, putCell, storeRootIn, storeCellIn, placed, allocateIn}
+use Rattle.rules.specs.Store.{countUp, clearCells, letGo, putRoot, putCell, changeRoot, changeCell, storeRootIn, storeCellIn, placed, allocateIn}
 use Rattle.references.specs.Ready.{Ready}
-use Rattle.references.specs.Blocks.{letGoBlocks, putRootBlocks, putCellBlocks, storeRootBlocks, storeCellBlocks, allocateBlocks}
+use Rattle.references.specs.Blocks.{letGoBlocks, putRootBlocks, putCellBlocks, changeRootBlocks, changeCellBlocks, storeRootBlocks, storeCellBlocks, allocateBlocks}
 use Rattle.references.proofs.Shapes.{planes-same, extents-written}
 use Rattle.references.proofs.Elsewhere.{let-go-roots, let-go-blocks-roots}
+
+-- ---- what a store does where the value is present, and where it is not
+
+module _ (N w : ℕ) (h : Memory) (i v : ℕ) where
+  pub root-present : getD (h .roots) i 0 ≡ v → (h ≡ storeRootIn N w h i v) × (_≡_ {A = ℕ} 0 (storeRootBlocks N w h i v))
+  unfolding storeRootIn storeRootBlocks
+  root-present e = (rw (eq-eqb (getD (h .roots) i 0) v e, storeRootIn) refl, rw (eq-eqb (getD (h .roots) i 0) v e, storeRootBlocks) refl)
+
+  pub root-changed :
+      getD (h .roots) i 0 ≢ v → (changeRoot N w h i v ≡ storeRootIn N w h i v) × (changeRootBlocks N w h i v ≡ storeRootBlocks N w h i v)
+  unfolding storeRootIn storeRootBlocks
+  root-changed n = (rw (ne-eqb (getD (h .roots) i 0) v n, storeRootIn) refl, rw (ne-eqb (getD (h .roots) i 0) v n, storeRootBlocks) refl)
+
+  pub cell-present : getD (h .cells) i 0 ≡ v → (h ≡ storeCellIn N w h i v) × (_≡_ {A = ℕ} 0 (storeCellBlocks N w h i v))
+  unfolding storeCellIn storeCellBlocks
+  cell-present e = (rw (eq-eqb (getD (h .cells) i 0) v e, storeCellIn) refl, rw (eq-eqb (getD (h .cells) i 0) v e, storeCellBlocks) refl)
+
+  pub cell-changed :
+      getD (h .cells) i 0 ≢ v → (changeCell N w h i v ≡ storeCellIn N w h i v) × (changeCellBlocks N w h i v ≡ storeCellBlocks N w h i v)
+  unfolding storeCellIn storeCellBlocks
+  cell-changed n = (rw (ne-eqb (getD (h .cells) i 0) v n, storeCellIn) refl, rw (ne-eqb (getD (h .cells) i 0) v n, storeCellBlocks) refl)
 
 module _ (N w : ℕ) (a b counts cells roots waiting : List ℕ) where
   -- ---- stores: the counts are counted up first
@@ -29,28 +52,28 @@ module _ (N w : ℕ) (a b counts cells roots waiting : List ℕ) where
   module _ (v : ℕ) (counts₁ : List ℕ) (up : counts₁ ≡ countUp N w counts v) where
     pub store-root-done : (r : ℕ) (g : Memory)
         → g ≡ putRoot N w (memory a b counts₁ cells roots waiting) r v
-        → g ≡ storeRootIn N w (memory a b counts cells roots waiting) r v
-    unfolding storeRootIn
+        → g ≡ changeRoot N w (memory a b counts cells roots waiting) r v
+    unfolding changeRoot
     store-root-done r g e = e ∙ ap (λ (x : List ℕ). putRoot N w (memory a b x cells roots waiting) r v) up
 
     pub store-root-blocks : (r n : ℕ)
         → n ≡ putRootBlocks N w (memory a b counts₁ cells roots waiting) r v
-        → n ≡ storeRootBlocks N w (memory a b counts cells roots waiting) r v
-    unfolding storeRootBlocks
+        → n ≡ changeRootBlocks N w (memory a b counts cells roots waiting) r v
+    unfolding changeRootBlocks
     store-root-blocks r n e = e ∙ ap (λ (x : List ℕ). putRootBlocks N w (memory a b x cells roots waiting) r v) up
 
     pub store-cell-done : (c : ℕ) (a′ b′ counts′ cells′ waiting′ : List ℕ)
         → memory a′ b′ counts′ cells′ [] waiting′ ≡ letGo N w (memory a b counts₁ (set cells c v) [] waiting) (getD cells c 0)
-        → memory a′ b′ counts′ cells′ roots waiting′ ≡ storeCellIn N w (memory a b counts cells roots waiting) c v
-    unfolding storeCellIn putCell
+        → memory a′ b′ counts′ cells′ roots waiting′ ≡ changeCell N w (memory a b counts cells roots waiting) c v
+    unfolding changeCell putCell
     store-cell-done c a′ b′ counts′ cells′ waiting′ e =
         let-go-roots N w a b counts₁ (set cells c v) roots waiting (getD cells c 0) a′ b′ counts′ cells′ waiting′ e
         ∙ ap (λ (x : List ℕ). letGo N w (memory a b x (set cells c v) roots waiting) (getD cells c 0)) up
 
     pub store-cell-blocks : (c n : ℕ)
         → n ≡ letGoBlocks N w (memory a b counts₁ (set cells c v) [] waiting) (getD cells c 0)
-        → n ≡ storeCellBlocks N w (memory a b counts cells roots waiting) c v
-    unfolding storeCellBlocks putCellBlocks
+        → n ≡ changeCellBlocks N w (memory a b counts cells roots waiting) c v
+    unfolding changeCellBlocks putCellBlocks
     store-cell-blocks c n e =
         let-go-blocks-roots N w a b counts₁ (set cells c v) roots waiting (getD cells c 0) n e
         ∙ ap (λ (x : List ℕ). letGoBlocks N w (memory a b x (set cells c v) roots waiting) (getD cells c 0)) up

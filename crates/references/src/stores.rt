@@ -63,6 +63,9 @@ pub fn store_root(
         (memory (now (a .entry)) (now (b .entry)) (now (counts .entry)) (now (cells .entry)) (now (roots .entry)) (now (waiting .entry)))
         r v) ⌝ }
 {
+    if roots[r] == v {
+        return 0; // nothing is let go
+    }
     crate::counting::count_up(blocks, width, counts, v);
     put_root(blocks, width, a, b, counts, cells, roots, waiting, r, v)
 }
@@ -92,8 +95,11 @@ pub fn store_cell(
         (memory (now (a .entry)) (now (b .entry)) (now (counts .entry)) (now (cells .entry)) (now (roots .entry)) (now (waiting .entry)))
         c v) ⌝ }
 {
-    crate::counting::count_up(blocks, width, counts, v);
     let old = cells[c];
+    if old == v {
+        return 0;
+    }
+    crate::counting::count_up(blocks, width, counts, v);
     cells[c] = v;
     crate::release::let_go(blocks, width, a, b, counts, cells, waiting, old)
 }

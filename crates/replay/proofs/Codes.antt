@@ -10,7 +10,7 @@ use lib.Dec.{ltb, leb, eqb}
 use borrow.Author.Tests.{ltb-true, leb-true, not-true, not-false}
 use Rattle.rules.specs.Heap.{Memory}
 use Rattle.rules.specs.Damage.{someBelow}
-use Rattle.rules.specs.Demand.{Promise}
+use Rattle.rules.specs.Promise.{Promise}
 use Rattle.rules.specs.declared.Reply.{Reply}
 use Rattle.rules.proofs.Tests.{and-true, true-some, some-false, false-some}
 use Rattle.replay.specs.Encoding.{cellNumbers, decoded, isCall, isCallAt, areCalls}

@@ -6,7 +6,7 @@ use Prim.Native.Nat.{ℕ}
 use Rattle.bitmap.specs.Bit.{zeros}
 use Rattle.rules.specs.Heap.{Memory, memory, isFirst, sizeAt, countOf}
 use Rattle.rules.specs.Calls.{Answer, check, look, freeBlocks, reply, accepted, require, onUndamaged, answer}
-use Rattle.rules.specs.Demand.{Promise}
+use Rattle.rules.specs.Promise.{Promise}
 use Rattle.rules.specs.declared.Reply.{Reply}
 use Rattle.rules.proofs.Replies.{on-undamaged-next}
 use Rattle.inner.specs.Usable.{Usable}

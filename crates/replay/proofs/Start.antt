@@ -7,7 +7,9 @@ use lib.ListN.{length, drop}
 use Rattle.rules.specs.Heap.{Memory, shaped}
 use Rattle.rules.specs.Store.{formatted}
 use Rattle.rules.specs.Calls.{Call, format, Answer, accepted, answer, run, lastMemory}
-use Rattle.rules.specs.Demand.{Promise, Made, Chain, callsOf, answersOf, Claim}
+use Rattle.rules.specs.Promise.{Promise}
+use Rattle.theory.specs.Words.{Made, callsOf, answersOf}
+use Rattle.theory.specs.Demand.{Chain, Claim}
 use Rattle.rules.specs.declared.Reply.{Reply}
 use Rattle.rules.proofs.Tests.{require-true}
 use Rattle.theory.proofs.Theorems.{format-makes-undamaged, demand-3}

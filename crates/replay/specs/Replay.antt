@@ -8,7 +8,8 @@ use lib.Dec.{leb, eqb}
 use Rattle.rules.specs.Heap.{Memory, shaped}
 use Rattle.rules.specs.Store.{formatted}
 use Rattle.rules.specs.Calls.{reply, lastMemory}
-use Rattle.rules.specs.Demand.{Made, callsOf, answersOf, Claim}
+use Rattle.theory.specs.Words.{Made, callsOf, answersOf}
+use Rattle.theory.specs.Demand.{Claim}
 use Rattle.rules.specs.declared.Reply.{Reply}
 use Rattle.replay.specs.Encoding.{areCalls, callsIn, replyWords}
 

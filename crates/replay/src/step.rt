@@ -3,7 +3,7 @@ ghost use mathlib.Core.Path.{_≡_};
 ghost use mathlib.Core.Bool.{true};
 ghost use Prim.Native.Nat.{_≤_};
 ghost use Rattle.rules.specs.Heap.{memory};
-ghost use Rattle.rules.specs.Demand.{Promise};
+ghost use Rattle.rules.specs.Promise.{Promise};
 ghost use Rattle.inner.specs.Usable.{Usable};
 ghost use Rattle.replay.specs.Encoding.{decoded, isCall};
 use blocks::Ref;

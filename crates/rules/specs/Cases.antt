@@ -67,11 +67,14 @@ cases =
     ∷ case 2 (fresh 2) 0 255
     ((allocate 2 0, gives 0) ∷ (allocate 1 1, gives 2) ∷ (storeCell 0 7 3, gives 0) ∷ (storeRoot 1 0, gives 0)
     ∷ (storeCell 0 8 3, refuses 7) ∷ (storeRoot 0 0, gives 3) ∷ [])
-    -- P9, both halves; what is stuck stays at 3 when a root is cleared
+    -- P9, both halves; the second ends at 2 (request U2), so what is let go is counted down
     ∷ case 2 (fresh 2) 1 254
     ((allocate 1 0, gives 0) ∷ (storeRoot 0 1, gives 0) ∷ (look 0, shows 1 1)
-    ∷ (storeRoot 1 1, gives 0) ∷ (look 0, shows 1 2) ∷ (storeRoot 0 1, gives 0) ∷ (look 0, shows 1 3)
-    ∷ (storeRoot 0 0, gives 0) ∷ (look 0, shows 1 3) ∷ [])
+    ∷ (storeRoot 1 1, gives 0) ∷ (look 0, shows 1 2) ∷ (storeRoot 0 1, gives 0) ∷ (look 0, shows 1 2)
+    ∷ (storeRoot 0 0, gives 0) ∷ (look 0, shows 1 1) ∷ [])
+    -- P9's second half in a cell
+    ∷ case 2 (fresh 2) 1 254
+    ((allocate 1 0, gives 0) ∷ (storeCell 0 0 1, gives 0) ∷ (look 0, shows 1 2) ∷ (storeCell 0 0 1, gives 0) ∷ (look 0, shows 1 2) ∷ [])
     -- P10
     ∷ case 2 (fresh 2) 255 127
     ((allocate 0 0, refuses 3) ∷ (allocate 9 0, refuses 3) ∷ (allocate 0 4, refuses 3) ∷ (allocate 9 4, refuses 3)
@@ -88,6 +91,10 @@ readings =
     -- "Taking the lowest run of n free blocks wherever it starts, or flipping all s."
     case 2 (fresh 2) 127 180
     ((allocate 1 0, gives 0) ∷ (allocate 2 1, gives 2) ∷ (allocate 3 2, gives 4) ∷ (allocate 1 3, gives 1) ∷ (freeBlocks, gives 1) ∷ [])
+    -- "Document 004 counts down first": the new object may be held by the old one alone
+    ∷ case 2 (fresh 2) 2 253
+    ((allocate 1 0, gives 0) ∷ (allocate 1 1, gives 1) ∷ (storeCell 0 0 2, gives 0) ∷ (storeRoot 1 0, gives 0)
+    ∷ (storeRoot 0 2, gives 1) ∷ (look 1, shows 1 1) ∷ [])
     -- "Leaving the B bit at 0 after a free: a later, longer object would seem to end there."
     ∷ case 2 (fresh 2) 3 253 ((allocate 1 0, gives 0) ∷ (storeRoot 0 0, gives 1) ∷ (allocate 2 0, gives 0) ∷ (look 0, shows 2 1) ∷ [])
     -- "Counting a stuck object down, or treating 2^w as the capacity."

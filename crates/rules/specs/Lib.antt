@@ -3,5 +3,5 @@ pub mod Damage
 pub mod Store
 pub mod Collection
 pub mod Calls
-pub mod Demand
+pub mod Promise
 pub mod Cases

@@ -99,12 +99,19 @@ putRoot N w h r v = letGo N w (withRoots (set (h .roots) r v) h) (getD (h .roots
 unfoldable pub putCell : ℕ → ℕ → Memory → ℕ → ℕ → Memory
 putCell N w h c v = letGo N w (withCells (set (h .cells) c v) h) (getD (h .cells) c 0)
 
--- "First the object named by v, if v isn't 0, is counted up"
+-- a store that changes what stands there: "First the object named by v, if v isn't 0, is counted up"
+unfoldable pub changeRoot : ℕ → ℕ → Memory → ℕ → ℕ → Memory
+changeRoot N w h r v = putRoot N w (withCounts (countUp N w (h .counts) v) h) r v
+
+unfoldable pub changeCell : ℕ → ℕ → Memory → ℕ → ℕ → Memory
+changeCell N w h c v = putCell N w (withCounts (countUp N w (h .counts) v) h) c v
+
+-- request U2: "an accepted store of the value present changes no buffer but the waiting list"
 unfoldable pub storeRootIn : ℕ → ℕ → Memory → ℕ → ℕ → Memory
-storeRootIn N w h r v = putRoot N w (withCounts (countUp N w (h .counts) v) h) r v
+storeRootIn N w h r v = elim (eqb (getD (h .roots) r 0) v) [ true ↦ h | false ↦ changeRoot N w h r v ]
 
 unfoldable pub storeCellIn : ℕ → ℕ → Memory → ℕ → ℕ → Memory
-storeCellIn N w h c v = putCell N w (withCounts (countUp N w (h .counts) v) h) c v
+storeCellIn N w h c v = elim (eqb (getD (h .cells) c 0) v) [ true ↦ h | false ↦ changeCell N w h c v ]
 
 -- ---- allocation
 

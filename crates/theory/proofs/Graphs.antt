@@ -9,3 +9,4 @@ pub mod Marking
 pub mod Collection
 pub mod Sweep
 pub mod Calls
+pub mod Stuck

@@ -9,9 +9,9 @@ use lib.Dec.{leb, ltb}
 use lib.Pow.{pow-mono}
 use borrow.Author.Tests.{le-leb, lt-ltb}
 use Rattle.rules.specs.Heap.{Memory, exponent, lowestFree}
-use Rattle.rules.specs.Store.{letGo, putRoot, putCell, storeRootIn, storeCellIn, placed, allocateIn}
+use Rattle.rules.specs.Store.{letGo, putRoot, putCell, changeRoot, changeCell, placed, allocateIn}
 use Rattle.rules.specs.Calls.{allocate, Answer, require, onUndamaged, allocation, answer}
-use Rattle.rules.specs.Demand.{Demand3}
+use Rattle.theory.specs.Demand.{Demand3}
 use Rattle.rules.proofs.Replies.{on-undamaged-shaped, on-undamaged-no-damage, on-undamaged-next}
 use Rattle.rules.proofs.Tests.{true-and, require-true, require-passed}
 use Rattle.rules.proofs.Shape.{shape-facts}
@@ -96,7 +96,7 @@ pub every-list-has-a-chain : EveryListHasAChain
 every-list-has-a-chain = every-list
 
 pub n-steps-suffice : NStepsSuffice
-unfolding storeRootIn storeCellIn allocateIn placed putRoot putCell letGo
+unfolding changeRoot changeCell allocateIn placed putRoot putCell letGo
 n-steps-suffice N w h u steps enough =
     let fine = undamaged-healthy N w h u in
     record {
@@ -109,7 +109,7 @@ n-steps-suffice N w h u steps enough =
 
 -- request U7
 pub order-unseen : OrderUnseen
-unfolding storeRootIn storeCellIn allocateIn placed putRoot putCell letGo
+unfolding changeRoot changeCell allocateIn placed putRoot putCell letGo
 order-unseen N w h u =
     let fine = undamaged-healthy N w h u in
     record {

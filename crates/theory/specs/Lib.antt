@@ -1,2 +1,5 @@
+pub mod Words
+pub mod Stuck
+pub mod Demand
 pub mod Statements
 pub mod Orders

@@ -8,7 +8,7 @@ use mathlib.Core.Option.{some}
 use lib.ListN.{length, getD, set}
 use Rattle.bitmap.specs.Bit.{zeros}
 use Rattle.rules.specs.Heap.{Memory, withCounts, withCells, withRoots, isFirst, sizeAt, isRef, exponent, lowestFree}
-use Rattle.rules.specs.Store.{work, countUp, countDown, workAfter, memoryAfter, storeRootIn, storeCellIn, placed, allocateIn}
+use Rattle.rules.specs.Store.{work, countUp, countDown, workAfter, memoryAfter, changeRoot, changeCell, placed, allocateIn}
 use Rattle.theory.specs.Statements.{Undamaged}
 
 -- An order, step by step. In memory h the objects of `waiting` wait. k of them, or of those that come to wait on the way, are taken one
@@ -43,10 +43,10 @@ LetGoAlike N w h v end = let s = countDown N w (work (h .counts) []) v in OneEnd
 pub record AnyOrder (N w : ℕ) (h : Memory) : Type 0 where
   pub in-root : (r v : ℕ) → r < length (h .roots) → isRef N h v ≡ true
       → let written : Memory = withRoots (set (h .roots) r v) (withCounts (countUp N w (h .counts) v) h) in
-      LetGoAlike N w written (getD (h .roots) r 0) (storeRootIn N w h r v)
+      LetGoAlike N w written (getD (h .roots) r 0) (changeRoot N w h r v)
   pub in-cell : (a j v : ℕ) → isFirst N h a ≡ true → j < 4 * sizeAt N h a → isRef N h v ≡ true
       → let written : Memory = withCells (set (h .cells) (4 * a + j) v) (withCounts (countUp N w (h .counts) v) h) in
-      LetGoAlike N w written (getD (h .cells) (4 * a + j) 0) (storeCellIn N w h (4 * a + j) v)
+      LetGoAlike N w written (getD (h .cells) (4 * a + j) 0) (changeCell N w h (4 * a + j) v)
   pub new : (n r i : ℕ) → 1 ≤ n → r < length (h .roots) → lowestFree N (exponent n) (h .a) ≡ some i
       → let written : Memory = withRoots (set (h .roots) r (i + 1)) (placed N w h i n) in
       LetGoAlike N w written (getD (h .roots) r 0) (allocateIn N w h n r i)

@@ -10,10 +10,11 @@ use lib.ListN.{length, getD, set}
 use Rattle.bitmap.specs.Bit.{bitAt, countBelow, zeros}
 use Rattle.rules.specs.Heap.{Memory, withCounts, withCells, withRoots, shaped, isFirst, sizeAt, isRef, exponent, lowestFree}
 use Rattle.rules.specs.Damage.{someBelow, endOnFree, openEnd, damage}
-use Rattle.rules.specs.Store.{formatted, countUp, letGoIn, storeRootIn, storeCellIn, placed, allocateIn}
+use Rattle.rules.specs.Store.{formatted, countUp, letGoIn, changeRoot, changeCell, placed, allocateIn}
 use Rattle.rules.specs.Calls.{Call, allocate, answer}
 use Rattle.rules.specs.Collection.{marked, reached}
-use Rattle.rules.specs.Demand.{Leads, Made, Chain, callsOf}
+use Rattle.theory.specs.Words.{Leads, Made, callsOf}
+use Rattle.theory.specs.Demand.{Chain}
 
 -- right shape and no damage: refused with neither 1 nor 2
 pub record Undamaged (N w : ℕ) (h : Memory) : Type 0 where
@@ -71,10 +72,10 @@ EveryListHasAChain = (N w : ℕ) (h : Memory) (calls : List Call) → (made : Li
 pub record StepsSuffice (N w : ℕ) (h : Memory) (steps : ℕ) : Type 0 where
   pub in-root : (r v : ℕ) → r < length (h .roots) → isRef N h v ≡ true
       → let written : Memory = withRoots (set (h .roots) r v) (withCounts (countUp N w (h .counts) v) h) in
-      letGoIn steps N w written (getD (h .roots) r 0) ≡ storeRootIn N w h r v
+      letGoIn steps N w written (getD (h .roots) r 0) ≡ changeRoot N w h r v
   pub in-cell : (a j v : ℕ) → isFirst N h a ≡ true → j < 4 * sizeAt N h a → isRef N h v ≡ true
       → let written : Memory = withCells (set (h .cells) (4 * a + j) v) (withCounts (countUp N w (h .counts) v) h) in
-      letGoIn steps N w written (getD (h .cells) (4 * a + j) 0) ≡ storeCellIn N w h (4 * a + j) v
+      letGoIn steps N w written (getD (h .cells) (4 * a + j) 0) ≡ changeCell N w h (4 * a + j) v
   pub new : (n r i : ℕ) → 1 ≤ n → r < length (h .roots) → lowestFree N (exponent n) (h .a) ≡ some i
       → let written : Memory = withRoots (set (h .roots) r (i + 1)) (placed N w h i n) in
       letGoIn steps N w written (getD (h .roots) r 0) ≡ allocateIn N w h n r i

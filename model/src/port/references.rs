@@ -68,13 +68,19 @@ fn put_root(blocks: usize, width: usize, m: &mut Lent, r: usize, v: u16) -> usiz
 }
 
 pub fn store_root(blocks: usize, width: usize, m: &mut Lent, r: usize, v: u16) -> usize {
+    if m.roots[r] == v {
+        return 0;
+    }
     count_up(blocks, width, m.counts, v);
     put_root(blocks, width, m, r, v)
 }
 
 pub fn store_cell(blocks: usize, width: usize, m: &mut Lent, c: usize, v: u16) -> usize {
-    count_up(blocks, width, m.counts, v);
     let old = m.cells[c];
+    if old == v {
+        return 0;
+    }
+    count_up(blocks, width, m.counts, v);
     m.cells[c] = v;
     let_go(blocks, width, m, old)
 }

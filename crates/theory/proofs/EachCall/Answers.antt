@@ -10,7 +10,7 @@ use borrow.Author.Tests.{leb-true, ltb-true}
 use Rattle.bitmap.specs.Bit.{zeros}
 use Rattle.rules.specs.Heap.{Memory, shaped, countOf, isFirst, sizeAt, exponent, lowestFree, isRef}
 use Rattle.rules.specs.Calls.{Call, format, check, collect, freeBlocks, allocate, storeRoot, storeCell, look, reply, allocation, answer}
-use Rattle.rules.specs.Demand.{Collects}
+use Rattle.theory.specs.Demand.{Collects}
 use Rattle.rules.proofs.Tests.{and-true}
 use Rattle.theory.proofs.Memories.Healthy.{Healthy}
 use Rattle.theory.proofs.EachCall.Served.{Served, unchanged, refused-served, require-served, on-undamaged-served, format-served}

@@ -1,15 +1,19 @@
 -- The collection serves: it leaves a healthy memory, exactly the objects that a root led to, and each of them with its number of references
 -- or the capacity as its count.
-use mathlib.Core.Path.{_≡_, sym, ap, _∙_, subst}
+use mathlib.Core.Path.{_≡_, refl, sym, ap, _∙_, subst}
 use mathlib.Core.Logic.{_≢_, inl, inr}
-use mathlib.Core.Bool.{true, false≢true}
-use Prim.Native.Nat.{ℕ, min}
-use lib.ListN.{length}
+use mathlib.Core.Bool.{Bool, true, false, _&&_, false≢true}
+use Prim.Native.Nat.{ℕ, zero, suc, _+_, _*_, _≤_, _<_, min}
+use native.Mathlib.Omega.{arith}
+use lib.Dec.{eqb}
+use lib.ListN.{length, getD}
+use Rattle.bitmap.specs.Bit.{one, countBelow}
 use Rattle.rules.specs.Heap.{Memory, capacity, countOf, isFirst}
-use Rattle.rules.specs.Collection.{referencesFrom, marked, reached, collected}
+use Rattle.rules.specs.Collection.{isCellOf, cellOfChosen, referencesFrom, marked, reached, collected}
 use Rattle.rules.specs.Calls.{collect, settled, freeing}
-use Rattle.rules.specs.Demand.{Object, Leads, written, stored, Collects, ExactCollection}
-use Rattle.rules.proofs.Tests.{test-cases}
+use Rattle.theory.specs.Words.{Object, Leads, numberOfReferences, written, stored}
+use Rattle.theory.specs.Demand.{Collects, ExactCollection}
+use Rattle.rules.proofs.Tests.{test-cases, and-true, true-and, some-true, true-some}
 use Rattle.rules.proofs.Objects.{first-facts}
 use Rattle.theory.proofs.Graphs.Graph.{Graph, size, count}
 use Rattle.theory.proofs.Graphs.Collection.{collected-or-gone}
@@ -17,12 +21,48 @@ use Rattle.theory.proofs.Graphs.Sweep as graph
 use Rattle.theory.proofs.Graphs.Calls.{collect-whole}
 use Rattle.theory.proofs.Memories.View.{view}
 use Rattle.theory.proofs.Memories.Healthy.{Aligned, Healthy, view-count}
+use Rattle.theory.proofs.Memories.Soundness.{healthy-sound}
 use Rattle.theory.proofs.Memories.Leads.{object-size, size-object, leads-reach}
 use Rattle.theory.proofs.EachCall.Served.{Served}
 use Rattle.theory.proofs.Memories.Stores.{positive}
 use Rattle.theory.proofs.EachCall.StoresServed.{healthy-after, object-after}
 use Rattle.theory.proofs.Memories.Rounds.{reached-led, led-reached}
 use Rattle.theory.proofs.Memories.ViewCollection.{is-collected, reach-marked, references-left, collected-shows}
+
+-- what passes more often counts for more
+count-mono : (test other : ℕ → Bool) (n : ℕ) → ((i : ℕ) → test i ≡ true → other i ≡ true) → countBelow test n ≤ countBelow other n
+unfolding countBelow
+count-mono test other zero h = omega arith
+count-mono test other (suc n) h = omega (arith, count-mono test other n h, last (test n) (other n) (h n))
+  where
+    last : (s t : Bool) → (s ≡ true → t ≡ true) → one s ≤ one t
+    last true t p = rw (p refl) (omega arith)
+    last false t p = omega arith
+
+-- chosen objects hold no more references than all objects do
+references-le : (N : ℕ) (h : Memory) (chosen : ℕ → Bool) (b : ℕ) → referencesFrom N h chosen b ≤ numberOfReferences N h b
+unfolding referencesFrom cellOfChosen
+references-le N h chosen b =
+    omega (
+      arith,
+      count-mono
+          (λ j. elim (eqb (getD (h .cells) j 0) (b + 1)) [ true ↦ cellOfChosen N h chosen j | false ↦ false ])
+          (λ j. elim (eqb (getD (h .cells) j 0) (b + 1)) [ true ↦ cellOfChosen N h (isFirst N h) j | false ↦ false ])
+          (4 * N) (λ j. both (eqb (getD (h .cells) j 0) (b + 1)) (cellOfChosen N h chosen j) (cellOfChosen N h (isFirst N h) j) (among j)),
+    )
+  where
+    both : (s t u : Bool) → (t ≡ true → u ≡ true) → elim s [ true ↦ t | false ↦ false ] ≡ true → elim s [ true ↦ u | false ↦ false ] ≡ true
+    both true t u p e = p e
+    both false t u p e = e
+
+    among : (j : ℕ) → cellOfChosen N h chosen j ≡ true → cellOfChosen N h (isFirst N h) j ≡ true
+    among j e =
+        let found = some-true (λ i. isFirst N h i && chosen i && isCellOf N h i j) N e in
+        let i = found .0 in
+        let parts = and-true (isFirst N h i && chosen i) (isCellOf N h i j) (found .2) in
+        let first = and-true (isFirst N h i) (chosen i) (parts .0) .0 in
+        true-some (λ i. isFirst N h i && isFirst N h i && isCellOf N h i j) N i (found .1)
+        (true-and (isFirst N h i && isFirst N h i) (isCellOf N h i j) (true-and (isFirst N h i) (isFirst N h i) first first) (parts .1))
 
 module _ (N w : ℕ) (h : Memory) (healthy : Healthy N w h) where
   abbrev r : ℕ
@@ -85,6 +125,16 @@ module _ (N w : ℕ) (h : Memory) (healthy : Healthy N w h) where
         counted = recounted-first;
       }
 
+  -- no object below the capacity before a collection stands at it afterwards
+  unstuck :
+      (b : ℕ) → isFirst N h b ≡ true → isFirst N (settled N (collected N w h)) b ≡ true → countOf N w h b < capacity w
+      → countOf N w (settled N (collected N w h)) b ≡ capacity w → ⊥
+  unstuck b was is low top =
+      elim (healthy-sound N w h healthy .counted b was) [
+        | inl e ↦ omega arith
+        | inr e ↦ omega (arith, recounted-first b is, references-le N h (marked (reached N h)) b)
+      ]
+
   pub collect-served : Served N w collect h (freeing N h (collected N w h))
   unfolding freeing stored written Collects
   collect-served =
@@ -95,4 +145,5 @@ module _ (N w : ℕ) (h : Memory) (healthy : Healthy N w h) where
             after-aligned;
         no-early-free = led-stays;
         collects = λ accepted. exact;
+        sticks = λ b n was is low top. absurd (unstuck b (was .first) (is .first) low top);
       }

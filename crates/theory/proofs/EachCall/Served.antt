@@ -3,23 +3,31 @@
 use mathlib.Core.Path.{_≡_, refl, sym, subst}
 use mathlib.Core.Logic.{_≢_}
 use mathlib.Core.Bool.{Bool, true, false}
-use Prim.Native.Nat.{ℕ}
+use Prim.Native.Nat.{ℕ, _<_}
 use native.Mathlib.Omega.{arith}
 use lib.ListN.{length, getD}
-use Rattle.rules.specs.Heap.{Memory}
+use Rattle.rules.specs.Heap.{Memory, capacity, countOf}
 use Rattle.rules.specs.Store.{formatted}
 use Rattle.rules.specs.Calls.{Call, format, check, collect, freeBlocks, allocate, storeRoot, storeCell, look, Answer, reply, accepted, refused, require, onUndamaged}
-use Rattle.rules.specs.Demand.{Leads, root, cell, written, stored, NoEarlyFree, Collects}
+use Rattle.theory.specs.Words.{Object, Leads, root, cell, written, stored}
+use Rattle.theory.specs.Stuck.{Wrote}
+use Rattle.theory.specs.Demand.{NoEarlyFree, Collects}
 use Rattle.rules.specs.declared.Reply.{Reply}
 use Rattle.rules.proofs.Replies.{on-undamaged-next}
 use Rattle.theory.proofs.Memories.Healthy.{Healthy, healthy-shaped, healthy-no-damage}
-use Rattle.theory.proofs.Memories.Formatted.{zeros-at, formatted-healthy}
+use Rattle.theory.proofs.Memories.Formatted.{zeros-at, no-object, formatted-healthy}
+
+-- the count of an object that stands before and after a call comes to the capacity only by a reference that the call writes
+abbrev pub Sticks : ℕ → ℕ → Call → Memory → Reply → Memory → Type 0
+Sticks N w c h x g =
+    (b n : ℕ) → Object N h b n → Object N g b n → countOf N w h b < capacity w → countOf N w g b ≡ capacity w → Wrote N w b c h x
 
 -- call c on memory h, answered with x
 pub record Served (N w : ℕ) (c : Call) (h : Memory) (x : Answer) : Type 0 where
   pub keep : Healthy N w (x .1)
   pub no-early-free : NoEarlyFree N c h (x .0) (x .1)
   pub collects : Collects N w c h (x .0) (x .1)
+  pub sticks : Sticks N w c h (x .0) (x .1)
 
 -- where all roots are 0 they lead nowhere
 no-roots : (N : ℕ) (h : Memory) → ((r : ℕ) → getD (h .roots) r 0 ≡ 0) → {b : ℕ} → Leads N h b → ⊥
@@ -30,7 +38,13 @@ module _ (N w : ℕ) (h : Memory) (healthy : Healthy N w h) where
   -- ---- the calls that leave the memory
 
   pub unchanged : (c : Call) (x : Reply) → Collects N w c h x h → Served N w c h (x, h)
-  unchanged c x collects = record { keep = healthy; no-early-free = λ b n object leads. object; collects = collects }
+  unchanged c x collects =
+      record {
+        keep = healthy;
+        no-early-free = λ b n object leads. object;
+        collects = collects;
+        sticks = λ b n was is low top. absurd (omega arith);
+      }
 
   pub refused-served : (c : Call) (number : ℕ) → number ≢ 0 → Served N w c h (refused h number)
   unfolding Collects
@@ -67,4 +81,5 @@ module _ (N w : ℕ) (h : Memory) (healthy : Healthy N w h) where
         no-early-free = λ b n object leads.
             absurd (no-roots N (stored h format (reply 0 0 0)) (λ r. zeros-at (length (h .roots)) r) leads);
         collects = tt;
+        sticks = λ b n was is low top. absurd (no-object N w h (healthy .shape) b (is .first));
       }

@@ -2,22 +2,31 @@
 -- own reference is written.
 use mathlib.Core.Path.{_≡_, refl, sym, ap, _∙_, subst}
 use mathlib.Core.Logic.{_≢_, inl, inr}
-use mathlib.Core.Bool.{true}
+use mathlib.Core.Bool.{Bool, true, false}
 use mathlib.Core.List.{[]}
 use mathlib.Core.Option.{some}
-use Prim.Native.Nat.{ℕ, suc, _+_, _*_, _≤_, _<_}
+use Prim.Native.Nat.{ℕ, suc, _+_, _-_, _*_, _/_, _≤_, _<_}
 use native.Mathlib.Decide.{ℕ-discrete}
 use native.Mathlib.Omega.{arith}
-use lib.ListN.{length, set, length-set, length-replicate}
+use lib.ListN.{length, getD, set, length-set, length-replicate}
+use lib.Dec.{eqb}
+use borrow.Author.Tests.{eqb-false}
+use Rattle.bitmap.specs.Bit.{bitAt, zeros}
 use lib.Seq.{set-append-left, getD-set-same, getD-set-other}
-use Rattle.rules.specs.Heap.{Memory, withCells, withRoots, capacity, isFirst, sizeAt, exponent, lowestFree, isRef}
-use Rattle.rules.specs.Store.{placed, putRoot, putCell, storeRootIn, storeCellIn, allocateIn}
-use Rattle.rules.specs.Calls.{allocate, storeRoot, storeCell, accepted, settled, freeing}
-use Rattle.rules.specs.Demand.{Object, written, stored, Collects}
+use Rattle.rules.specs.Heap.{Memory, withCells, withRoots, capacity, countOf, isFirst, sizeAt, exponent, lowestFree, isRef}
+use Rattle.rules.specs.Store.{placed, putRoot, putCell, changeRoot, changeCell, storeRootIn, storeCellIn, allocateIn}
+use Rattle.rules.specs.Calls.{Call, allocate, storeRoot, storeCell, reply, accepted, settled, freeing}
+use Rattle.theory.specs.Words.{Object, numberOfReferences, written, stored}
+use Rattle.theory.specs.Stuck.{writes}
+use Rattle.theory.specs.Demand.{Collects}
+use Rattle.rules.specs.declared.Reply.{Reply}
+use Rattle.rules.proofs.Objects.{first-facts}
 use Rattle.theory.proofs.Maps.Extents.{Represents, sizesOf, length-sizes-of}
 use Rattle.theory.proofs.Maps.LowestChunk.{Room, room}
 use Rattle.theory.proofs.Graphs.Graph as graph
-use Rattle.theory.proofs.Graphs.Graph.{Graph, size, raise, place, finish}
+use Rattle.theory.proofs.Graphs.Graph.{Graph, size, count, raise, place, finish}
+use Rattle.theory.proofs.Graphs.Occurrences.{occurrences}
+use Rattle.theory.proofs.Graphs.Stuck.{stuck-by-store, allocate-lowers}
 use Rattle.theory.proofs.Graphs.Balance.{Balanced, Waits}
 use Rattle.theory.proofs.Graphs.Keep.{Reach}
 use Rattle.theory.proofs.Graphs.Order.{runs-leave}
@@ -25,13 +34,14 @@ use Rattle.theory.proofs.Graphs.Calls.{Shape, Whole, Place, finish-ends
 use Rattle.theory.proofs.Graphs.Calls.{raised-balanced, raised-waits, raised-shape, store-whole, store-keeps}
 use Rattle.theory.proofs.Graphs.Calls.{placed-balanced, placed-waits, placed-shape, allocate-whole, allocate-keeps}
 use Rattle.theory.proofs.Memories.View.{view}
-use Rattle.theory.proofs.Memories.Slots.{slotsIn}
-use Rattle.theory.proofs.Memories.Healthy.{Aligned, Healthy}
+use Rattle.theory.proofs.Memories.Slots.{slotsIn, root-slot, cell-slot, references-slots}
+use Rattle.theory.proofs.Memories.Healthy.{Aligned, Healthy, view-count, healthy-damage-free}
+use Rattle.theory.proofs.Memories.Soundness.{all-references}
 use Rattle.theory.proofs.Memories.Leads.{object-size, size-object, leads-reach}
 use Rattle.theory.proofs.EachCall.Served.{Served}
 use Rattle.theory.proofs.Memories.ViewMoves.{set-append-right}
 use Rattle.theory.proofs.Memories.ViewRelease.{reshaped, Shows}
-use Rattle.theory.proofs.Memories.Stores.{positive, ref-object, store-root, cell-place, store-cell, room-vacant, allocate-root}
+use Rattle.theory.proofs.Memories.Stores.{positive, slots-length, ref-object, store-root, same-size, cell-place, cell-inside, store-cell, room-vacant, allocate-root}
 
 -- ---- what a graph that keeps its laws gives its memory
 
@@ -93,36 +103,124 @@ module _ (N w : ℕ) (h : Memory) (healthy : Healthy N w h) where
         (store-keeps (capacity w) (positive N w h healthy) (length (h .roots)) (view N w h) (healthy .whole) i v slot-i
         (ref-object N w h healthy v ref) b reach)
 
-  pub storeRoot-served :
-      (r v : ℕ) → r < length (h .roots) → isRef N h v ≡ true → Served N w (storeRoot r v) h (freeing N h (storeRootIn N w h r v))
-  unfolding storeRootIn putRoot freeing stored written Collects
-  storeRoot-served r v l ref =
-      let shows = store-root N w h healthy v ref r l .shows in
+    -- it brings the count of the object at b to the capacity only where that many slots name the object once v is written
+    store-sticks :
+        i < length (slotsIn h) → getD (slotsIn h) i 0 ≢ v → (b n : ℕ) → Object N h b n → countOf N w h b < capacity w
+        → countOf N w g b ≡ capacity w → (v ≡ suc b) × (capacity w ≤ occurrences (suc b) (set (slotsIn h) i v))
+    store-sticks inside new b n object low top =
+        let in-heap : b < N = first-facts N (h .a) (h .b) b (object .first) .inside in
+        stuck-by-store (capacity w) (positive N w h healthy) (length (h .roots)) (view N w h) (healthy .whole) i v b slot-i inside
+        (ref-object N w h healthy v ref) new (omega (arith, view-count N w h b in-heap))
+        (sym (ap (λ (k : Graph). count k b) (shows .view-is)) ∙ view-count N w g b in-heap ∙ top)
+
+  -- a store of the value present
+  same-served : (c : Call) (x : Reply) → Collects N w c h x (settled N h) → Served N w c h (x, settled N h)
+  same-served c x collects =
       record {
-        keep = store-healthy v ref r (inl l) (storeRootIn N w h r v) shows;
-        no-early-free = λ b n object leads.
-            store-object v ref r (inl l) (storeRootIn N w h r v) shows b n object
-            (rw (length-set (h .roots) r v, ← set-append-left (h .roots) (h .cells) r v l)
-            at (leads-reach N (withRoots (set (h .roots) r v) h) (sizesOf N (h .a) (h .b)) (healthy .represents) leads));
-        collects = tt;
+        keep =
+            record {
+              shape = reshaped N w h (settled N h) (healthy .shape) refl refl refl refl refl
+                  (length-replicate N 0 ∙ sym (healthy .shape .length-waiting));
+              represents = healthy .represents;
+              whole = healthy .whole;
+              aligned = healthy .aligned;
+            };
+        no-early-free = λ b n object leads. record { first = object .first; size = object .size };
+        collects = collects;
+        sticks = λ b n was is low top. absurd (omega arith);
       }
 
-  pub storeCell-served :
-      (a j v : ℕ) → isFirst N h a ≡ true → j < 4 * sizeAt N h a → isRef N h v ≡ true
-      → Served N w (storeCell a j v) h (freeing N h (storeCellIn N w h (4 * a + j) v))
-  unfolding storeCellIn putCell freeing stored written Collects
-  storeCell-served a j v first l ref =
-      let shows = store-cell N w h healthy v ref a j first l .shows in
-      let slot-i = cell-place N w h healthy a j first l in
-      let i : ℕ = length (h .roots) + (4 * a + j) in
-      record {
-        keep = store-healthy v ref i slot-i (storeCellIn N w h (4 * a + j) v) shows;
-        no-early-free = λ b n object leads.
-            store-object v ref i slot-i (storeCellIn N w h (4 * a + j) v) shows b n object
-            (rw (← set-append-right (h .roots) (h .cells) (4 * a + j) v)
-            at (leads-reach N (withCells (set (h .cells) (4 * a + j) v) h) (sizesOf N (h .a) (h .b)) (healthy .represents) leads));
-        collects = tt;
-      }
+  free-cells : (j : ℕ) → j < 4 * N → bitAt (h .a) (j / 4) ≡ 0 → getD (h .cells) j 0 ≡ 0
+  free-cells = healthy-damage-free N w h healthy .free-cells
+
+  -- ---- a root
+
+  module _ (r v : ℕ) (l : r < length (h .roots)) (ref : isRef N h v ≡ true) where
+    -- the references once the root is written
+    root-references : (b : ℕ) → numberOfReferences N (withRoots (set (h .roots) r v) h) b ≡ occurrences (suc b) (set (slotsIn h) r v)
+    root-references b =
+        let written : Memory = withRoots (set (h .roots) r v) h in
+        all-references N written (healthy .represents) (healthy .shape .length-cells) free-cells b
+        ∙ sym (references-slots written b)
+        ∙ ap (occurrences (suc b)) (sym (set-append-left (h .roots) (h .cells) r v l))
+
+    change-root-served :
+        getD (h .roots) r 0 ≢ v → Served N w (storeRoot r v) h (freeing N h (changeRoot N w h r v))
+    unfolding changeRoot putRoot freeing stored written writes Collects
+    change-root-served new =
+        let shows = store-root N w h healthy v ref r l .shows in
+        record {
+          keep = store-healthy v ref r (inl l) (changeRoot N w h r v) shows;
+          no-early-free = λ b n object leads.
+              store-object v ref r (inl l) (changeRoot N w h r v) shows b n object
+              (rw (length-set (h .roots) r v, ← set-append-left (h .roots) (h .cells) r v l)
+              at (leads-reach N (withRoots (set (h .roots) r v) h) (sizesOf N (h .a) (h .b)) (healthy .represents) leads));
+          collects = tt;
+          sticks = λ b n was is low top.
+              let found =
+              store-sticks v ref r (inl l) (changeRoot N w h r v) shows (omega (arith, slots-length N w h healthy))
+              (λ e. new (sym (root-slot h r l) ∙ e)) b n was low top in
+              record { accepted = refl; reference = omega (arith, found .0); enough = omega (arith, found .1, root-references b) };
+        }
+
+    pub storeRoot-served : Served N w (storeRoot r v) h (freeing N h (storeRootIn N w h r v))
+    unfolding storeRootIn freeing Collects
+    storeRoot-served = go (eqb (getD (h .roots) r 0) v) refl
+      where
+        go : (t : Bool) → eqb (getD (h .roots) r 0) v ≡ t
+            → Served N w (storeRoot r v) h (freeing N h (elim t [ true ↦ h | false ↦ changeRoot N w h r v ]))
+        go true e = same-served (storeRoot r v) (reply 0 (zeros (h .a) - zeros (h .a)) 0) tt
+        go false e = change-root-served (eqb-false (getD (h .roots) r 0) v e)
+
+  -- ---- a cell
+
+  module _ (a j v : ℕ) (first : isFirst N h a ≡ true) (l : j < 4 * sizeAt N h a) (ref : isRef N h v ≡ true) where
+    abbrev c : ℕ
+    c = 4 * a + j
+
+    -- the cells of free blocks stay 0
+    written-free : (k : ℕ) → k < 4 * N → bitAt (h .a) (k / 4) ≡ 0 → getD (set (h .cells) c v) k 0 ≡ 0
+    written-free k m z =
+        getD-set-other (h .cells) c k v 0
+        (λ e. omega (arith, healthy .represents .used a (k / 4) (omega arith) (omega (arith, same-size N w h healthy a j first l)))) ∙ free-cells k m z
+
+    cell-references :
+        (b : ℕ) → numberOfReferences N (withCells (set (h .cells) c v) h) b ≡ occurrences (suc b) (set (slotsIn h) (length (h .roots) + c) v)
+    cell-references b =
+        let written : Memory = withCells (set (h .cells) c v) h in
+        all-references N written (healthy .represents) (length-set (h .cells) c v ∙ healthy .shape .length-cells) written-free b
+        ∙ sym (references-slots written b)
+        ∙ ap (occurrences (suc b)) (sym (set-append-right (h .roots) (h .cells) c v))
+
+    change-cell-served :
+        getD (h .cells) c 0 ≢ v → Served N w (storeCell a j v) h (freeing N h (changeCell N w h c v))
+    unfolding changeCell putCell freeing stored written writes Collects
+    change-cell-served new =
+        let shows = store-cell N w h healthy v ref a j first l .shows in
+        let slot-i = cell-place N w h healthy a j first l in
+        let i : ℕ = length (h .roots) + c in
+        record {
+          keep = store-healthy v ref i slot-i (changeCell N w h c v) shows;
+          no-early-free = λ b n object leads.
+              store-object v ref i slot-i (changeCell N w h c v) shows b n object
+              (rw (← set-append-right (h .roots) (h .cells) c v)
+              at (leads-reach N (withCells (set (h .cells) c v) h) (sizesOf N (h .a) (h .b)) (healthy .represents) leads));
+          collects = tt;
+          sticks = λ b n was is low top.
+              let found =
+              store-sticks v ref i slot-i (changeCell N w h c v) shows (cell-inside N w h healthy a j first l)
+              (λ e. new (sym (cell-slot h c) ∙ e)) b n was low top in
+              record { accepted = refl; reference = omega (arith, found .0); enough = omega (arith, found .1, cell-references b) };
+        }
+
+    pub storeCell-served : Served N w (storeCell a j v) h (freeing N h (storeCellIn N w h c v))
+    unfolding storeCellIn freeing Collects
+    storeCell-served = go (eqb (getD (h .cells) c 0) v) refl
+      where
+        go : (t : Bool) → eqb (getD (h .cells) c 0) v ≡ t
+            → Served N w (storeCell a j v) h (freeing N h (elim t [ true ↦ h | false ↦ changeCell N w h c v ]))
+        go true e = same-served (storeCell a j v) (reply 0 (zeros (h .a) - zeros (h .a)) 0) tt
+        go false e = change-cell-served (eqb-false (getD (h .cells) c 0) v e)
 
   -- ---- the allocation
 
@@ -174,4 +272,14 @@ module _ (N w : ℕ) (h : Memory) (healthy : Healthy N w h) where
               (rw (length-set (h .roots) root (1 + i), ← set-append-left (h .roots) (h .cells) root (1 + i) l, named)
               at (leads-reach N (withRoots (set (h .roots) root (1 + i)) h) (sizesOf N (h .a) (h .b)) (healthy .represents) leads)));
           collects = tt;
+          sticks = λ b m was is low top.
+              let in-heap : b < N = first-facts N (h .a) (h .b) b (was .first) .inside in
+              absurd
+              (omega (
+                arith,
+                allocate-lowers cap pos r (view N w h) (healthy .whole) i n root vacant l b (old-object b m was),
+                view-count N w h b in-heap,
+                view-count N w (allocateIn N w h n root i) b in-heap,
+                ap (λ (k : Graph). count k b) (shows .view-is),
+              ));
         }

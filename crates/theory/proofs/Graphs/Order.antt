@@ -74,7 +74,7 @@ leaves-trans cap r h k m p q =
     both x (inr e) (inl f) = inr (f ∙ e .0, λ s own. still-zero s (e .1 s own))
     both x (inr e) (inr f) = inr (f .0, λ s own. still-zero s (e .1 s own))
 
-count-down-le : (cap : ℕ) (counts : List ℕ) (v b : ℕ) → getD (countDown cap counts v) b 0 ≤ getD counts b 0
+pub count-down-le : (cap : ℕ) (counts : List ℕ) (v b : ℕ) → getD (countDown cap counts v) b 0 ≤ getD counts b 0
 count-down-le cap counts v b =
     elim (ℕ-discrete v (suc b)) [
       | yes e ↦

@@ -25,7 +25,7 @@ zeros-at n i =
     ]
 
 module _ (N w : ℕ) (h : Memory) (shape : Shaped N w h) where
-  no-object : (i : ℕ) → isFirst N (formatted N w (length (h .roots))) i ≡ true → ⊥
+  pub no-object : (i : ℕ) → isFirst N (formatted N w (length (h .roots))) i ≡ true → ⊥
   unfolding formatted
   no-object i f =
       omega (arith, first-facts N (replicate (N / 8) 0) (replicate (N / 8) 255) i f .used, bit-all-zero (N / 8) i)

@@ -7,7 +7,7 @@ use Prim.Native.Nat.{ℕ, suc, _+_, _-_, _*_}
 use native.Mathlib.Omega.{arith}
 use lib.ListN.{length, getD}
 use Rattle.rules.specs.Heap.{Memory}
-use Rattle.rules.specs.Demand.{Object, Leads, root, cell}
+use Rattle.theory.specs.Words.{Object, Leads, root, cell}
 use Rattle.theory.proofs.Maps.Extents.{Represents, first-size, size-is-first, extent}
 use Rattle.theory.proofs.Graphs.Graph.{firstSlot}
 use Rattle.theory.proofs.Graphs.Keep.{Reach}

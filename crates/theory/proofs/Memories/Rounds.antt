@@ -15,7 +15,7 @@ use Rattle.bitmap.specs.Bit.{countBelow}
 use Rattle.rules.specs.Heap.{Memory, isFirst, sizeAt, holding}
 use Rattle.rules.specs.Damage.{someBelow}
 use Rattle.rules.specs.Collection.{isCellOf, cellOfChosen, referencesFrom, marked, reachedNext, reachedIn, reached}
-use Rattle.rules.specs.Demand.{Leads, root, cell}
+use Rattle.theory.specs.Words.{Leads, root, cell}
 use Rattle.rules.proofs.Tests.{test-cases, and-true, true-and, and-false, some-true, true-some, some-false}
 use Rattle.rules.proofs.Objects.{first-facts, size-le}
 use Rattle.theory.proofs.Maps.Extents.{length-tabulate, getD-tabulate}

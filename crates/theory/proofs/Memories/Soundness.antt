@@ -7,58 +7,39 @@ use Prim.Native.Nat.{ℕ, _+_, _*_, _/_, _%_, _^_, _≤_, _<_}
 use native.Mathlib.Decide.{decLt}
 use native.Mathlib.Omega.{arith}
 use lib.Dec.{leb, ltb, eqb}
-use lib.ListN.{getD}
+use lib.ListN.{length, getD}
 use borrow.Author.Tests.{eqb-true, lt-ltb, le-leb}
-use Rattle.bitmap.specs.Bit.{countBelow}
+use Rattle.bitmap.specs.Bit.{bitAt, countBelow}
 use Rattle.bitmap.proofs.Zeros.{count-same}
 use Rattle.rules.specs.Heap.{Memory, isFirst, sizeAt, exponent, holding, references}
 use Rattle.rules.specs.Collection.{isCellOf, cellOfChosen, referencesFrom}
-use Rattle.rules.specs.Demand.{Object, Names, by-root, by-cell, numberOfReferences, InExtent, Sound}
+use Rattle.theory.specs.Words.{Object, Names, by-root, by-cell, numberOfReferences, InExtent}
+use Rattle.theory.specs.Demand.{Sound}
 use Rattle.rules.proofs.Tests.{true-and, true-some}
 use Rattle.rules.proofs.Objects.{bit-cases}
-use Rattle.theory.proofs.Maps.Extents.{sizesOf}
+use Rattle.theory.proofs.Maps.Extents.{Represents, sizesOf}
 use Rattle.theory.proofs.Maps.Undamaged.{DamageFree}
 use Rattle.theory.proofs.Memories.Slots.{ref-first}
 use Rattle.theory.proofs.Memories.Healthy.{Healthy, healthy-damage-free}
 use Rattle.theory.proofs.Memories.Leads.{object-size, size-object}
 
-module _ (N w : ℕ) (h : Memory) (healthy : Healthy N w h) where
-  undamaged : DamageFree N w h
-  undamaged = healthy-damage-free N w h healthy
+-- ---- the number of references, where the cells of free blocks are 0
 
-  -- ---- extents
-
+module _ (N : ℕ) (h : Memory) (represents : Represents N (h .a) (h .b) (sizesOf N (h .a) (h .b))) (cells-length : length (h .cells) ≡ 4 * N)
+    (free-cells : (j : ℕ) → j < 4 * N → bitAt (h .a) (j / 4) ≡ 0 → getD (h .cells) j 0 ≡ 0) where
   -- block i lies in the object at x, by the sizes and by the words
   covers : (x i : ℕ) → x ≤ i → i < x + getD (sizesOf N (h .a) (h .b)) x 0 → InExtent N h i x
   covers x i l u =
-      let object = size-object N h (sizesOf N (h .a) (h .b)) (healthy .represents) x (omega arith) in
+      let object = size-object N h (sizesOf N (h .a) (h .b)) represents x (omega arith) in
       record { first = object .first; from = l; below = omega (arith, object .size) }
-
-  covered : (x i : ℕ) → InExtent N h i x → i < x + getD (sizesOf N (h .a) (h .b)) x 0
-  covered x i e =
-      let object : Object N h x (sizeAt N h x) = record { first = e .first; size = refl } in
-      omega (arith, object-size N h (sizesOf N (h .a) (h .b)) (healthy .represents) x (sizeAt N h x) object .0, e .below)
-
-  apart : (i x y : ℕ) → x < y → InExtent N h i x → InExtent N h i y → x + getD (sizesOf N (h .a) (h .b)) x 0 ≤ y
-  apart i x y l p q =
-      healthy .represents .apart x y l (omega (arith, p .from, covered x i p)) (omega (arith, q .from, covered y i q))
-
-  -- ---- references
-
-  named : (b : ℕ) → Names N h b → isFirst N h b ≡ true
-  named b (by-root r l e) = ref-first N h (getD (h .roots) r 0) b (undamaged .root-refs r l) (omega arith)
-  named b (by-cell a n j object l e) =
-      let same = object-size N h (sizesOf N (h .a) (h .b)) (healthy .represents) a n object in
-      let inside = healthy .represents .inside a (λ z. same .1 (sym (same .0) ∙ z)) in
-      ref-first N h (getD (h .cells) (4 * a + j) 0) b (undamaged .cell-refs (4 * a + j) (omega (arith, same .0))) (omega arith)
 
   -- a cell that holds a name is one of an object
   owned-cell : (j b : ℕ) → j < 4 * N → getD (h .cells) j 0 ≡ b + 1 → cellOfChosen N h (isFirst N h) j ≡ true
   unfolding cellOfChosen isCellOf
   owned-cell j b l e =
       elim (bit-cases (h .a) (j / 4)) [
-        | inl z ↦ absurd (omega (arith, undamaged .free-cells j l z))
-        | inr u ↦ let o = healthy .represents .owner (j / 4) u in found (o .0) (covers (o .0) (j / 4) (o .1) (o .2))
+        | inl z ↦ absurd (omega (arith, free-cells j l z))
+        | inr u ↦ let o = represents .owner (j / 4) u in found (o .0) (covers (o .0) (j / 4) (o .1) (o .2))
       ]
     where
       found : (x : ℕ) → InExtent N h (j / 4) x → cellOfChosen N h (isFirst N h) j ≡ true
@@ -79,7 +60,7 @@ module _ (N w : ℕ) (h : Memory) (healthy : Healthy N w h) where
           (lt-ltb j (4 * (x + sizeAt N h x)) (omega (arith, extent .below)))))
 
   -- so all references are those that the rules count for objects
-  all-references : (b : ℕ) → numberOfReferences N h b ≡ references h b
+  pub all-references : (b : ℕ) → numberOfReferences N h b ≡ references h b
   unfolding referencesFrom holding
   all-references b =
       ap
@@ -93,20 +74,44 @@ module _ (N w : ℕ) (h : Memory) (healthy : Healthy N w h) where
       (eqb (getD (h .cells) j 0) (b + 1))
       (cellOfChosen N h (isFirst N h) j)
       (λ e. owned-cell j b l (eqb-true (getD (h .cells) j 0) (b + 1) e)))
-      ∙ ap (λ (n : ℕ). countBelow (λ j. eqb (getD (h .cells) j 0) (b + 1)) n) (sym (healthy .shape .length-cells)))
+      ∙ ap (λ (n : ℕ). countBelow (λ j. eqb (getD (h .cells) j 0) (b + 1)) n) (sym cells-length))
     where
       -- a second test that passes wherever the first does
       passed : (s t : Bool) → (s ≡ true → t ≡ true) → elim s [ true ↦ t | false ↦ false ] ≡ s
       passed true t p = p refl
       passed false t p = refl
 
+module _ (N w : ℕ) (h : Memory) (healthy : Healthy N w h) where
+  undamaged : DamageFree N w h
+  undamaged = healthy-damage-free N w h healthy
+
+  -- ---- extents
+
+  covered : (x i : ℕ) → InExtent N h i x → i < x + getD (sizesOf N (h .a) (h .b)) x 0
+  covered x i e =
+      let object : Object N h x (sizeAt N h x) = record { first = e .first; size = refl } in
+      omega (arith, object-size N h (sizesOf N (h .a) (h .b)) (healthy .represents) x (sizeAt N h x) object .0, e .below)
+
+  apart : (i x y : ℕ) → x < y → InExtent N h i x → InExtent N h i y → x + getD (sizesOf N (h .a) (h .b)) x 0 ≤ y
+  apart i x y l p q =
+      healthy .represents .apart x y l (omega (arith, p .from, covered x i p)) (omega (arith, q .from, covered y i q))
+
+  -- ---- references
+
+  named : (b : ℕ) → Names N h b → isFirst N h b ≡ true
+  named b (by-root r l e) = ref-first N h (getD (h .roots) r 0) b (undamaged .root-refs r l) (omega arith)
+  named b (by-cell a n j object l e) =
+      let same = object-size N h (sizesOf N (h .a) (h .b)) (healthy .represents) a n object in
+      let inside = healthy .represents .inside a (λ z. same .1 (sym (same .0) ∙ z)) in
+      ref-first N h (getD (h .cells) (4 * a + j) 0) b (undamaged .cell-refs (4 * a + j) (omega (arith, same .0))) (omega arith)
+
   pub healthy-sound : Sound N w h
   healthy-sound =
       record {
         named = named;
         counted = λ b f.
-            elim (undamaged .counted b f) [ inl e ↦ inl e | inr e ↦ inr (e ∙ sym (all-references b)) ];
-        covered = λ i l u. let o = healthy .represents .owner i u in (o .0, covers (o .0) i (o .1) (o .2));
+            elim (undamaged .counted b f) [ inl e ↦ inl e | inr e ↦ inr (e ∙ sym (all-references N h (healthy .represents) (healthy .shape .length-cells) (undamaged .free-cells) b)) ];
+        covered = λ i l u. let o = healthy .represents .owner i u in (o .0, covers N h (healthy .represents) (healthy .shape .length-cells) (undamaged .free-cells) (o .0) i (o .1) (o .2));
         disjoint = λ i x y p q.
             elim (decLt x y) [
               | yes l ↦ absurd (omega (arith, apart i x y l p q, q .from, covered x i p))

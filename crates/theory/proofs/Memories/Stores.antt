@@ -138,7 +138,7 @@ module _ (N w : ℕ) (h : Memory) (healthy : Healthy N w h) where
   pub slots-named : (s : ℕ) → slot (view N w h) s ≤ N
   slots-named = slot-le N w h (healthy .shape) positive (healthy .whole .balanced)
 
-  slots-length : length (slotsIn h) ≡ length (h .roots) + 4 * N
+  pub slots-length : length (slotsIn h) ≡ length (h .roots) + 4 * N
   slots-length = length-append (h .roots) (h .cells) ∙ ap (λ (n : ℕ). length (h .roots) + n) (healthy .shape .length-cells)
 
   -- cell j of the object at a
@@ -146,13 +146,13 @@ module _ (N w : ℕ) (h : Memory) (healthy : Healthy N w h) where
     object : size (view N w h) a ≢ 0
     object = first-size N (h .a) (h .b) (sizesOf N (h .a) (h .b)) (healthy .represents) a first
 
-    same-size : sizeAt N h a ≡ size (view N w h) a
+    pub same-size : sizeAt N h a ≡ size (view N w h) a
     same-size = extent N (h .a) (h .b) (sizesOf N (h .a) (h .b)) (healthy .represents) a object
 
     pub cell-place : Place (length (h .roots)) (view N w h) (length (h .roots) + (4 * a + j))
     cell-place = inr (a, (omega arith, omega (arith, same-size)))
 
-    cell-inside : length (h .roots) + (4 * a + j) < length (slotsIn h)
+    pub cell-inside : length (h .roots) + (4 * a + j) < length (slotsIn h)
     cell-inside = omega (arith, slots-length, same-size, healthy .represents .inside a object)
 
   module _ (v : ℕ) (ref : isRef N h v ≡ true) where

@@ -1,32 +1,46 @@
 -- `references::stores::store_cell` meets its contract: letting go is the same beside the roots, with the counts counted up and the cell
--- written.
+-- written; where the value is present nothing is done.
+use mathlib.Core.Path.{_∙_}
 use native.Mathlib.Omega.{arith}
-use borrow.Author.Needs.{needs}
 use lib.ListN.{length-set}
 use Rattle.references.proofs.Shapes.{planes-same, extents-cell}
-use Rattle.references.proofs.Storing.{store-cell-done, store-cell-blocks}
+use Rattle.references.proofs.Storing.{cell-present, cell-changed, store-cell-done, store-cell-blocks}
+use borrow.Author.Needs.{needs}
 use Rattle.references.proofs.stores.store_cell.Statement.{statement}
 use Rattle.references.proofs.stores.store_cell.Tie as tie
+use Rattle.references.proofs.stores.store_cell.Reads as reads
+use Rattle.references.proofs.stores.store_cell.Lts as lts
+use Rattle.references.proofs.counting.count_up.Reads as count-up-reads
+use Rattle.references.proofs.release.let_go.Reads as let-go-reads
 
-count-up-requires : tie.Need-count-up-requires
-count-up-requires c κs = search needs
-
+-- src/stores.rt:98:15
 mul-old : tie.Need-mul-old
 mul-old c = search needs
 
+-- src/stores.rt:98:15
 slice-read-old : tie.Need-slice-read-old
 slice-read-old c = search needs
 
+-- src/stores.rt:100:9
+returns : tie.Need-returns
+returns c = cell-present _ _ _ _ _ (c .if1 .taken)
+
+-- src/stores.rt:102:5
+count-up-requires : tie.Need-count-up-requires
+count-up-requires c κs = search needs
+
+-- src/stores.rt:103:5
 mul-cells : tie.Need-mul-cells
 mul-cells c = search needs
 
+-- src/stores.rt:103:5
 slice-write-cells : tie.Need-slice-write-cells
 slice-write-cells c = search needs
 
+-- src/stores.rt:104:5
 let-go-requires : tie.Need-let-go-requires
 let-go-requires c κs =
-    let up = c .before .before .before .before .before .before .before .before in
-    let start = up .before .before .before .before .before .before .before .before in
+    let start = c .before .before .before .before .before .before .before .before .before .before .before .before .before .before .before .before .before in
     let ready = start .pre .0 in (
       planes-same _ _ _ _ (ready .planes) (omega arith),
       extents-cell _ _ _ _ (start .args .c) _ (start .pre .2) (ready .extents),
@@ -34,40 +48,46 @@ let-go-requires c κs =
       ready .extents .named (start .args .c),
     )
 
+-- src/stores.rt:74:1
 same-length : tie.Need-same-length
 same-length c = search needs
 
+-- src/stores.rt:74:1
 same-length-2 : tie.Need-same-length-2
 same-length-2 c = search needs
 
+-- src/stores.rt:74:1
 same-length-3 : tie.Need-same-length-3
 same-length-3 c = search needs
 
+-- src/stores.rt:74:1
 same-length-4 : tie.Need-same-length-4
 same-length-4 c =
-    let gone = c .before .before .before .before .before .before .before .before .before .before in
-    let up = gone .before .before .before .before .before .before .before .before .before in
-    let args = up .before .before .before .before .before .before .before .before .args in
+    let args = c .before .before .before .before .before .before .before .before .before .before .before .before .before .before .before .before .before .before .before .before .before .before .before .before .before .before .before .before .args in
     omega (arith, length-set (args .cells .now) (args .c) (args .v))
 
+-- src/stores.rt:74:1
 same-length-5 : tie.Need-same-length-5
 same-length-5 c = search needs
 
-returns : tie.Need-returns
-returns c =
+-- src/stores.rt:74:1
+returns-2 : tie.Need-returns-2
+returns-2 c =
     let gone = c .before .before .before .before .before .before .before .before .before .before in
-    let up = gone .before .before .before .before .before .before .before .before .before .count-up .ensures in (
-      store-cell-done _ _ _ _ _ _ _ _ _ _ up _ _ _ _ _ _ (gone .let-go .ensures .0),
-      store-cell-blocks _ _ _ _ _ _ _ _ _ _ up _ _ (gone .let-go .ensures .1),
+    let up = gone .before .before .before .before .before .before .before .before .count-up .ensures in
+    let changed = cell-changed _ _ _ _ _ (gone .before .before .before .before .before .before .before .before .before .before .if1 .left) in (
+      store-cell-done _ _ _ _ _ _ _ _ _ _ up _ _ _ _ _ _ (gone .let-go .ensures .0) ∙ changed .0,
+      store-cell-blocks _ _ _ _ _ _ _ _ _ _ up _ _ (gone .let-go .ensures .1) ∙ changed .1,
     )
 
 pub store-cell-spec : {M : Type 1} → statement M
 store-cell-spec =
     tie.close
     (tie.spec
-    count-up-requires
     mul-old
     slice-read-old
+    returns
+    count-up-requires
     mul-cells
     slice-write-cells
     let-go-requires
@@ -76,4 +96,4 @@ store-cell-spec =
     same-length-3
     same-length-4
     same-length-5
-    returns)
+    returns-2)

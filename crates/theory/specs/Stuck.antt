@@ -1,0 +1,47 @@
+-- Request U2, its claim about lists: when the count of an object that lives on comes to the capacity.
+use Prim.Native.Nat.{ℕ, _+_, _≤_, _<_}
+use mathlib.Core.Path.{_≡_}
+use mathlib.Core.List.{List, [], _∷_, _++_}
+use Rattle.rules.specs.Heap.{Memory, capacity, countOf}
+use Rattle.rules.specs.Calls.{Call, format, check, collect, freeBlocks, allocate, storeRoot, storeCell, look}
+use Rattle.rules.specs.declared.Reply.{Reply}
+use Rattle.theory.specs.Words.{Object, numberOfReferences, stored, Made, leftBy}
+
+-- what an accepted call writes into a root or a cell, 0 where it writes nothing. An allocation writes the reference to the block that its
+-- reply gives.
+unfoldable pub writes : Call → Reply → ℕ
+writes (allocate n r) x = 1 + x .value
+writes (storeRoot r v) x = v
+writes (storeCell a j v) x = v
+writes format x = 0
+writes check x = 0
+writes collect x = 0
+writes freeBlocks x = 0
+writes (look a) x = 0
+
+-- "wrote a reference after which, before that call let anything go, the object had at least that many references": what the call wrote
+-- names the object at b, and with it written the object has as many references as the capacity, or more
+pub record Wrote (N w b : ℕ) (call : Call) (h : Memory) (x : Reply) : Type 0 where
+  pub accepted : x .number ≡ 0
+  pub reference : writes call x ≡ 1 + b
+  pub enough : capacity w ≤ numberOfReferences N (stored h call x) b
+
+-- "the object living on": the object of n blocks at b stands before these calls and after each of them. "A call frees an object .. if no
+-- object of that first block and size stands after it"; and no call makes an object where one stood before it.
+pub data LivesOn (N b n : ℕ) : Memory → List Made → Type 0 where
+  none : {h : Memory} → Object N h b n → LivesOn N b n h []
+  next : {h : Memory} {m : Made} {ms : List Made} → Object N h b n → LivesOn N b n (m .after) ms → LivesOn N b n h (m ∷ ms)
+
+-- "some call in between"
+pub data SomeWrote (N w b : ℕ) : Memory → List Made → Type 0 where
+  here : {h : Memory} {m : Made} {ms : List Made} → Wrote N w b (m .call) h (m .reply) → SomeWrote N w b h (m ∷ ms)
+  later : {h : Memory} {m : Made} {ms : List Made} → SomeWrote N w b (m .after) ms → SomeWrote N w b h (m ∷ ms)
+
+-- "if an object's count is below the capacity and later, the object living on, stands at it, then some call in between wrote a reference
+-- after which, before that call let anything go, the object had at least that many references." `between` are any calls of the list that
+-- follow one another.
+abbrev pub StuckByReferences : ℕ → ℕ → Memory → List Made → Type 0
+StuckByReferences N w start made =
+    (earlier between others : List Made) → made ≡ earlier ++ (between ++ others) → (b n : ℕ)
+    → let h = leftBy start earlier in
+    LivesOn N b n h between → countOf N w h b < capacity w → countOf N w (leftBy h between) b ≡ capacity w → SomeWrote N w b h between

@@ -1,0 +1,73 @@
+-- Document 01, "The words of demand 3": what its claims are about, each sentence beside what renders it; and a list of calls as made.
+use Prim.Native.Nat.{ℕ, _+_, _*_, _≤_, _<_}
+use mathlib.Core.Path.{_≡_}
+use mathlib.Core.Bool.{true, false}
+use mathlib.Core.List.{List, map}
+use lib.ListN.{length, getD, set, replicate}
+use lib.Dec.{eqb}
+use Rattle.rules.specs.Heap.{Memory, withCells, withRoots, isFirst, sizeAt}
+use Rattle.rules.specs.Collection.{referencesFrom}
+use Rattle.rules.specs.Calls.{Call, format, check, collect, freeBlocks, allocate, storeRoot, storeCell, look, Answer, lastMemory}
+use Rattle.rules.specs.declared.Reply.{Reply}
+
+-- an object of n blocks whose first block is b
+pub record Object (N : ℕ) (h : Memory) (b n : ℕ) : Type 0 where
+  pub first : isFirst N h b ≡ true
+  pub size : sizeAt N h b ≡ n
+
+-- "A reference is a root, or a cell of an object, that isn't 0. Holding 1 + b, it names the object whose first block is b."
+pub data Names (N : ℕ) (h : Memory) (b : ℕ) : Type 0 where
+  by-root : (r : ℕ) → r < length (h .roots) → getD (h .roots) r 0 ≡ 1 + b → Names N h b
+  by-cell : (a n j : ℕ) → Object N h a n → j < 4 * n → getD (h .cells) (4 * a + j) 0 ≡ 1 + b → Names N h b
+
+-- "A root leads to an object, or reaches it, if it names it, or if a cell of an object that it leads to does, over finitely many
+-- references."
+pub data Leads (N : ℕ) (h : Memory) : ℕ → Type 0 where
+  root : (b n r : ℕ) → Object N h b n → r < length (h .roots) → getD (h .roots) r 0 ≡ 1 + b → Leads N h b
+  cell :
+      (b n a m j : ℕ) → Object N h b n → Leads N h a → Object N h a m → j < 4 * m → getD (h .cells) (4 * a + j) 0 ≡ 1 + b → Leads N h b
+
+-- "An object's number of references counts each such root and each such cell once."
+abbrev pub numberOfReferences : ℕ → Memory → ℕ → ℕ
+numberOfReferences N h b = referencesFrom N h (isFirst N h) b
+
+-- "An extent is the blocks of one object": block i lies in that of the object at b
+pub record InExtent (N : ℕ) (h : Memory) (i b : ℕ) : Type 0 where
+  pub first : isFirst N h b ≡ true
+  pub from : b ≤ i
+  pub below : i < b + sizeAt N h b
+
+-- "the roots and cells as they stood before the call, with what the call itself stores written in (0 everywhere for a call that formats
+-- the heap) and nothing let go yet". An allocation stores the reference to the block that its reply gives.
+unfoldable pub written : Memory → Call → Reply → Memory
+written h format x = withCells (replicate (length (h .cells)) 0) (withRoots (replicate (length (h .roots)) 0) h)
+written h (allocate n r) x = withRoots (set (h .roots) r (1 + x .value)) h
+written h (storeRoot r v) x = withRoots (set (h .roots) r v) h
+written h (storeCell a j v) x = withCells (set (h .cells) (4 * a + j) v) h
+written h check x = h
+written h collect x = h
+written h freeBlocks x = h
+written h (look a) x = h
+
+-- a refused call stores nothing
+unfoldable pub stored : Memory → Call → Reply → Memory
+stored h call x = elim (eqb (x .number) 0) [ true ↦ written h call x | false ↦ h ]
+
+-- ---- a list of calls
+
+-- a call as it was made: what was called, its reply, and the lent numbers after it
+pub record Made : Type 0 where
+  pub call : Call
+  pub reply : Reply
+  pub after : Memory
+
+-- the calls of a list as made, and their replies and memories in the form of answers
+abbrev pub callsOf : List Made → List Call
+callsOf made = map (λ m. m .call) made
+
+abbrev pub answersOf : List Made → List Answer
+answersOf made = map (λ m. (m .reply, m .after)) made
+
+-- the memory that a list of calls leaves
+abbrev pub leftBy : Memory → List Made → Memory
+leftBy h made = lastMemory h (answersOf made)
