@@ -18,7 +18,7 @@ use Rattle.rules.proofs.Tests.{and-true}
 use Rattle.theory.proofs.Maps.LowestChunk.{room}
 use Rattle.theory.proofs.Memories.Healthy.{Healthy}
 use Rattle.theory.proofs.EachCall.Served.{on-undamaged}
-use Rattle.bridge.proofs.Settled.{allocate-waiting}
+use Rattle.theory.proofs.Memories.WaitingUnread.{allocate-waiting}
 use Rattle.inner.specs.Usable.{Usable}
 use Rattle.inner.specs.Replies.{found, allocateReply}
 use Rattle.inner.proofs.Idle.{settled-idle, usable-healthy, promised}

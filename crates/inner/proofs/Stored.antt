@@ -14,7 +14,7 @@ use Rattle.rules.proofs.Tests.{require-true}
 use Rattle.references.specs.Blocks.{storeRootBlocks, storeCellBlocks}
 use Rattle.theory.proofs.Memories.Healthy.{Healthy}
 use Rattle.theory.proofs.EachCall.Served.{on-undamaged}
-use Rattle.bridge.proofs.Settled.{store-root-waiting, store-cell-waiting}
+use Rattle.theory.proofs.Memories.WaitingUnread.{store-root-waiting, store-cell-waiting}
 use Rattle.bridge.proofs.Freed.{store-root-freed, store-cell-freed}
 use Rattle.inner.specs.Usable.{Usable}
 use Rattle.inner.proofs.Idle.{settled-idle, usable-healthy, promised}

@@ -1,22 +1,25 @@
 -- A replay starts from a heap as format leaves it: the inner calls can use it, and demand 3 holds of every list that is run from it.
 use mathlib.Core.Path.{_≡_, refl, sym, ap, _∙_, subst}
-use mathlib.Core.Bool.{true}
+use mathlib.Core.Bool.{Bool, true, false}
 use mathlib.Core.List.{List, [], _∷_, _++_}
 use Prim.Native.Nat.{ℕ, _*_, _/_}
+use native.Mathlib.Omega.{arith}
 use lib.ListN.{length, drop}
 use Rattle.rules.specs.Heap.{Memory, shaped}
 use Rattle.rules.specs.Store.{formatted}
-use Rattle.rules.specs.Calls.{Call, format, Answer, accepted, answer, run, lastMemory}
+use Rattle.rules.specs.Calls.{Call, format, Answer, reply, accepted, answer, run, lastMemory}
 use Rattle.rules.specs.Promise.{Promise}
 use Rattle.theory.specs.Words.{Made, callsOf, answersOf}
-use Rattle.theory.specs.Demand.{Chain, Claim}
+use Rattle.theory.specs.Demand.{Chain}
+use Rattle.theory.specs.Statements.{Undamaged}
 use Rattle.rules.specs.declared.Reply.{Reply}
 use Rattle.rules.proofs.Tests.{require-true}
-use Rattle.theory.proofs.Theorems.{format-makes-undamaged, demand-3}
+use Rattle.rules.proofs.Shape.{shape-facts}
+use Rattle.theory.proofs.Theorems.{calls-keep-undamaged, format-makes-undamaged, demand-3}
 use Rattle.inner.specs.Usable.{Usable}
 use Rattle.replay.specs.Encoding.{callsIn, replyWords}
 use Rattle.replay.specs.Steps.{AsRun}
-use Rattle.replay.specs.Replay.{Ran}
+use Rattle.replay.specs.Replay.{replyOn, unlessFails, Ran, ReplayIsCalls}
 
 module _ (N w : ℕ) (lent : Memory) (fits : shaped N w lent ≡ true) where
   -- what an accepted format leaves
@@ -43,19 +46,26 @@ madeBy : (N w : ℕ) → Memory → List Call → List Made
 madeBy N w h [] = []
 madeBy N w h (c ∷ calls) =
     let x = answer N w h c in
-    record { call = c; reply = x .0; after = x .1 } ∷ madeBy N w (x .1) calls
+    record { call = c; before = h; reply = x .0; after = x .1 } ∷ madeBy N w (x .1) calls
 
 made-calls : (N w : ℕ) (h : Memory) (calls : List Call) → callsOf (madeBy N w h calls) ≡ calls
 unfolding madeBy
 made-calls N w h [] = refl
 made-calls N w h (c ∷ calls) = ap (λ (l : List Call). c ∷ l) (made-calls N w (answer N w h c .1) calls)
 
+made-answers : (N w : ℕ) (h : Memory) (calls : List Call) → run N w h calls ≡ answersOf (madeBy N w h calls)
+unfolding madeBy run
+made-answers N w h [] = refl
+made-answers N w h (c ∷ calls) = ap (λ (l : List Answer). answer N w h c ∷ l) (made-answers N w (answer N w h c .1) calls)
+
 -- .. are a chain
-made-chain : (N w : ℕ) (h : Memory) (calls : List Call) → Chain N w h (madeBy N w h calls)
+made-chain : (N w : ℕ) (h : Memory) → Undamaged N w h → (calls : List Call) → Chain N w h (madeBy N w h calls)
 unfolding madeBy
-made-chain N w h [] = Chain.none
-made-chain N w h (c ∷ calls) =
-    Chain.next (record { reply-is = refl; after-is = refl }) (made-chain N w (answer N w h c .1) calls)
+made-chain N w h fine [] = Chain.none
+made-chain N w h fine (c ∷ calls) =
+    Chain.next (record { same-heap = refl; space = shape-facts N w h (fine .right-shape) .length-waiting })
+    (record { reply-is = refl; after-is = refl })
+    (made-chain N w (answer N w h c .1) (calls-keep-undamaged N w h fine c) calls)
 
 -- an accepted replay, from what its format and its run promise
 pub replayed :
@@ -67,14 +77,37 @@ replayed N w lent words replies {x} {start} {after} {replies′} fits promise do
     let as-run : AsRun N w from words replies after replies′ =
     subst (λ (g : Memory). AsRun N w g words replies after replies′) (format-leaves N w lent fits promise) done in
     let all : List Made = madeBy N w from (callsIn words) in
-    let same : callsOf all ≡ callsIn words = made-calls N w from (callsIn words) in
-    let claimed : Claim N w from all = demand-3 N w lent fits all (made-chain N w from (callsIn words)) in
-    let machine : run N w from (callsIn words) ≡ answersOf all = sym (claimed .machine ∙ ap (run N w from) same) in
+    let chain : Chain N w from all = made-chain N w from (format-makes-undamaged N w lent fits) (callsIn words) in
+    let machine : run N w from (callsIn words) ≡ answersOf all = made-answers N w from (callsIn words) in
     record {
       made = all;
-      calls-are = same;
-      after-is = as-run .after-is ∙ ap (lastMemory from) machine;
+      calls-are = made-calls N w from (callsIn words);
+      chain = chain;
+      left-is = as-run .after-is ∙ ap (lastMemory from) machine;
+      after-is = as-run .after-is;
       replies-are =
           as-run .replies-are ∙ ap (λ (l : List Answer). replyWords l ++ drop (3 * (length words / 4)) replies) machine;
-      claim = claimed;
+      claim = demand-3 N w lent fits all chain;
     }
+
+-- ---- a replay in a list of public calls
+
+pub replay-is-calls : ReplayIsCalls
+unfolding answer replyOn unlessFails lastMemory
+replay-is-calls N w left h words replies x after replies′ finds done taken =
+    let ran = done .ran taken in
+    let empty : Memory = formatted N w (length (h .roots)) in
+    let fits : shaped N w h ≡ true = right-shape (shaped N w h) refl (ap (λ (r : Reply). r .number) (sym (done .reply-is)) ∙ taken) in
+    let formatting : answer N w h format ≡ accepted empty 0 = require-true (shaped N w h) 1 h (accepted empty 0) fits in
+    (
+      record { call = format; before = h; reply = reply 0 0 0; after = empty } ∷ ran .made,
+      ap (λ (l : List Call). format ∷ l) (ran .calls-are),
+      Chain.next finds
+      (record { reply-is = ap (λ (y : Answer). y .0) (sym formatting); after-is = ap (λ (y : Answer). y .1) (sym formatting) })
+      (ran .chain),
+      ran .left-is,
+    )
+  where
+    right-shape : (t : Bool) → shaped N w h ≡ t → replyOn t words (length replies) .number ≡ 0 → t ≡ true
+    right-shape true e accepted-it = refl
+    right-shape false e accepted-it = absurd (omega (arith, accepted-it))

@@ -2,14 +2,14 @@
 use Prim.Native.Nat.{ℕ, _*_, _/_, _%_}
 use mathlib.Core.Path.{_≡_}
 use mathlib.Core.Bool.{Bool, true, false}
-use mathlib.Core.List.{List, _++_}
+use mathlib.Core.List.{List, _∷_, _++_}
 use lib.ListN.{length, drop}
 use lib.Dec.{leb, eqb}
 use Rattle.rules.specs.Heap.{Memory, shaped}
 use Rattle.rules.specs.Store.{formatted}
-use Rattle.rules.specs.Calls.{reply, lastMemory}
-use Rattle.theory.specs.Words.{Made, callsOf, answersOf}
-use Rattle.theory.specs.Demand.{Claim}
+use Rattle.rules.specs.Calls.{format, reply, run, lastMemory}
+use Rattle.theory.specs.Words.{Made, callsOf, answersOf, leftBy}
+use Rattle.theory.specs.Demand.{Finds, Chain, Claim}
 use Rattle.rules.specs.declared.Reply.{Reply}
 use Rattle.replay.specs.Encoding.{areCalls, callsIn, replyWords}
 
@@ -30,13 +30,15 @@ replyOn shape words room =
 abbrev pub replayReply : ℕ → ℕ → Memory → List ℕ → (room : ℕ) → Reply
 replayReply N w h words room = replyOn (shaped N w h) words room
 
--- An accepted replay. Calls were made: those of the list, each on the memory that the one before it left, the first on `start`. The
--- buffers and the replies are those of these calls, behind the replies nothing is changed, and demand 3 holds of these calls: by its
--- `machine` every reply and every lent number is the plain machine's.
+-- An accepted replay. Calls were made: those of the list, each on the heap that the one before it left, the first on `start`. The buffers and
+-- the replies are those of these calls, and behind the replies nothing is changed. Every lent number, the waiting list too, is the plain
+-- machine's. Demand 3 holds of these calls, and they form a chain, so that the calls of a caller's list go on behind them.
 pub record Ran (N w : ℕ) (start : Memory) (words replies : List ℕ) (after : Memory) (replies′ : List ℕ) : Type 0 where
   pub made : List Made
   pub calls-are : callsOf made ≡ callsIn words
-  pub after-is : after ≡ lastMemory start (answersOf made)
+  pub chain : Chain N w start made
+  pub left-is : after ≡ leftBy start made
+  pub after-is : after ≡ lastMemory start (run N w start (callsIn words))
   pub replies-are : replies′ ≡ replyWords (answersOf made) ++ drop (3 * (length words / 4)) replies
   pub claim : Claim N w start made
 
@@ -45,3 +47,11 @@ pub record Replayed (N w : ℕ) (h : Memory) (words replies : List ℕ) (reply :
   pub reply-is : reply ≡ replayReply N w h words (length replies)
   pub refused : (reply .number ≡ 0 → ⊥) → (after ≡ h) × (replies′ ≡ replies)
   pub ran : reply .number ≡ 0 → Ran N w (formatted N w (length (h .roots))) words replies after replies′
+
+-- In a list of public calls an accepted replay counts as a format and the calls it makes: they were made on the heap that was lent, and left
+-- what the replay left. (A refused one changes nothing, and counts as no call.)
+abbrev pub ReplayIsCalls : Type 0
+ReplayIsCalls =
+    (N w : ℕ) (left h : Memory) (words replies : List ℕ) (x : Reply) (after : Memory) (replies′ : List ℕ) → Finds N left h
+    → Replayed N w h words replies x after replies′ → x .number ≡ 0
+    → (made : List Made) × (callsOf made ≡ format ∷ callsIn words) × Chain N w left made × (after ≡ leftBy left made)

@@ -1,60 +1,80 @@
 -- Demand 3, from what is asked of one call: the induction over the list of calls. And that every list of calls can be made, so that the
 -- claim is about every list.
 use mathlib.Core.Path.{_≡_, refl, sym, ap, ap₂, _∙_, subst}
-use mathlib.Core.List.{List, [], _∷_, _++_}
+use mathlib.Core.List.{List, [], _∷_, _++_, map}
 use Prim.Native.Nat.{ℕ, _/_, _<_}
 use native.Mathlib.Decide.{decLt}
 use native.Mathlib.Omega.{arith}
 use lib.ListN.{length}
 use Rattle.planes.proofs.Counts.{count-lt}
-use Rattle.rules.specs.Heap.{Memory, capacity, countOf}
-use Rattle.rules.specs.Store.{formatted}
+use Rattle.rules.specs.Heap.{Memory, withWaiting, capacity, countOf}
 use Rattle.rules.specs.Calls.{Call, Answer, answer, run, lastMemory}
 use Rattle.rules.specs.Promise.{Promise}
-use Rattle.theory.specs.Words.{Object, Made, leftBy, callsOf, answersOf}
-use Rattle.theory.specs.Stuck.{LivesOn, SomeWrote}
-use Rattle.theory.specs.Demand.{Chain, Holds, Demand3}
 use Rattle.rules.proofs.Shape.{shape-facts}
+use Rattle.theory.specs.Words.{Object, heapOf, Made, leftBy, callsOf, answersOf, compared}
+use Rattle.theory.specs.Stuck.{LivesOn, SomeWrote}
+use Rattle.theory.specs.Demand.{Finds, Chain, Holds, Claim, Demand3}
+use Rattle.theory.specs.Statements.{ChainsAppend, EveryListHasAChain}
 use Rattle.theory.proofs.Memories.Healthy.{Healthy}
 use Rattle.theory.proofs.Memories.Formatted.{formatted-healthy}
+use Rattle.theory.proofs.Memories.ViewRelease.{reshaped}
 use Rattle.theory.proofs.Memories.Soundness.{healthy-sound}
+use Rattle.theory.proofs.EachCall.AnyWaiting.{waiting-unread}
 use Rattle.theory.proofs.EachCall.Served.{Served}
 use Rattle.theory.proofs.EachCall.Answers.{answer-served}
 
+-- ---- one call
+
+-- what a call finds is healthy if what the one before it left is
+finds-healthy : (N w : ℕ) {h g : Memory} → Finds N h g → Healthy N w h → Healthy N w g
+finds-healthy N w {h} {g} finds healthy =
+    subst (λ (k : Memory). Healthy N w k) (ap (withWaiting (g .waiting)) (sym (finds .same-heap)))
+    (record {
+      shape = reshaped N w h (withWaiting (g .waiting) h) (healthy .shape) refl refl refl refl refl
+          (finds .space ∙ sym (healthy .shape .length-waiting));
+      represents = healthy .represents;
+      whole = healthy .whole;
+      aligned = healthy .aligned;
+    })
+
 -- a call that kept its promise was answered as the rules say
 promised :
-    (N w : ℕ) (h : Memory) (m : Made) → Promise N w (m .call) h (m .reply) (m .after)
-    → _≡_ {A = Answer} (m .reply, m .after) (answer N w h (m .call))
-promised N w h m promise = λ i. (promise .reply-is i, promise .after-is i)
-
--- the calls as made are the plain machine's
-as-machine : (N w : ℕ) {h : Memory} {made : List Made} → Chain N w h made → answersOf made ≡ run N w h (callsOf made)
-unfolding run
-as-machine N w Chain.none = refl
-as-machine N w (Chain.next {h} {m} {ms} promise rest) =
-    ap₂ {C = List Answer} (λ x xs. x ∷ xs) (promised N w h m promise)
-    (as-machine N w rest ∙ ap (λ (g : Memory). run N w g (callsOf ms)) (promise .after-is))
-
--- every list of calls can be made
-pub every-list : (N w : ℕ) (h : Memory) (cs : List Call) → (made : List Made) × (callsOf made ≡ cs) × Chain N w h made
-every-list N w h [] = ([], refl, Chain.none)
-every-list N w h (c ∷ cs) =
-    let x : Answer = answer N w h c in
-    let rest = every-list N w (x .1) cs in (
-      record { call = c; reply = x .0; after = x .1 } ∷ rest .0,
-      ap {B = List Call} (λ l. c ∷ l) (rest .1),
-      Chain.next (record { reply-is = refl; after-is = refl }) (rest .2),
-    )
+    (N w : ℕ) (m : Made) → Promise N w (m .call) (m .before) (m .reply) (m .after)
+    → _≡_ {A = Answer} (m .reply, m .after) (answer N w (m .before) (m .call))
+promised N w m promise = λ i. (promise .reply-is i, promise .after-is i)
 
 -- what is asked of one call, of a call that kept its promise
-serves : (N w : ℕ) (h : Memory) → Healthy N w h → (m : Made) → Promise N w (m .call) h (m .reply) (m .after) → Served N w (m .call) h (m .reply, m .after)
-serves N w h healthy m promise =
-    subst (λ (x : Answer). Served N w (m .call) h x) (sym (promised N w h m promise)) (answer-served N w h healthy (m .call))
+serves :
+    (N w : ℕ) {h : Memory} → Healthy N w h → (m : Made) → Finds N h (m .before) → Promise N w (m .call) (m .before) (m .reply) (m .after)
+    → Served N w (m .call) (m .before) (m .reply, m .after)
+serves N w healthy m finds promise =
+    subst (λ (x : Answer). Served N w (m .call) (m .before) x) (sym (promised N w m promise))
+    (answer-served N w (m .before) (finds-healthy N w finds healthy) (m .call))
+
+-- ---- the plain machine
+
+-- the calls as made are the plain machine's, whatever waiting lists they were lent
+as-machine :
+    (N w : ℕ) {h k : Memory} {made : List Made} → Healthy N w h → Healthy N w k → heapOf h ≡ heapOf k → Chain N w h made
+    → compared (answersOf made) ≡ compared (run N w k (callsOf made))
+unfolding run
+as-machine N w sound right same Chain.none = refl
+as-machine N w {h} {k} healthy right same (Chain.next {m} {ms} finds promise rest) =
+    let met : heapOf (m .before) ≡ heapOf k = finds .same-heap ∙ same in
+    let alike =
+    waiting-unread N w (m .before) k met (finds .space ∙ sym (right .shape .length-waiting)) (m .call) in
+    let reply-is = promise .reply-is ∙ alike .0 in
+    let heap-is = ap (λ (g : Memory). heapOf g) (promise .after-is) ∙ alike .1 in
+    let served = serves N w healthy m finds promise in
+    ap₂ {C = List Answer} (λ x xs. x ∷ xs) (λ i. (reply-is i, heap-is i))
+    (as-machine N w (served .keep) (answer-served N w k right (m .call) .keep) heap-is rest)
+
+-- ---- every moment and every call
 
 holds : (N w : ℕ) {h : Memory} {made : List Made} → Healthy N w h → Chain N w h made → Holds N w h made
 holds N w {h} healthy Chain.none = Holds.none (healthy-sound N w h healthy)
-holds N w healthy (Chain.next {h} {m} {ms} promise rest) =
-    let s = serves N w h healthy m promise in
+holds N w healthy (Chain.next {h} {m} {ms} finds promise rest) =
+    let s = serves N w healthy m finds promise in
     Holds.next (healthy-sound N w h healthy) (s .no-early-free) (s .collects) (holds N w (s .keep) rest)
 
 -- ---- request U2
@@ -65,35 +85,68 @@ made-after :
     → Healthy N w (leftBy h earlier) × Chain N w (leftBy h earlier) rest
 unfolding lastMemory
 made-after N w [] healthy chain = (healthy, chain)
-made-after N w {h} (m ∷ earlier) healthy (Chain.next promise rest) = made-after N w earlier (serves N w h healthy m promise .keep) rest
+made-after N w (m ∷ earlier) healthy (Chain.next finds promise rest) = made-after N w earlier (serves N w healthy m finds promise .keep) rest
 
 -- the first of the calls after which the count is at the capacity wrote the reference
 some-wrote :
     (N w b n : ℕ) {h : Memory} (between others : List Made) → Healthy N w h → Chain N w h (between ++ others)
-    → LivesOn N b n h between → countOf N w h b < capacity w → countOf N w (leftBy h between) b ≡ capacity w → SomeWrote N w b h between
+    → LivesOn N b n h between → countOf N w h b < capacity w → countOf N w (leftBy h between) b ≡ capacity w → SomeWrote N w b between
 unfolding lastMemory
 some-wrote N w b n [] others healthy chain lives low top = absurd (omega arith)
-some-wrote N w b n {h} (m ∷ between) others healthy (Chain.next promise rest) (LivesOn.next was lives) low top =
-    let served = serves N w h healthy m promise in
+some-wrote N w b n {h} (m ∷ between) others healthy (Chain.next finds promise rest) (LivesOn.next was lives) low top =
+    let served = serves N w healthy m finds promise in
     elim (decLt (countOf N w (m .after) b) (capacity w)) [
       | yes l ↦ SomeWrote.later (some-wrote N w b n between others (served .keep) rest lives l top)
       | no l ↦
           SomeWrote.here
-          (served .sticks b n was (stands lives) low (omega (arith, count-lt (N / 8) w (m .after .counts) b)))
+          (served .sticks b n found (stands lives) still (omega (arith, count-lt (N / 8) w (m .after .counts) b)))
     ]
   where
     stands : {g : Memory} {ms : List Made} → LivesOn N b n g ms → Object N g b n
     stands (LivesOn.none object) = object
     stands (LivesOn.next object rest) = object
 
-pub demand3 : Demand3
-demand3 N w lent fits made chain =
+    -- the call finds the object, and its count, as the one before it left them
+    same : h ≡ withWaiting (h .waiting) (m .before)
+    same = ap (withWaiting (h .waiting)) (sym (finds .same-heap))
+
+    found : Object N (m .before) b n
+    found = let there = subst (λ (k : Memory). Object N k b n) same was in record { first = there .first; size = there .size }
+
+    still : countOf N w (m .before) b < capacity w
+    still = subst (λ (k : Memory). countOf N w k b < capacity w) same low
+
+-- ---- the claim
+
+pub claim : (N w : ℕ) (h : Memory) → Healthy N w h → (made : List Made) → Chain N w h made → Claim N w h made
+claim N w h healthy made chain =
     record {
-      machine = as-machine N w chain;
-      holds = holds N w (formatted-healthy N w lent (shape-facts N w lent fits)) chain;
+      machine = as-machine N w healthy healthy refl chain;
+      holds = holds N w healthy chain;
       stuck = λ earlier between others e b n lives low top.
-          let from =
-          made-after N w earlier (formatted-healthy N w lent (shape-facts N w lent fits))
-          (subst (λ (l : List Made). Chain N w (formatted N w (length (lent .roots))) l) e chain) in
+          let from = made-after N w earlier healthy (subst (λ (l : List Made). Chain N w h l) e chain) in
           some-wrote N w b n between others (from .0) (from .1) lives low top;
     }
+
+pub demand3 : Demand3
+demand3 N w lent fits made chain = claim N w _ (formatted-healthy N w lent (shape-facts N w lent fits)) made chain
+
+-- ---- lists of calls
+
+pub chains-append : ChainsAppend
+unfolding lastMemory
+chains-append N w h [] more Chain.none chain = chain
+chains-append N w h (m ∷ made) more (Chain.next finds promise rest) chain =
+    Chain.next finds promise (chains-append N w (m .after) made more rest chain)
+
+-- every list of calls can be made, each call on a waiting list of its own
+pub every-list : EveryListHasAChain
+every-list N w h [] = ([], refl, Chain.none)
+every-list N w h ((c, (waiting, long)) ∷ lent) =
+    let found : Memory = withWaiting waiting h in
+    let x : Answer = answer N w found c in
+    let rest = every-list N w (x .1) lent in (
+      record { call = c; before = found; reply = x .0; after = x .1 } ∷ rest .0,
+      ap {B = List (Call × List ℕ)} (λ l. (c, waiting) ∷ l) (rest .1),
+      Chain.next (record { same-heap = refl; space = long }) (record { reply-is = refl; after-is = refl }) (rest .2),
+    )

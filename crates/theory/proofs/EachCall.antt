@@ -1,4 +1,5 @@
 -- What every call keeps and frees.
+pub mod AnyWaiting
 pub mod Served
 pub mod StoresServed
 pub mod CollectionServed

@@ -13,5 +13,6 @@ pub mod ViewSweep
 pub mod Rounds
 pub mod Recount
 pub mod ViewCollection
+pub mod WaitingUnread
 pub mod SameView
 pub mod Orders

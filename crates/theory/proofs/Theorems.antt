@@ -1,25 +1,33 @@
--- The statements of specs/, proved, and demand 3.
-use mathlib.Core.Path.{_≡_, refl, sym, _∙_, subst}
-use mathlib.Core.Bool.{_&&_}
+-- The statements of specs/, proved.
+use mathlib.Core.Path.{_≡_, refl, sym, ap, _∙_, subst}
+use mathlib.Core.List.{List}
+use mathlib.Core.Logic.{_↔_}
+use mathlib.Core.Bool.{true, _&&_}
 use mathlib.Core.Option.{Option, none, some}
-use Prim.Native.Nat.{ℕ, _≤_, _<_}
+use Prim.Native.Nat.{ℕ, _+_, _≤_, _<_}
+use native.Mathlib.Decide.{ℕ-discrete}
 use native.Mathlib.Omega.{arith}
-use lib.ListN.{length}
+use lib.ListN.{length, getD}
 use lib.Dec.{leb, ltb}
 use lib.Pow.{pow-mono}
 use borrow.Author.Tests.{le-leb, lt-ltb}
-use Rattle.rules.specs.Heap.{Memory, exponent, lowestFree}
-use Rattle.rules.specs.Store.{letGo, putRoot, putCell, changeRoot, changeCell, placed, allocateIn}
-use Rattle.rules.specs.Calls.{allocate, Answer, require, onUndamaged, allocation, answer}
+use Rattle.bitmap.specs.Bit.{bitAt}
+use Rattle.rules.specs.Heap.{Memory, shaped, exponent, lowestFree}
+use Rattle.rules.specs.Store.{formatted, letGo, putRoot, putCell, changeRoot, changeCell, placed, allocateIn}
+use Rattle.rules.specs.declared.Reply.{Reply}
+use Rattle.rules.specs.Calls.{allocate, Answer, accepted, require, onUndamaged, allocation, answer}
 use Rattle.theory.specs.Demand.{Demand3}
 use Rattle.rules.proofs.Replies.{on-undamaged-shaped, on-undamaged-no-damage, on-undamaged-next}
 use Rattle.rules.proofs.Tests.{true-and, require-true, require-passed}
 use Rattle.rules.proofs.Shape.{shape-facts}
 use Rattle.rules.proofs.Chunks.{exponent-covers, exponent-least}
 use Rattle.theory.specs.Statements.{Undamaged, CallsKeepUndamaged, FormatMakesUndamaged, RefusedExactly, Lowest, LowestTaken}
-use Rattle.theory.specs.Statements.{LeastPower, NStepsSuffice, ReachedIsLed, EveryListHasAChain, ObjectsAreEnds}
+use Rattle.theory.specs.Statements.{LeastPower, NStepsSuffice, ReachedIsLed, ObjectsAreEnds, EndsOnLast}
+use Rattle.theory.specs.Statements.{ClaimFromUndamaged, ClaimFromFormat}
+use Rattle.theory.specs.Words.{Object}
 use Rattle.theory.specs.Orders.{OrderUnseen}
-use Rattle.theory.proofs.Maps.Extents.{sizesOf}
+use Rattle.theory.specs.Theory.{Theory}
+use Rattle.theory.proofs.Maps.Extents.{Represents, sizesOf, inner, represents-delimited}
 use Rattle.theory.proofs.Maps.LowestChunk.{lowest-some, room, refused-none-free, none-free-refused}
 use Rattle.theory.proofs.Maps.Parse.{parse}
 use Rattle.theory.proofs.Maps.Totals.{objects-ends}
@@ -32,7 +40,9 @@ use Rattle.theory.proofs.Memories.Stores.{store-root, store-cell, alloc
 use Rattle.theory.proofs.Memories.Rounds.{reached-led, led-reached}
 use Rattle.theory.proofs.EachCall.Served.{on-undamaged}
 use Rattle.theory.proofs.EachCall.Answers.{answer-served}
-use Rattle.theory.proofs.Demand.{every-list, demand3}
+use Rattle.theory.proofs.Memories.Leads.{object-size, size-object}
+use Rattle.theory.proofs.EachCall.AnyWaiting.{waiting-unread}
+use Rattle.theory.proofs.Demand.{every-list, chains-append, claim, demand3}
 
 healthy-undamaged : (N w : ℕ) (h : Memory) → Healthy N w h → Undamaged N w h
 healthy-undamaged N w h healthy = record { right-shape = healthy-shaped N w h healthy; no-damage = healthy-no-damage N w h healthy }
@@ -92,9 +102,6 @@ lowest-taken N w h n r accepted =
 pub reached-is-led : ReachedIsLed
 reached-is-led N h b = (reached-led N h b, led-reached N h b)
 
-pub every-list-has-a-chain : EveryListHasAChain
-every-list-has-a-chain = every-list
-
 pub n-steps-suffice : NStepsSuffice
 unfolding changeRoot changeCell allocateIn placed putRoot putCell letGo
 n-steps-suffice N w h u steps enough =
@@ -129,3 +136,61 @@ objects-are-ends N w h fits one two =
 -- Demand 3, whole.
 pub demand-3 : Demand3
 demand-3 = demand3
+
+pub claim-from-undamaged : ClaimFromUndamaged
+claim-from-undamaged N w h u made chain = claim N w h (undamaged-healthy N w h u) made chain
+
+-- an accepted format was not refused with 1, so it left a formatted heap
+pub claim-from-format : ClaimFromFormat
+unfolding answer
+claim-from-format N w lent x left promise taken made chain =
+    let empty : Memory = formatted N w (length (lent .roots)) in
+    let fits : shaped N w lent ≡ true =
+    require-passed (shaped N w lent) 1 lent (accepted empty 0) (omega arith) (ap (λ (r : Reply). r .number) (sym (promise .reply-is)) ∙ taken) in
+    let left-is : left ≡ empty =
+    promise .after-is ∙ ap (λ (y : Answer). y .1) (require-true (shaped N w lent) 1 lent (accepted empty 0) fits) in
+    claim N w left (subst (λ (g : Memory). Healthy N w g) (sym left-is) (formatted-healthy N w lent (shape-facts N w lent fits))) made chain
+
+-- the maps' own sizes
+ends-represent :
+    (N : ℕ) (h : Memory) (sizes : List ℕ) → Represents N (h .a) (h .b) sizes → (i : ℕ) → i < N
+    → (bitAt (h .b) i ≡ 0) ↔ ((b : ℕ) × (n : ℕ) × Object N h b n × (i + 1 ≡ b + n))
+ends-represent N h sizes represents i l = (object, λ o. last (o .0) (o .1) (o .2) (o .3))
+  where
+    last : (b n : ℕ) → Object N h b n → i + 1 ≡ b + n → bitAt (h .b) i ≡ 0
+    last b n there e =
+        let same = object-size N h sizes represents b n there in
+        represents .last b i (λ z. same .1 (sym (same .0) ∙ z)) (omega (arith, same .0))
+
+    object : bitAt (h .b) i ≡ 0 → (b : ℕ) × (n : ℕ) × Object N h b n × (i + 1 ≡ b + n)
+    object e =
+        let o = represents .owner i (represents-delimited N (h .a) (h .b) sizes represents .end-used i l e) in
+        let n : ℕ = getD sizes (o .0) 0 in
+        elim (ℕ-discrete (i + 1) (o .0 + n)) [
+          | yes q ↦ (o .0, n, size-object N h sizes represents (o .0) (omega (arith, o .1, o .2)), q)
+          | no q ↦ absurd (omega (arith, inner N (h .a) (h .b) sizes represents (o .0) i (o .1) (omega (arith, o .2))))
+        ]
+
+pub ends-on-last : EndsOnLast
+ends-on-last N w h u i l = ends-represent N h (sizesOf N (h .a) (h .b)) (undamaged-healthy N w h u .represents) i l
+
+pub theory : Theory
+theory =
+    record {
+      demand-3 = demand-3;
+      every-list-has-a-chain = every-list;
+      chains-append = chains-append;
+      claim-from-undamaged = claim-from-undamaged;
+      claim-from-format = claim-from-format;
+      calls-keep-undamaged = calls-keep-undamaged;
+      format-makes-undamaged = format-makes-undamaged;
+      waiting-unread = waiting-unread;
+      least-power = least-power;
+      reached-is-led = reached-is-led;
+      n-steps-suffice = n-steps-suffice;
+      refused-exactly = refused-exactly;
+      lowest-taken = lowest-taken;
+      ends-on-last = ends-on-last;
+      objects-are-ends = objects-are-ends;
+      order-unseen = order-unseen;
+    }

@@ -12,7 +12,7 @@ use Rattle.rules.specs.Collection.{referencesFrom}
 use Rattle.rules.specs.Calls.{Call, format, check, collect, freeBlocks, allocate, storeRoot, storeCell, look, run}
 use Rattle.rules.specs.Promise.{Promise}
 use Rattle.rules.specs.declared.Reply.{Reply}
-use Rattle.theory.specs.Words.{Object, Names, Leads, numberOfReferences, InExtent, stored, Made, callsOf, answersOf}
+use Rattle.theory.specs.Words.{Object, Names, Leads, numberOfReferences, InExtent, stored, heapOf, Made, callsOf, answersOf, compared}
 use Rattle.theory.specs.Stuck.{StuckByReferences}
 
 -- ---- at every moment
@@ -60,22 +60,31 @@ Collects N w (look a) h x g = Unit {0}
 
 -- ---- over a list of calls
 
--- each call was made on the memory that the one before it left, and kept its promise; a refused one too
+-- A call finds the heap that the one before it left. The waiting list is working space and not kept between calls: each call may be lent one
+-- of its own, of N numbers. "The waiting list may hold anything on entry."
+pub record Finds (N : ℕ) (left found : Memory) : Type 0 where
+  pub same-heap : heapOf found ≡ heapOf left
+  pub space : length (found .waiting) ≡ N
+
+-- each call of the list was made on the heap that the one before it left, and kept its promise; a refused one too
 pub data Chain (N w : ℕ) : Memory → List Made → Type 0 where
   none : {h : Memory} → Chain N w h []
-  next : {h : Memory} {m : Made} {ms : List Made} → Promise N w (m .call) h (m .reply) (m .after) → Chain N w (m .after) ms → Chain N w h (m ∷ ms)
+  next :
+      {h : Memory} {m : Made} {ms : List Made} → Finds N h (m .before) → Promise N w (m .call) (m .before) (m .reply) (m .after)
+      → Chain N w (m .after) ms → Chain N w h (m ∷ ms)
 
 -- the heap is sound at every moment, no call frees what a root still leads to, and each accepted collection is exact
 pub data Holds (N w : ℕ) : Memory → List Made → Type 0 where
   none : {h : Memory} → Sound N w h → Holds N w h []
   next :
-      {h : Memory} {m : Made} {ms : List Made} → Sound N w h → NoEarlyFree N (m .call) h (m .reply) (m .after)
-      → Collects N w (m .call) h (m .reply) (m .after) → Holds N w (m .after) ms → Holds N w h (m ∷ ms)
+      {h : Memory} {m : Made} {ms : List Made} → Sound N w h → NoEarlyFree N (m .call) (m .before) (m .reply) (m .after)
+      → Collects N w (m .call) (m .before) (m .reply) (m .after) → Holds N w (m .after) ms → Holds N w h (m ∷ ms)
 
 -- "The plain machine it is held against is the rules of demand 2, carried out from that heap on the list's calls alone: each call's
--- number and values, and every bit, cell and root after it, are equal to the machine's."
+-- number and values, and every bit, cell and root after it, are equal to the machine's." What each call leaves in its waiting list is part of
+-- its promise.
 pub record Claim (N w : ℕ) (start : Memory) (made : List Made) : Type 0 where
-  pub machine : answersOf made ≡ run N w start (callsOf made)
+  pub machine : compared (answersOf made) ≡ compared (run N w start (callsOf made))
   pub holds : Holds N w start made
   pub stuck : StuckByReferences N w start made
 

@@ -3,3 +3,4 @@ pub mod Stuck
 pub mod Demand
 pub mod Statements
 pub mod Orders
+pub mod Theory

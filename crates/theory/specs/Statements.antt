@@ -1,20 +1,21 @@
--- What the theory proves of the rules, for the reader: each statement is over the rules' own words, and its proof is in proofs/. Demand 3
--- itself is stated in the rules (`Demand3`).
+-- What the theory proves of the rules besides demand 3, for the reader: each statement is over the rules' own words.
 use Prim.Native.Nat.{ℕ, _+_, _*_, _%_, _^_, _≤_, _<_}
 use mathlib.Core.Path.{_≡_}
 use mathlib.Core.Logic.{_↔_}
 use mathlib.Core.Bool.{true, false}
-use mathlib.Core.List.{List}
+use mathlib.Core.List.{List, _++_, map}
 use mathlib.Core.Option.{some}
 use lib.ListN.{length, getD, set}
 use Rattle.bitmap.specs.Bit.{bitAt, countBelow, zeros}
 use Rattle.rules.specs.Heap.{Memory, withCounts, withCells, withRoots, shaped, isFirst, sizeAt, isRef, exponent, lowestFree}
 use Rattle.rules.specs.Damage.{someBelow, endOnFree, openEnd, damage}
 use Rattle.rules.specs.Store.{formatted, countUp, letGoIn, changeRoot, changeCell, placed, allocateIn}
-use Rattle.rules.specs.Calls.{Call, allocate, answer}
+use Rattle.rules.specs.Calls.{Call, format, allocate, answer}
 use Rattle.rules.specs.Collection.{marked, reached}
-use Rattle.theory.specs.Words.{Leads, Made, callsOf}
-use Rattle.theory.specs.Demand.{Chain}
+use Rattle.rules.specs.Promise.{Promise}
+use Rattle.rules.specs.declared.Reply.{Reply}
+use Rattle.theory.specs.Words.{Object, Leads, heapOf, Made, leftBy}
+use Rattle.theory.specs.Demand.{Chain, Claim}
 
 -- right shape and no damage: refused with neither 1 nor 2
 pub record Undamaged (N w : ℕ) (h : Memory) : Type 0 where
@@ -27,6 +28,12 @@ CallsKeepUndamaged = (N w : ℕ) (h : Memory) → Undamaged N w h → (call : Ca
 
 abbrev pub FormatMakesUndamaged : Type 0
 FormatMakesUndamaged = (N w : ℕ) (h : Memory) → shaped N w h ≡ true → Undamaged N w (formatted N w (length (h .roots)))
+
+-- "0 stands on the last block of each object and 1 everywhere else": of every undamaged heap. A bit is 0 or 1.
+abbrev pub EndsOnLast : Type 0
+EndsOnLast =
+    (N w : ℕ) (h : Memory) → Undamaged N w h → (i : ℕ) → i < N
+    → (bitAt (h .b) i ≡ 0) ↔ ((b : ℕ) × (n : ℕ) × Object N h b n × (i + 1 ≡ b + n))
 
 -- 2 ^ exponent n is "the least power of two that is n or more"
 abbrev pub LeastPower : Type 0
@@ -64,9 +71,32 @@ LowestTaken =
 abbrev pub ReachedIsLed : Type 0
 ReachedIsLed = (N : ℕ) (h : Memory) (b : ℕ) → (marked (reached N h) b ≡ true) ↔ Leads N h b
 
--- the hypothesis `Chain` of demand 3 can always be met: every list of calls has a chain
+-- The hypothesis `Chain` of demand 3 can always be met: every list of calls, each with a waiting list of its own, has a chain.
 abbrev pub EveryListHasAChain : Type 0
-EveryListHasAChain = (N w : ℕ) (h : Memory) (calls : List Call) → (made : List Made) × (callsOf made ≡ calls) × Chain N w h made
+EveryListHasAChain =
+    (N w : ℕ) (h : Memory) (lent : List (Call × ((waiting : List ℕ) × (length waiting ≡ N))))
+    → (made : List Made) × (map {B = Call × List ℕ} (λ m. (m .call, m .before .waiting)) made ≡ map (λ l. (l .0, l .1 .0)) lent) × Chain N w h made
+
+-- Chains append. So a list of public calls with runs of calls in it, as a replay is one, is one list of calls.
+abbrev pub ChainsAppend : Type 0
+ChainsAppend =
+    (N w : ℕ) (h : Memory) (made more : List Made) → Chain N w h made → Chain N w (leftBy h made) more → Chain N w h (made ++ more)
+
+-- demand 3's claim holds from every undamaged heap
+abbrev pub ClaimFromUndamaged : Type 0
+ClaimFromUndamaged = (N w : ℕ) (h : Memory) → Undamaged N w h → (made : List Made) → Chain N w h made → Claim N w h made
+
+-- .. and from what an accepted call of format left, as its caller knows it
+abbrev pub ClaimFromFormat : Type 0
+ClaimFromFormat =
+    (N w : ℕ) (lent : Memory) (x : Reply) (left : Memory) → Promise N w format lent x left → x .number ≡ 0
+    → (made : List Made) → Chain N w left made → Claim N w left made
+
+-- "The waiting list may hold anything on entry": no reply and no other list depends on it
+abbrev pub WaitingUnread : Type 0
+WaitingUnread =
+    (N w : ℕ) (h g : Memory) → heapOf h ≡ heapOf g → length (h .waiting) ≡ length (g .waiting) → (call : Call)
+    → (answer N w h call .0 ≡ answer N w g call .0) × (heapOf (answer N w h call .1) ≡ heapOf (answer N w g call .1))
 
 -- The N steps of `release` are enough: with more of them a store or an allocation ends in the same heap.
 pub record StepsSuffice (N w : ℕ) (h : Memory) (steps : ℕ) : Type 0 where

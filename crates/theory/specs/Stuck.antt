@@ -33,9 +33,9 @@ pub data LivesOn (N b n : ℕ) : Memory → List Made → Type 0 where
   next : {h : Memory} {m : Made} {ms : List Made} → Object N h b n → LivesOn N b n (m .after) ms → LivesOn N b n h (m ∷ ms)
 
 -- "some call in between"
-pub data SomeWrote (N w b : ℕ) : Memory → List Made → Type 0 where
-  here : {h : Memory} {m : Made} {ms : List Made} → Wrote N w b (m .call) h (m .reply) → SomeWrote N w b h (m ∷ ms)
-  later : {h : Memory} {m : Made} {ms : List Made} → SomeWrote N w b (m .after) ms → SomeWrote N w b h (m ∷ ms)
+pub data SomeWrote (N w b : ℕ) : List Made → Type 0 where
+  here : {m : Made} {ms : List Made} → Wrote N w b (m .call) (m .before) (m .reply) → SomeWrote N w b (m ∷ ms)
+  later : {m : Made} {ms : List Made} → SomeWrote N w b ms → SomeWrote N w b (m ∷ ms)
 
 -- "if an object's count is below the capacity and later, the object living on, stands at it, then some call in between wrote a reference
 -- after which, before that call let anything go, the object had at least that many references." `between` are any calls of the list that
@@ -44,4 +44,4 @@ abbrev pub StuckByReferences : ℕ → ℕ → Memory → List Made → Type 0
 StuckByReferences N w start made =
     (earlier between others : List Made) → made ≡ earlier ++ (between ++ others) → (b n : ℕ)
     → let h = leftBy start earlier in
-    LivesOn N b n h between → countOf N w h b < capacity w → countOf N w (leftBy h between) b ≡ capacity w → SomeWrote N w b h between
+    LivesOn N b n h between → countOf N w h b < capacity w → countOf N w (leftBy h between) b ≡ capacity w → SomeWrote N w b between

@@ -2,10 +2,10 @@
 use Prim.Native.Nat.{ℕ, _+_, _*_, _≤_, _<_}
 use mathlib.Core.Path.{_≡_}
 use mathlib.Core.Bool.{true, false}
-use mathlib.Core.List.{List, map}
+use mathlib.Core.List.{List, [], map}
 use lib.ListN.{length, getD, set, replicate}
 use lib.Dec.{eqb}
-use Rattle.rules.specs.Heap.{Memory, withCells, withRoots, isFirst, sizeAt}
+use Rattle.rules.specs.Heap.{Memory, withCells, withRoots, withWaiting, isFirst, sizeAt}
 use Rattle.rules.specs.Collection.{referencesFrom}
 use Rattle.rules.specs.Calls.{Call, format, check, collect, freeBlocks, allocate, storeRoot, storeCell, look, Answer, lastMemory}
 use Rattle.rules.specs.declared.Reply.{Reply}
@@ -55,9 +55,14 @@ stored h call x = elim (eqb (x .number) 0) [ true ↦ written h call x | false �
 
 -- ---- a list of calls
 
--- a call as it was made: what was called, its reply, and the lent numbers after it
+-- "Where two heaps or two outcomes are compared, the waiting list is left out."
+abbrev pub heapOf : Memory → Memory
+heapOf h = withWaiting [] h
+
+-- a call as it was made: what was called, the lent numbers that it found, its reply, and the lent numbers after it
 pub record Made : Type 0 where
   pub call : Call
+  pub before : Memory
   pub reply : Reply
   pub after : Memory
 
@@ -67,6 +72,10 @@ callsOf made = map (λ m. m .call) made
 
 abbrev pub answersOf : List Made → List Answer
 answersOf made = map (λ m. (m .reply, m .after)) made
+
+-- what is compared of answers: "each call's number and values, and every bit, cell and root after it"
+abbrev pub compared : List Answer → List Answer
+compared answers = map (λ x. (x .0, heapOf (x .1))) answers
 
 -- the memory that a list of calls leaves
 abbrev pub leftBy : Memory → List Made → Memory

@@ -1,0 +1,30 @@
+-- All that the theory states, as one record, which has one proof (`theory`, proofs/Theorems.antt): no statement can be dropped unnoticed.
+use Rattle.theory.specs.Demand.{Demand3}
+use Rattle.theory.specs.Statements.{CallsKeepUndamaged, FormatMakesUndamaged, EndsOnLast, LeastPower, RefusedExactly, LowestTaken}
+use Rattle.theory.specs.Statements.{ReachedIsLed, EveryListHasAChain, ChainsAppend, ClaimFromUndamaged, ClaimFromFormat, WaitingUnread}
+use Rattle.theory.specs.Statements.{NStepsSuffice, ObjectsAreEnds}
+use Rattle.theory.specs.Orders.{OrderUnseen}
+
+pub record Theory : Type 0 where
+  -- demand 3, and what makes it usable
+  pub demand-3 : Demand3
+  pub every-list-has-a-chain : EveryListHasAChain
+  pub chains-append : ChainsAppend
+  pub claim-from-undamaged : ClaimFromUndamaged
+  pub claim-from-format : ClaimFromFormat
+  -- what calls keep, and what they don't read
+  pub calls-keep-undamaged : CallsKeepUndamaged
+  pub format-makes-undamaged : FormatMakesUndamaged
+  pub waiting-unread : WaitingUnread
+  -- the definitions that try only so often
+  pub least-power : LeastPower
+  pub reached-is-led : ReachedIsLed
+  pub n-steps-suffice : NStepsSuffice
+  -- the allocation
+  pub refused-exactly : RefusedExactly
+  pub lowest-taken : LowestTaken
+  -- the maps
+  pub ends-on-last : EndsOnLast
+  pub objects-are-ends : ObjectsAreEnds
+  -- requests
+  pub order-unseen : OrderUnseen
