@@ -98,13 +98,12 @@ replay-is-calls N w left h words replies x after replies′ finds done taken =
     let ran = done .ran taken in
     let empty : Memory = formatted N w (length (h .roots)) in
     let fits : shaped N w h ≡ true = right-shape (shaped N w h) refl (ap (λ (r : Reply). r .number) (sym (done .reply-is)) ∙ taken) in
-    let formatting : answer N w h format ≡ accepted empty 0 = require-true (shaped N w h) 1 h (accepted empty 0) fits in
-    (
+    let formatting : answer N w h format ≡ accepted empty 0 = require-true (shaped N w h) 1 h (accepted empty 0) fits in (
       record { call = format; before = h; reply = reply 0 0 0; after = empty } ∷ ran .made,
       ap (λ (l : List Call). format ∷ l) (ran .calls-are),
       Chain.next finds
-      (record { reply-is = ap (λ (y : Answer). y .0) (sym formatting); after-is = ap (λ (y : Answer). y .1) (sym formatting) })
-      (ran .chain),
+          (record { reply-is = ap (λ (y : Answer). y .0) (sym formatting); after-is = ap (λ (y : Answer). y .1) (sym formatting) })
+          (ran .chain),
       ran .left-is,
     )
   where

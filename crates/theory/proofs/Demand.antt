@@ -2,7 +2,7 @@
 -- claim is about every list.
 use mathlib.Core.Path.{_≡_, refl, sym, ap, ap₂, _∙_, subst}
 use mathlib.Core.List.{List, [], _∷_, _++_, map}
-use Prim.Native.Nat.{ℕ, _/_, _<_}
+use Prim.Native.Nat.{ℕ, _+_, _/_, _<_}
 use native.Mathlib.Decide.{decLt}
 use native.Mathlib.Omega.{arith}
 use lib.ListN.{length}
@@ -15,12 +15,14 @@ use Rattle.theory.specs.Words.{Object, heapOf, Made, leftBy, callsOf, an
 use Rattle.theory.specs.Stuck.{LivesOn, SomeWrote}
 use Rattle.theory.specs.Demand.{Finds, Chain, Holds, Claim, Demand3}
 use Rattle.theory.specs.Statements.{ChainsAppend, EveryListHasAChain}
+use Rattle.theory.specs.Balance.{inUse, blocksAllocated, blocksFreed}
 use Rattle.theory.proofs.Memories.Healthy.{Healthy}
 use Rattle.theory.proofs.Memories.Formatted.{formatted-healthy}
 use Rattle.theory.proofs.Memories.ViewRelease.{reshaped}
 use Rattle.theory.proofs.Memories.Soundness.{healthy-sound}
 use Rattle.theory.proofs.EachCall.AnyWaiting.{waiting-unread}
 use Rattle.theory.proofs.EachCall.Served.{Served}
+use Rattle.theory.proofs.EachCall.Balance.{answer-even}
 use Rattle.theory.proofs.EachCall.Answers.{answer-served}
 
 -- ---- one call
@@ -150,3 +152,16 @@ every-list N w h ((c, (waiting, long)) ∷ lent) =
       ap {B = List (Call × List ℕ)} (λ l. (c, waiting) ∷ l) (rest .1),
       Chain.next (record { same-heap = refl; space = long }) (record { reply-is = refl; after-is = refl }) (rest .2),
     )
+
+-- ---- request U1
+
+-- freed is what stood in the heap, whatever the waiting list
+pub balance :
+    (N w : ℕ) {h : Memory} {made : List Made} → Healthy N w h → Chain N w h made
+    → inUse N h + blocksAllocated made ≡ blocksFreed N made + inUse N (leftBy h made)
+unfolding blocksAllocated blocksFreed lastMemory
+balance N w healthy Chain.none = omega arith
+balance N w {h} healthy (Chain.next {m} finds promise rest) =
+    let even = rw (← promise .reply-is, ← promise .after-is) at (answer-even N w (m .before) (finds-healthy N w finds healthy) (m .call) .kept) in
+    let found : inUse N (m .before) ≡ inUse N h = ap (λ (g : Memory). inUse N g) (finds .same-heap) in
+    omega (arith, even, found, balance N w (serves N w healthy m finds promise .keep) rest)

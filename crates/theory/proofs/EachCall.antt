@@ -4,3 +4,4 @@ pub mod Served
 pub mod StoresServed
 pub mod CollectionServed
 pub mod Answers
+pub mod Balance

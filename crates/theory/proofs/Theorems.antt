@@ -26,6 +26,7 @@ use Rattle.theory.specs.Statements.{LeastPower, NStepsSuffice, ReachedIs
 use Rattle.theory.specs.Statements.{ClaimFromUndamaged, ClaimFromFormat}
 use Rattle.theory.specs.Words.{Object}
 use Rattle.theory.specs.Orders.{OrderUnseen}
+use Rattle.theory.specs.Balance.{BlocksBalance}
 use Rattle.theory.specs.Theory.{Theory}
 use Rattle.theory.proofs.Maps.Extents.{Represents, sizesOf, inner, represents-delimited}
 use Rattle.theory.proofs.Maps.LowestChunk.{lowest-some, room, refused-none-free, none-free-refused}
@@ -42,7 +43,8 @@ use Rattle.theory.proofs.EachCall.Served.{on-undamaged}
 use Rattle.theory.proofs.EachCall.Answers.{answer-served}
 use Rattle.theory.proofs.Memories.Leads.{object-size, size-object}
 use Rattle.theory.proofs.EachCall.AnyWaiting.{waiting-unread}
-use Rattle.theory.proofs.Demand.{every-list, chains-append, claim, demand3}
+use Rattle.theory.proofs.Demand.{every-list, chains-append, claim, demand3, balance}
+use Rattle.theory.proofs.EachCall.Balance.{blocks-add-up}
 
 healthy-undamaged : (N w : ℕ) (h : Memory) → Healthy N w h → Undamaged N w h
 healthy-undamaged N w h healthy = record { right-shape = healthy-shaped N w h healthy; no-damage = healthy-no-damage N w h healthy }
@@ -174,6 +176,10 @@ ends-represent N h sizes represents i l = (object, λ o. last (o .0) (o .1) (o .
 pub ends-on-last : EndsOnLast
 ends-on-last N w h u i l = ends-represent N h (sizesOf N (h .a) (h .b)) (undamaged-healthy N w h u .represents) i l
 
+-- request U1
+pub blocks-balance : BlocksBalance
+blocks-balance N w h u made chain = balance N w (undamaged-healthy N w h u) chain
+
 pub theory : Theory
 theory =
     record {
@@ -193,4 +199,6 @@ theory =
       ends-on-last = ends-on-last;
       objects-are-ends = objects-are-ends;
       order-unseen = order-unseen;
+      blocks-balance = blocks-balance;
+      blocks-add-up = blocks-add-up;
     }

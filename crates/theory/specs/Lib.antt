@@ -3,4 +3,5 @@ pub mod Stuck
 pub mod Demand
 pub mod Statements
 pub mod Orders
+pub mod Balance
 pub mod Theory

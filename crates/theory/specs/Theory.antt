@@ -4,6 +4,7 @@ use Rattle.theory.specs.Statements.{CallsKeepUndamaged, FormatMakesUndam
 use Rattle.theory.specs.Statements.{ReachedIsLed, EveryListHasAChain, ChainsAppend, ClaimFromUndamaged, ClaimFromFormat, WaitingUnread}
 use Rattle.theory.specs.Statements.{NStepsSuffice, ObjectsAreEnds}
 use Rattle.theory.specs.Orders.{OrderUnseen}
+use Rattle.theory.specs.Balance.{BlocksBalance, BlocksAddUp}
 
 pub record Theory : Type 0 where
   -- demand 3, and what makes it usable
@@ -28,3 +29,5 @@ pub record Theory : Type 0 where
   pub objects-are-ends : ObjectsAreEnds
   -- requests
   pub order-unseen : OrderUnseen
+  pub blocks-balance : BlocksBalance
+  pub blocks-add-up : BlocksAddUp

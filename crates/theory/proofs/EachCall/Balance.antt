@@ -1,0 +1,395 @@
+-- Blocks allocated and freed: each call keeps the balance, so every list of calls does.
+use mathlib.Core.Path.{_≡_, refl, sym, ap, _∙_, subst}
+use mathlib.Core.Logic.{_≢_, _⊎_, inl, inr}
+use mathlib.Core.Bool.{Bool, true, false, _&&_}
+use mathlib.Core.List.{List, [], _∷_}
+use mathlib.Core.Option.{Option, none, some}
+use Prim.Native.Nat.{ℕ, zero, suc, _+_, _-_, _*_, _≤_, _<_}
+use native.Mathlib.Decide.{ℕ-discrete}
+use native.Mathlib.Omega.{arith}
+use lib.ListN.{length, getD, set, replicate, length-set}
+use lib.Seq.{getD-set-same, getD-set-other}
+use lib.Dec.{leb, ltb, eqb}
+use borrow.Author.Tests.{eq-eqb, ne-eqb, leb-true, ltb-true, eqb-false}
+use Rattle.bitmap.specs.Bit.{zeros}
+use Rattle.rules.specs.Heap.{Memory, shaped, capacity, countOf, isFirst, sizeAt, exponent, lowestFree, isRef}
+use Rattle.rules.specs.Damage.{damage}
+use Rattle.rules.specs.Store.{formatted, placed, putRoot, putCell, changeRoot, changeCell, storeRootIn, storeCellIn, allocateIn}
+use Rattle.rules.specs.Collection.{collected}
+use Rattle.rules.specs.Calls.{Call, format, check, collect, freeBlocks, allocate, storeRoot, storeCell, look, Answer, reply, accepted, refused}
+use Rattle.rules.specs.Calls.{require, onUndamaged, freeing, allocation, settled, answer}
+use Rattle.rules.specs.declared.Reply.{Reply}
+use Rattle.rules.proofs.Replies.{on-undamaged-shaped, on-undamaged-no-damage}
+use Rattle.rules.proofs.Tests.{test-cases, and-true}
+use Rattle.rules.proofs.Objects.{first-facts}
+use Rattle.theory.specs.Balance.{sumBelow, freedAt, freedBlocks, inUse, allocates, allocatedBy, FreedValue, BlocksAddUp}
+use Rattle.theory.proofs.Maps.Extents.{Represents, sizesOf, length-sizes-of, first-size, size-is-first, not-first-size, extent}
+use Rattle.theory.proofs.Maps.Extents.{formatted-represents}
+use Rattle.theory.proofs.Maps.LowestChunk.{Room, room}
+use Rattle.theory.proofs.Maps.Totals.{sum, sum-set, free-and-sizes}
+use Rattle.theory.proofs.Graphs.Graph as graph
+use Rattle.theory.proofs.Graphs.Graph.{Graph, size, raise, place}
+use Rattle.theory.proofs.Graphs.Keep.{Reach, root}
+use Rattle.theory.proofs.Graphs.Order.{runs-leave}
+use Rattle.theory.proofs.Graphs.Collection.{collected-or-gone}
+use Rattle.theory.proofs.Graphs.Calls.{Place, finish-ends, finish-keeps}
+use Rattle.theory.proofs.Graphs.Calls.{raised-balanced, raised-waits, raised-shape, placed-balanced, placed-waits, placed-shape}
+use Rattle.theory.proofs.Memories.View.{view}
+use Rattle.theory.proofs.Memories.Healthy.{Healthy, healthy-facts}
+use Rattle.theory.proofs.Memories.Formatted.{zeros-at}
+use Rattle.theory.proofs.Memories.ViewRelease.{Shows}
+use Rattle.theory.proofs.Memories.ViewCollection.{is-collected, collected-shows}
+use Rattle.theory.proofs.Memories.Stores.{positive, ref-object, store-root, cell-place, store-cell, room-vacant, allocate-root}
+use Rattle.theory.proofs.EachCall.Served.{on-undamaged}
+use Rattle.theory.proofs.EachCall.Answers.{answer-served}
+
+-- ---- sums
+
+sum-below-shift : (f : ℕ → ℕ) (n : ℕ) → sumBelow f (suc n) ≡ f 0 + sumBelow (λ b. f (suc b)) n
+unfolding sumBelow
+sum-below-shift f zero = omega arith
+sum-below-shift f (suc n) = omega (arith, sum-below-shift f n)
+
+sum-below-list : (l : List ℕ) → sumBelow (λ b. getD l b 0) (length l) ≡ sum l
+unfolding sum sumBelow
+sum-below-list [] = refl
+sum-below-list (x ∷ l) = sum-below-shift (λ b. getD (x ∷ l) b 0) (length l) ∙ ap (λ (k : ℕ). x + k) (sum-below-list l)
+
+sum-below-add : (f g k : ℕ → ℕ) (n : ℕ) → ((b : ℕ) → b < n → f b + g b ≡ k b) → sumBelow f n + sumBelow g n ≡ sumBelow k n
+unfolding sumBelow
+sum-below-add f g k zero h = refl
+sum-below-add f g k (suc n) h = omega (arith, sum-below-add f g k n (λ b l. h b (omega arith)), h n (omega arith))
+
+-- ---- the blocks freed between two memories, from their sizes
+
+module _ (N : ℕ) (h g : Memory) (s t : List ℕ) (before : Represents N (h .a) (h .b) s) (after : Represents N (g .a) (g .b) t) (b : ℕ) where
+  freed-none : isFirst N h b ≡ false → freedAt N h g b ≡ 0
+  unfolding freedAt
+  freed-none f = rw (f, freedAt)
+
+  freed-new : getD s b 0 ≡ 0 → freedAt N h g b ≡ 0
+  freed-new z = elim (test-cases (isFirst N h b)) [
+    | inl f ↦ absurd (first-size N (h .a) (h .b) s before b f z)
+    | inr f ↦ freed-none f
+  ]
+
+  freed-stands : getD t b 0 ≡ getD s b 0 → freedAt N h g b + getD t b 0 ≡ getD s b 0
+  unfolding freedAt
+  freed-stands e = elim (test-cases (isFirst N h b)) [
+    | inr f ↦ omega (arith, freed-none f)
+    | inl f ↦
+        let some : getD s b 0 ≢ 0 = first-size N (h .a) (h .b) s before b f in
+        let left : getD t b 0 ≢ 0 = λ z. some (sym e ∙ z) in
+        let same : sizeAt N g b ≡ sizeAt N h b =
+        extent N (g .a) (g .b) t after b left ∙ e ∙ sym (extent N (h .a) (h .b) s before b some) in
+        let none : freedAt N h g b ≡ 0 = rw (f, size-is-first N (g .a) (g .b) t after b left, eq-eqb _ _ same, freedAt) in
+        omega arith
+  ]
+
+  freed-gone : getD t b 0 ≡ 0 → freedAt N h g b + getD t b 0 ≡ getD s b 0
+  unfolding freedAt
+  freed-gone z = elim (test-cases (isFirst N h b)) [
+    | inr f ↦ omega (arith, freed-none f, not-first-size N (h .a) (h .b) s before b f)
+    | inl f ↦
+        let some : getD s b 0 ≢ 0 = first-size N (h .a) (h .b) s before b f in
+        let no : isFirst N g b ≡ false = elim (test-cases (isFirst N g b)) [
+          | inl q ↦ absurd (first-size N (g .a) (g .b) t after b q z)
+          | inr q ↦ q
+        ] in
+        let all : freedAt N h g b ≡ sizeAt N h b = rw (f, no, freedAt) in
+        omega (arith, all, extent N (h .a) (h .b) s before b some)
+  ]
+
+  freed-cases : (getD t b 0 ≡ getD s b 0) ⊎ (getD t b 0 ≡ 0) → freedAt N h g b + getD t b 0 ≡ getD s b 0
+  freed-cases (inl e) = freed-stands e
+  freed-cases (inr z) = freed-gone z
+
+module _ (N : ℕ) (h g : Memory) (s t : List ℕ) (before : Represents N (h .a) (h .b) s) (after : Represents N (g .a) (g .b) t) where
+  freed-total : (u : List ℕ) → length u ≡ N → ((b : ℕ) → freedAt N h g b + getD t b 0 ≡ getD u b 0) → freedBlocks N h g + sum t ≡ sum u
+  unfolding freedBlocks
+  freed-total u e each =
+      let left : sumBelow (λ b. getD t b 0) N ≡ sum t =
+      ap (λ (n : ℕ). sumBelow (λ b. getD t b 0) n) (sym (after .length-sizes)) ∙ sum-below-list t in
+      let all : sumBelow (λ b. getD u b 0) N ≡ sum u = ap (λ (n : ℕ). sumBelow (λ b. getD u b 0) n) (sym e) ∙ sum-below-list u in
+      omega (arith, sum-below-add (freedAt N h g) (λ b. getD t b 0) (λ b. getD u b 0) N (λ b l. each b), left, all)
+
+  -- nothing new stands
+  pub balance-freed : ((b : ℕ) → (getD t b 0 ≡ getD s b 0) ⊎ (getD t b 0 ≡ 0)) → inUse N h ≡ freedBlocks N h g + inUse N g
+  balance-freed each =
+      omega (
+        arith,
+        freed-total s (before .length-sizes) (λ b. freed-cases N h g s t before after b (each b)),
+        free-and-sizes N (h .a) (h .b) s before,
+        free-and-sizes N (g .a) (g .b) t after,
+      )
+
+  -- an object of n blocks at i is new
+  pub balance-new :
+      (i n : ℕ) → i < N → getD s i 0 ≡ 0 → getD t i 0 ≡ n
+      → ((b : ℕ) → b ≢ i → (getD t b 0 ≡ getD s b 0) ⊎ (getD t b 0 ≡ 0)) → inUse N h + n ≡ freedBlocks N h g + inUse N g
+  balance-new i n l fresh new each =
+      omega (
+        arith,
+        freed-total (set s i n) (length-set s i n ∙ before .length-sizes) at,
+        sum-set s i n (omega (arith, before .length-sizes)),
+        free-and-sizes N (h .a) (h .b) s before,
+        free-and-sizes N (g .a) (g .b) t after,
+      )
+    where
+      at : (b : ℕ) → freedAt N h g b + getD t b 0 ≡ getD (set s i n) b 0
+      at b = elim (ℕ-discrete b i) [
+        | yes e ↦
+            rw e
+            (omega (
+              arith,
+              freed-new N h g s t before after i fresh,
+              new,
+              getD-set-same s i n 0 (omega (arith, before .length-sizes)),
+            ))
+        | no d ↦ freed-cases N h g s t before after b (each b d) ∙ sym (getD-set-other s i b n 0 d)
+      ]
+
+-- ---- each call
+
+-- call c on memory h, answered with x, keeps the balance
+pub record Even (N : ℕ) (c : Call) (h : Memory) (x : Answer) : Type 0 where
+  pub kept : inUse N h + allocatedBy c (x .0) ≡ freedBlocks N h (x .1) + inUse N (x .1)
+
+module _ (N w : ℕ) (h : Memory) (healthy : Healthy N w h) where
+  abbrev sizes : List ℕ
+  sizes = sizesOf N (h .a) (h .b)
+
+  -- the heap as it was, with whatever waiting list
+  same-blocks : (g : Memory) → g .a ≡ h .a → g .b ≡ h .b → inUse N h ≡ freedBlocks N h g + inUse N g
+  same-blocks g a b =
+      balance-freed N h g sizes sizes (healthy .represents)
+      (rw (a, b) (healthy .represents)) (λ c. inl refl)
+
+  -- an accepted call that allocates nothing, from what is in use
+  plain : (c : Call) (x : Reply) (g : Memory) → allocates c ≡ 0 → inUse N h ≡ freedBlocks N h g + inUse N g → Even N c h (x, g)
+  unfolding allocatedBy
+  plain c x g e kept = record { kept = omega (arith, kept, none (eqb (x .number) 0)) }
+    where
+      none : (t : Bool) → _≡_ {A = ℕ} (elim t [ true ↦ allocates c | false ↦ 0 ]) 0
+      none true = e
+      none false = refl
+
+  refused-even : (c : Call) (number : ℕ) → number ≢ 0 → Even N c h (refused h number)
+  unfolding allocatedBy
+  refused-even c number nonzero =
+      let nothing : allocatedBy c (reply number 0 0) ≡ 0 = rw (ne-eqb number 0 nonzero, allocatedBy) in
+      record { kept = omega (arith, nothing, same-blocks h refl refl) }
+
+  require-even :
+      {c : Call} {next : Answer} (test : Bool) (number : ℕ) → number ≢ 0 → (test ≡ true → Even N c h next)
+      → Even N c h (require test number h next)
+  unfolding require
+  require-even true number nonzero even = even refl
+  require-even {c} false number nonzero even = refused-even c number nonzero
+
+  on-undamaged-even : {c : Call} {next : Answer} → Even N c h next → Even N c h (onUndamaged N w h next)
+  on-undamaged-even {c} {next} even = subst (λ (x : Answer). Even N c h x) (sym (on-undamaged N w h healthy next)) even
+
+  -- g shows a graph in which each object stands or is gone
+  shown-even :
+      (r : ℕ) (g : Memory) (k : Graph) → Shows N w r g k → ((b : ℕ) → (size k b ≡ getD sizes b 0) ⊎ (size k b ≡ 0))
+      → inUse N h ≡ freedBlocks N h (settled N g) + inUse N g
+  shown-even r g k shows each =
+      balance-freed N h (settled N g) sizes (sizesOf N (g .a) (g .b)) (healthy .represents) (shows .represents)
+      (λ b. rw (ap (λ (m : Graph). size m b) (shows .view-is)) (each b))
+
+  -- a store leaves each object as it was, or frees it
+  store-leaves :
+      (v : ℕ) → isRef N h v ≡ true → (i : ℕ) → Place (length (h .roots)) (view N w h) i → (b : ℕ)
+      → let k : Graph = graph.store (capacity w) (length (h .roots)) (view N w h) i v in (size k b ≡ getD sizes b 0) ⊎ (size k b ≡ 0)
+  unfolding graph.store
+  store-leaves v ref i slot-i b =
+      let cap : ℕ = capacity w in
+      let r : ℕ = length (h .roots) in
+      let pos = positive N w h healthy in
+      let named = ref-object N w h healthy v ref in
+      let ends = finish-ends cap pos r (raise cap (view N w h) v) i v
+      (raised-balanced cap pos r (view N w h) (healthy .whole) i v slot-i named)
+      (raised-waits cap pos r (view N w h) (healthy .whole) i v slot-i named)
+      (raised-shape cap pos r (view N w h) (healthy .whole) i v slot-i named) slot-i in
+      elim (runs-leave cap r (λ j. ⊥) pos (ends .runs) .objects b) [ inl e ↦ inl e | inr e ↦ inr (e .0) ]
+
+  -- a store of the value present frees nothing
+  unless-present :
+      (c : Call) (t : Bool) (g : Memory) → allocates c ≡ 0 → (t ≡ false → inUse N h ≡ freedBlocks N h (settled N g) + inUse N g)
+      → Even N c h (freeing N h (elim t [ true ↦ h | false ↦ g ]))
+  unfolding freeing
+  unless-present c true g e kept = plain c _ (settled N h) e (same-blocks (settled N h) refl refl)
+  unless-present c false g e kept = plain c _ (settled N g) e (kept refl)
+
+  store-root-even : (r v : ℕ) → r < length (h .roots) → isRef N h v ≡ true → Even N (storeRoot r v) h (freeing N h (storeRootIn N w h r v))
+  unfolding storeRootIn changeRoot putRoot allocates
+  store-root-even r v l ref =
+      unless-present (storeRoot r v) (eqb (getD (h .roots) r 0) v) (changeRoot N w h r v) refl
+      (λ e. shown-even (length (h .roots)) (changeRoot N w h r v) _ (store-root N w h healthy v ref r l .shows) (store-leaves v ref r (inl l)))
+
+  store-cell-even :
+      (a j v : ℕ) → isFirst N h a ≡ true → j < 4 * sizeAt N h a → isRef N h v ≡ true
+      → Even N (storeCell a j v) h (freeing N h (storeCellIn N w h (4 * a + j) v))
+  unfolding storeCellIn changeCell putCell allocates
+  store-cell-even a j v first l ref =
+      unless-present (storeCell a j v) (eqb (getD (h .cells) (4 * a + j) 0) v) (changeCell N w h (4 * a + j) v) refl
+      (λ e.
+      shown-even (length (h .roots)) (changeCell N w h (4 * a + j) v) _ (store-cell N w h healthy v ref a j first l .shows)
+      (store-leaves v ref (length (h .roots) + (4 * a + j)) (cell-place N w h healthy a j first l)))
+
+  collect-even : Even N collect h (freeing N h (collected N w h))
+  unfolding freeing allocates
+  collect-even =
+      plain collect _ (settled N (collected N w h)) refl
+      (shown-even (length (h .roots)) (collected N w h) _ (collected-shows N w h healthy)
+      (collected-or-gone (capacity w) (length (h .roots)) (view N w h) _ (is-collected N w h healthy)))
+
+  format-even : Even N format h (accepted (formatted N w (length (h .roots))) 0)
+  unfolding formatted allocates
+  format-even =
+      plain format _ (formatted N w (length (h .roots))) refl
+      (balance-freed N h (formatted N w (length (h .roots))) sizes (replicate N 0) (healthy .represents)
+      (formatted-represents N (healthy .shape .whole-bytes)) (λ b. inr (zeros-at N b)))
+
+  -- the new object stands, each other as it was or not at all
+  module _ (n r i : ℕ) (some-blocks : 1 ≤ n) (l : r < length (h .roots)) (found : lowestFree N (exponent n) (h .a) ≡ some i) where
+    space : Room N (h .a) n i
+    space = room N (h .a) n i found
+
+    fresh : getD sizes i 0 ≡ 0
+    fresh = elim (test-cases (isFirst N h i)) [
+      | inl f ↦ absurd (omega (arith, first-facts N (h .a) (h .b) i f .used, space .free i (omega arith) (omega arith)))
+      | inr f ↦ not-first-size N (h .a) (h .b) sizes (healthy .represents) i f
+    ]
+
+    inside : i < N
+    inside = omega (arith, space .inside)
+
+    allocate-even : Even N (allocate n r) h (accepted (settled N (allocateIn N w h n r i)) i)
+    unfolding allocateIn putRoot placed graph.allocate allocatedBy allocates
+    allocate-even =
+        let cap : ℕ = capacity w in
+        let roots : ℕ = length (h .roots) in
+        let pos = positive N w h healthy in
+        let nonzero : n ≢ 0 = omega arith in
+        let free = room-vacant N w h healthy n i nonzero space in
+        let shows = allocate-root N w h healthy n i nonzero space r l .shows in
+        let held = placed-balanced cap pos roots (view N w h) (healthy .whole) i n r free l in
+        let waits = placed-waits cap pos roots (view N w h) (healthy .whole) i n r free l in
+        let shape = placed-shape cap pos roots (view N w h) (healthy .whole) i n r free l in
+        let ends = finish-ends cap pos roots (place (view N w h) i n) r (suc i) held waits shape (inl l) in
+        let new = finish-keeps cap pos roots (place (view N w h) i n) r (suc i) held waits shape (inl l) i
+        (root r l (getD-set-same (view N w h .slots) r (suc i) 0 (omega (arith, shape .slots-length)))) in
+        let placed-size = getD-set-same sizes i n 0 (omega (arith, length-sizes-of N (h .a) (h .b), inside)) in
+        record {
+          kept = balance-new N h (settled N (allocateIn N w h n r i)) sizes (sizesOf N ((allocateIn N w h n r i) .a) ((allocateIn N w h n r i) .b))
+              (healthy .represents) (shows .represents) i n inside fresh
+              (ap (λ (m : Graph). size m i) (shows .view-is) ∙ new ∙ placed-size)
+              (λ b d.
+              let other = getD-set-other sizes i b n 0 d in
+              rw (ap (λ (m : Graph). size m b) (shows .view-is))
+              (elim (runs-leave cap roots (λ j. ⊥) pos (ends .runs) .objects b) [ inl e ↦ inl (e ∙ other) | inr e ↦ inr (e .0) ]));
+        }
+
+  allocation-even :
+      (n r : ℕ) → 1 ≤ n → r < length (h .roots) → (o : Option ℕ) → lowestFree N (exponent n) (h .a) ≡ o
+      → Even N (allocate n r) h (allocation N w h n r o)
+  unfolding allocation
+  allocation-even n r low l none e = refused-even (allocate n r) 5 (omega arith)
+  allocation-even n r low l (some i) e = allocate-even n r i low l e
+
+  pub answer-even : (c : Call) → Even N c h (answer N w h c)
+  unfolding answer allocates
+  answer-even format = require-even (shaped N w h) 1 (omega arith) (λ t. format-even)
+  answer-even check = on-undamaged-even (plain check _ h refl (same-blocks h refl refl))
+  answer-even freeBlocks = on-undamaged-even (plain freeBlocks _ h refl (same-blocks h refl refl))
+  answer-even collect = on-undamaged-even collect-even
+  answer-even (allocate n r) =
+      on-undamaged-even
+      (require-even (leb 1 n && leb n N) 3 (omega arith) λ size.
+      (require-even (ltb r (length (h .roots))) 4 (omega arith) λ place.
+      let sizes = and-true (leb 1 n) (leb n N) size in
+      allocation-even n r (leb-true 1 n (sizes .0)) (ltb-true r (length (h .roots)) place) (lowestFree N (exponent n) (h .a)) refl))
+  answer-even (storeRoot r v) =
+      on-undamaged-even
+      (require-even (ltb r (length (h .roots))) 4 (omega arith) λ place.
+      (require-even (isRef N h v) 8 (omega arith) λ ref.
+      store-root-even r v (ltb-true r (length (h .roots)) place) ref))
+  answer-even (storeCell a j v) =
+      on-undamaged-even
+      (require-even (isFirst N h a) 6 (omega arith) λ first.
+      (require-even (ltb j (4 * sizeAt N h a)) 7 (omega arith) λ place.
+      (require-even (isRef N h v) 8 (omega arith) λ ref.
+      store-cell-even a j v first (ltb-true j (4 * sizeAt N h a) place) ref)))
+  answer-even (look a) =
+      on-undamaged-even (require-even (isFirst N h a) 6 (omega arith) λ first. plain (look a) _ h refl (same-blocks h refl refl))
+
+-- ---- the values
+
+-- an accepted answer gives the growth of the zeros as its value
+record Grown (h : Memory) (x : Answer) : Type 0 where
+  grown : x .0 .number ≡ 0 → x .0 .value ≡ zeros (x .1 .a) - zeros (h .a)
+
+module _ (N w : ℕ) (h : Memory) where
+  freeing-grown : (g : Memory) → Grown h (freeing N h g)
+  unfolding freeing
+  freeing-grown g = record { grown = λ e. refl }
+
+  require-grown : {next : Answer} (test : Bool) (number : ℕ) → number ≢ 0 → Grown h next → Grown h (require test number h next)
+  unfolding require
+  require-grown true number nonzero next = next
+  require-grown false number nonzero next = record { grown = λ e. absurd (nonzero e) }
+
+  on-undamaged-grown : {next : Answer} → Grown h next → Grown h (onUndamaged N w h next)
+  unfolding onUndamaged
+  on-undamaged-grown next = require-grown (shaped N w h) 1 (omega arith) (go (eqb (damage N w h) 0) next)
+    where
+      go : (t : Bool) {next : Answer} → Grown h next → Grown h (elim t [ true ↦ next | false ↦ (reply 2 (damage N w h) 0, h) ])
+      go true next = next
+      go false next = record { grown = λ e. absurd (omega (arith, e)) }
+
+  -- what is accepted was found undamaged
+  accepted-healthy : (next : Answer) → onUndamaged N w h next .0 .number ≡ 0 → Healthy N w h
+  accepted-healthy next e = healthy-facts N w h (on-undamaged-shaped N w h next e) (on-undamaged-no-damage N w h next e)
+
+  zeros-within : {g : Memory} → Healthy N w g → zeros (g .a) ≤ N
+  zeros-within {g} healthy = omega (arith, free-and-sizes N (g .a) (g .b) (sizesOf N (g .a) (g .b)) (healthy .represents))
+
+  -- the balance in zeros
+  even-zeros : (c : Call) → Healthy N w h → answer N w h c .0 .number ≡ 0
+      → zeros (h .a) + freedBlocks N h (answer N w h c .1) ≡ zeros (answer N w h c .1 .a) + allocates c
+  unfolding allocatedBy
+  even-zeros c healthy e =
+      let all : allocatedBy c (answer N w h c .0) ≡ allocates c = rw (eq-eqb (answer N w h c .0 .number) 0 e, allocatedBy) in
+      omega (arith, answer-even N w h healthy c .kept, all, zeros-within healthy, zeros-within (answer-served N w h healthy c .keep))
+
+  freed-value :
+      (c : Call) → allocates c ≡ 0 → Grown h (answer N w h c) → Healthy N w h → answer N w h c .0 .number ≡ 0
+      → FreedValue N h (answer N w h c .0) (answer N w h c .1)
+  freed-value c nothing value healthy e =
+      let grown = value .grown e in
+      let even = even-zeros c healthy e in
+      record { by-objects = omega (arith, grown, even, nothing); by-zeros = omega (arith, grown, even, nothing) }
+
+pub blocks-add-up : BlocksAddUp
+unfolding answer allocates
+blocks-add-up N w h =
+    record {
+      store-root = λ r v e.
+          freed-value N w h (storeRoot r v) refl
+          (on-undamaged-grown N w h
+          (require-grown N w h (ltb r (length (h .roots))) 4 (omega arith)
+          (require-grown N w h (isRef N h v) 8 (omega arith) (freeing-grown N w h (storeRootIn N w h r v)))))
+          (accepted-healthy N w h _ e) e;
+      store-cell = λ a j v e.
+          freed-value N w h (storeCell a j v) refl
+          (on-undamaged-grown N w h
+          (require-grown N w h (isFirst N h a) 6 (omega arith)
+          (require-grown N w h (ltb j (4 * sizeAt N h a)) 7 (omega arith)
+          (require-grown N w h (isRef N h v) 8 (omega arith) (freeing-grown N w h (storeCellIn N w h (4 * a + j) v))))))
+          (accepted-healthy N w h _ e) e;
+      collection = λ e.
+          freed-value N w h collect refl (on-undamaged-grown N w h (freeing-grown N w h (collected N w h))) (accepted-healthy N w h _ e) e;
+      allocation = λ n r e. even-zeros N w h (allocate n r) (accepted-healthy N w h _ e) e;
+    }
