@@ -73,6 +73,8 @@ int main(void) {
     expect("store 1 in cell 0 of 2", huwekapo_store_cell(HEAP, 2, 0, 1), HUWEKAPO_ACCEPTED, 0, 0);
     expect("store 0 in root 1", huwekapo_store_root(HEAP, 1, 0), HUWEKAPO_ACCEPTED, 1, 0);
     expect("collect", huwekapo_collect(HEAP), HUWEKAPO_ACCEPTED, 0, 0);
+    expect("return root 4", huwekapo_return_roots(HEAP, 16), HUWEKAPO_BAD_ROOT, 0, 0);
+    expect("return roots 0 and 2", huwekapo_return_roots(HEAP, 5), HUWEKAPO_ACCEPTED, 5, 0);
     replay_p1();
     puts(failures == 0 ? "paper: ok" : "paper: DIFFERENT");
     return failures != 0;

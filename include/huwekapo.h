@@ -13,8 +13,8 @@
  * least) of byte i / 8 of a map.
  *
  * Every call may be made with any arguments and any content of the buffers: what is wrong is refused by a number, and a
- * refusal changes no buffer. Format, allocate, both stores, collect and replay leave `waiting` all 0 when accepted; check,
- * look and free blocks write nothing.
+ * refusal changes no buffer. Format, allocate, both stores, the return, collect and replay leave `waiting` all 0 when
+ * accepted; check, look and free blocks write nothing.
  *
  * The buffers, and the two lists of replay, must not overlap, and each pointer must be good for its length, and not null
  * even where that is 0.
@@ -45,13 +45,13 @@ enum huwekapo_number {
     HUWEKAPO_MISSHAPEN = 1,     /* blocks, width, the number of roots or any buffer's length is not as it must be */
     HUWEKAPO_DAMAGED = 2,       /* the heap is damaged; the value is the damage kind */
     HUWEKAPO_BAD_SIZE = 3,      /* n is 0 or above blocks */
-    HUWEKAPO_BAD_ROOT = 4,      /* r is not below the number of roots */
+    HUWEKAPO_BAD_ROOT = 4,      /* r is not below the number of roots, or a bit of `chosen` is at or past it */
     HUWEKAPO_NO_CHUNK = 5,      /* no chunk is free: a chunk is s blocks starting at a multiple of s, s the least power of
                                    two that is n or more */
     HUWEKAPO_NO_OBJECT = 6,     /* `at` is not a first block (or not below blocks) */
     HUWEKAPO_BAD_CELL = 7,      /* j is not below 4 times the object's size */
     HUWEKAPO_BAD_REFERENCE = 8, /* v is neither 0 nor 1 + a first block */
-    HUWEKAPO_NO_CALL = 9,       /* an entry is no call: its code is above 7, or the v of a store above 65,535 */
+    HUWEKAPO_NO_CALL = 9,       /* an entry is no call: its code is above 8, or the v of a store above 65,535 */
     HUWEKAPO_CUT_OFF = 10,      /* the list ends inside a call */
     HUWEKAPO_SHORT_REPLIES = 18 /* `replies` is too short for the replies of all calls */
 };
@@ -118,6 +118,17 @@ struct huwekapo_reply huwekapo_store_cell(size_t blocks, size_t width,
                                           uint16_t *waiting, size_t waiting_length,
                                           size_t at, size_t j, uint16_t v);
 
+/* Clears the roots of a set, bit r of `chosen` for root r, as stores of 0 do one after another. The value is the number of
+ * blocks freed in all. Refusals: 1, 2, 4. */
+struct huwekapo_reply huwekapo_return_roots(size_t blocks, size_t width,
+                                            uint8_t *a, size_t a_length,
+                                            uint8_t *b, size_t b_length,
+                                            uint8_t *counts, size_t counts_length,
+                                            uint16_t *cells, size_t cells_length,
+                                            uint16_t *roots, size_t roots_length,
+                                            uint16_t *waiting, size_t waiting_length,
+                                            uint64_t chosen);
+
 /* Frees the objects that no root reaches, and counts the references of the others anew. The value is the number of blocks
  * freed. Refusals: 1, 2. */
 struct huwekapo_reply huwekapo_collect(size_t blocks, size_t width,
@@ -157,6 +168,7 @@ struct huwekapo_reply huwekapo_free_blocks(size_t blocks, size_t width,
  *   5             collect
  *   6, at         look
  *   7             free_blocks
+ *   8, chosen     return_roots
  *
  * Words that a call does not name are not looked at. The reply of call i goes to places 3i, 3i + 1 and 3i + 2 of `replies`;
  * words of `replies` behind the last reply keep their content. The value is the number of calls. Refusals, which write

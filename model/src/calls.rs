@@ -1,4 +1,4 @@
-//! The eight calls as data, and their four words in a file.
+//! The calls as data, and their four words in a file.
 
 use crate::counting::{longest_waiting, Order};
 use crate::heap::Memory;
@@ -9,12 +9,28 @@ use crate::rules::{self, Reply};
 pub enum Call {
     Format,
     Check,
-    Allocate { n: usize, r: usize },
-    StoreRoot { r: usize, v: u16 },
-    StoreCell { a: usize, j: usize, v: u16 },
+    Allocate {
+        n: usize,
+        r: usize,
+    },
+    StoreRoot {
+        r: usize,
+        v: u16,
+    },
+    StoreCell {
+        a: usize,
+        j: usize,
+        v: u16,
+    },
     Collect,
-    Look { a: usize },
+    Look {
+        a: usize,
+    },
     FreeBlocks,
+    /// Bit r of `chosen` stands for root r.
+    ReturnRoots {
+        chosen: u64,
+    },
 }
 
 impl Call {
@@ -29,6 +45,7 @@ impl Call {
             Call::Collect => [5, 0, 0, 0],
             Call::Look { a } => [6, a as u64, 0, 0],
             Call::FreeBlocks => [7, 0, 0, 0],
+            Call::ReturnRoots { chosen } => [8, chosen, 0, 0],
         }
     }
 
@@ -36,6 +53,36 @@ impl Call {
     pub fn only_reads(self) -> bool {
         matches!(self, Call::Check | Call::Look { .. } | Call::FreeBlocks)
     }
+}
+
+/// Calls under short names, for lists written by hand.
+pub mod short {
+    use super::Call;
+
+    pub fn allocate(n: usize, r: usize) -> Call {
+        Call::Allocate { n, r }
+    }
+
+    pub fn root(r: usize, v: u16) -> Call {
+        Call::StoreRoot { r, v }
+    }
+
+    pub fn cell(a: usize, j: usize, v: u16) -> Call {
+        Call::StoreCell { a, j, v }
+    }
+
+    pub fn look(a: usize) -> Call {
+        Call::Look { a }
+    }
+
+    pub fn chosen(chosen: u64) -> Call {
+        Call::ReturnRoots { chosen }
+    }
+}
+
+/// "a set of roots as a 64-bit number, bit r for root r"
+pub fn is_chosen(chosen: u64, r: usize) -> bool {
+    chosen >> r & 1 == 1
 }
 
 /// Carries out one call on the lent memory and gives its reply.
@@ -60,5 +107,6 @@ pub fn apply_in_order(
         Call::Collect => rules::collect(blocks, width, memory),
         Call::Look { a } => rules::look(blocks, width, memory, a),
         Call::FreeBlocks => rules::free_blocks(blocks, width, memory),
+        Call::ReturnRoots { chosen } => rules::return_roots(blocks, width, memory, chosen, order),
     }
 }

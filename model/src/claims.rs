@@ -4,7 +4,7 @@
 //! should do, only whether what it did keeps the claims. From the model's own files only the reading of
 //! bits, counts, first blocks and sizes (heap.rs) is used.
 
-use crate::calls::Call;
+use crate::calls::{is_chosen, Call};
 use crate::heap::{
     bit, capacity, count, first_blocks, free_count, is_allocated, is_first_block, size, Memory,
 };
@@ -134,6 +134,13 @@ pub fn written_in(before: &Memory, call: Call, reply: Reply) -> Memory {
         Call::Allocate { r, .. } => memory.roots[r] = (1 + reply.value) as u16,
         Call::StoreRoot { r, v } => memory.roots[r] = v,
         Call::StoreCell { a, j, v } => memory.cells[4 * a + j] = v,
+        Call::ReturnRoots { chosen } => {
+            for (r, root) in memory.roots.iter_mut().enumerate() {
+                if is_chosen(chosen, r) {
+                    *root = 0;
+                }
+            }
+        }
         Call::Check | Call::Collect | Call::Look { .. } | Call::FreeBlocks => {}
     }
     memory
@@ -214,9 +221,10 @@ fn wrong_value(
         _ => 0,
     };
     let right = match call {
-        Call::StoreRoot { .. } | Call::StoreCell { .. } | Call::Collect => {
-            free_before + reply.value == free_after
-        }
+        Call::StoreRoot { .. }
+        | Call::StoreCell { .. }
+        | Call::Collect
+        | Call::ReturnRoots { .. } => free_before + reply.value == free_after,
         // The new object stands, and what else changed in the A-map was freed.
         Call::Allocate { n, .. } => {
             objects(blocks, after).contains(&(reply.value, n)) && free_before <= free_after + n

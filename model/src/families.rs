@@ -188,9 +188,14 @@ pub fn cycles(desk: &mut Desk, count: usize) {
                 });
             }
         }
-        for r in 0..desk.roots() {
-            if desk.random.percent(70) {
-                desk.call(Call::StoreRoot { r, v: 0 });
+        if desk.random.percent(30) {
+            let call = desk.some_return();
+            desk.call(call);
+        } else {
+            for r in 0..desk.roots() {
+                if desk.random.percent(70) {
+                    desk.call(Call::StoreRoot { r, v: 0 });
+                }
             }
         }
         if desk.random.percent(30) {
@@ -254,7 +259,11 @@ pub fn deep_chains(desk: &mut Desk, count: usize) {
         let call = desk.some_call();
         desk.call(call);
         desk.call(Call::FreeBlocks);
-        // Let go, by each root that holds something.
+        // Let go, by one return, or by each root that holds something.
+        if desk.random.percent(40) {
+            let call = desk.some_return();
+            desk.call(call);
+        }
         for r in 0..desk.roots() {
             if desk.bench.memory.roots[r] != 0 {
                 desk.call(Call::StoreRoot { r, v: 0 });
@@ -460,7 +469,7 @@ pub fn huge_arguments(desk: &mut Desk, count: usize) {
         let bad_v = desk
             .random
             .pick(&[65_535, 65_534, 32_768, blocks, blocks + 1, 65_536, x]);
-        let words = match desk.random.below(12) {
+        let words = match desk.random.below(14) {
             0 => [2, x, r, 0],
             1 => [2, 1, x, 0],
             2 => [2, x, y, 0],
@@ -472,6 +481,8 @@ pub fn huge_arguments(desk: &mut Desk, count: usize) {
             8 => [4, a, 0, bad_v],
             9 => [4, x, y, bad_v],
             10 => [4, a, x, bad_v],
+            11 => [8, x, y, 0],
+            12 => [8, 1 << desk.random.below(64), 0, 0],
             _ => [6, x, 0, 0],
         };
         desk.words(words);

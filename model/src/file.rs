@@ -13,6 +13,11 @@ pub const MOST_ROOTS: u64 = 65;
 /// The largest length of each of the six buffers.
 pub const MOST_LENGTHS: [u64; 6] = [1024, 1024, 5 * 1024, 32768, 65, 8192];
 
+/// Word 0 of the entries that are no calls: behind all calls to come.
+pub const LOAD: u64 = 253;
+pub const LENGTH: u64 = 254;
+pub const NEW: u64 = 255;
+
 /// The four words of an entry, after their meaning.
 #[derive(Clone, Copy, Debug, PartialEq, Eq)]
 pub enum Entry {
@@ -59,16 +64,17 @@ impl Entry {
             5 => Entry::Call(Call::Collect),
             6 => Entry::Call(Call::Look { a: p }),
             7 => Entry::Call(Call::FreeBlocks),
-            8 => Entry::Load {
+            8 => Entry::Call(Call::ReturnRoots { chosen: x }),
+            LOAD => Entry::Load {
                 buffer: x,
                 index: y,
                 value: z,
             },
-            9 => Entry::Length {
+            LENGTH => Entry::Length {
                 buffer: x,
                 length: y,
             },
-            10 => Entry::New {
+            NEW => Entry::New {
                 blocks: x,
                 width: y,
                 roots: z,

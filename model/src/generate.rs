@@ -2,7 +2,7 @@
 //! next one can be chosen to fit the heap. Most calls are chosen to be accepted; some are chosen not to be.
 
 use crate::calls::{apply, Call};
-use crate::file::{bytes, Bench, Entry};
+use crate::file::{bytes, Bench, Entry, LENGTH, LOAD, NEW};
 use crate::heap::{first_blocks, misshapen, size};
 use crate::random::Random;
 use crate::rules::Reply;
@@ -41,15 +41,15 @@ impl Desk {
     }
 
     pub fn load(&mut self, buffer: u64, index: usize, value: u64) {
-        self.words([8, buffer, index as u64, value]);
+        self.words([LOAD, buffer, index as u64, value]);
     }
 
     pub fn length(&mut self, buffer: u64, length: usize) {
-        self.words([9, buffer, length as u64, 0]);
+        self.words([LENGTH, buffer, length as u64, 0]);
     }
 
     pub fn new_heap(&mut self, shape: [u64; 3]) {
-        self.words([10, shape[0], shape[1], shape[2]]);
+        self.words([NEW, shape[0], shape[1], shape[2]]);
     }
 
     pub fn blocks(&self) -> usize {
@@ -162,6 +162,22 @@ impl Desk {
         Call::StoreCell { a, j, v }
     }
 
+    /// A set of roots: some, most or all of those that there are, seldom one out of range too.
+    pub fn some_return(&mut self) -> Call {
+        let roots = self.roots().min(64);
+        let percent = self.random.pick(&[0, 30, 30, 70, 100]);
+        let mut chosen = 0;
+        for r in 0..roots {
+            if self.random.percent(percent) {
+                chosen |= 1 << r;
+            }
+        }
+        if roots < 64 && self.random.percent(4) {
+            chosen |= 1 << (roots + self.random.below(64 - roots));
+        }
+        Call::ReturnRoots { chosen }
+    }
+
     pub fn some_look(&mut self) -> Call {
         let a = if self.random.percent(25) {
             self.random.below(self.bench.blocks + 3)
@@ -178,7 +194,8 @@ impl Desk {
         }
         match self.random.below(200) {
             0..=59 => self.some_allocation(),
-            60..=104 => self.some_root_store(55),
+            60..=98 => self.some_root_store(55),
+            99..=104 => self.some_return(),
             105..=163 => self.some_cell_store(25),
             164..=172 => Call::Collect,
             173..=186 => self.some_look(),
@@ -189,7 +206,7 @@ impl Desk {
     }
 
     /// A call of each kind, with arguments that would mostly be accepted.
-    pub fn one_of_each(&mut self) -> [Call; 8] {
+    pub fn one_of_each(&mut self) -> [Call; 9] {
         [
             Call::Check,
             self.some_allocation(),
@@ -198,6 +215,7 @@ impl Desk {
             Call::Collect,
             self.some_look(),
             Call::FreeBlocks,
+            self.some_return(),
             Call::Format,
         ]
     }

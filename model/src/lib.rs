@@ -36,6 +36,7 @@ pub mod paper;
 pub mod port;
 pub mod random;
 pub mod replay;
+pub mod request_vectors;
 pub mod rules;
 pub mod show;
 pub mod shrink;

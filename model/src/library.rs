@@ -16,6 +16,7 @@ pub fn apply(blocks: usize, width: usize, memory: &mut Memory, call: Call) -> Re
         Call::Collect => lent::collect(unique(blocks, width, memory)),
         Call::Look { a } => lent::look(shared(blocks, width, memory), a),
         Call::FreeBlocks => lent::free_blocks(shared(blocks, width, memory)),
+        Call::ReturnRoots { chosen } => lent::return_roots(unique(blocks, width, memory), chosen),
     })
 }
 

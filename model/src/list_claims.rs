@@ -96,6 +96,7 @@ fn own_reference(step: &Step) -> Option<u16> {
         Call::StoreRoot { v, .. } | Call::StoreCell { v, .. } => v,
         Call::Allocate { .. } => (1 + step.reply.value) as u16,
         Call::Format | Call::Check | Call::Collect | Call::Look { .. } | Call::FreeBlocks => 0,
+        Call::ReturnRoots { .. } => 0,
     };
     (v != 0).then_some(v)
 }

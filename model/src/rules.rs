@@ -1,10 +1,11 @@
-//! The eight calls, each with its refusals in document 01's order.
+//! The calls, each with its refusals in the document's order.
 //!
 //! "Each list is in order, and the first number that applies is given. No refusal is given when its
 //! condition is false."
 //!
 //! The calls that let go of a reference take the order in which objects that wait are freed (counting.rs).
 
+use crate::calls::is_chosen;
 use crate::chunks::{least_power_of_two, lowest_free_chunk};
 use crate::collection::sweep_and_recount;
 use crate::counting::{count_up, release, Order};
@@ -207,6 +208,37 @@ pub fn store_cell(
     release(blocks, width, memory, old, order);
     leave_waiting_list_zero(memory);
     // "The value is the number of blocks freed."
+    accepted(free_count(blocks, memory) - free_before)
+}
+
+/// Document 02, U10: "A return lets go of all local variables together. Give one call a set of roots as a 64-bit
+/// number, bit r for root r."
+///
+/// "It is refused with 4 if any bit is at or past the number of roots." Before that, 1 and 2.
+pub fn return_roots(
+    blocks: usize,
+    width: usize,
+    memory: &mut Memory,
+    chosen: u64,
+    order: Order,
+) -> Reply {
+    if let Some(reply) = refused_1_or_2(blocks, width, memory) {
+        return reply;
+    }
+    let roots = memory.roots.len();
+    if (roots..64).any(|r| is_chosen(chosen, r)) {
+        return refused(4);
+    }
+    let free_before = free_count(blocks, memory);
+    // "the heap afterwards is that of clearing them singly in whatever order; with one open, in ascending order."
+    // Clearing a root is a store of 0 in it.
+    for r in (0..roots).filter(|r| is_chosen(chosen, *r)) {
+        let old = memory.roots[r];
+        memory.roots[r] = 0;
+        release(blocks, width, memory, old, order);
+    }
+    leave_waiting_list_zero(memory);
+    // "Its value is the blocks freed in all."
     accepted(free_count(blocks, memory) - free_before)
 }
 

@@ -1,6 +1,6 @@
 //! Entries and replies in words, and the paper cases beside what the program `calls` printed for them.
 
-use crate::calls::Call;
+use crate::calls::{is_chosen, Call};
 use crate::file::Entry;
 use crate::paper::{cases, Step, BLOCKS, ROOTS};
 use std::fmt::Write;
@@ -36,7 +36,16 @@ pub fn call_in_words(call: Call) -> String {
         Call::Collect => "collect".to_string(),
         Call::Look { a } => format!("look at {a}"),
         Call::FreeBlocks => "free blocks".to_string(),
+        Call::ReturnRoots { chosen: 0 } => "return, no root".to_string(),
+        Call::ReturnRoots { chosen } => format!("return, roots {}", chosen_in_words(chosen)),
     }
+}
+
+/// The roots of a set.
+fn chosen_in_words(chosen: u64) -> String {
+    let chosen = (0..64).filter(|r| is_chosen(chosen, *r));
+    let roots: Vec<String> = chosen.map(|r| r.to_string()).collect();
+    roots.join(" ")
 }
 
 /// The name of a buffer by its number.
@@ -59,16 +68,17 @@ pub fn reply_in_words(call: Call, [number, value, second]: [usize; 3]) -> String
     match call {
         Call::Format | Call::Check => "accepted".to_string(),
         Call::Allocate { .. } => format!("block {value}"),
-        Call::StoreRoot { .. } | Call::StoreCell { .. } | Call::Collect => {
-            format!("blocks freed: {value}")
-        }
+        Call::StoreRoot { .. }
+        | Call::StoreCell { .. }
+        | Call::Collect
+        | Call::ReturnRoots { .. } => format!("blocks freed: {value}"),
         Call::Look { .. } => format!("size {value}, count {second}"),
         Call::FreeBlocks => format!("blocks free: {value}"),
     }
 }
 
 /// The paper cases, call by call, beside the lines that `calls` printed for `model paper`; and whether each is
-/// what document 01 says. A line that is not there counts as different.
+/// what the documents say. A line that is not there counts as different.
 pub fn paper(printed: &str) -> (String, bool) {
     let mut lines = printed.lines();
     let mut out = String::new();
@@ -118,9 +128,9 @@ pub fn paper(printed: &str) -> (String, bool) {
     }
     all_same &= maps.is_some() && lines.next().is_none();
     let verdict = if all_same {
-        "all as document 01 says"
+        "all as the documents say"
     } else {
-        "DIFFERENT from document 01"
+        "DIFFERENT from the documents"
     };
     writeln!(out, "{verdict}").unwrap();
     (out, all_same)
@@ -130,7 +140,7 @@ fn remark(same: bool) -> &'static str {
     if same {
         ""
     } else {
-        "   DIFFERENT from document 01"
+        "   DIFFERENT from the documents"
     }
 }
 

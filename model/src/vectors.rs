@@ -3,9 +3,11 @@
 
 use crate::calls::Call;
 use crate::families::{some_shape, FAMILIES};
+use crate::file::{LENGTH, LOAD, NEW};
 use crate::generate::Desk;
 use crate::paper::{self, Step};
 use crate::random::Random;
+use crate::request_vectors::{present_values, returns};
 
 /// The paper cases as a list, each on a new heap.
 pub fn paper_cases(desk: &mut Desk) {
@@ -45,6 +47,7 @@ pub fn vectors(seed: u64) -> Vec<u8> {
     shapes(&mut desk);
     waiting_list(&mut desk);
     present_values(&mut desk);
+    returns(&mut desk);
     for round in 0..16 {
         for (_, write) in FAMILIES {
             let shape = some_shape(round, &mut desk.random);
@@ -65,7 +68,7 @@ fn complaints(desk: &mut Desk) {
     desk.new_heap([8, 2, 4]);
     desk.call(Call::Format);
     desk.call(Call::Allocate { n: 2, r: 0 });
-    for unknown in [11, 255, 256, 1 << 32, m] {
+    for unknown in [9, 10, 252, 256, 264, 1 << 32, (1 << 32) + 8, m] {
         desk.words([unknown, 1, 2, 3]);
     }
     for v in [65_536, 65_537, 1 << 32, m] {
@@ -74,7 +77,7 @@ fn complaints(desk: &mut Desk) {
         desk.words([3, m, v, 0]);
     }
     for load in [[0, 1, 0], [0, 0, 256], [3, 32, 0], [3, 0, 65_536]] {
-        desk.words([8, load[0], load[1], load[2]]);
+        desk.words([LOAD, load[0], load[1], load[2]]);
     }
     for load in [
         [4, 4, 0],
@@ -84,13 +87,13 @@ fn complaints(desk: &mut Desk) {
         [0, m, 0],
         [4, 0, m],
     ] {
-        desk.words([8, load[0], load[1], load[2]]);
+        desk.words([LOAD, load[0], load[1], load[2]]);
     }
     for [buffer, length] in [[0, 1025], [1, 1025], [2, 5121], [3, 32_769], [4, 66]] {
-        desk.words([9, buffer, length, 0]);
+        desk.words([LENGTH, buffer, length, 0]);
     }
     for [buffer, length] in [[5, 8193], [6, 0], [m, 1], [0, m]] {
-        desk.words([9, buffer, length, 0]);
+        desk.words([LENGTH, buffer, length, 0]);
     }
     for shape in [
         [8193, 2, 4],
@@ -99,21 +102,22 @@ fn complaints(desk: &mut Desk) {
         [8, 2, 66],
         [m, 2, 4],
     ] {
-        desk.words([10, shape[0], shape[1], shape[2]]);
+        desk.words([NEW, shape[0], shape[1], shape[2]]);
     }
     for shape in [[8, m, 4], [8, 2, m]] {
-        desk.words([10, shape[0], shape[1], shape[2]]);
+        desk.words([NEW, shape[0], shape[1], shape[2]]);
     }
     // Words that a call doesn't use aren't looked at.
     desk.words([1, m, m, m]);
     desk.words([2, 1, 1, m]);
     desk.words([6, 0, m, m]);
+    desk.words([8, 0, m, m]);
     // A buffer made shorter and longer again keeps what lay beyond.
-    desk.words([8, 4, 3, 3]);
-    desk.words([8, 4, 1, 0]);
+    desk.words([LOAD, 4, 3, 3]);
+    desk.words([LOAD, 4, 1, 0]);
     desk.call(Call::Check);
     for length in [1, 4, 65, 3, 0, 4] {
-        desk.words([9, 4, length, 0]);
+        desk.words([LENGTH, 4, length, 0]);
         desk.call(Call::Check);
         desk.call(Call::StoreRoot { r: 3, v: 0 });
     }
@@ -187,6 +191,9 @@ fn waiting_list(desk: &mut Desk) {
         Call::Look { a: 0 },
         Call::Look { a: 1 },
         Call::FreeBlocks,
+        Call::ReturnRoots { chosen: 0 },
+        Call::ReturnRoots { chosen: 3 },
+        Call::ReturnRoots { chosen: 16 },
     ];
     for width in [1, 2] {
         for call in calls {
@@ -202,97 +209,6 @@ fn waiting_list(desk: &mut Desk) {
             }
             desk.call(call);
         }
-    }
-}
-
-/// Values stored over themselves (U2), each case on a new heap.
-fn present_values(desk: &mut Desk) {
-    let format = Call::Format;
-    let allocate = |n, r| Call::Allocate { n, r };
-    let root = |r, v| Call::StoreRoot { r, v };
-    let cell = |a, j, v| Call::StoreCell { a, j, v };
-    let look = |a| Call::Look { a };
-    let mut on_new_heap = |shape, calls: &[Call]| {
-        desk.new_heap(shape);
-        for call in calls {
-            desk.call(*call);
-        }
-    };
-    // P9 in a cell. Then the object goes when the last reference does.
-    let p9 = [cell(0, 0, 2), root(1, 0), cell(0, 0, 2), look(1)];
-    let second_half = [
-        cell(0, 1, 2),
-        cell(0, 1, 2),
-        look(1),
-        cell(0, 0, 0),
-        cell(0, 1, 0),
-    ];
-    let fill = [format, allocate(1, 0), allocate(1, 1)];
-    on_new_heap([8, 2, 4], &[&fill[..], &p9, &second_half].concat());
-    // A stuck object over itself, in a root and in a cell.
-    let stick = [format, allocate(1, 0), root(1, 1), cell(0, 2, 1), look(0)];
-    let over = [root(1, 1), cell(0, 2, 1), look(0), Call::Collect, look(0)];
-    on_new_heap([8, 2, 4], &[stick, over].concat());
-    // An unreached object, named by two of its own cells: stored over itself it still can be let go.
-    let unreached = [
-        format,
-        allocate(1, 0),
-        cell(0, 0, 1),
-        root(0, 0),
-        cell(0, 1, 1),
-    ];
-    let over = [
-        cell(0, 0, 1),
-        look(0),
-        cell(0, 1, 0),
-        look(0),
-        cell(0, 0, 0),
-    ];
-    on_new_heap([8, 2, 4], &[unreached, over].concat());
-    // Six roots at width 3, one stored over itself, all cleared: freed, not stuck.
-    let hold = [1, 2, 3, 4, 5, 5].map(|r| root(r, 1));
-    let clear = [0, 1, 2, 3, 4, 5].map(|r| root(r, 0));
-    on_new_heap(
-        [8, 3, 6],
-        &[&[format, allocate(1, 0)], &hold[..], &[look(0)], &clear].concat(),
-    );
-    // "Document 004 counts down first": the new object is held by the old one alone.
-    let held = [
-        format,
-        allocate(1, 0),
-        allocate(1, 1),
-        cell(0, 0, 2),
-        root(1, 0),
-    ];
-    on_new_heap(
-        [8, 2, 4],
-        &[&held[..], &[root(0, 2), look(0), look(1)]].concat(),
-    );
-    let held = [
-        format,
-        allocate(1, 0),
-        allocate(1, 1),
-        allocate(1, 2),
-        cell(1, 0, 3),
-    ];
-    let in_cell = [
-        cell(0, 0, 2),
-        root(1, 0),
-        root(2, 0),
-        cell(0, 0, 3),
-        look(1),
-        look(2),
-    ];
-    on_new_heap([8, 2, 4], &[&held[..], &in_cell].concat());
-    // Rubbish in the waiting list: 0 over 0 in a root and in a cell, and an object over itself.
-    for call in [root(1, 0), cell(0, 3, 0), root(0, 1)] {
-        desk.new_heap([8, 2, 4]);
-        desk.call(format);
-        desk.call(allocate(1, 0));
-        for i in 0..8 {
-            desk.load(5, i, 65_535 - i as u64);
-        }
-        desk.call(call);
     }
 }
 

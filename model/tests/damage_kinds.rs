@@ -192,6 +192,7 @@ fn random_damage() {
             Call::Look { a: 99 },
             Call::FreeBlocks,
             Call::Collect,
+            Call::ReturnRoots { chosen: u64::MAX },
         ] {
             let reply = common::call_and_claims(blocks, width, &mut memory, call);
             assert_eq!(reply.number == 2, kind != 0);

@@ -8,7 +8,7 @@ use std::collections::HashSet;
 const N: usize = 8;
 
 /// The calls that the lists are made of.
-const ALPHABET: [Call; 20] = [
+const ALPHABET: [Call; 21] = [
     Call::Allocate { n: 1, r: 0 },
     Call::Allocate { n: 1, r: 1 },
     Call::Allocate { n: 2, r: 0 },
@@ -29,18 +29,19 @@ const ALPHABET: [Call; 20] = [
     Call::StoreCell { a: 2, j: 0, v: 1 },
     Call::StoreCell { a: 2, j: 3, v: 3 },
     Call::Collect,
+    Call::ReturnRoots { chosen: 3 },
 ];
 
 /// Calls that only read or are refused on every heap of eight blocks and two roots.
 const BESIDE: [Call; 8] = [
     Call::Check,
     Call::FreeBlocks,
-    Call::Look { a: 0 },
     Call::Look { a: 2 },
     Call::Look { a: 8 },
     Call::Allocate { n: 9, r: 0 },
     Call::StoreRoot { r: 2, v: 0 },
     Call::StoreCell { a: 0, j: 32, v: 0 },
+    Call::ReturnRoots { chosen: 4 },
 ];
 
 #[derive(Default)]
@@ -76,9 +77,9 @@ fn all_lists_of_up_to_four_calls() {
     for width in [1, 2] {
         let mut ran = Ran::default();
         lists(width, &fresh(N, width, 2), 4, &mut ran);
-        assert_eq!(ran.lists, 1 + 20 + 400 + 8000 + 160_000);
+        assert_eq!(ran.lists, 1 + 21 + 441 + 9261 + 194_481);
         say(&format!(
-            "w = {width}: all {} lists of up to 4 of 20 calls, {} calls with claims, replies by number {:?}",
+            "w = {width}: all {} lists of up to 4 of 21 calls, {} calls with claims, replies by number {:?}",
             ran.lists, ran.calls, ran.numbers
         ));
     }

@@ -3,7 +3,7 @@
 mod common;
 use common::say;
 use model::expect::expect;
-use model::file::bytes;
+use model::file::{bytes, LENGTH, LOAD, NEW};
 use model::vectors::{paper_file, vectors};
 use model::{families, trace, Call};
 
@@ -41,7 +41,11 @@ fn entries() {
         out.strip_suffix(EMPTY_8_2_4).map(str::to_string)
     };
     assert_eq!(first([1, 0, 0, 0]).unwrap(), "2 1 0\n");
-    assert_eq!(first([11, 0, 0, 0]).unwrap(), "call 0: unknown call 11\n");
+    assert_eq!(first([8, 0, 0, 0]).unwrap(), "2 1 0\n");
+    assert_eq!(first([9, 0, 0, 0]).unwrap(), "call 0: unknown call 9\n");
+    let line = "call 0: unknown call 252\n";
+    assert_eq!(first([252, 0, 0, 0]).unwrap(), line);
+    assert_eq!([LOAD, LENGTH, NEW], [253, 254, 255]);
     let most = u64::MAX;
     let line = "call 0: unknown call 18446744073709551615\n";
     assert_eq!(first([most, 0, 0, 0]).unwrap(), line);
@@ -56,7 +60,7 @@ fn entries() {
         [3, 0, 65_536],
         [6, 0, 0],
     ] {
-        let words = [8, load[0], load[1], load[2]];
+        let words = [LOAD, load[0], load[1], load[2]];
         assert_eq!(first(words).unwrap(), "call 0: load out of range\n");
     }
     for [buffer, length] in [
@@ -67,24 +71,24 @@ fn entries() {
         [5, 8193],
         [6, 0],
     ] {
-        let words = [9, buffer, length, 0];
+        let words = [LENGTH, buffer, length, 0];
         assert_eq!(first(words).unwrap(), "call 0: length out of range\n");
     }
-    assert_eq!(first([10, 8193, 1, 1]).unwrap(), "call 0: too large\n");
+    assert_eq!(first([NEW, 8193, 1, 1]).unwrap(), "call 0: too large\n");
     // A new heap: the old buffers are printed first.
-    let out = printed([0, 0, 0], &[[10, 8, 2, 4], [1, 0, 0, 0]]);
+    let out = printed([0, 0, 0], &[[NEW, 8, 2, 4], [1, 0, 0, 0]]);
     assert_eq!(out, format!("\n\n\n\n\n\n2 1 0\n{EMPTY_8_2_4}"));
     // Loads and lengths print nothing, count as entries, and what lies beyond a length is kept.
     let out = printed(
         [0, 0, 2],
         &[
-            [8, 4, 0, 65_535],
-            [8, 4, 1, 7],
-            [9, 4, 1, 0],
-            [8, 4, 1, 9],
-            [9, 4, 4, 0],
-            [8, 4, 3, 5],
-            [9, 0, 2, 0],
+            [LOAD, 4, 0, 65_535],
+            [LOAD, 4, 1, 7],
+            [LENGTH, 4, 1, 0],
+            [LOAD, 4, 1, 9],
+            [LENGTH, 4, 4, 0],
+            [LOAD, 4, 3, 5],
+            [LENGTH, 0, 2, 0],
         ],
     );
     assert_eq!(out, "call 3: load out of range\n0 0\n\n\n\n65535 7 0 5\n\n");

@@ -71,7 +71,7 @@ fn formats_accepted_and_refused() {
     say(&format!("{formats} formats of good and bad numbers"));
 }
 
-/// A wrong length of any buffer is refused 1 by each of the eight calls, and so are N and w themselves.
+/// A wrong length of any buffer is refused 1 by each of the calls, and so are N and w themselves.
 #[test]
 fn every_wrong_length_in_every_call() {
     let calls = [
@@ -83,6 +83,7 @@ fn every_wrong_length_in_every_call() {
         Call::Collect,
         Call::Look { a: 0 },
         Call::FreeBlocks,
+        Call::ReturnRoots { chosen: 16 },
     ];
     let mut refused = 0;
     for call in calls {

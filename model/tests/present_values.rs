@@ -2,17 +2,7 @@
 
 mod common;
 use common::{call_and_claims, fresh};
-use model::Call;
-
-fn allocate(n: usize, r: usize) -> Call {
-    Call::Allocate { n, r }
-}
-fn root(r: usize, v: u16) -> Call {
-    Call::StoreRoot { r, v }
-}
-fn cell(a: usize, j: usize, v: u16) -> Call {
-    Call::StoreCell { a, j, v }
-}
+use model::calls::short::{allocate, cell, root};
 
 /// The waiting list is left all 0; a refused store keeps it.
 #[test]

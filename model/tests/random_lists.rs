@@ -34,7 +34,10 @@ fn claims_in_every_family() {
                         }
                         if let (
                             0,
-                            Call::StoreRoot { .. } | Call::StoreCell { .. } | Call::Collect,
+                            Call::StoreRoot { .. }
+                            | Call::StoreCell { .. }
+                            | Call::Collect
+                            | Call::ReturnRoots { .. },
                         ) = (reply.number, call)
                         {
                             freed += reply.value;

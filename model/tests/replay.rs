@@ -49,7 +49,7 @@ fn refusals_in_order() {
             list.push(0);
         }
         if has(2) {
-            list[4] = 8;
+            list[4] = 9;
         }
         let mut replies = vec![7; if has(3) { 5 } else { 6 }];
         let mut memory = Memory::zeros(blocks, 2, 4);
@@ -70,7 +70,9 @@ fn refusals_in_order() {
 fn what_is_no_call() {
     let most = u64::MAX;
     for (list, number) in [
-        ([8, 0, 0, 0], 9),
+        ([9, 0, 0, 0], 9),
+        ([253, 0, 0, 0], 9),
+        ([255, 8, 2, 4], 9),
         ([most, 0, 0, 0], 9),
         ([3, 0, 65_536, 0], 9),
         ([3, most, 65_535, most], 0),
@@ -78,6 +80,7 @@ fn what_is_no_call() {
         ([4, most, most, 65_535], 0),
         ([2, most, most, most], 0),
         ([7, most, most, most], 0),
+        ([8, most, most, most], 0),
     ] {
         let mut memory = Memory::zeros(8, 2, 4);
         let reply = replay(8, 2, &mut memory, &list, &mut [0; 3]);

@@ -3,6 +3,7 @@
 
 mod common;
 use common::{fresh, say};
+use model::calls::short::{allocate, cell, root};
 use model::claims::objects;
 use model::counting::{count_up, longest_waiting, release};
 use model::families::{generate, FAMILIES};
@@ -129,16 +130,6 @@ impl Heap {
         }
         steps
     }
-}
-
-fn allocate(n: usize, r: usize) -> Call {
-    Call::Allocate { n, r }
-}
-fn root(r: usize, v: u16) -> Call {
-    Call::StoreRoot { r, v }
-}
-fn cell(a: usize, j: usize, v: u16) -> Call {
-    Call::StoreCell { a, j, v }
 }
 
 /// The number of objects that come to the capacity, call by call.

@@ -3,6 +3,7 @@
 
 mod common;
 use common::{call_and_claims, fresh, say};
+use model::calls::short::{allocate, cell, root};
 use model::claims::{broken_claim, unsound};
 use model::collection::reached;
 use model::counting::{count_up, erase, references};
@@ -27,16 +28,6 @@ fn run(width: usize, memory: &mut Memory, calls: &[Call]) -> Vec<usize> {
 fn look(width: usize, memory: &mut Memory, a: usize) -> (usize, usize, usize) {
     let reply = call_and_claims(N, width, memory, Call::Look { a });
     (reply.number, reply.value, reply.second)
-}
-
-fn allocate(n: usize, r: usize) -> Call {
-    Call::Allocate { n, r }
-}
-fn root(r: usize, v: u16) -> Call {
-    Call::StoreRoot { r, v }
-}
-fn cell(a: usize, j: usize, v: u16) -> Call {
-    Call::StoreCell { a, j, v }
 }
 
 /// "Taking the lowest run of n free blocks wherever it starts".

@@ -96,6 +96,24 @@ extern "C" {
         v: Ref,
     ) -> Reply;
 
+    pub fn huwekapo_return_roots(
+        blocks: usize,
+        width: usize,
+        a: *mut u8,
+        a_length: usize,
+        b: *mut u8,
+        b_length: usize,
+        counts: *mut u8,
+        counts_length: usize,
+        cells: *mut Ref,
+        cells_length: usize,
+        roots: *mut Ref,
+        roots_length: usize,
+        waiting: *mut Ref,
+        waiting_length: usize,
+        chosen: u64,
+    ) -> Reply;
+
     pub fn huwekapo_collect(
         blocks: usize,
         width: usize,

@@ -14,8 +14,8 @@ pub struct Buffers {
     pub waiting: Vec<Ref>,
 }
 
-/// A heap of some number of blocks, with counts of some width. Format, allocate, both stores and collect leave
-/// `waiting` all 0 when accepted; check, look and free blocks write nothing.
+/// A heap of some number of blocks, with counts of some width. Format, allocate, both stores, the return and collect
+/// leave `waiting` all 0 when accepted; check, look and free blocks write nothing.
 #[derive(Clone, Debug, PartialEq, Eq)]
 pub struct Heap {
     blocks: usize,
@@ -93,6 +93,12 @@ impl Heap {
     /// already, nothing but the waiting list is written. Refusals: 1, 2, 6, 7, 8.
     pub fn store_cell(&mut self, at: usize, j: usize, v: Ref) -> Result<usize, Refusal> {
         value(lent::store_cell(self.unique(), at, j, v))
+    }
+
+    /// Clears the roots of a set, bit r of `chosen` for root r, as stores of 0 do one after another. The value is
+    /// the number of blocks freed in all. Refusals: 1, 2, 4.
+    pub fn return_roots(&mut self, chosen: u64) -> Result<usize, Refusal> {
+        value(lent::return_roots(self.unique(), chosen))
     }
 
     /// Frees the objects that no root reaches, and counts the references of the others anew. The value is the

@@ -13,8 +13,8 @@
 //! the least) of byte i / 8 of a map.
 //!
 //! Every call may be made with any arguments and any content of the buffers: what is wrong is refused by a number,
-//! and a refusal changes no buffer. Format, allocate, both stores, collect and replay leave `waiting` all 0 when
-//! accepted; check, look and free blocks write nothing.
+//! and a refusal changes no buffer. Format, allocate, both stores, the return, collect and replay leave `waiting`
+//! all 0 when accepted; check, look and free blocks write nothing.
 
 use crate::{foreign, Ref};
 
@@ -111,6 +111,12 @@ pub fn store_cell(heap: Unique, at: usize, j: usize, v: Ref) -> Reply {
     lend!(huwekapo_store_cell, heap, as_mut_ptr, as_ptr, at, j, v)
 }
 
+/// Clears the roots of a set, bit r of `chosen` for root r, as stores of 0 do one after another. The value is the
+/// number of blocks freed in all. Refusals: 1, 2, 4.
+pub fn return_roots(heap: Unique, chosen: u64) -> Reply {
+    lend!(huwekapo_return_roots, heap, as_mut_ptr, as_mut_ptr, chosen)
+}
+
 /// Frees the objects that no root reaches, and counts the references of the others anew. The value is the number of
 /// blocks freed. Refusals: 1, 2.
 pub fn collect(heap: Unique) -> Reply {
@@ -138,6 +144,7 @@ pub fn free_blocks(heap: Shared) -> Reply {
 /// 5             collect
 /// 6, at         look
 /// 7             free_blocks
+/// 8, chosen     return_roots
 /// ```
 ///
 /// Words that a call does not name are not looked at. The reply of call i goes to places 3i, 3i + 1 and 3i + 2 of
@@ -145,7 +152,7 @@ pub fn free_blocks(heap: Shared) -> Reply {
 /// Refusals, which write nothing: 1, 10, 9, 18.
 ///
 /// - 10: the list ends inside a call
-/// - 9: an entry is no call: its code is above 7, or the v of a store above 65,535
+/// - 9: an entry is no call: its code is above 8, or the v of a store above 65,535
 /// - 18: `replies` is too short for the replies of all calls
 pub fn replay(heap: Unique, calls: &[u64], replies: &mut [u64]) -> Reply {
     let (list, replies_at) = (calls.as_ptr(), replies.as_mut_ptr());

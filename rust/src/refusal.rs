@@ -91,7 +91,9 @@ impl fmt::Display for Refusal {
             }
             Refusal::Damaged(damage) => return write!(f, "2: the heap is damaged, kind {damage}"),
             Refusal::BadSize => "n is 0 or above blocks",
-            Refusal::BadRoot => "r is not below the number of roots",
+            Refusal::BadRoot => {
+                "r is not below the number of roots, or a bit of `chosen` is at or past it"
+            }
             Refusal::NoChunk => {
                 "no chunk is free: a chunk is s blocks starting at a multiple of s, s the least power of two \
                  that is n or more"

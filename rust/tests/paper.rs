@@ -153,6 +153,6 @@ fn words() {
     );
     assert_eq!(
         Refusal::BadRoot.to_string(),
-        "4: r is not below the number of roots"
+        "4: r is not below the number of roots, or a bit of `chosen` is at or past it"
     );
 }

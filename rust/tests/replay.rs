@@ -67,6 +67,20 @@ fn p1() {
     assert_eq!((buffers.a[0], buffers.b[0]), (119, 185));
 }
 
+/// P1, then roots 0 and 2 returned, with anything in the words that a return does not name, and root 1 by a set
+/// that has a root too many, and by its own.
+#[test]
+fn a_return_in_a_list() {
+    let mut calls = P1.to_vec();
+    calls.extend([8, 5, u64::MAX, u64::MAX, 8, 18, 0, 0, 8, 2, 0, 0]);
+    let mut buffers = used();
+    let mut replies = [7; 21];
+    let accepted = replay(lend(8, &mut buffers), &calls, &mut replies);
+    assert_eq!(accepted, reply(0, 7));
+    assert_eq!(replies[12..], [0, 5, 0, 4, 0, 0, 0, 1, 0]);
+    assert_eq!(Ok(buffers), Heap::new(8, 2, 4).map(Heap::into_buffers));
+}
+
 #[test]
 fn an_empty_list_formats() {
     let mut buffers = used();
@@ -84,7 +98,7 @@ fn refusals() {
         assert_eq!(refusal(8, &P1[..length], 12), 10);
     }
     for words in [
-        [8, 0, 0, 0],
+        [9, 0, 0, 0],
         [u64::MAX, 0, 0, 0],
         [3, 0, 65_536, 0],
         [4, 0, 0, 65_536],
@@ -101,7 +115,7 @@ fn refusals() {
 #[test]
 fn refusals_in_order() {
     let mut calls = P1;
-    calls[0] = 8;
+    calls[0] = 9;
     assert_eq!(refusal(8, &calls, 11), 9);
     assert_eq!(refusal(8, &calls[..15], 8), 10);
     assert_eq!(refusal(16, &calls[..15], 8), 1);

@@ -6,6 +6,7 @@ use mathlib.Core.Logic.{_≢_}
 use Prim.Native.Nat.{ℕ, zero, suc, _+_, _-_, _*_, _/_, _%_, _^_, _≤_, _<_}
 use native.Mathlib.Nat.{mul-assoc, pow-suc, le-of-suc-le-suc, not-suc-le-zero}
 use native.Mathlib.Numerals.{one-add}
+use native.Mathlib.Decide.{ℕ-discrete}
 use native.Mathlib.Omega.{arith}
 use lib.Arith.{lt-one}
 use lib.Pow.{pow-pos, shr-shr, shl-exact}
@@ -101,6 +102,35 @@ bit-top x y zero h e = omega arith
 bit-top x y (suc n) h e =
     let less : x / 2 < 2 ^ n = omega (arith, pow-suc 2 n) in
     bit-suc (x + y * 2 ^ suc n) n ∙ ap (λ (z : ℕ). bitOf z n) (sum-half x y n) ∙ bit-top (x / 2) y n less e
+
+-- ---- what lies from a place on
+
+-- bit n + k is bit k of what lies from place n on
+bit-from : (b n k : ℕ) → bitOf b (n + k) ≡ bitOf (b / 2 ^ n) k
+bit-from b n k = ap (λ (x : ℕ). x % 2) (sym (shr-shr b n k))
+
+-- where nothing lies there, no bit from there on is 1 ..
+pub bits-past : (b n i : ℕ) → b / 2 ^ n ≡ 0 → n ≤ i → bitOf b i ≡ 0
+bits-past b n i none l =
+    let at : i ≡ n + (i - n) = omega arith in
+    ap (λ (k : ℕ). bitOf b k) at ∙ bit-from b n (i - n) ∙ ap (λ (x : ℕ). bitOf x (i - n)) none ∙ bit-zero (i - n)
+
+-- a number that is not 0 has a bit that is 1
+some-bit : (fuel b : ℕ) → b ≤ fuel → b ≢ 0 → (k : ℕ) × (bitOf b k ≡ 1)
+some-bit zero b l n = absurd (n (omega arith))
+some-bit (suc fuel) b l n =
+    elim (ℕ-discrete (b % 2) 1) [
+      | yes e ↦ (0, omega arith)
+      | no d ↦
+          let found = some-bit fuel (b / 2) (omega arith) (omega arith) in
+          (suc (found .0), bit-suc b (found .0) ∙ found .1)
+    ]
+
+-- .. and where something does, some bit is
+pub some-bit-past : (b n : ℕ) → b / 2 ^ n ≢ 0 → (i : ℕ) × (n ≤ i) × (bitOf b i ≡ 1)
+some-bit-past b n some =
+    let found = some-bit (b / 2 ^ n) (b / 2 ^ n) (omega arith) some in
+    (n + found .0, omega arith, bit-from b n (found .0) ∙ found .1)
 
 -- ---- a number is known by its bits
 

@@ -58,7 +58,7 @@ fn store_call(
     mutate::store_root(blocks, width, a, b, counts, cells, roots, waiting, e.x, v)
 }
 
-// A call, by the kinds 0 to 7. The value of a store fits a cell.
+// A call, by the kinds 0 to 8. The value of a store fits a cell.
 pub fn call(
     blocks: usize,
     width: usize,
@@ -76,6 +76,17 @@ pub fn call(
         2 => mutate::allocate(blocks, width, a, b, counts, cells, roots, waiting, e.x, e.y),
         3 | 4 => store_call(blocks, width, a, b, counts, cells, roots, waiting, e),
         5 => mutate::collect(blocks, width, a, b, counts, cells, roots, waiting),
+        8 => mutate::return_roots(
+            blocks,
+            width,
+            a,
+            b,
+            counts,
+            cells,
+            roots,
+            waiting,
+            e.x as u64,
+        ),
         _ => read_call(blocks, width, a, b, counts, cells, roots, waiting, e),
     }
 }

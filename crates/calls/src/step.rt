@@ -14,6 +14,16 @@ use crate::perform;
 use blocks::MAX_BLOCKS;
 use blocks::Ref;
 
+// The kinds of entries: the calls are those from 0 to LAST_CALL, and what is no call stands at the end of a byte's numbers, out of the way
+// of calls to come.
+const LAST_CALL: usize = 8;
+
+const LOAD: usize = 253;
+
+const LENGTH: usize = 254;
+
+const NEW: usize = 255;
+
 // The heap's numbers, and the bytes that wait to be written.
 pub struct State {
     pub lent: Lent,
@@ -39,14 +49,14 @@ fn run_lent(
     ensures { λ r. ⌜ r ≤ 4096 ⌝ }
 {
     let kind = e.kind;
-    if 8 < kind {
-        return output::put_unknown(out, place, call, kind);
-    }
-    if kind == 8 {
+    if kind == LOAD {
         if perform::load(a, b, counts, cells, roots, waiting, e) {
             return place;
         }
         return output::put_complaint(out, place, call, b"load out of range");
+    }
+    if LAST_CALL < kind {
+        return output::put_unknown(out, place, call, kind);
     }
     if perform::is_wide_store(e) {
         return output::put_complaint(out, place, call, b"value does not fit a cell");
@@ -217,10 +227,10 @@ pub fn run_entry(
     ensures { λ r. ⌜ Ready r ⌝ }
 {
     let kind = e.kind;
-    if kind == 9 {
+    if kind == LENGTH {
         return set_length(state, e, call, out);
     }
-    if kind == 10 {
+    if kind == NEW {
         return start_again(state, e, call, out, a, b, counts, cells, roots, waiting);
     }
     let lent = state.lent;

@@ -95,6 +95,27 @@ pub extern "C" fn huwekapo_store_cell(
 }
 
 #[no_mangle]
+pub extern "C" fn huwekapo_return_roots(
+    blocks: usize,
+    width: usize,
+    a: &mut [u8],
+    b: &mut [u8],
+    counts: &mut [u8],
+    cells: &mut [Ref],
+    roots: &mut [Ref],
+    waiting: &mut [Ref],
+    chosen: u64,
+) -> Reply
+    ensures { λ reply.
+        ⌜ Promise blocks width (Call.returnRoots chosen)
+        (memory (now (a .entry)) (now (b .entry)) (now (counts .entry)) (now (cells .entry)) (now (roots .entry)) (now (waiting .entry)))
+        reply
+        (memory (now (a .exit)) (now (b .exit)) (now (counts .exit)) (now (cells .exit)) (now (roots .exit)) (now (waiting .exit))) ⌝ }
+{
+    mutate::return_roots(blocks, width, a, b, counts, cells, roots, waiting, chosen)
+}
+
+#[no_mangle]
 pub extern "C" fn huwekapo_collect(
     blocks: usize,
     width: usize,

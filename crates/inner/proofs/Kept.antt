@@ -6,8 +6,8 @@ use Prim.Native.Nat.{ℕ, _*_}
 use lib.Dec.{leb, ltb}
 use lib.ListN.{length, replicate}
 use Rattle.rules.specs.Heap.{Memory, shaped, isFirst, sizeAt, exponent, lowestFree, isRef}
-use Rattle.rules.specs.Store.{formatted}
-use Rattle.rules.specs.Calls.{Call, format, check, collect, freeBlocks, allocate, storeRoot, storeCell, look, Answer, require, onUndamaged, freeing, allocation, answer}
+use Rattle.rules.specs.Store.{formatted, chosenBelow}
+use Rattle.rules.specs.Calls.{Call, format, check, collect, freeBlocks, allocate, storeRoot, storeCell, look, returnRoots, Answer, require, onUndamaged, freeing, allocation, answer}
 use Rattle.rules.specs.Promise.{Promise}
 use Rattle.rules.specs.declared.Reply.{Reply}
 use Rattle.rules.proofs.Replies.{on-undamaged-next}
@@ -47,6 +47,7 @@ module _ (N w : ℕ) (h : Memory) (usable : Usable N w h) where
       on-undamaged-idle _
       (require-idle (isFirst N h a) 6 _ (require-idle (ltb j (4 * sizeAt N h a)) 7 _ (require-idle (isRef N h v) 8 _ refl)))
   answer-idle (look a) = on-undamaged-idle _ (require-idle (isFirst N h a) 6 _ (usable .idle))
+  answer-idle (returnRoots chosen) = on-undamaged-idle _ (require-idle (chosenBelow chosen (length (h .roots))) 4 _ refl)
 
   pub usable-kept : (c : Call) (x : Reply) (g : Memory) → Promise N w c h x g → Usable N w g
   usable-kept c x g promise =

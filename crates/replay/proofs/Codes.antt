@@ -18,12 +18,12 @@ use Rattle.replay.specs.Replay.{unlessFails, replyOn}
 
 -- ---- one call
 
-pub known-code : (code y z : ℕ) → isCall code y z ≡ true → code < 8
+pub known-code : (code y z : ℕ) → isCall code y z ≡ true → code < 9
 unfolding isCall
 known-code code y z e =
     let root : Bool = not (eqb code 3) || ltb y cellNumbers in
     let cell : Bool = not (eqb code 4) || ltb z cellNumbers in
-    ltb-true code 8 (and-true (ltb code 8) root (and-true (ltb code 8 && root) cell e .0) .0)
+    ltb-true code 9 (and-true (ltb code 9) root (and-true (ltb code 9 && root) cell e .0) .0)
 
 -- the value of a store in a root, or in a cell, is one that a cell can hold
 pub root-value : (code y z : ℕ) → code ≡ 3 → isCall code y z ≡ true → y < cellNumbers
@@ -38,11 +38,11 @@ cell-value code y z at e =
     let e' : isCall 4 y z ≡ true = ap (λ (k : ℕ). isCall k y z) (sym at) ∙ e in
     ltb-true z cellNumbers e'
 
--- a call that neither formats, reads nor collects is one of the three that store
+-- a call that neither formats, reads, collects nor returns is one of the three that store
 pub store-code :
-    (code : ℕ) → code < 8 → (code ≡ 0 → ⊥) → (code ≡ 1 → ⊥) → (code ≡ 5 → ⊥) → (code ≡ 6 → ⊥) → (code ≡ 7 → ⊥)
+    (code : ℕ) → code < 9 → (code ≡ 0 → ⊥) → (code ≡ 1 → ⊥) → (code ≡ 5 → ⊥) → (code ≡ 6 → ⊥) → (code ≡ 7 → ⊥) → (code ≡ 8 → ⊥)
     → (2 ≤ code) × (code ≤ 4)
-store-code code known zero one five six seven = (omega arith, omega arith)
+store-code code known zero one five six seven eight = (omega arith, omega arith)
 
 -- the call that a known code stands for
 pub promised-as :

@@ -5,21 +5,21 @@ use mathlib.Core.List.{List, [], _∷_}
 use lib.ListN.{length, getD}
 use lib.Dec.{ltb, eqb}
 use Rattle.rules.specs.Damage.{someBelow}
-use Rattle.rules.specs.Calls.{Call, format, check, allocate, storeRoot, storeCell, collect, look, freeBlocks, Answer}
+use Rattle.rules.specs.Calls.{Call, format, check, allocate, storeRoot, storeCell, collect, look, freeBlocks, returnRoots, Answer}
 
 -- how many numbers a cell can hold: 2 ^ 16
 abbrev pub cellNumbers : ℕ
 cellNumbers = 65536
 
--- the call that a code and three arguments stand for; the codes are 0 to 7, and what a call does not name is not looked at
+-- the call that a code and three arguments stand for; the codes are 0 to 8, and what a call does not name is not looked at
 unfoldable pub decoded : (code x y z : ℕ) → Call
 decoded code x y z =
-    getD (format ∷ check ∷ allocate x y ∷ storeRoot x y ∷ storeCell x y z ∷ collect ∷ look x ∷ freeBlocks ∷ []) code check
+    getD (format ∷ check ∷ allocate x y ∷ storeRoot x y ∷ storeCell x y z ∷ collect ∷ look x ∷ freeBlocks ∷ returnRoots x ∷ []) code check
 
 -- a known code, and the value of a store is one that a cell can hold
 unfoldable pub isCall : (code y z : ℕ) → Bool
 isCall code y z =
-    ltb code 8 && (not (eqb code 3) || ltb y cellNumbers) && (not (eqb code 4) || ltb z cellNumbers)
+    ltb code 9 && (not (eqb code 3) || ltb y cellNumbers) && (not (eqb code 4) || ltb z cellNumbers)
 
 -- call number i of the words
 abbrev pub callAt : List ℕ → ℕ → Call

@@ -20,7 +20,7 @@ fn is_call(code: u64, y: u64, z: u64) -> bool
     match code {
         3 => y < CELL_NUMBERS,
         4 => z < CELL_NUMBERS,
-        0..=7 => true,
+        0..=8 => true,
         _ => false,
     }
 }

@@ -8,16 +8,16 @@ use Rattle.rules.specs.Heap.{isPowerFrom, all, shape, firstIn, sizeFrom,
 use Rattle.rules.specs.Heap.{lowestFree, refIn, holding}
 use Rattle.rules.specs.Damage.{someBelow, endOnFree, openEnd, unaligned, badCell, badRoot, badCount, firstKind, damage}
 use Rattle.rules.specs.Store.{formatted, countUp, countDown, countDownEach, clearCells, freed, release, letGo, putRoot, putCell}
-use Rattle.rules.specs.Store.{changeRoot, changeCell, storeRootIn, storeCellIn, placed, allocateIn}
+use Rattle.rules.specs.Store.{changeRoot, changeCell, storeRootIn, storeCellIn, clearChosen, returnIn, placed, allocateIn}
 use Rattle.rules.specs.Collection.{isCellOf, cellOfChosen, referencesFrom, tabulate, reachedNext, reachedIn, reached, swept}
 use Rattle.rules.specs.Collection.{recounted, collected}
 use Rattle.rules.specs.Calls.{require, onUndamaged, freeing, allocation, answer, run, lastMemory}
-use Rattle.rules.specs.Cases.{Case, fresh, freshBut, cases, readings, outcome, expected}
+use Rattle.rules.specs.Cases.{Case, fresh, freshBut, cases, readings, returns, outcome, expected}
 use Rattle.rules.specs.declared.Reply.{Reply}
 
 -- what the rules give for a case: to unfold this is to open every rule
 computed : Case → List Reply × ℕ × ℕ
-unfolding bitAt setBit fillBits countBelow zeros countAt setCount isPowerFrom all shape firstIn sizeFrom exponentFrom exponent chunkFree lowestFrom lowestFree refIn holding someBelow endOnFree openEnd unaligned badCell badRoot badCount firstKind damage formatted countUp countDown countDownEach clearCells freed release letGo putRoot putCell changeRoot changeCell storeRootIn storeCellIn placed allocateIn isCellOf cellOfChosen referencesFrom tabulate reachedNext reachedIn reached swept recounted collected require onUndamaged freeing allocation answer run fresh freshBut lastMemory outcome expected
+unfolding bitAt setBit fillBits countBelow zeros countAt setCount isPowerFrom all shape firstIn sizeFrom exponentFrom exponent chunkFree lowestFrom lowestFree refIn holding someBelow endOnFree openEnd unaligned badCell badRoot badCount firstKind damage formatted countUp countDown countDownEach clearCells freed release letGo putRoot putCell changeRoot changeCell storeRootIn storeCellIn clearChosen returnIn placed allocateIn isCellOf cellOfChosen referencesFrom tabulate reachedNext reachedIn reached swept recounted collected require onUndamaged freeing allocation answer run fresh freshBut lastMemory outcome expected
 computed c = outcome c
 
 pub cases-hold : map outcome cases ≡ map expected cases
@@ -28,3 +28,8 @@ cases-hold = refl
 pub readings-hold : map outcome readings ≡ map expected readings
 unfolding computed readings
 readings-hold = refl
+
+-- and so do those of request U10
+pub returns-hold : map outcome returns ≡ map expected returns
+unfolding computed returns
+returns-hold = refl

@@ -8,7 +8,7 @@ use lib.Dec.{leb, ltb, eqb}
 use Rattle.bitmap.specs.Bit.{zeros}
 use Rattle.rules.specs.Heap.{Memory, withWaiting, shaped, countOf, isFirst, sizeAt, exponent, lowestFree, isRef}
 use Rattle.rules.specs.Damage.{damage}
-use Rattle.rules.specs.Store.{formatted, storeRootIn, storeCellIn, allocateIn}
+use Rattle.rules.specs.Store.{formatted, storeRootIn, storeCellIn, chosenBelow, returnIn, allocateIn}
 use Rattle.rules.specs.Collection.{collected}
 use Rattle.rules.specs.declared.Reply.{Reply}
 
@@ -19,6 +19,7 @@ pub data Call : Type 0 where
   storeRoot : (r v : ℕ) → Call
   storeCell : (a j v : ℕ) → Call
   look : (a : ℕ) → Call
+  returnRoots : (chosen : ℕ) → Call
 
 -- a reply, and the memory after the call
 abbrev pub Answer : Type 0
@@ -82,6 +83,11 @@ answer N w h (storeCell a j v) =
     (require (isRef N h v) 8 h
     (freeing N h (storeCellIn N w h (4 * a + j) v)))))
 answer N w h (look a) = onUndamaged N w h (require (isFirst N h a) 6 h (reply 0 (sizeAt N h a) (countOf N w h a), h))
+-- request U10: "refused with 4 if any bit is at or past the number of roots. Its value is the blocks freed in all."
+answer N w h (returnRoots chosen) =
+    onUndamaged N w h
+    (require (chosenBelow chosen (length (h .roots))) 4 h
+    (freeing N h (returnIn N w h chosen (length (h .roots)))))
 
 -- the plain machine on a list of calls: each answer, from the memory that the one before left
 unfoldable pub run : ℕ → ℕ → Memory → List Call → List Answer

@@ -5,7 +5,7 @@ use mathlib.Core.List.{List, [], _∷_, map}
 use lib.ListN.{getD}
 use Rattle.rules.specs.Heap.{Memory, withA, withB}
 use Rattle.rules.specs.Store.{formatted}
-use Rattle.rules.specs.Calls.{Call, check, collect, freeBlocks, allocate, storeRoot, storeCell, look, reply, run, lastMemory}
+use Rattle.rules.specs.Calls.{Call, check, collect, freeBlocks, allocate, storeRoot, storeCell, look, returnRoots, reply, run, lastMemory}
 use Rattle.rules.specs.declared.Reply.{Reply}
 
 -- calls on a heap of 8 blocks, each with the reply it is to get, and the bytes of the A-map and the B-map after the last
@@ -111,6 +111,26 @@ readings =
     ∷ (look 1, shows 1 2) ∷ (storeRoot 0 0, gives 2) ∷ [])
     -- "Clearing counts before marking and losing one when an object is met a second time."
     ∷ case 2 (fresh 2) 1 254 ((allocate 1 0, gives 0) ∷ (storeRoot 1 1, gives 0) ∷ (collect, gives 0) ∷ (look 0, shows 1 2) ∷ [])
+    ∷ []
+
+-- Request U10, "A method returns"
+unfoldable pub returns : List Case
+returns =
+    -- "refused with 4 if any bit is at or past the number of roots"; a set of empty roots
+    case 2 (fresh 2) 0 255 ((returnRoots 16, refuses 4) ∷ (returnRoots 0, gives 0) ∷ (returnRoots 15, gives 0) ∷ [])
+    -- "Its value is the blocks freed in all": two objects, one of which held a third; the object in the root that is not in the set stays
+    ∷ case 2 (fresh 2) 16 239
+    ((allocate 2 0, gives 0) ∷ (allocate 1 1, gives 2) ∷ (allocate 1 2, gives 3) ∷ (allocate 1 3, gives 4) ∷ (storeCell 0 7 3, gives 0)
+    ∷ (storeRoot 1 0, gives 0) ∷ (returnRoots 7, gives 4) ∷ (look 4, shows 1 1) ∷ [])
+    -- one object in two roots
+    ∷ case 2 (fresh 2) 0 255 ((allocate 2 0, gives 0) ∷ (storeRoot 1 1, gives 0) ∷ (returnRoots 3, gives 2) ∷ [])
+    -- one object in three roots: its count is at capacity
+    ∷ case 2 (fresh 2) 1 254
+    ((allocate 1 0, gives 0) ∷ (storeRoot 1 1, gives 0) ∷ (storeRoot 2 1, gives 0) ∷ (returnRoots 7, gives 0) ∷ (look 0, shows 1 3) ∷ [])
+    -- two objects that name each other
+    ∷ case 2 (fresh 2) 3 252
+    ((allocate 1 0, gives 0) ∷ (allocate 1 1, gives 1) ∷ (storeCell 0 0 2, gives 0) ∷ (storeCell 1 0 1, gives 0) ∷ (returnRoots 3, gives 0)
+    ∷ (look 0, shows 1 1) ∷ (look 1, shows 1 1) ∷ [])
     ∷ []
 
 -- what the rules give for a case: the replies and the two bytes

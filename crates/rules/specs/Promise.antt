@@ -5,7 +5,7 @@ use Rattle.rules.specs.Heap.{Memory}
 use Rattle.rules.specs.Calls.{Call, answer}
 use Rattle.rules.specs.declared.Reply.{Reply}
 
--- The reply and every lent number after the call, the waiting list too, are the rules'. The `ensures` of each of the eight public calls is
+-- The reply and every lent number after the call, the waiting list too, are the rules'. The `ensures` of each of the nine public calls is
 -- this.
 pub record Promise (N w : ℕ) (call : Call) (before : Memory) (reply : Reply) (after : Memory) : Type 0 where
   pub reply-is : reply ≡ answer N w before call .0

@@ -1,10 +1,10 @@
 -- Document 01, "What each call does": format, counting up and down, freeing, the stores and the placing of a new object.
-use Prim.Native.Nat.{ℕ, zero, suc, _+_, _-_, _*_, _/_}
-use mathlib.Core.Bool.{true, false, _||_}
+use Prim.Native.Nat.{ℕ, zero, suc, _+_, _-_, _*_, _/_, _^_}
+use mathlib.Core.Bool.{Bool, true, false, _||_}
 use mathlib.Core.List.{List, [], _∷_}
 use lib.ListN.{getD, set, replicate}
 use lib.Dec.{eqb}
-use Rattle.bitmap.specs.Bit.{setBit, fillBits}
+use Rattle.bitmap.specs.Bit.{bitOf, setBit, fillBits}
 use Rattle.planes.specs.Plane.{countAt, setCount}
 use Rattle.rules.specs.Heap.{Memory, memory, withA, withB, withCounts, withCells, withRoots, capacity, sizeAt}
 
@@ -112,6 +112,26 @@ storeRootIn N w h r v = elim (eqb (getD (h .roots) r 0) v) [ true ↦ h | false 
 
 unfoldable pub storeCellIn : ℕ → ℕ → Memory → ℕ → ℕ → Memory
 storeCellIn N w h c v = elim (eqb (getD (h .cells) c 0) v) [ true ↦ h | false ↦ changeCell N w h c v ]
+
+-- ---- a return (request U10)
+
+-- "a set of roots as a 64-bit number, bit r for root r": root r is one of the set
+abbrev pub isChosen : (chosen r : ℕ) → Bool
+isChosen chosen r = eqb (bitOf chosen r) 1
+
+-- no bit of the set "is at or past" place n
+abbrev pub chosenBelow : (chosen n : ℕ) → Bool
+chosenBelow chosen n = eqb (chosen / 2 ^ n) 0
+
+-- root r is cleared, by a store of 0, where it is one of the set
+unfoldable pub clearChosen : ℕ → ℕ → Memory → (chosen r : ℕ) → Memory
+clearChosen N w h chosen r = elim (isChosen chosen r) [ true ↦ storeRootIn N w h r 0 | false ↦ h ]
+
+-- "A return lets go of all local variables together": the roots of the set that are below n, cleared one after another, the lowest first.
+-- Any other order ends in the same heap (proved as `ReturnInAnyOrder`, theory/specs/Returns.antt).
+unfoldable pub returnIn : ℕ → ℕ → Memory → (chosen n : ℕ) → Memory
+returnIn N w h chosen zero = h
+returnIn N w h chosen (suc n) = clearChosen N w (returnIn N w h chosen n) chosen n
 
 -- ---- allocation
 

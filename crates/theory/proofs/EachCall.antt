@@ -2,6 +2,9 @@
 pub mod AnyWaiting
 pub mod Served
 pub mod StoresServed
+pub mod Clearing
+pub mod ReturnsServed
+pub mod ReturnOrders
 pub mod CollectionServed
 pub mod Answers
 pub mod Balance

@@ -10,3 +10,4 @@ pub mod Collection
 pub mod Sweep
 pub mod Calls
 pub mod Stuck
+pub mod Returns

@@ -27,6 +27,7 @@ use Rattle.theory.specs.Statements.{ClaimFromUndamaged, ClaimFromFormat}
 use Rattle.theory.specs.Words.{Object}
 use Rattle.theory.specs.Orders.{OrderUnseen}
 use Rattle.theory.specs.Balance.{BlocksBalance}
+use Rattle.theory.specs.Returns.{ReturnInAnyOrder, ReturnRefusedExactly}
 use Rattle.theory.specs.Theory.{Theory}
 use Rattle.theory.proofs.Maps.Extents.{Represents, sizesOf, inner, represents-delimited}
 use Rattle.theory.proofs.Maps.LowestChunk.{lowest-some, room, refused-none-free, none-free-refused}
@@ -43,6 +44,7 @@ use Rattle.theory.proofs.EachCall.Served.{on-undamaged}
 use Rattle.theory.proofs.EachCall.Answers.{answer-served}
 use Rattle.theory.proofs.Memories.Leads.{object-size, size-object}
 use Rattle.theory.proofs.EachCall.AnyWaiting.{waiting-unread}
+use Rattle.theory.proofs.EachCall.ReturnOrders.{same-as-singly, return-refused}
 use Rattle.theory.proofs.Demand.{every-list, chains-append, claim, demand3, balance}
 use Rattle.theory.proofs.EachCall.Balance.{blocks-add-up}
 
@@ -128,6 +130,13 @@ order-unseen N w h u =
           one-end N w _ _ (allocate-root N w h fine n i (omega arith) (room N (h .a) n i found) r l .releasing);
     }
 
+-- request U10
+pub return-in-any-order : ReturnInAnyOrder
+return-in-any-order N w h u = same-as-singly N w h (undamaged-healthy N w h u)
+
+pub return-refused-exactly : ReturnRefusedExactly
+return-refused-exactly N w h u = return-refused N w h (undamaged-healthy N w h u)
+
 pub objects-are-ends : ObjectsAreEnds
 objects-are-ends N w h fits one two =
     let shape = shape-facts N w h fits in
@@ -201,4 +210,6 @@ theory =
       order-unseen = order-unseen;
       blocks-balance = blocks-balance;
       blocks-add-up = blocks-add-up;
+      return-in-any-order = return-in-any-order;
+      return-refused-exactly = return-refused-exactly;
     }

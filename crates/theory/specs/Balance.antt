@@ -7,7 +7,7 @@ use mathlib.Core.List.{List, [], _∷_}
 use lib.Dec.{eqb}
 use Rattle.bitmap.specs.Bit.{zeros}
 use Rattle.rules.specs.Heap.{Memory, isFirst, sizeAt}
-use Rattle.rules.specs.Calls.{Call, format, check, collect, freeBlocks, allocate, storeRoot, storeCell, look, answer}
+use Rattle.rules.specs.Calls.{Call, format, check, collect, freeBlocks, allocate, storeRoot, storeCell, look, returnRoots, answer}
 use Rattle.rules.specs.declared.Reply.{Reply}
 use Rattle.theory.specs.Words.{Made, leftBy}
 use Rattle.theory.specs.Demand.{Chain}
@@ -42,6 +42,7 @@ allocates freeBlocks = 0
 allocates (storeRoot r v) = 0
 allocates (storeCell a j v) = 0
 allocates (look a) = 0
+allocates (returnRoots chosen) = 0
 
 -- a refused call allocates nothing
 unfoldable pub allocatedBy : Call → Reply → ℕ
@@ -69,11 +70,12 @@ pub record FreedValue (N : ℕ) (h : Memory) (x : Reply) (g : Memory) : Type 0 w
   pub by-objects : x .value ≡ freedBlocks N h g
   pub by-zeros : zeros (h .a) + x .value ≡ zeros (g .a)
 
--- of accepted calls: stores and the collection give the number as their value; an allocation of n blocks frees so many blocks that its n are
+-- of accepted calls: stores, returns and the collection give the number as their value; an allocation of n blocks frees so many blocks that its n are
 -- the rest
 pub record FreedAddUp (N w : ℕ) (h : Memory) : Type 0 where
   pub store-root : (r v : ℕ) → let x = answer N w h (storeRoot r v) in x .0 .number ≡ 0 → FreedValue N h (x .0) (x .1)
   pub store-cell : (a j v : ℕ) → let x = answer N w h (storeCell a j v) in x .0 .number ≡ 0 → FreedValue N h (x .0) (x .1)
+  pub return-roots : (chosen : ℕ) → let x = answer N w h (returnRoots chosen) in x .0 .number ≡ 0 → FreedValue N h (x .0) (x .1)
   pub collection : let x = answer N w h collect in x .0 .number ≡ 0 → FreedValue N h (x .0) (x .1)
   pub allocation :
       (n r : ℕ) → let x = answer N w h (allocate n r) in

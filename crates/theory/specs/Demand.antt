@@ -9,7 +9,7 @@ use Rattle.bitmap.specs.Bit.{bitAt}
 use Rattle.rules.specs.Heap.{Memory, shaped, capacity, countOf, isFirst, exponent}
 use Rattle.rules.specs.Store.{formatted}
 use Rattle.rules.specs.Collection.{referencesFrom}
-use Rattle.rules.specs.Calls.{Call, format, check, collect, freeBlocks, allocate, storeRoot, storeCell, look, run}
+use Rattle.rules.specs.Calls.{Call, format, check, collect, freeBlocks, allocate, storeRoot, storeCell, look, returnRoots, run}
 use Rattle.rules.specs.Promise.{Promise}
 use Rattle.rules.specs.declared.Reply.{Reply}
 use Rattle.theory.specs.Words.{Object, Names, Leads, numberOfReferences, InExtent, stored, heapOf, Made, callsOf, answersOf, compared}
@@ -57,6 +57,7 @@ Collects N w (allocate n r) h x g = Unit {0}
 Collects N w (storeRoot r v) h x g = Unit {0}
 Collects N w (storeCell a j v) h x g = Unit {0}
 Collects N w (look a) h x g = Unit {0}
+Collects N w (returnRoots chosen) h x g = Unit {0}
 
 -- ---- over a list of calls
 

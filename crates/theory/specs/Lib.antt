@@ -4,4 +4,5 @@ pub mod Demand
 pub mod Statements
 pub mod Orders
 pub mod Balance
+pub mod Returns
 pub mod Theory

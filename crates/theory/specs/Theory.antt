@@ -5,6 +5,7 @@ use Rattle.theory.specs.Statements.{ReachedIsLed, EveryListHasAChain, Ch
 use Rattle.theory.specs.Statements.{NStepsSuffice, ObjectsAreEnds}
 use Rattle.theory.specs.Orders.{OrderUnseen}
 use Rattle.theory.specs.Balance.{BlocksBalance, BlocksAddUp}
+use Rattle.theory.specs.Returns.{ReturnInAnyOrder, ReturnRefusedExactly}
 
 pub record Theory : Type 0 where
   -- demand 3, and what makes it usable
@@ -31,3 +32,5 @@ pub record Theory : Type 0 where
   pub order-unseen : OrderUnseen
   pub blocks-balance : BlocksBalance
   pub blocks-add-up : BlocksAddUp
+  pub return-in-any-order : ReturnInAnyOrder
+  pub return-refused-exactly : ReturnRefusedExactly

@@ -6,8 +6,9 @@ use mathlib.Core.List.{List, [], map}
 use lib.ListN.{length, getD, set, replicate}
 use lib.Dec.{eqb}
 use Rattle.rules.specs.Heap.{Memory, withCells, withRoots, withWaiting, isFirst, sizeAt}
-use Rattle.rules.specs.Collection.{referencesFrom}
-use Rattle.rules.specs.Calls.{Call, format, check, collect, freeBlocks, allocate, storeRoot, storeCell, look, Answer, lastMemory}
+use Rattle.rules.specs.Store.{isChosen}
+use Rattle.rules.specs.Collection.{referencesFrom, tabulate}
+use Rattle.rules.specs.Calls.{Call, format, check, collect, freeBlocks, allocate, storeRoot, storeCell, look, returnRoots, Answer, lastMemory}
 use Rattle.rules.specs.declared.Reply.{Reply}
 
 -- an object of n blocks whose first block is b
@@ -37,6 +38,10 @@ pub record InExtent (N : ℕ) (h : Memory) (i b : ℕ) : Type 0 where
   pub from : b ≤ i
   pub below : i < b + sizeAt N h b
 
+-- what a return stores (request U10): 0 in each root of the set
+unfoldable pub rootsWithout : (chosen : ℕ) → List ℕ → List ℕ
+rootsWithout chosen roots = tabulate (length roots) (λ r. elim (isChosen chosen r) [ true ↦ 0 | false ↦ getD roots r 0 ])
+
 -- "the roots and cells as they stood before the call, with what the call itself stores written in (0 everywhere for a call that formats
 -- the heap) and nothing let go yet". An allocation stores the reference to the block that its reply gives.
 unfoldable pub written : Memory → Call → Reply → Memory
@@ -48,6 +53,7 @@ written h check x = h
 written h collect x = h
 written h freeBlocks x = h
 written h (look a) x = h
+written h (returnRoots chosen) x = withRoots (rootsWithout chosen (h .roots)) h
 
 -- a refused call stores nothing
 unfoldable pub stored : Memory → Call → Reply → Memory

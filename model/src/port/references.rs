@@ -75,6 +75,17 @@ pub fn store_root(blocks: usize, width: usize, m: &mut Lent, r: usize, v: u16) -
     put_root(blocks, width, m, r, v)
 }
 
+/// The roots of a set cleared, in ascending order. The number of blocks freed in all.
+pub fn return_roots(blocks: usize, width: usize, m: &mut Lent, chosen: u64) -> usize {
+    let mut freed = 0;
+    for r in 0..m.roots.len() {
+        if (chosen >> r) % 2 == 1 {
+            freed += store_root(blocks, width, m, r, 0);
+        }
+    }
+    freed
+}
+
 pub fn store_cell(blocks: usize, width: usize, m: &mut Lent, c: usize, v: u16) -> usize {
     let old = m.cells[c];
     if old == v {

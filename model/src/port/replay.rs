@@ -5,7 +5,7 @@ use super::blocks::{
     some_chunk_free,
 };
 use super::damage::is_shaped;
-use super::references::{collect, place, store_cell, store_root};
+use super::references::{collect, place, return_roots, store_cell, store_root};
 use super::{acceptance, refusal, Answer, Lent};
 
 fn format(m: &mut Lent) {
@@ -56,6 +56,14 @@ fn put_in_cell(blocks: usize, width: usize, m: &mut Lent, at: usize, j: usize, v
     acceptance(store_cell(blocks, width, m, 4 * at + j, v))
 }
 
+fn let_go_of(blocks: usize, width: usize, m: &mut Lent, chosen: u64) -> Answer {
+    // 64 roots: a shift by 64 is no shift.
+    if m.roots.len() < 64 && chosen >> m.roots.len() != 0 {
+        return refusal(4);
+    }
+    acceptance(return_roots(blocks, width, m, chosen))
+}
+
 fn look(blocks: usize, width: usize, m: &Lent, at: usize) -> Answer {
     if !is_first(blocks, m.a, m.b, at) {
         return refusal(6);
@@ -81,6 +89,7 @@ pub fn step(blocks: usize, width: usize, m: &mut Lent, call: &[u64]) -> Answer {
         5 => acceptance(collect(blocks, width, m)),
         6 => look(blocks, width, m, x),
         7 => acceptance(count_zeros(m.a)),
+        8 => let_go_of(blocks, width, m, call[1]),
         _ => acceptance(0),
     }
 }
@@ -90,7 +99,7 @@ fn is_call(call: &[u64]) -> bool {
     match call[0] {
         3 => call[2] < 65_536,
         4 => call[3] < 65_536,
-        code => code < 8,
+        code => code < 9,
     }
 }
 

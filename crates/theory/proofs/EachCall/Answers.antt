@@ -9,12 +9,14 @@ use lib.ListN.{length}
 use borrow.Author.Tests.{leb-true, ltb-true}
 use Rattle.bitmap.specs.Bit.{zeros}
 use Rattle.rules.specs.Heap.{Memory, shaped, countOf, isFirst, sizeAt, exponent, lowestFree, isRef}
-use Rattle.rules.specs.Calls.{Call, format, check, collect, freeBlocks, allocate, storeRoot, storeCell, look, reply, allocation, answer}
+use Rattle.rules.specs.Store.{chosenBelow}
+use Rattle.rules.specs.Calls.{Call, format, check, collect, freeBlocks, allocate, storeRoot, storeCell, look, returnRoots, reply, allocation, answer}
 use Rattle.theory.specs.Demand.{Collects}
 use Rattle.rules.proofs.Tests.{and-true}
 use Rattle.theory.proofs.Memories.Healthy.{Healthy}
 use Rattle.theory.proofs.EachCall.Served.{Served, unchanged, refused-served, require-served, on-undamaged-served, format-served}
 use Rattle.theory.proofs.EachCall.StoresServed.{storeRoot-served, storeCell-served, allocate-served}
+use Rattle.theory.proofs.EachCall.ReturnsServed.{return-served}
 use Rattle.theory.proofs.EachCall.CollectionServed.{collect-served}
 
 allocation-served :
@@ -54,3 +56,7 @@ answer-served N w h healthy (look a) =
     on-undamaged-served N w h healthy
     (require-served N w h healthy (isFirst N h a) 6 (omega arith) λ first.
     unchanged N w h healthy (look a) (reply 0 (sizeAt N h a) (countOf N w h a)) tt)
+answer-served N w h healthy (returnRoots chosen) =
+    on-undamaged-served N w h healthy
+    (require-served N w h healthy (chosenBelow chosen (length (h .roots))) 4 (omega arith) λ below.
+    return-served N w h healthy chosen)

@@ -10,14 +10,14 @@ use lib.ListN.{length}
 use Rattle.bitmap.specs.Bit.{zeros}
 use Rattle.rules.specs.Heap.{Memory, withWaiting, shape, shaped, countOf, isFirst, sizeAt, exponent, lowestFree, isRef}
 use Rattle.rules.specs.Damage.{endOnFree, openEnd, unaligned, badCell, badRoot, badCount, damage}
-use Rattle.rules.specs.Store.{storeRootIn, storeCellIn, allocateIn}
+use Rattle.rules.specs.Store.{storeRootIn, storeCellIn, chosenBelow, returnIn, allocateIn}
 use Rattle.rules.specs.Collection.{collected}
-use Rattle.rules.specs.Calls.{Call, format, check, collect, freeBlocks, allocate, storeRoot, storeCell, look, Answer, require, onUndamaged}
+use Rattle.rules.specs.Calls.{Call, format, check, collect, freeBlocks, allocate, storeRoot, storeCell, look, returnRoots, Answer, require, onUndamaged}
 use Rattle.rules.specs.Calls.{reply, accepted, settled, freeing, allocation, answer}
 use Rattle.rules.specs.declared.Reply.{Reply}
 use Rattle.theory.specs.Words.{heapOf}
 use Rattle.theory.specs.Statements.{WaitingUnread}
-use Rattle.theory.proofs.Memories.WaitingUnread.{store-root-waiting, store-cell-waiting, allocate-waiting, collect-waiting}
+use Rattle.theory.proofs.Memories.WaitingUnread.{store-root-waiting, store-cell-waiting, return-waiting, allocate-waiting, collect-waiting}
 
 -- what is compared of two answers
 record Alike (x y : Answer) : Type 0 where
@@ -89,6 +89,11 @@ module _ (N w : ℕ) (h : Memory) (x : List ℕ) (same-length : length x ≡ len
       (freeing-alike (storeCellIn N w g (4 * a + j) v) (storeCellIn N w h (4 * a + j) v) (store-cell-waiting N w x h (4 * a + j) v)))))
   answer-alike (look a) =
       on-undamaged-alike (require-alike (isFirst N h a) 6 (unchanged-alike (reply 0 (sizeAt N h a) (countOf N w h a))))
+  answer-alike (returnRoots chosen) =
+      on-undamaged-alike
+      (require-alike (chosenBelow chosen (length (h .roots))) 4
+      (freeing-alike (returnIn N w g chosen (length (h .roots))) (returnIn N w h chosen (length (h .roots)))
+      (return-waiting N w x h chosen (length (h .roots)))))
 
 pub waiting-unread : WaitingUnread
 waiting-unread N w h g same-heap same-length call =

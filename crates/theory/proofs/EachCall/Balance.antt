@@ -15,8 +15,9 @@ use Rattle.bitmap.specs.Bit.{zeros}
 use Rattle.rules.specs.Heap.{Memory, shaped, capacity, countOf, isFirst, sizeAt, exponent, lowestFree, isRef}
 use Rattle.rules.specs.Damage.{damage}
 use Rattle.rules.specs.Store.{formatted, placed, putRoot, putCell, changeRoot, changeCell, storeRootIn, storeCellIn, allocateIn}
+use Rattle.rules.specs.Store.{chosenBelow, returnIn}
 use Rattle.rules.specs.Collection.{collected}
-use Rattle.rules.specs.Calls.{Call, format, check, collect, freeBlocks, allocate, storeRoot, storeCell, look, Answer, reply, accepted, refused}
+use Rattle.rules.specs.Calls.{Call, format, check, collect, freeBlocks, allocate, storeRoot, storeCell, look, returnRoots, Answer, reply, accepted, refused}
 use Rattle.rules.specs.Calls.{require, onUndamaged, freeing, allocation, settled, answer}
 use Rattle.rules.specs.declared.Reply.{Reply}
 use Rattle.rules.proofs.Replies.{on-undamaged-shaped, on-undamaged-no-damage}
@@ -41,6 +42,7 @@ use Rattle.theory.proofs.Memories.ViewRelease.{Shows}
 use Rattle.theory.proofs.Memories.ViewCollection.{is-collected, collected-shows}
 use Rattle.theory.proofs.Memories.Stores.{positive, ref-object, store-root, cell-place, store-cell, room-vacant, allocate-root}
 use Rattle.theory.proofs.EachCall.Served.{on-undamaged}
+use Rattle.theory.proofs.EachCall.Clearing.{InSet, returned}
 use Rattle.theory.proofs.EachCall.Answers.{answer-served}
 
 -- ---- sums
@@ -238,6 +240,16 @@ module _ (N w : ℕ) (h : Memory) (healthy : Healthy N w h) where
       shown-even (length (h .roots)) (changeCell N w h (4 * a + j) v) _ (store-cell N w h healthy v ref a j first l .shows)
       (store-leaves v ref (length (h .roots) + (4 * a + j)) (cell-place N w h healthy a j first l)))
 
+  return-even : (chosen : ℕ) → Even N (returnRoots chosen) h (freeing N h (returnIn N w h chosen (length (h .roots))))
+  unfolding freeing allocates
+  return-even chosen =
+      let g : Memory = returnIn N w h chosen (length (h .roots)) in
+      let cleared = returned N w h healthy chosen (length (h .roots)) (omega arith) in
+      let leaves = runs-leave (capacity w) (length (h .roots)) (InSet chosen (length (h .roots))) (positive N w h healthy) (cleared .runs) in
+      plain (returnRoots chosen) _ (settled N g) refl
+      (balance-freed N h (settled N g) sizes (sizesOf N (g .a) (g .b)) (healthy .represents) (cleared .healthy .represents)
+      (λ b. elim (leaves .objects b) [ inl e ↦ inl e | inr e ↦ inr (e .0) ]))
+
   collect-even : Even N collect h (freeing N h (collected N w h))
   unfolding freeing allocates
   collect-even =
@@ -322,6 +334,8 @@ module _ (N w : ℕ) (h : Memory) (healthy : Healthy N w h) where
       (require-even (ltb j (4 * sizeAt N h a)) 7 (omega arith) λ place.
       (require-even (isRef N h v) 8 (omega arith) λ ref.
       store-cell-even a j v first (ltb-true j (4 * sizeAt N h a) place) ref)))
+  answer-even (returnRoots chosen) =
+      on-undamaged-even (require-even (chosenBelow chosen (length (h .roots))) 4 (omega arith) λ below. return-even chosen)
   answer-even (look a) =
       on-undamaged-even (require-even (isFirst N h a) 6 (omega arith) λ first. plain (look a) _ h refl (same-blocks h refl refl))
 
@@ -388,6 +402,12 @@ blocks-add-up N w h =
           (require-grown N w h (isFirst N h a) 6 (omega arith)
           (require-grown N w h (ltb j (4 * sizeAt N h a)) 7 (omega arith)
           (require-grown N w h (isRef N h v) 8 (omega arith) (freeing-grown N w h (storeCellIn N w h (4 * a + j) v))))))
+          (accepted-healthy N w h _ e) e;
+      return-roots = λ chosen e.
+          freed-value N w h (returnRoots chosen) refl
+          (on-undamaged-grown N w h
+          (require-grown N w h (chosenBelow chosen (length (h .roots))) 4 (omega arith)
+          (freeing-grown N w h (returnIn N w h chosen (length (h .roots))))))
           (accepted-healthy N w h _ e) e;
       collection = λ e.
           freed-value N w h collect refl (on-undamaged-grown N w h (freeing-grown N w h (collected N w h))) (accepted-healthy N w h _ e) e;

@@ -1,20 +1,21 @@
 -- What is asked of one call on a healthy memory, and that it holds of every call that frees and stores nothing: one that is refused, the
 -- check, the number of free blocks and the look, which leave the memory as it was, and the format.
-use mathlib.Core.Path.{_≡_, refl, sym, subst}
+use mathlib.Core.Path.{_≡_, refl, sym, _∙_, subst}
 use mathlib.Core.Logic.{_≢_}
 use mathlib.Core.Bool.{Bool, true, false}
 use Prim.Native.Nat.{ℕ, _<_}
 use native.Mathlib.Omega.{arith}
-use lib.ListN.{length, getD}
+use lib.ListN.{length, getD, length-replicate}
 use Rattle.rules.specs.Heap.{Memory, capacity, countOf}
 use Rattle.rules.specs.Store.{formatted}
-use Rattle.rules.specs.Calls.{Call, format, check, collect, freeBlocks, allocate, storeRoot, storeCell, look, Answer, reply, accepted, refused, require, onUndamaged}
+use Rattle.rules.specs.Calls.{Call, format, check, collect, freeBlocks, allocate, storeRoot, storeCell, look, returnRoots, Answer, reply, accepted, refused, require, onUndamaged, settled}
 use Rattle.theory.specs.Words.{Object, Leads, root, cell, written, stored}
 use Rattle.theory.specs.Stuck.{Wrote}
 use Rattle.theory.specs.Demand.{NoEarlyFree, Collects}
 use Rattle.rules.specs.declared.Reply.{Reply}
 use Rattle.rules.proofs.Replies.{on-undamaged-next}
 use Rattle.theory.proofs.Memories.Healthy.{Healthy, healthy-shaped, healthy-no-damage}
+use Rattle.theory.proofs.Memories.ViewRelease.{reshaped}
 use Rattle.theory.proofs.Memories.Formatted.{zeros-at, no-object, formatted-healthy}
 
 -- the count of an object that stands before and after a call comes to the capacity only by a reference that the call writes
@@ -28,6 +29,17 @@ pub record Served (N w : ℕ) (c : Call) (h : Memory) (x : Answer) : Type 0 wher
   pub no-early-free : NoEarlyFree N c h (x .0) (x .1)
   pub collects : Collects N w c h (x .0) (x .1)
   pub sticks : Sticks N w c h (x .0) (x .1)
+
+-- a healthy memory stays so when its waiting list is cleared
+pub settled-healthy : (N w : ℕ) (h : Memory) → Healthy N w h → Healthy N w (settled N h)
+settled-healthy N w h healthy =
+    record {
+      shape = reshaped N w h (settled N h) (healthy .shape) refl refl refl refl refl
+          (length-replicate N 0 ∙ sym (healthy .shape .length-waiting));
+      represents = healthy .represents;
+      whole = healthy .whole;
+      aligned = healthy .aligned;
+    }
 
 -- where all roots are 0 they lead nowhere
 no-roots : (N : ℕ) (h : Memory) → ((r : ℕ) → getD (h .roots) r 0 ≡ 0) → {b : ℕ} → Leads N h b → ⊥
@@ -56,6 +68,7 @@ module _ (N w : ℕ) (h : Memory) (healthy : Healthy N w h) where
   refused-served (storeRoot r v) number nonzero = unchanged (storeRoot r v) (reply number 0 0) tt
   refused-served (storeCell a j v) number nonzero = unchanged (storeCell a j v) (reply number 0 0) tt
   refused-served (look a) number nonzero = unchanged (look a) (reply number 0 0) tt
+  refused-served (returnRoots chosen) number nonzero = unchanged (returnRoots chosen) (reply number 0 0) tt
 
   pub require-served :
       {c : Call} {next : Answer} (test : Bool) (number : ℕ) → number ≢ 0 → (test ≡ true → Served N w c h next)

@@ -38,7 +38,7 @@ use Rattle.theory.proofs.Memories.Slots.{slotsIn, root-slot, cell-slot,
 use Rattle.theory.proofs.Memories.Healthy.{Aligned, Healthy, view-count, healthy-damage-free}
 use Rattle.theory.proofs.Memories.Soundness.{all-references}
 use Rattle.theory.proofs.Memories.Leads.{object-size, size-object, leads-reach}
-use Rattle.theory.proofs.EachCall.Served.{Served}
+use Rattle.theory.proofs.EachCall.Served.{Served, settled-healthy}
 use Rattle.theory.proofs.Memories.ViewMoves.{set-append-right}
 use Rattle.theory.proofs.Memories.ViewRelease.{reshaped, Shows}
 use Rattle.theory.proofs.Memories.Stores.{positive, slots-length, ref-object, store-root, same-size, cell-place, cell-inside, store-cell, room-vacant, allocate-root}
@@ -117,14 +117,7 @@ module _ (N w : ℕ) (h : Memory) (healthy : Healthy N w h) where
   same-served : (c : Call) (x : Reply) → Collects N w c h x (settled N h) → Served N w c h (x, settled N h)
   same-served c x collects =
       record {
-        keep =
-            record {
-              shape = reshaped N w h (settled N h) (healthy .shape) refl refl refl refl refl
-                  (length-replicate N 0 ∙ sym (healthy .shape .length-waiting));
-              represents = healthy .represents;
-              whole = healthy .whole;
-              aligned = healthy .aligned;
-            };
+        keep = settled-healthy N w h healthy;
         no-early-free = λ b n object leads. record { first = object .first; size = object .size };
         collects = collects;
         sticks = λ b n was is low top. absurd (omega arith);
@@ -143,6 +136,25 @@ module _ (N w : ℕ) (h : Memory) (healthy : Healthy N w h) where
         all-references N written (healthy .represents) (healthy .shape .length-cells) free-cells b
         ∙ sym (references-slots written b)
         ∙ ap (occurrences (suc b)) (sym (set-append-left (h .roots) (h .cells) r v l))
+
+    -- the memory after a store is healthy before its waiting list is cleared, too
+    pub store-root-healthy : Healthy N w (storeRootIn N w h r v)
+    unfolding storeRootIn changeRoot putRoot
+    store-root-healthy = go (eqb (getD (h .roots) r 0) v)
+      where
+        shows : Shows N w (length (h .roots)) (changeRoot N w h r v) (graph.store (capacity w) (length (h .roots)) (view N w h) r v)
+        shows = store-root N w h healthy v ref r l .shows
+
+        go : (t : Bool) → Healthy N w (elim t [ true ↦ h | false ↦ changeRoot N w h r v ])
+        go true = healthy
+        go false =
+            let settled-healthy = store-healthy v ref r (inl l) (changeRoot N w h r v) shows in
+            record {
+              shape = shows .shape;
+              represents = settled-healthy .represents;
+              whole = settled-healthy .whole;
+              aligned = settled-healthy .aligned;
+            }
 
     change-root-served :
         getD (h .roots) r 0 ≢ v → Served N w (storeRoot r v) h (freeing N h (changeRoot N w h r v))

@@ -158,3 +158,12 @@ one-end N w h stack before =
           (same, omega (arith, carried N w t before .blocks, ap (λ (m : Memory). zeros (m .a)) same));
       own = own;
     }
+
+-- what a release writes, and that it frees blocks alone
+pub release-rewrites :
+    (N w : ℕ) (h : Memory) (stack : List ℕ) → Releasing N w h stack
+    → Rewrites h (release N N w h stack) × (zeros (h .a) ≤ zeros ((release N N w h stack) .a))
+release-rewrites N w h stack before =
+    let own = release-taken N w N h stack before (omega arith) in
+    let c = carried N w (own .2) before in
+    (c .written, omega (arith, c .blocks))

@@ -8,7 +8,7 @@ use lib.ListN.{getD, set}
 use Rattle.planes.specs.Plane.{setCount}
 use Rattle.rules.specs.Heap.{Memory, withCounts, withCells, withRoots, withWaiting, capacity, isFirst, sizeAt}
 use Rattle.rules.specs.Store.{countUp, freed, workAfter, memoryAfter, release, letGo, putRoot, putCell, placed}
-use Rattle.rules.specs.Store.{changeRoot, changeCell, storeRootIn, storeCellIn, allocateIn}
+use Rattle.rules.specs.Store.{changeRoot, changeCell, storeRootIn, storeCellIn, isChosen, clearChosen, returnIn, allocateIn}
 use Rattle.rules.specs.Collection.{isCellOf, cellOfChosen, referencesFrom, marked, reachedNext, reachedIn, reached, swept, recounted, collected}
 use Rattle.theory.proofs.Memories.Stores.{workLeft, memoryLeft}
 
@@ -82,3 +82,16 @@ module _ (N w : ℕ) (x : List ℕ) where
     unfolding collected reached
     collect-waiting =
         rw (reached-waiting N, swept-waiting (reachedIn N N h) N, recounted-waiting (reachedIn N N h) ((swept N w h (reachedIn N N h) N) .counts) N)
+
+  -- a return clears one root after another
+  clear-chosen-waiting : (h : Memory) (chosen r : ℕ) → clearChosen N w (withWaiting x h) chosen r ≡ withWaiting x (clearChosen N w h chosen r)
+  unfolding clearChosen
+  clear-chosen-waiting h chosen r =
+      ap (λ (g : Memory). elim (isChosen chosen r) [ true ↦ g | false ↦ withWaiting x h ]) (store-root-waiting h r 0)
+      ∙ choose-waiting x (isChosen chosen r) (storeRootIn N w h r 0) h
+
+  pub return-waiting : (h : Memory) (chosen n : ℕ) → returnIn N w (withWaiting x h) chosen n ≡ withWaiting x (returnIn N w h chosen n)
+  unfolding returnIn
+  return-waiting h chosen zero = refl
+  return-waiting h chosen (suc n) =
+      ap (λ (g : Memory). clearChosen N w g chosen n) (return-waiting h chosen n) ∙ clear-chosen-waiting (returnIn N w h chosen n) chosen n

@@ -38,12 +38,16 @@ count-zeros-requires c κs =
 acceptance-requires-2 : tie.Need-acceptance-requires-2
 acceptance-requires-2 c κs = search needs
 
+return-roots-requires : tie.Need-return-roots-requires
+return-roots-requires c κs = search needs
+
 store-step-requires : tie.Need-store-step-requires
 store-step-requires c κs =
     let pre = c .before .before .before .before .before .before .before .before .before .before .before .before .before .pre in
     let rest = c .before .before .before .before .before .before .match .rest in
     let codes =
-    store-code _ (known-code _ _ _ (pre .1)) (rest .0 .0 .0 .0 .1) (rest .0 .0 .0 .1) (rest .0 .0 .1) (rest .0 .1) (rest .1) in
+    store-code _ (known-code _ _ _ (pre .1)) (rest .0 .0 .0 .0 .0 .1) (rest .0 .0 .0 .0 .1) (rest .0 .0 .0 .1) (rest .0 .0 .1) (rest .0 .1)
+    (rest .1) in
     (pre .0, pre .1, codes .0, codes .1)
 
 same-length : tie.Need-same-length
@@ -137,7 +141,31 @@ same-length-22 : tie.Need-same-length-22
 same-length-22 c = search needs
 
 returns-6 : tie.Need-returns-6
-returns-6 c = search needs
+unfolding decoded
+returns-6 c =
+    let called = c .before .before .before .before .before .before .before .before .before .before .before .before in
+    promised-as _ _ 8 _ _ _ (called .before .before .before .before .before .before .before .match .keys6) (called .return-roots .ensures)
+
+same-length-23 : tie.Need-same-length-23
+same-length-23 c = search needs
+
+same-length-24 : tie.Need-same-length-24
+same-length-24 c = search needs
+
+same-length-25 : tie.Need-same-length-25
+same-length-25 c = search needs
+
+same-length-26 : tie.Need-same-length-26
+same-length-26 c = search needs
+
+same-length-27 : tie.Need-same-length-27
+same-length-27 c = search needs
+
+same-length-28 : tie.Need-same-length-28
+same-length-28 c = search needs
+
+returns-7 : tie.Need-returns-7
+returns-7 c = search needs
 
 pub step-spec : {M : Type 1} → statement M
 step-spec =
@@ -149,6 +177,7 @@ step-spec =
     look-reply-requires
     count-zeros-requires
     acceptance-requires-2
+    return-roots-requires
     store-step-requires
     same-length
     same-length-2
@@ -177,4 +206,11 @@ step-spec =
     same-length-20
     same-length-21
     same-length-22
-    returns-6)
+    returns-6
+    same-length-23
+    same-length-24
+    same-length-25
+    same-length-26
+    same-length-27
+    same-length-28
+    returns-7)

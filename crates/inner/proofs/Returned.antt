@@ -1,0 +1,135 @@
+-- A return (request U10): its answer, passed or refused, and its work root by root.
+use mathlib.Core.Path.{_≡_, refl, sym, ap, _∙_}
+use mathlib.Core.Bool.{Bool, true, false}
+use Prim.Native.Nat.{ℕ, _+_, _-_, _≤_, _<_}
+use native.Mathlib.Numerals.{add-one}
+use native.Mathlib.Omega.{arith}
+use lib.ListN.{length, replicate}
+use borrow.Author.Tests.{lt-ltb, eq-eqb, ne-eqb}
+use Rattle.bitmap.specs.Bit.{bitOf, zeros}
+use Rattle.rules.specs.Heap.{Memory}
+use Rattle.rules.specs.Store.{storeRootIn, chosenBelow, clearChosen, returnIn}
+use Rattle.rules.specs.Calls.{returnRoots, storeRoot, reply, Answer, require, settled, freeing, answer}
+use Rattle.rules.specs.Promise.{Promise}
+use Rattle.rules.specs.declared.Reply.{Reply}
+use Rattle.theory.proofs.Memories.Healthy.{Healthy}
+use Rattle.theory.proofs.EachCall.Served.{on-undamaged}
+use Rattle.theory.proofs.EachCall.Clearing.{none-ref, root-cleared}
+use Rattle.bridge.proofs.Settled.{store-root-waiting}
+use Rattle.inner.specs.Usable.{Usable}
+use Rattle.inner.specs.Replies.{storeRootTest, returnTest}
+use Rattle.inner.specs.Returns.{Turn}
+use Rattle.inner.proofs.Idle.{settled-idle, usable-healthy, promised}
+use Rattle.inner.proofs.Passed.{root-passed}
+use Rattle.inner.proofs.Stored.{root-answered, freeing-promised}
+use Rattle.inner.proofs.Kept.{usable-kept}
+
+-- ---- the answer
+
+-- the test's reply, by its outcome
+outcome : Bool → Reply
+outcome t = elim t [ true ↦ reply 0 0 0 | false ↦ reply 4 0 0 ]
+
+module _ (N w : ℕ) (h : Memory) (healthy : Healthy N w h) (chosen : ℕ) where
+  abbrev test : Reply
+  test = returnTest (length (h .roots)) chosen
+
+  abbrev done : Answer
+  done = freeing N h (returnIn N w h chosen (length (h .roots)))
+
+  pub return-answered : test .number ≡ 0 → answer N w h (returnRoots chosen) ≡ done
+  unfolding answer returnTest outcome require
+  return-answered passes = on-undamaged N w h healthy _ ∙ go (chosenBelow chosen (length (h .roots))) passes
+    where
+      go : (t : Bool) → outcome t .number ≡ 0 → require t 4 h done ≡ done
+      go true e = refl
+      go false e = absurd (omega arith)
+
+  return-stopped : (test .number ≡ 0 → ⊥) → answer N w h (returnRoots chosen) ≡ (test, h)
+  unfolding answer returnTest outcome require
+  return-stopped fails = on-undamaged N w h healthy _ ∙ go (chosenBelow chosen (length (h .roots))) fails
+    where
+      go : (t : Bool) → (outcome t .number ≡ 0 → ⊥) → require t 4 h done ≡ (outcome t, h)
+      go true n = absurd (n refl)
+      go false n = refl
+
+  pub return-refused : (x : Reply) → x ≡ test → (x .number ≡ 0 → ⊥) → Promise N w (returnRoots chosen) h x h
+  return-refused x tested fails =
+      promised N w h (returnRoots chosen) (test, h) (return-stopped (λ e. fails (ap (λ (y : Reply). y .number) tested ∙ e))) x h tested refl
+
+-- ---- one root
+
+module _ (N w : ℕ) (h : Memory) (usable : Usable N w h) (chosen r : ℕ) where
+  -- it is not one of the set
+  pub turn-none : (bitOf chosen r ≡ 1 → ⊥) → Turn N w h chosen r h 0
+  unfolding clearChosen
+  turn-none n = record { after-is = rw (ne-eqb (bitOf chosen r) 1 n, clearChosen) refl; usable = usable; blocks = omega arith }
+
+  -- it is, and was cleared
+  module _ (inside : r < length (h .roots)) where
+    pub zero-passes : storeRootTest N h r 0 .number ≡ 0
+    unfolding storeRootTest require
+    zero-passes = rw (lt-ltb r (length (h .roots)) inside, none-ref N h, storeRootTest, require) refl
+
+    stored : answer N w h (storeRoot r 0) ≡ freeing N h (storeRootIn N w h r 0)
+    stored = root-answered N w h r 0 (root-passed N h r 0 zero-passes) (usable-healthy N w h usable)
+
+    -- the waiting list was cleared and is left so
+    settles : settled N (storeRootIn N w h r 0) ≡ storeRootIn N w h r 0
+    settles =
+        sym (store-root-waiting N w (replicate N 0) h r 0)
+        ∙ ap (λ (k : Memory). storeRootIn N w k r 0) (settled-idle N w h usable)
+
+    pub turn-one : bitOf chosen r ≡ 1 → (x : Reply) (g : Memory) → Promise N w (storeRoot r 0) h x g → Turn N w h chosen r g (x .value)
+    unfolding freeing clearChosen
+    turn-one e x g promise =
+        let is : g ≡ storeRootIn N w h r 0 = promise .after-is ∙ ap (λ (y : Answer). y .1) stored ∙ settles in
+        let value : x .value ≡ zeros ((storeRootIn N w h r 0) .a) - zeros (h .a) =
+        ap (λ (y : Reply). y .value) (promise .reply-is) ∙ ap (λ (y : Answer). y .0 .value) stored in
+        let grows = root-cleared N w (λ i. Unit {0}) h (usable-healthy N w h usable) r inside tt .grows in
+        record {
+          after-is = is ∙ rw (eq-eqb (bitOf chosen r) 1 e, clearChosen) refl;
+          usable = usable-kept N w h usable (storeRoot r 0) x g promise;
+          blocks = omega (arith, value, grows, ap (λ (k : Memory). zeros (k .a)) is);
+        }
+
+-- ---- the loop's invariant: the roots below r are seen to, and `freed` blocks were freed
+
+pub record Progress (N w : ℕ) (start : Memory) (chosen r : ℕ) (h : Memory) (freed : ℕ) : Type 0 where
+  pub usable : Usable N w h
+  pub roots-length : length (h .roots) ≡ length (start .roots)
+  pub made : r ≤ length (start .roots)
+  pub after-is : h ≡ returnIn N w start chosen r
+  pub blocks : zeros (h .a) ≡ zeros (start .a) + freed
+
+module _ (N w : ℕ) (start : Memory) (chosen : ℕ) where
+  pub progress-start : Usable N w start → Progress N w start chosen 0 start 0
+  unfolding returnIn
+  progress-start usable =
+      record { usable = usable; roots-length = refl; made = omega arith; after-is = refl; blocks = omega arith }
+
+  pub progress-next :
+      {r freed more : ℕ} {h g : Memory} → r < length (h .roots) → length (g .roots) ≡ length (h .roots) → Turn N w h chosen r g more
+      → Progress N w start chosen r h freed → Progress N w start chosen (r + 1) g (freed + more)
+  unfolding returnIn
+  progress-next {r} {freed} {more} {h} {g} l kept turn p =
+      record {
+        usable = turn .usable;
+        roots-length = kept ∙ p .roots-length;
+        made = omega (arith, p .roots-length);
+        after-is =
+            turn .after-is ∙ ap (λ (k : Memory). clearChosen N w k chosen r) (p .after-is)
+            ∙ ap (returnIn N w start chosen) (sym (add-one r));
+        blocks = omega (arith, turn .blocks, p .blocks);
+      }
+
+  pub progress-done :
+      {r freed : ℕ} {h : Memory} (x : Reply) → Usable N w start → returnTest (length (start .roots)) chosen .number ≡ 0
+      → length (h .roots) ≤ r → Progress N w start chosen r h freed → x ≡ reply 0 freed 0 → Promise N w (returnRoots chosen) start x h
+  progress-done {r} {freed} {h} x usable passes l p replied =
+      let end : Memory = returnIn N w start chosen (length (start .roots)) in
+      let all : r ≡ length (start .roots) = omega (arith, p .made, p .roots-length) in
+      let is : h ≡ end = p .after-is ∙ ap (returnIn N w start chosen) all in
+      freeing-promised N w start end (returnRoots chosen) (return-answered N w start (usable-healthy N w start usable) chosen passes) freed x h
+      (omega (arith, p .blocks, ap (λ (k : Memory). zeros (k .a)) is)) replied
+      (sym (settled-idle N w h (p .usable)) ∙ ap (settled N) is)
