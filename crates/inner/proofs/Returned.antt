@@ -59,39 +59,37 @@ module _ (N w : ℕ) (h : Memory) (healthy : Healthy N w h) (chosen : ℕ) where
 
 -- ---- one root
 
+pub zero-passes : (N : ℕ) (h : Memory) (r : ℕ) → r < length (h .roots) → storeRootTest N h r 0 .number ≡ 0
+unfolding storeRootTest require
+zero-passes N h r inside = rw (lt-ltb r (length (h .roots)) inside, none-ref N h, storeRootTest, require) refl
+
 module _ (N w : ℕ) (h : Memory) (usable : Usable N w h) (chosen r : ℕ) where
   -- it is not one of the set
   pub turn-none : (bitOf chosen r ≡ 1 → ⊥) → Turn N w h chosen r h 0
   unfolding clearChosen
   turn-none n = record { after-is = rw (ne-eqb (bitOf chosen r) 1 n, clearChosen) refl; usable = usable; blocks = omega arith }
 
-  -- it is, and was cleared
-  module _ (inside : r < length (h .roots)) where
-    pub zero-passes : storeRootTest N h r 0 .number ≡ 0
-    unfolding storeRootTest require
-    zero-passes = rw (lt-ltb r (length (h .roots)) inside, none-ref N h, storeRootTest, require) refl
-
-    stored : answer N w h (storeRoot r 0) ≡ freeing N h (storeRootIn N w h r 0)
-    stored = root-answered N w h r 0 (root-passed N h r 0 zero-passes) (usable-healthy N w h usable)
-
-    -- the waiting list was cleared and is left so
-    settles : settled N (storeRootIn N w h r 0) ≡ storeRootIn N w h r 0
-    settles =
-        sym (store-root-waiting N w (replicate N 0) h r 0)
-        ∙ ap (λ (k : Memory). storeRootIn N w k r 0) (settled-idle N w h usable)
-
-    pub turn-one : bitOf chosen r ≡ 1 → (x : Reply) (g : Memory) → Promise N w (storeRoot r 0) h x g → Turn N w h chosen r g (x .value)
-    unfolding freeing clearChosen
-    turn-one e x g promise =
-        let is : g ≡ storeRootIn N w h r 0 = promise .after-is ∙ ap (λ (y : Answer). y .1) stored ∙ settles in
-        let value : x .value ≡ zeros ((storeRootIn N w h r 0) .a) - zeros (h .a) =
-        ap (λ (y : Reply). y .value) (promise .reply-is) ∙ ap (λ (y : Answer). y .0 .value) stored in
-        let grows = root-cleared N w (λ i. Unit {0}) h (usable-healthy N w h usable) r inside tt .grows in
-        record {
-          after-is = is ∙ rw (eq-eqb (bitOf chosen r) 1 e, clearChosen) refl;
-          usable = usable-kept N w h usable (storeRoot r 0) x g promise;
-          blocks = omega (arith, value, grows, ap (λ (k : Memory). zeros (k .a)) is);
-        }
+  -- it is, and was cleared; the waiting list was clear and is left so
+  pub turn-one :
+      r < length (h .roots) → bitOf chosen r ≡ 1 → (x : Reply) (g : Memory) → Promise N w (storeRoot r 0) h x g
+      → Turn N w h chosen r g (x .value)
+  unfolding freeing clearChosen
+  turn-one inside e x g promise =
+      let healthy = usable-healthy N w h usable in
+      let end : Memory = storeRootIn N w h r 0 in
+      let stored : answer N w h (storeRoot r 0) ≡ freeing N h end =
+      root-answered N w h r 0 (root-passed N h r 0 (zero-passes N h r inside)) healthy in
+      let settles : settled N end ≡ end =
+      sym (store-root-waiting N w (replicate N 0) h r 0) ∙ ap (λ (k : Memory). storeRootIn N w k r 0) (settled-idle N w h usable) in
+      let is : g ≡ end = promise .after-is ∙ ap (λ (y : Answer). y .1) stored ∙ settles in
+      let value : x .value ≡ zeros (end .a) - zeros (h .a) =
+      ap (λ (y : Reply). y .value) (promise .reply-is) ∙ ap (λ (y : Answer). y .0 .value) stored in
+      let grows = root-cleared N w (λ i. Unit {0}) h healthy r inside tt .grows in
+      record {
+        after-is = is ∙ rw (eq-eqb (bitOf chosen r) 1 e, clearChosen) refl;
+        usable = usable-kept N w h usable (storeRoot r 0) x g promise;
+        blocks = omega (arith, value, grows, ap (λ (k : Memory). zeros (k .a)) is);
+      }
 
 -- ---- the loop's invariant: the roots below r are seen to, and `freed` blocks were freed
 

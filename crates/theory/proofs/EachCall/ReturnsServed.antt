@@ -4,15 +4,13 @@ use mathlib.Core.Path.{_≡_, refl, sym, ap, _∙_, subst}
 use mathlib.Core.Logic.{inl, inr}
 use mathlib.Core.Bool.{Bool, true, false}
 use mathlib.Core.List.{List, _++_}
-use Prim.Native.Nat.{ℕ, suc, _+_, _/_, _%_, _^_, _<_}
+use Prim.Native.Nat.{ℕ, suc, _+_, _<_}
 use native.Mathlib.Omega.{arith}
-use lib.Dec.{eqb}
 use lib.ListN.{length, getD}
 use borrow.Author.Tests.{eqb-false}
 use Rattle.bitmap.specs.Bit.{bitOf}
 use Rattle.rules.specs.Heap.{Memory, withRoots, capacity}
 use Rattle.rules.specs.Store.{isChosen, returnIn}
-use Rattle.rules.specs.Collection.{tabulate}
 use Rattle.rules.specs.Calls.{returnRoots, settled, freeing}
 use Rattle.rules.proofs.Objects.{first-facts}
 use Rattle.theory.specs.Words.{Object, rootsWithout, written, stored}

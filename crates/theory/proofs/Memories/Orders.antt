@@ -159,7 +159,7 @@ one-end N w h stack before =
       own = own;
     }
 
--- what a release writes, and that it frees blocks alone
+-- what a release writes; the A-map has no fewer 0 bits after it
 pub release-rewrites :
     (N w : ℕ) (h : Memory) (stack : List ℕ) → Releasing N w h stack
     → Rewrites h (release N N w h stack) × (zeros (h .a) ≤ zeros ((release N N w h stack) .a))

@@ -17,7 +17,7 @@ returns c = turn-none _ _ _ (c .before .before .before .before .before .before .
 store-root-requires : tie.Need-store-root-requires
 store-root-requires c κs =
     let start = c .before .before .before .before .before .before .before .before .before .before .before .before .before in
-    (start .pre .0, zero-passes _ _ _ (start .pre .0) (start .args .chosen) _ (start .pre .1))
+    (start .pre .0, zero-passes _ _ _ (start .pre .1))
 
 same-length : tie.Need-same-length
 same-length c = search needs

@@ -1,6 +1,5 @@
 -- `steps::return_roots` meets its contract.
 use mathlib.Core.Path.{sym, ap, _∙_}
-use native.Mathlib.Omega.{arith}
 use borrow.Author.Needs.{needs}
 use Rattle.rules.specs.declared.Reply.{Reply}
 use Rattle.inner.proofs.Idle.{usable-healthy}
