@@ -13,6 +13,7 @@ use Rattle.rules.specs.Collection.{isCellOf, cellOfChosen, referencesFro
 use Rattle.rules.specs.Collection.{recounted, collected}
 use Rattle.rules.specs.Calls.{require, onUndamaged, freeing, allocation, answer, run, lastMemory}
 use Rattle.rules.specs.Cases.{Case, fresh, freshBut, cases, readings, returns, outcome, expected}
+use Rattle.rules.specs.Distinctions.{lent, cellHolding, rootHolding, distinctions}
 use Rattle.rules.specs.declared.Reply.{Reply}
 
 -- what the rules give for a case: to unfold this is to open every rule
@@ -33,3 +34,8 @@ readings-hold = refl
 pub returns-hold : map outcome returns ≡ map expected returns
 unfolding computed returns
 returns-hold = refl
+
+-- and those that tell further wrong rules from the right ones
+pub distinctions-hold : map outcome distinctions ≡ map expected distinctions
+unfolding computed lent cellHolding rootHolding distinctions
+distinctions-hold = refl

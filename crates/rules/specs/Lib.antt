@@ -5,3 +5,4 @@ pub mod Collection
 pub mod Calls
 pub mod Promise
 pub mod Cases
+pub mod Distinctions
