@@ -17,7 +17,7 @@ use Rattle.rules.specs.Distinctions.{lent, cellHolding, rootHolding, dis
 use Rattle.rules.specs.declared.Reply.{Reply}
 
 -- what the rules give for a case: to unfold this is to open every rule
-computed : Case → List Reply × ℕ × ℕ
+unfoldable pub computed : Case → List Reply × ℕ × ℕ
 unfolding bitAt setBit fillBits countBelow zeros countAt setCount isPowerFrom all shape firstIn sizeFrom exponentFrom exponent chunkFree lowestFrom lowestFree refIn holding someBelow endOnFree openEnd unaligned badCell badRoot badCount firstKind damage formatted countUp countDown countDownEach clearCells freed release letGo putRoot putCell changeRoot changeCell storeRootIn storeCellIn clearChosen returnIn placed allocateIn isCellOf cellOfChosen referencesFrom tabulate reachedNext reachedIn reached swept recounted collected require onUndamaged freeing allocation answer run fresh freshBut lastMemory outcome expected
 computed c = outcome c
 

@@ -1,4 +1,5 @@
 pub mod Cases
+pub mod WrongAnswers
 pub mod Tests
 pub mod Shape
 pub mod Objects

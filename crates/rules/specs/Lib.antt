@@ -6,3 +6,4 @@ pub mod Calls
 pub mod Promise
 pub mod Cases
 pub mod Distinctions
+pub mod WrongAnswers

@@ -1,0 +1,195 @@
+-- Calls on a heap of 8 blocks, each with its right answer and wrong ones: what a heap would answer that refuses everything, replies 0 always,
+-- never writes or frees everything at a drop, that reckons its figure otherwise than off the A-map, or says "no chunk" without a search; and
+-- other mistakes, each named. `Promise` is an equation, so what differs from the rules' answer is not promised: one lemma, in proofs/.
+use Prim.Native.Nat.{ℕ}
+use mathlib.Core.List.{List, [], _∷_}
+use lib.ListN.{set, replicate}
+use Rattle.rules.specs.Heap.{Memory, withA, withB, withCells, withRoots, withWaiting}
+use Rattle.rules.specs.Calls.{Call, format, check, collect, freeBlocks, allocate, storeRoot, storeCell, look, Answer, reply}
+use Rattle.rules.specs.Promise.{Promise}
+use Rattle.rules.specs.Cases.{fresh, freshBut, gives, shows, refuses, damaged}
+use Rattle.rules.specs.Distinctions.{lent, cellHolding, rootHolding}
+
+-- a call with its right answer, that is the reply and the memory after it, and wrong ones
+pub record Question : Type 0 where
+  pub width : ℕ
+  pub before : Memory
+  pub call : Call
+  pub right : Answer
+  pub wrong : List Answer
+
+abbrev pub question : ℕ → Memory → Call → Answer → List Answer → Question
+question width before call right wrong = record { width = width; before = before; call = call; right = right; wrong = wrong }
+
+-- the answer keeps the promise of a public call
+abbrev pub Promised : Question → Answer → Type 0
+Promised q x = Promise 8 (q .width) (q .call) (q .before) (x .0) (x .1)
+
+-- ---- the heaps, of width 2
+
+-- "The waiting list may hold anything on entry."
+unfoldable pub used : Memory → Memory
+used h = withWaiting (set (replicate 8 0) 0 7) h
+
+-- P8's: X of 2 blocks at 0, in root 0; its cell 7 alone names Y of 1 block at 2
+unfoldable pub chained : Memory
+chained = lent 7 249 5 0 (cellHolding 7 3) (rootHolding 0 1)
+
+-- the same with Y in root 1 too
+unfoldable pub shared : Memory
+shared = lent 7 249 1 4 (cellHolding 7 3) (1 ∷ 3 ∷ 0 ∷ 0 ∷ [])
+
+-- the same with Y let go by X: X alone
+unfoldable pub alone : Memory
+alone = lent 3 253 1 0 (replicate 32 0) (rootHolding 0 1)
+
+-- X of 2 blocks at 0 and Y at 2 name each other, and no root names them; Z at 3, in root 0, is named by X too
+unfoldable pub cyclic : Memory
+cyclic = lent 15 241 5 8 (set (set (cellHolding 0 3) 7 4) 8 1) (rootHolding 0 4)
+
+-- Z alone
+unfoldable pub collectedCyclic : Memory
+collectedCyclic = lent 8 247 8 0 (replicate 32 0) (rootHolding 0 4)
+
+-- chained, with 2 blocks more at 4 in root 1
+unfoldable pub allocatedTwo : Memory
+allocatedTwo = lent 55 217 21 0 (cellHolding 7 3) (1 ∷ 5 ∷ 0 ∷ 0 ∷ [])
+
+-- chained, with 3 blocks more at 4 in root 1
+unfoldable pub allocatedThree : Memory
+allocatedThree = lent 119 185 21 0 (cellHolding 7 3) (1 ∷ 5 ∷ 0 ∷ 0 ∷ [])
+
+-- what is left of chained when 2 blocks are allocated into root 0
+unfoldable pub allocatedOver : Memory
+allocatedOver = lent 48 223 16 0 (replicate 32 0) (rootHolding 0 5)
+
+-- ---- the questions, call by call
+
+unfoldable pub wrongAnswers : List Question
+wrongAnswers =
+    question 2 (used chained) format (gives 0, fresh 2)
+    -- refuses everything; and writes all the same
+    ((refuses 1, used chained) ∷ (refuses 1, fresh 2)
+    -- never writes
+    ∷ (gives 0, used chained)
+    -- the free blocks, or the blocks freed, for the value
+    ∷ (gives 8, fresh 2) ∷ (gives 3, fresh 2)
+    -- a buffer forgotten, or the B-map made 0
+    ∷ (gives 0, withA (7 ∷ []) (fresh 2)) ∷ (gives 0, withB (249 ∷ []) (fresh 2)) ∷ (gives 0, withB (0 ∷ []) (fresh 2))
+    ∷ (gives 0, withCells (cellHolding 7 3) (fresh 2)) ∷ (gives 0, withRoots (rootHolding 0 1) (fresh 2)) ∷ (gives 0, used (fresh 2)) ∷ [])
+    -- a count width that is not 1 to 4
+    ∷ question 5 (used chained) format (refuses 1, used chained)
+    -- replies 0 always; another number; writes in a refusal
+    ((gives 0, used chained) ∷ (gives 0, fresh 2) ∷ (refuses 2, used chained) ∷ (refuses 1, fresh 2) ∷ [])
+    ∷ question 2 (used chained) check (gives 0, used chained)
+    -- refuses everything; finds damage; answers the free blocks; writes
+    ((refuses 1, used chained) ∷ (damaged 5, used chained) ∷ (gives 5, used chained) ∷ (gives 0, chained) ∷ [])
+    -- kinds 2 and 5
+    ∷ question 2 (freshBut 1 255) check (damaged 2, freshBut 1 255)
+    -- replies 0 always; no kind, or the kind for the number; the later kind; repairs the heap
+    ((gives 0, freshBut 1 255) ∷ (refuses 2, freshBut 1 255) ∷ (gives 2, freshBut 1 255) ∷ (damaged 5, freshBut 1 255)
+    ∷ (damaged 2, freshBut 0 255) ∷ [])
+    ∷ question 2 (used chained) (allocate 2 1) (gives 4, allocatedTwo)
+    -- refuses everything; no chunk without a search; and writes all the same
+    ((refuses 1, used chained) ∷ (refuses 5, used chained) ∷ (refuses 5, allocatedTwo)
+    -- replies 0 always; never writes; the size for the value
+    ∷ (gives 0, allocatedTwo) ∷ (gives 4, used chained) ∷ (gives 2, allocatedTwo)
+    -- two free blocks wherever they start; a chunk that is not the lowest
+    ∷ (gives 3, lent 31 233 13 0 (cellHolding 7 3) (1 ∷ 4 ∷ 0 ∷ 0 ∷ []))
+    ∷ (gives 6, lent 199 121 69 0 (cellHolding 7 3) (1 ∷ 7 ∷ 0 ∷ 0 ∷ []))
+    -- counted up again; the root not written, or another; the block without 1 added; the waiting list left
+    ∷ (gives 4, lent 55 217 5 16 (cellHolding 7 3) (1 ∷ 5 ∷ 0 ∷ 0 ∷ []))
+    ∷ (gives 4, withRoots (rootHolding 0 1) allocatedTwo) ∷ (gives 4, withRoots (1 ∷ 0 ∷ 5 ∷ 0 ∷ []) allocatedTwo)
+    ∷ (gives 4, withRoots (1 ∷ 4 ∷ 0 ∷ 0 ∷ []) allocatedTwo) ∷ (gives 4, used allocatedTwo) ∷ [])
+    ∷ question 2 (used chained) (allocate 3 1) (gives 4, allocatedThree)
+    -- the whole chunk flipped, with the object's end at its last block or at the chunk's
+    ((gives 4, withA (247 ∷ []) allocatedThree) ∷ (gives 4, lent 247 121 21 0 (cellHolding 7 3) (1 ∷ 5 ∷ 0 ∷ 0 ∷ []))
+    -- the last block's B bit not cleared
+    ∷ (gives 4, withB (249 ∷ []) allocatedThree) ∷ [])
+    -- a root that is in use
+    ∷ question 2 (used chained) (allocate 2 0) (gives 4, allocatedOver)
+    -- the search after the old object is let go; the old object not let go; the blocks freed for the value
+    ((gives 0, lent 3 253 1 0 (replicate 32 0) (rootHolding 0 1))
+    ∷ (gives 4, lent 55 217 21 0 (cellHolding 7 3) (rootHolding 0 5)) ∷ (gives 3, allocatedOver) ∷ [])
+    -- no chunk is free
+    ∷ question 2 (used chained) (allocate 8 1) (refuses 5, used chained)
+    -- replies 0 always; another number; the number of blocks for "none"; writes in a refusal
+    ((gives 0, used chained) ∷ (refuses 3, used chained) ∷ (gives 8, used chained) ∷ (reply 5 8 0, used chained) ∷ (refuses 5, chained) ∷ [])
+    -- everything is let go
+    ∷ question 2 (used chained) (storeRoot 0 0) (gives 3, fresh 2)
+    -- refuses everything; never writes
+    ((refuses 1, used chained) ∷ (gives 3, used chained) ∷ (gives 0, used chained)
+    -- the figure not read off the A-map: 0 always, objects, the object dropped alone, all free blocks
+    ∷ (gives 0, fresh 2) ∷ (gives 2, fresh 2) ∷ (gives 1, fresh 2) ∷ (gives 8, fresh 2)
+    -- only reports: the root is cleared and nothing freed
+    ∷ (gives 3, withRoots (replicate 4 0) chained)
+    -- what the freed object named is not let go
+    ∷ (gives 2, lent 4 251 4 0 (replicate 32 0) (replicate 4 0))
+    -- last B bits, counts or cells left; the root not written; the waiting list left
+    ∷ (gives 3, withB (249 ∷ []) (fresh 2)) ∷ (gives 3, lent 0 255 5 0 (replicate 32 0) (replicate 4 0))
+    ∷ (gives 3, withCells (cellHolding 7 3) (fresh 2)) ∷ (gives 3, withRoots (rootHolding 0 1) (fresh 2)) ∷ (gives 3, used (fresh 2)) ∷ [])
+    -- nothing is let go but one of two references
+    ∷ question 2 (used shared) (storeRoot 1 0) (gives 0, chained)
+    -- frees everything at a drop; frees the object though a cell names it; doesn't count down
+    ((gives 3, fresh 2) ∷ (gives 0, fresh 2) ∷ (gives 1, alone) ∷ (gives 1, lent 3 253 1 0 (cellHolding 7 3) (rootHolding 0 1))
+    ∷ (gives 0, withRoots (rootHolding 0 1) shared) ∷ [])
+    -- a reference more
+    ∷ question 2 (used chained) (storeRoot 1 3) (gives 0, shared)
+    -- doesn't count up; stores in another root; stores without 1 added
+    ((gives 0, withRoots (1 ∷ 3 ∷ 0 ∷ 0 ∷ []) chained) ∷ (gives 0, withRoots (1 ∷ 0 ∷ 3 ∷ 0 ∷ []) shared)
+    ∷ (gives 0, withRoots (1 ∷ 2 ∷ 0 ∷ 0 ∷ []) shared) ∷ [])
+    -- the value present
+    ∷ question 2 (used chained) (storeRoot 0 1) (gives 0, chained)
+    -- counts up and not down; counts down first; leaves the waiting list
+    ((gives 0, lent 7 249 4 1 (cellHolding 7 3) (rootHolding 0 1)) ∷ (gives 3, withRoots (rootHolding 0 1) (fresh 2)) ∷ (gives 0, used chained) ∷ [])
+    -- block 1 is no first block
+    ∷ question 2 (used chained) (storeRoot 1 2) (refuses 8, used chained)
+    -- replies 0 always; stores; another number; writes in a refusal
+    ((gives 0, used chained) ∷ (gives 0, withRoots (1 ∷ 2 ∷ 0 ∷ 0 ∷ []) chained) ∷ (refuses 4, used chained) ∷ (refuses 8, chained) ∷ [])
+    -- X lets go of Y
+    ∷ question 2 (used chained) (storeCell 0 7 0) (gives 1, alone)
+    -- refuses everything; never writes
+    ((refuses 1, used chained) ∷ (gives 1, used chained) ∷ (gives 0, used chained)
+    -- the figure not read off the A-map: 0 always, the cell number, all free blocks
+    ∷ (gives 0, alone) ∷ (gives 7, alone) ∷ (gives 6, alone)
+    -- the old object not let go; everything freed; the owner freed with it
+    ∷ (gives 0, withCells (replicate 32 0) chained) ∷ (gives 3, fresh 2) ∷ (gives 3, withRoots (rootHolding 0 1) (fresh 2))
+    -- the last B bit left; the cell not written; the waiting list left
+    ∷ (gives 1, withB (249 ∷ []) alone) ∷ (gives 1, withCells (cellHolding 7 3) alone) ∷ (gives 1, used alone) ∷ [])
+    -- a cell past the object
+    ∷ question 2 (used chained) (storeCell 0 8 1) (refuses 7, used chained)
+    -- replies 0 always; stores in the next object; another number; writes in a refusal
+    ((gives 0, used chained) ∷ (gives 0, lent 7 249 4 1 (set (cellHolding 7 3) 8 1) (rootHolding 0 1)) ∷ (refuses 8, used chained)
+    ∷ (refuses 6, used chained) ∷ (refuses 7, chained) ∷ [])
+    ∷ question 2 (used cyclic) collect (gives 3, collectedCyclic)
+    -- refuses everything; never writes; never collects
+    ((refuses 1, used cyclic) ∷ (gives 3, used cyclic) ∷ (gives 0, used cyclic) ∷ (gives 0, cyclic)
+    -- the figure not read off the A-map: 0 always, objects, all free blocks
+    ∷ (gives 0, collectedCyclic) ∷ (gives 2, collectedCyclic) ∷ (gives 7, collectedCyclic)
+    -- the reference from an unreached object counted; counts left at 0; frees everything
+    ∷ (gives 3, lent 8 247 0 8 (replicate 32 0) (rootHolding 0 4)) ∷ (gives 3, lent 8 247 0 0 (replicate 32 0) (rootHolding 0 4)) ∷ (gives 4, fresh 2)
+    -- last B bits left; cells left; the waiting list left
+    ∷ (gives 3, withB (241 ∷ []) collectedCyclic) ∷ (gives 3, withCells (set (set (cellHolding 0 3) 7 4) 8 1) collectedCyclic)
+    ∷ (gives 3, used collectedCyclic) ∷ [])
+    -- all is reached
+    ∷ question 2 (used chained) collect (gives 0, chained)
+    -- reached by roots alone; a count lost, or one too many; the waiting list left
+    ((gives 1, alone) ∷ (gives 0, lent 7 249 1 0 (cellHolding 7 3) (rootHolding 0 1)) ∷ (gives 0, lent 7 249 1 4 (cellHolding 7 3) (rootHolding 0 1))
+    ∷ (gives 0, used chained) ∷ [])
+    ∷ question 2 (used chained) (look 0) (shows 2 1, used chained)
+    -- refuses everything; replies 0 always; count and size; no count; a block too many; writes
+    ((refuses 1, used chained) ∷ (refuses 6, used chained) ∷ (shows 0 0, used chained) ∷ (shows 1 2, used chained) ∷ (gives 2, used chained)
+    ∷ (shows 3 1, used chained) ∷ (shows 2 1, chained) ∷ [])
+    -- block 1 is no first block
+    ∷ question 2 (used chained) (look 1) (refuses 6, used chained)
+    -- replies 0 always; the rest of the object; the object's figures in a refusal
+    ((gives 0, used chained) ∷ (shows 1 0, used chained) ∷ (shows 2 1, used chained) ∷ (reply 6 2 1, used chained) ∷ [])
+    ∷ question 2 (used chained) freeBlocks (gives 5, used chained)
+    -- refuses everything; replies 0 always; the blocks in use; the 0 bits of the B-map; N; writes
+    ((refuses 1, used chained) ∷ (gives 0, used chained) ∷ (gives 3, used chained) ∷ (gives 2, used chained) ∷ (gives 8, used chained)
+    ∷ (gives 5, chained) ∷ [])
+    -- a damaged heap
+    ∷ question 2 (freshBut 1 255) freeBlocks (damaged 2, freshBut 1 255)
+    -- replies 0 always; not tested; no kind
+    ((gives 0, freshBut 1 255) ∷ (gives 7, freshBut 1 255) ∷ (refuses 2, freshBut 1 255) ∷ [])
+    ∷ []
