@@ -5,7 +5,7 @@ use Prim.Native.Nat.{ℕ}
 use mathlib.Core.List.{List, [], _∷_}
 use lib.ListN.{set, replicate}
 use Rattle.rules.specs.Heap.{Memory, withA, withB, withCells, withRoots, withWaiting}
-use Rattle.rules.specs.Calls.{Call, format, check, collect, freeBlocks, allocate, storeRoot, storeCell, look, Answer, reply}
+use Rattle.rules.specs.Calls.{Call, format, check, collect, freeBlocks, allocate, storeRoot, storeCell, look, returnRoots, Answer, reply}
 use Rattle.rules.specs.Promise.{Promise}
 use Rattle.rules.specs.Cases.{fresh, freshBut, gives, shows, refuses, damaged}
 use Rattle.rules.specs.Distinctions.{lent, cellHolding, rootHolding}
@@ -161,6 +161,21 @@ wrongAnswers =
     -- replies 0 always; stores in the next object; another number; writes in a refusal
     ((gives 0, used chained) ∷ (gives 0, lent 7 249 4 1 (set (cellHolding 7 3) 8 1) (rootHolding 0 1)) ∷ (refuses 8, used chained)
     ∷ (refuses 6, used chained) ∷ (refuses 7, chained) ∷ [])
+    -- a return lets go of X alone
+    ∷ question 2 (used shared) (returnRoots 1) (gives 2, lent 4 251 4 0 (replicate 32 0) (rootHolding 1 3))
+    -- refuses everything; never writes; the figure not read off the A-map: 0 always, objects
+    ((refuses 1, used shared) ∷ (gives 2, used shared) ∷ (gives 0, lent 4 251 4 0 (replicate 32 0) (rootHolding 1 3))
+    ∷ (gives 1, lent 4 251 4 0 (replicate 32 0) (rootHolding 1 3))
+    -- root 1 for bit 0; the roots that are not in the set; all roots; the waiting list left
+    ∷ (gives 0, chained) ∷ (gives 3, fresh 2) ∷ (gives 2, used (lent 4 251 4 0 (replicate 32 0) (rootHolding 1 3))) ∷ [])
+    -- .. of X and Y
+    ∷ question 2 (used shared) (returnRoots 3) (gives 3, fresh 2)
+    -- the value of the first clearing, or of the last; the last root forgotten
+    ((gives 2, fresh 2) ∷ (gives 1, fresh 2) ∷ (gives 2, lent 4 251 4 0 (replicate 32 0) (rootHolding 1 3)) ∷ [])
+    -- there is no root 4
+    ∷ question 2 (used shared) (returnRoots 17) (refuses 4, used shared)
+    -- replies 0 always; clears those there are; writes in a refusal
+    ((gives 0, used shared) ∷ (gives 2, lent 4 251 4 0 (replicate 32 0) (rootHolding 1 3)) ∷ (refuses 4, shared) ∷ [])
     ∷ question 2 (used cyclic) collect (gives 3, collectedCyclic)
     -- refuses everything; never writes; never collects
     ((refuses 1, used cyclic) ∷ (gives 3, used cyclic) ∷ (gives 0, used cyclic) ∷ (gives 0, cyclic)
