@@ -5,4 +5,3 @@ pub mod Stored
 pub mod Allocated
 pub mod Collected
 pub mod Kept
-pub mod Returned

@@ -7,20 +7,16 @@ use mathlib.Core.Option.{Option, none, some}
 use lib.ListN.{length}
 use lib.Dec.{leb, ltb}
 use Rattle.rules.specs.Heap.{Memory, countOf, isFirst, sizeAt, exponent, lowestFree, isRef}
-use Rattle.rules.specs.Store.{chosenBelow}
 use Rattle.rules.specs.Calls.{reply, accepted, require}
 use Rattle.rules.specs.declared.Reply.{Reply}
 
--- number 0 where the store or the return goes on, or its refusal
+-- number 0 where the store goes on, or its refusal
 unfoldable pub storeRootTest : ℕ → Memory → ℕ → ℕ → Reply
 storeRootTest N h r v = require (ltb r (length (h .roots))) 4 h (require (isRef N h v) 8 h (accepted h 0)) .0
 
 unfoldable pub storeCellTest : ℕ → Memory → ℕ → ℕ → ℕ → Reply
 storeCellTest N h a j v =
     require (isFirst N h a) 6 h (require (ltb j (4 * sizeAt N h a)) 7 h (require (isRef N h v) 8 h (accepted h 0))) .0
-
-unfoldable pub returnTest : (roots chosen : ℕ) → Reply
-returnTest roots chosen = elim (chosenBelow chosen roots) [ true ↦ reply 0 0 0 | false ↦ reply 4 0 0 ]
 
 -- the whole reply of an allocation and of a look
 unfoldable pub found : Option ℕ → Reply

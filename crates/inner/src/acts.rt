@@ -1,14 +1,12 @@
 // The work of the calls that write, once their tests are passed: on an undamaged heap with a cleared waiting list, which they leave
 // cleared.
 ghost use mathlib.Core.Path.{_≡_};
-ghost use Prim.Native.Nat.{_<_};
 ghost use lib.ListN.{length};
 ghost use Rattle.rules.specs.Heap.{memory};
 ghost use Rattle.rules.specs.Calls.{Call, reply};
 ghost use Rattle.rules.specs.Promise.{Promise};
 ghost use Rattle.inner.specs.Usable.{Usable};
-ghost use Rattle.inner.specs.Replies.{storeRootTest, storeCellTest, returnTest, allocateReply};
-ghost use Rattle.inner.specs.Returns.{Turn};
+ghost use Rattle.inner.specs.Replies.{storeRootTest, storeCellTest, allocateReply};
 use crate::tests;
 use blocks::Ref;
 use references::stores;
@@ -121,75 +119,5 @@ pub fn collect(
         (memory (now (a .exit)) (now (b .exit)) (now (counts .exit)) (now (cells .exit)) (now (roots .entry)) (now (waiting .exit))) ⌝ }
 {
     let freed = collector::collect(blocks, width, a, b, counts, cells, roots, waiting);
-    tests::acceptance(freed)
-}
-
-// Clears root r where it is one of the set, bit r of `chosen`. The number of blocks freed.
-fn clear_chosen(
-    blocks: usize,
-    width: usize,
-    a: &mut [u8],
-    b: &mut [u8],
-    counts: &mut [u8],
-    cells: &mut [Ref],
-    roots: &mut [Ref],
-    waiting: &mut [Ref],
-    chosen: u64,
-    r: usize,
-) -> usize
-    requires { ⌜ Usable blocks width (memory (now a) (now b) (now counts) (now cells) (now roots) (now waiting))
-        × (r < length (now roots)) ⌝ }
-    ensures { λ freed.
-        ⌜ Turn blocks width
-        (memory (now (a .entry)) (now (b .entry)) (now (counts .entry)) (now (cells .entry)) (now (roots .entry)) (now (waiting .entry)))
-        chosen r
-        (memory (now (a .exit)) (now (b .exit)) (now (counts .exit)) (now (cells .exit)) (now (roots .exit)) (now (waiting .exit)))
-        freed ⌝ }
-{
-    if (chosen >> r) % 2 != 1 {
-        return 0;
-    }
-    let reply = store_root(blocks, width, a, b, counts, cells, roots, waiting, r, 0);
-    reply.value
-}
-
-// Clears the roots of the set, the lowest first.
-pub fn return_roots(
-    blocks: usize,
-    width: usize,
-    a: &mut [u8],
-    b: &mut [u8],
-    counts: &mut [u8],
-    cells: &mut [Ref],
-    roots: &mut [Ref],
-    waiting: &mut [Ref],
-    chosen: u64,
-) -> Reply
-    requires { ⌜ Usable blocks width (memory (now a) (now b) (now counts) (now cells) (now roots) (now waiting))
-        × (returnTest (length (now roots)) chosen .number ≡ 0) ⌝ }
-    ensures { λ reply.
-        ⌜ Promise blocks width (Call.returnRoots chosen)
-        (memory (now (a .entry)) (now (b .entry)) (now (counts .entry)) (now (cells .entry)) (now (roots .entry)) (now (waiting .entry)))
-        reply
-        (memory (now (a .exit)) (now (b .exit)) (now (counts .exit)) (now (cells .exit)) (now (roots .exit)) (now (waiting .exit))) ⌝ }
-{
-    let mut freed: usize = 0;
-    let mut r = 0;
-    while r < roots.len() {
-        let more = clear_chosen(
-            blocks,
-            width,
-            a,
-            b,
-            counts,
-            cells,
-            roots,
-            waiting,
-            chosen,
-            r,
-        );
-        freed += more;
-        r += 1;
-    }
     tests::acceptance(freed)
 }

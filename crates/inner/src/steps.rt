@@ -93,30 +93,3 @@ pub fn store_cell(
     }
     acts::store_cell(blocks, width, a, b, counts, cells, roots, waiting, at, j, v)
 }
-
-// Clears the roots of the set, the lowest first.
-pub fn return_roots(
-    blocks: usize,
-    width: usize,
-    a: &mut [u8],
-    b: &mut [u8],
-    counts: &mut [u8],
-    cells: &mut [Ref],
-    roots: &mut [Ref],
-    waiting: &mut [Ref],
-    chosen: u64,
-) -> Reply
-    requires { ⌜ Usable blocks width (memory (now a) (now b) (now counts) (now cells) (now roots) (now waiting)) ⌝ }
-    ensures { λ reply.
-        ⌜ Promise blocks width (Call.returnRoots chosen)
-        (memory (now (a .entry)) (now (b .entry)) (now (counts .entry)) (now (cells .entry)) (now (roots .entry)) (now (waiting .entry)))
-        reply
-        (memory (now (a .exit)) (now (b .exit)) (now (counts .exit)) (now (cells .exit)) (now (roots .exit)) (now (waiting .exit))) ⌝ }
-{
-    let test = tests::return_test(roots.len(), chosen);
-    let number = test.number;
-    if number != 0 {
-        return test;
-    }
-    acts::return_roots(blocks, width, a, b, counts, cells, roots, waiting, chosen)
-}

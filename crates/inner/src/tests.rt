@@ -7,7 +7,7 @@ ghost use lib.ListN.{length};
 ghost use Rattle.rules.specs.Heap.{memory, maxBlocks, isBlocks, exponent, lowestFree};
 ghost use Rattle.rules.specs.Calls.{reply};
 ghost use Rattle.blocks.specs.Search.{orElse};
-ghost use Rattle.inner.specs.Replies.{storeRootTest, storeCellTest, returnTest, allocateReply, lookReply};
+ghost use Rattle.inner.specs.Replies.{storeRootTest, storeCellTest, allocateReply, lookReply};
 use blocks::Ref;
 use blocks::chunks;
 use blocks::objects;
@@ -62,21 +62,6 @@ pub fn store_cell_test(blocks: usize, a: &[u8], b: &[u8], at: usize, j: usize, v
     }
     if !objects::is_reference(blocks, a, b, v) {
         return refusal(8);
-    }
-    acceptance(0)
-}
-
-// The test of a return: a set with a bit at or past the number of roots is refused.
-pub fn return_test(roots: usize, chosen: u64) -> Reply
-    requires { ⌜ roots ≤ 64 ⌝ }
-    ensures { λ t. ⌜ t ≡ returnTest roots chosen ⌝ }
-{
-    // All 64 bits name roots, and a shift by 64 would be none.
-    if 64 <= roots {
-        return acceptance(0);
-    }
-    if chosen >> roots != 0 {
-        return refusal(4);
     }
     acceptance(0)
 }

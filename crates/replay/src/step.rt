@@ -107,7 +107,7 @@ pub(crate) fn step(
         5 => acts::collect(blocks, width, a, b, counts, cells, roots, waiting),
         6 => tests::look_reply(blocks, width, a, b, counts, x as usize),
         7 => tests::acceptance(bitmap::count_zeros(a)),
-        8 => steps::return_roots(blocks, width, a, b, counts, cells, roots, waiting, x),
+        8 => returns::return_roots(blocks, width, a, b, counts, cells, roots, waiting, x),
         _ => store_step(
             blocks,
             width,

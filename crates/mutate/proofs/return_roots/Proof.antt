@@ -2,7 +2,7 @@
 use mathlib.Core.Path.{sym, ap, _∙_}
 use borrow.Author.Needs.{needs}
 use Rattle.rules.specs.declared.Reply.{Reply}
-use Rattle.inner.proofs.Returned.{return-refused}
+use Rattle.returns.proofs.Returned.{return-refused}
 use Rattle.mutate.proofs.Cleared.{checked-healthy, cleared-usable, return-roots-unsound, return-roots-cleared}
 use Rattle.mutate.proofs.return_roots.Statement.{statement}
 use Rattle.mutate.proofs.return_roots.Tie as tie
@@ -61,8 +61,8 @@ returns-2 c =
 clear-all-requires : tie.Need-clear-all-requires
 clear-all-requires c κs = search needs
 
-return-roots-requires : tie.Need-return-roots-requires
-return-roots-requires c κs =
+clear-roots-requires : tie.Need-clear-roots-requires
+clear-roots-requires c κs =
     let tested = c .before .before .before .before .before .before .before .before .before .before in
     let sound = tested .before .before in
     let cleared = c .before .before .before .before .before .before .before .before .clear-all in (
@@ -95,7 +95,7 @@ returns-3 c =
     let tested = called .before .before .before .before .before .before .before .before .before .before .before in
     let sound = tested .before .before in
     return-roots-cleared _ _ _ _ (sound .before .check .ensures) (sound .if1 .left) _ (cleared .ensures) _ _
-    (tested .before .return-test .ensures) (tested .if2 .left) _ _ (called .return-roots .ensures)
+    (tested .before .return-test .ensures) (tested .if2 .left) _ _ (called .clear-roots .ensures)
 
 pub return-roots-spec : {M : Type 1} → statement M
 return-roots-spec =
@@ -118,7 +118,7 @@ return-roots-spec =
     same-length-12
     returns-2
     clear-all-requires
-    return-roots-requires
+    clear-roots-requires
     same-length-13
     same-length-14
     same-length-15

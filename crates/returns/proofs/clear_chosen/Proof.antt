@@ -1,10 +1,10 @@
--- `acts::clear_chosen` meets its contract.
+-- `returns::clear_chosen` meets its contract.
 use native.Mathlib.Omega.{arith}
 use borrow.Author.Needs.{needs}
 use Rattle.inner.proofs.Idle.{usable-healthy}
-use Rattle.inner.proofs.Returned.{turn-none, zero-passes, turn-one}
-use Rattle.inner.proofs.acts.clear_chosen.Statement.{statement}
-use Rattle.inner.proofs.acts.clear_chosen.Tie as tie
+use Rattle.returns.proofs.Returned.{turn-none, zero-passes, turn-one}
+use Rattle.returns.proofs.clear_chosen.Statement.{statement}
+use Rattle.returns.proofs.clear_chosen.Tie as tie
 
 shr-if1 : tie.Need-shr-if1
 shr-if1 c =

@@ -1,13 +1,13 @@
--- `tests::return_test` meets its contract: with 64 roots no bit lies past them.
+-- `returns::return_test` meets its contract: with 64 roots no bit lies past them.
 use mathlib.Core.Path.{_≡_, sym, subst}
 use Prim.Native.Nat.{ℕ, _+_, _/_, _^_, _<_}
 use lib.Pow.{shr-lt}
 use native.Mathlib.Omega.{arith}
 use borrow.Author.Needs.{needs}
 use borrow.Author.Tests.{eq-eqb, ne-eqb}
-use Rattle.inner.specs.Replies.{returnTest}
-use Rattle.inner.proofs.tests.return_test.Statement.{statement}
-use Rattle.inner.proofs.tests.return_test.Tie as tie
+use Rattle.returns.specs.Returns.{returnTest}
+use Rattle.returns.proofs.return_test.Statement.{statement}
+use Rattle.returns.proofs.return_test.Tie as tie
 
 acceptance-requires : tie.Need-acceptance-requires
 acceptance-requires c κs = search needs

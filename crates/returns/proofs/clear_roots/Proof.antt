@@ -1,4 +1,4 @@
--- `acts::return_roots` meets its contract: the roots below r are seen to.
+-- `returns::clear_roots` meets its contract: the roots below r are seen to.
 use mathlib.Core.Path.{sym, _∙_}
 use Prim.Native.Nat.{_-_}
 use native.Mathlib.Omega.{arith}
@@ -7,10 +7,10 @@ use borrow.Author.Needs.{needs}
 use Rattle.bitmap.proofs.Zeros.{zeros-le}
 use Rattle.rules.specs.Heap.{memory}
 use Rattle.rules.proofs.Shape.{Shaped}
 use Rattle.inner.proofs.Idle.{usable-healthy}
-use Rattle.inner.proofs.Returned.{Progress, progress-start, progress-next, progress-done}
-use Rattle.inner.proofs.acts.return_roots.Statement.{statement}
-use Rattle.inner.proofs.acts.return_roots.Tie as tie
+use Rattle.returns.proofs.Returned.{Progress, progress-start, progress-next, progress-done}
+use Rattle.returns.proofs.clear_roots.Statement.{statement}
+use Rattle.returns.proofs.clear_roots.Tie as tie
 
 abbrev Inv-loop : tie.InvT-loop
 Inv-loop blocks width a₀ b₀ counts₀ cells₀ roots₀ waiting₀ chosen freed₀ r₀ a b counts cells roots waiting freed r =
@@ -99,8 +99,8 @@ returns c =
     let pre = c .before .before .before .before .before .before .before .before .before .pre in
     progress-done _ _ _ _ _ (pre .0) (pre .1) (omega arith) (c .before .before .loop .inv) (c .acceptance .ensures)
 
-pub return-roots-spec : {M : Type 1} → statement M
-return-roots-spec =
+pub clear-roots-spec : {M : Type 1} → statement M
+clear-roots-spec =
     tie.close
     (tie.spec
     Inv-loop

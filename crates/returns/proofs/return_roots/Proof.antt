@@ -1,11 +1,11 @@
--- `steps::return_roots` meets its contract.
+-- `returns::return_roots` meets its contract.
 use mathlib.Core.Path.{sym, ap, _∙_}
 use borrow.Author.Needs.{needs}
 use Rattle.rules.specs.declared.Reply.{Reply}
 use Rattle.inner.proofs.Idle.{usable-healthy}
-use Rattle.inner.proofs.Returned.{return-refused}
-use Rattle.inner.proofs.steps.return_roots.Statement.{statement}
-use Rattle.inner.proofs.steps.return_roots.Tie as tie
+use Rattle.returns.proofs.Returned.{return-refused}
+use Rattle.returns.proofs.return_roots.Statement.{statement}
+use Rattle.returns.proofs.return_roots.Tie as tie
 
 return-test-requires : tie.Need-return-test-requires
 return-test-requires c κs =
@@ -16,8 +16,8 @@ returns c =
     return-refused _ _ _ (usable-healthy _ _ _ (c .before .before .before .before .before .before .before .before .pre)) _ _
     (c .before .return-test .ensures) (c .if1 .taken)
 
-return-roots-requires : tie.Need-return-roots-requires
-return-roots-requires c κs =
+clear-roots-requires : tie.Need-clear-roots-requires
+clear-roots-requires c κs =
     let tested = c .before .before .before .before .before .before in (
       tested .before .before .before .before .before .before .before .before .pre,
       ap (λ (y : Reply). y .number) (sym (tested .before .return-test .ensures)) ∙ tested .if1 .left,
@@ -50,7 +50,7 @@ return-roots-spec =
     (tie.spec
     return-test-requires
     returns
-    return-roots-requires
+    clear-roots-requires
     same-length
     same-length-2
     same-length-3

@@ -16,13 +16,13 @@ use Rattle.theory.proofs.Memories.Healthy.{Healthy}
 use Rattle.theory.proofs.EachCall.Served.{on-undamaged}
 use Rattle.theory.proofs.EachCall.Clearing.{none-ref, root-cleared}
 use Rattle.bridge.proofs.Settled.{store-root-waiting}
 use Rattle.inner.specs.Usable.{Usable}
-use Rattle.inner.specs.Replies.{storeRootTest, returnTest}
-use Rattle.inner.specs.Returns.{Turn}
+use Rattle.inner.specs.Replies.{storeRootTest}
 use Rattle.inner.proofs.Idle.{settled-idle, usable-healthy, promised}
 use Rattle.inner.proofs.Passed.{root-passed}
 use Rattle.inner.proofs.Stored.{root-answered, freeing-promised}
 use Rattle.inner.proofs.Kept.{usable-kept}
+use Rattle.returns.specs.Returns.{returnTest, Turn}
 
 -- ---- the answer
 

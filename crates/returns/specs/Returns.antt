@@ -1,0 +1,20 @@
+-- What the parts of a return do (request U10): for contracts of inner functions.
+use Prim.Native.Nat.{ℕ, _+_}
+use mathlib.Core.Path.{_≡_}
+use mathlib.Core.Bool.{true, false}
+use Rattle.bitmap.specs.Bit.{zeros}
+use Rattle.rules.specs.Heap.{Memory}
+use Rattle.rules.specs.Store.{chosenBelow, clearChosen}
+use Rattle.rules.specs.Calls.{reply}
+use Rattle.rules.specs.declared.Reply.{Reply}
+use Rattle.inner.specs.Usable.{Usable}
+
+-- number 0 where the return goes on, or its refusal
+unfoldable pub returnTest : (roots chosen : ℕ) → Reply
+returnTest roots chosen = elim (chosenBelow chosen roots) [ true ↦ reply 0 0 0 | false ↦ reply 4 0 0 ]
+
+-- root r was cleared where it is one of the set, and `freed` blocks were freed
+pub record Turn (N w : ℕ) (h : Memory) (chosen r : ℕ) (g : Memory) (freed : ℕ) : Type 0 where
+  pub after-is : g ≡ clearChosen N w h chosen r
+  pub usable : Usable N w g
+  pub blocks : zeros (g .a) ≡ zeros (h .a) + freed

@@ -1,0 +1,126 @@
+// The return of a set of roots (request U10) on a heap that is known to be undamaged, with a cleared waiting list: its test, and its work. Bit r
+// of `chosen` says whether root r is one of the set.
+ghost use mathlib.Core.Path.{_≡_};
+ghost use Prim.Native.Nat.{_≤_, _<_};
+ghost use lib.ListN.{length};
+ghost use Rattle.rules.specs.Heap.{memory};
+ghost use Rattle.rules.specs.Calls.{Call};
+ghost use Rattle.rules.specs.Promise.{Promise};
+ghost use Rattle.inner.specs.Usable.{Usable};
+ghost use Rattle.returns.specs.Returns.{returnTest, Turn};
+use blocks::Ref;
+use inner::acts;
+use inner::tests;
+use rules::Reply;
+
+// The test of a return: a set with a bit at or past the number of roots is refused.
+pub fn return_test(roots: usize, chosen: u64) -> Reply
+    requires { ⌜ roots ≤ 64 ⌝ }
+    ensures { λ t. ⌜ t ≡ returnTest roots chosen ⌝ }
+{
+    // All 64 bits name roots, and a shift by 64 would be none.
+    if 64 <= roots {
+        return tests::acceptance(0);
+    }
+    if chosen >> roots != 0 {
+        return tests::refusal(4);
+    }
+    tests::acceptance(0)
+}
+
+// Clears root r where it is one of the set. The number of blocks freed.
+fn clear_chosen(
+    blocks: usize,
+    width: usize,
+    a: &mut [u8],
+    b: &mut [u8],
+    counts: &mut [u8],
+    cells: &mut [Ref],
+    roots: &mut [Ref],
+    waiting: &mut [Ref],
+    chosen: u64,
+    r: usize,
+) -> usize
+    requires { ⌜ Usable blocks width (memory (now a) (now b) (now counts) (now cells) (now roots) (now waiting))
+        × (r < length (now roots)) ⌝ }
+    ensures { λ freed.
+        ⌜ Turn blocks width
+        (memory (now (a .entry)) (now (b .entry)) (now (counts .entry)) (now (cells .entry)) (now (roots .entry)) (now (waiting .entry)))
+        chosen r
+        (memory (now (a .exit)) (now (b .exit)) (now (counts .exit)) (now (cells .exit)) (now (roots .exit)) (now (waiting .exit)))
+        freed ⌝ }
+{
+    if (chosen >> r) % 2 != 1 {
+        return 0;
+    }
+    let reply = acts::store_root(blocks, width, a, b, counts, cells, roots, waiting, r, 0);
+    reply.value
+}
+
+// Clears the roots of the set, the lowest first, once the test is passed.
+pub fn clear_roots(
+    blocks: usize,
+    width: usize,
+    a: &mut [u8],
+    b: &mut [u8],
+    counts: &mut [u8],
+    cells: &mut [Ref],
+    roots: &mut [Ref],
+    waiting: &mut [Ref],
+    chosen: u64,
+) -> Reply
+    requires { ⌜ Usable blocks width (memory (now a) (now b) (now counts) (now cells) (now roots) (now waiting))
+        × (returnTest (length (now roots)) chosen .number ≡ 0) ⌝ }
+    ensures { λ reply.
+        ⌜ Promise blocks width (Call.returnRoots chosen)
+        (memory (now (a .entry)) (now (b .entry)) (now (counts .entry)) (now (cells .entry)) (now (roots .entry)) (now (waiting .entry)))
+        reply
+        (memory (now (a .exit)) (now (b .exit)) (now (counts .exit)) (now (cells .exit)) (now (roots .exit)) (now (waiting .exit))) ⌝ }
+{
+    let mut freed: usize = 0;
+    let mut r = 0;
+    while r < roots.len() {
+        let more = clear_chosen(
+            blocks,
+            width,
+            a,
+            b,
+            counts,
+            cells,
+            roots,
+            waiting,
+            chosen,
+            r,
+        );
+        freed += more;
+        r += 1;
+    }
+    tests::acceptance(freed)
+}
+
+// The test, and the work where it passes.
+pub fn return_roots(
+    blocks: usize,
+    width: usize,
+    a: &mut [u8],
+    b: &mut [u8],
+    counts: &mut [u8],
+    cells: &mut [Ref],
+    roots: &mut [Ref],
+    waiting: &mut [Ref],
+    chosen: u64,
+) -> Reply
+    requires { ⌜ Usable blocks width (memory (now a) (now b) (now counts) (now cells) (now roots) (now waiting)) ⌝ }
+    ensures { λ reply.
+        ⌜ Promise blocks width (Call.returnRoots chosen)
+        (memory (now (a .entry)) (now (b .entry)) (now (counts .entry)) (now (cells .entry)) (now (roots .entry)) (now (waiting .entry)))
+        reply
+        (memory (now (a .exit)) (now (b .exit)) (now (counts .exit)) (now (cells .exit)) (now (roots .exit)) (now (waiting .exit))) ⌝ }
+{
+    let test = return_test(roots.len(), chosen);
+    let number = test.number;
+    if number != 0 {
+        return test;
+    }
+    clear_roots(blocks, width, a, b, counts, cells, roots, waiting, chosen)
+}
