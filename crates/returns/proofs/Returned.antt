@@ -15,7 +15,7 @@ use Rattle.rules.specs.declared.Reply.{Reply}
 use Rattle.theory.proofs.Memories.Healthy.{Healthy}
 use Rattle.theory.proofs.EachCall.Served.{on-undamaged}
 use Rattle.theory.proofs.EachCall.Clearing.{none-ref, root-cleared}
-use Rattle.bridge.proofs.Settled.{store-root-waiting}
+use Rattle.theory.proofs.Memories.WaitingUnread.{store-root-waiting}
 use Rattle.inner.specs.Usable.{Usable}
 use Rattle.inner.specs.Replies.{storeRootTest}
 use Rattle.inner.proofs.Idle.{settled-idle, usable-healthy, promised}
