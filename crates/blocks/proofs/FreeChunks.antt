@@ -1,17 +1,14 @@
--- Laws of `chunkFree`: by halves, as the recursion of the code goes, and block by block.
-use mathlib.Core.Path.{_≡_, refl, ap, _∙_, subst}
+-- Laws of `chunkFree` by halves, as the recursion of the code goes: x is the test of the lower half, y of the upper half.
+use mathlib.Core.Path.{_≡_, refl, ap, _∙_}
 use mathlib.Core.Bool.{Bool, true, false}
 use mathlib.Core.List.{List}
-use Prim.Native.Nat.{ℕ, zero, suc, _+_, _-_, _/_, _^_, _<_}
+use Prim.Native.Nat.{ℕ, zero, suc, _+_, _/_, _^_}
 use native.Mathlib.Nat.{pow-suc}
 use native.Mathlib.Omega.{arith}
 use lib.Dec.{eqb}
 use lib.Pow.{pow-pos}
 use Rattle.bitmap.specs.Bit.{bitAt}
-use Rattle.rules.proofs.Chunks.{chunk-free, free-chunk}
 use Rattle.rules.specs.Heap.{chunkFree}
-
--- ---- by halves: x is the test of the lower half, y of the upper half
 
 pub free-one : (a : List ℕ) (at size : ℕ) → size ≡ 1 → (k : ℕ) → size ≡ 2 ^ k → eqb (bitAt a at) 0 ≡ chunkFree k a at
 unfolding chunkFree
@@ -34,13 +31,3 @@ module _ (a : List ℕ) (at size : ℕ) (more : size ≡ 1 → ⊥) (x : Bool)
   free-not e (suc k) p =
       let half : size / 2 ≡ 2 ^ k = omega (arith, pow-suc 2 k) in
       rw (← lower k half, e)
-
--- ---- block by block, counted from the chunk's first
-
-pub free-all : (k : ℕ) (a : List ℕ) (at : ℕ) → chunkFree k a at ≡ true → (i : ℕ) → i < 2 ^ k → bitAt a (at + i) ≡ 0
-free-all k a at e i l = chunk-free k a at e (at + i) (omega arith) (omega arith)
-
-pub all-free : (k : ℕ) (a : List ℕ) (at : ℕ) → ((i : ℕ) → i < 2 ^ k → bitAt a (at + i) ≡ 0) → chunkFree k a at ≡ true
-all-free k a at free =
-    free-chunk k a at
-    (λ j l u. let e : at + (j - at) ≡ j = omega arith in subst (λ (x : ℕ). bitAt a x ≡ 0) e (free (j - at) (omega arith)))

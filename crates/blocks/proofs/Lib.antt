@@ -4,3 +4,4 @@ pub mod FreeChunks
 pub mod LowestChunk
 pub mod Powers
 pub mod Sizes
+pub mod Walk

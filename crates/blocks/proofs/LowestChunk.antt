@@ -1,92 +1,108 @@
--- Laws of the two searches for a free chunk: `lowestFrom`, as their loops over the chunks go.
-use mathlib.Core.Path.{_≡_, refl, sym, ap, _∙_}
-use mathlib.Core.Bool.{true, false, true≢false}
-use mathlib.Core.Option.{Option, none, some}
+-- Laws of the lowest free chunk of a part of the heap, `lowestIn`, by the blocks at which chunks end.
+use mathlib.Core.Path.{_≡_, refl, sym, ap, _∙_, subst⁻¹}
+use mathlib.Core.Bool.{false}
+use mathlib.Core.Option.{none, some}
 use mathlib.Core.List.{List}
-use Prim.Native.Nat.{ℕ, zero, suc, _+_, _*_, _/_, _^_, _≤_, _<_}
-use native.Mathlib.Nat.{suc-mul, mul-div-cancel}
+use Prim.Native.Nat.{ℕ, zero, suc, _+_, _-_, _*_, _/_, _%_, _^_, _≤_, _<_}
+use native.Mathlib.Nat.{suc-mul, add-mul, sub-zero, mul-div-cancel, zero-mod, div-add-mod', add-mod-right, mul-le-mul-right, le-of-mul-le-mul-right, lt-of-mul-lt-mul-right}
+use native.Mathlib.Decide.{ℕ-discrete}
 use native.Mathlib.Omega.{arith}
-use lib.Pow.{pow-pos}
-use Rattle.bitmap.specs.Bit.{bitAt}
-use Rattle.rules.proofs.Tests.{false-unless}
+use lib.Pow.{pow-pos, mod-mod-pow}
 use Rattle.rules.specs.Heap.{chunkFree, lowestFrom, lowestFree}
-use Rattle.blocks.specs.Search.{isFound}
-use Rattle.blocks.proofs.FreeChunks.{free-all}
+use Rattle.rules.proofs.Tests.{false-unless}
+use Rattle.rules.proofs.Chunks.{Free, Used, chunk-free, free-chunk, free-not-used}
+use Rattle.blocks.specs.Search.{Part, lowestIn, Search}
 
--- 2 ^ d chunks of 2 ^ k blocks are searched
-lowest-chunks : (N d k : ℕ) (a : List ℕ) → N ≡ 2 ^ d * 2 ^ k → lowestFree N k a ≡ lowestFrom (2 ^ d) k a 0
-unfolding lowestFree
-lowest-chunks N d k a e =
-    let chunks : N / 2 ^ k ≡ 2 ^ d = ap (λ (x : ℕ). x / 2 ^ k) e ∙ mul-div-cancel (2 ^ d) (pow-pos k) in
-    ap (λ (x : ℕ). lowestFrom x k a 0) chunks
+-- ---- multiples, which chunks start and end at
 
--- the search for the lowest free chunk has come to block `at`: n chunks are left, and what is lowest among them is lowest of all
-pub record Reached (N : ℕ) (a : List ℕ) (size at : ℕ) : Type 0 where
-  pub n : ℕ
-  pub left : at + n * size ≡ N
-  pub lowest : (k : ℕ) → size ≡ 2 ^ k → lowestFrom n k a at ≡ lowestFree N k a
+-- two of them lie a size apart, or more
+pub multiples-apart : (size i j : ℕ) → i % size ≡ 0 → j % size ≡ 0 → i < j → i + size ≤ j
+multiples-apart size i j p q l =
+    let before : i / size < j / size = lt-of-mul-lt-mul-right size (omega (arith, div-add-mod' i size, div-add-mod' j size)) in
+    let next : suc (i / size) * size ≤ j / size * size = mul-le-mul-right size before in
+    omega (arith, div-add-mod' i size, div-add-mod' j size, suc-mul (i / size) size)
 
-pub reached-start : (N : ℕ) (a : List ℕ) (size d k : ℕ) → size ≡ 2 ^ k → N ≡ 2 ^ d * 2 ^ k → Reached N a size 0
-reached-start N a size d k e p =
-    let chunks : N ≡ 2 ^ d * size = p ∙ ap (λ (x : ℕ). 2 ^ d * x) (sym e) in
-    record {
-      n = 2 ^ d;
-      left = omega arith;
-      lowest = λ j f. sym (lowest-chunks N d j a (chunks ∙ ap (λ (x : ℕ). 2 ^ d * x) f));
-    }
+-- a multiple of a power of two is one of each lower power
+pub multiple-lower : (k j x : ℕ) → k ≤ j → x % 2 ^ j ≡ 0 → x % 2 ^ k ≡ 0
+multiple-lower k j x l e =
+    let parts : j - k + k ≡ j = omega arith in
+    sym (mod-mod-pow x (j - k) k) ∙ ap (λ (y : ℕ). x % 2 ^ y % 2 ^ k) parts ∙ ap (λ (y : ℕ). y % 2 ^ k) e ∙ zero-mod (2 ^ k)
 
-module _ (N : ℕ) (a : List ℕ) (size at : ℕ) where
-  -- past the end no chunk is left
-  pub reached-end : 0 < size → Reached N a size at → N ≤ at → (k : ℕ) → size ≡ 2 ^ k → lowestFree N k a ≡ none
+-- the part is as many chunks as go into its length
+part-chunks : (from to k : ℕ) → Part from to (2 ^ k) → from + (to - from) / 2 ^ k * 2 ^ k ≡ to
+part-chunks from to k part =
+    let f = from / 2 ^ k in
+    let t = to / 2 ^ k in
+    let from-is : f * 2 ^ k ≡ from = omega (arith, div-add-mod' from (2 ^ k), part .from-chunk) in
+    let to-is : t * 2 ^ k ≡ to = omega (arith, div-add-mod' to (2 ^ k), part .to-chunk) in
+    let upward : f ≤ t = le-of-mul-le-mul-right (omega (arith, part .upward)) (pow-pos k) in
+    let both : t - f + f ≡ t = omega arith in
+    let length-is : to - from ≡ (t - f) * 2 ^ k = omega (arith, add-mul (t - f) f (2 ^ k), ap (λ (x : ℕ). x * 2 ^ k) both) in
+    let chunks : (to - from) / 2 ^ k ≡ t - f = ap (λ (x : ℕ). x / 2 ^ k) length-is ∙ mul-div-cancel (t - f) (pow-pos k) in
+    omega (arith, part .upward, ap (λ (x : ℕ). x * 2 ^ k) chunks)
+
+-- ---- the search, chunk by chunk
+
+-- no chunk that starts at block i or later and ends before block `end` is free
+abbrev pub Missed : List ℕ → ℕ → ℕ → ℕ → Type 0
+Missed a size i end = (e : ℕ) → i + size ≤ e → e < end → e % size ≡ 0 → Used a (e - size) size
+
+module _ (k : ℕ) (a : List ℕ) where
+  chunk-passed :
+      (n i end : ℕ) → i % 2 ^ k ≡ 0 → i + 2 ^ k < end → Missed a (2 ^ k) i end → lowestFrom (suc n) k a i ≡ lowestFrom n k a (i + 2 ^ k)
   unfolding lowestFrom
-  reached-end positive r l k e = go (r .n) (r .left) (r .lowest k e)
-    where
-      go : (n : ℕ) → at + n * size ≡ N → lowestFrom n k a at ≡ lowestFree N k a → lowestFree N k a ≡ none
-      go zero left lowest = sym lowest
-      go (suc n) left lowest = absurd (omega (arith, suc-mul n size))
+  chunk-passed n i end start l missed =
+      let here : i + 2 ^ k - 2 ^ k ≡ i = omega arith in
+      let used : Used a i (2 ^ k) = rw here at (missed (i + 2 ^ k) (omega arith) l (add-mod-right i (2 ^ k) ∙ start)) in
+      let not-free : chunkFree k a i ≡ false = false-unless (chunkFree k a i) (λ f. free-not-used a i (2 ^ k) (chunk-free k a i f) used) in
+      rw (not-free, lowestFrom)
 
-  -- before it a whole chunk is
-  pub reached-inside : Reached N a size at → at < N → at + size ≤ N
-  reached-inside r l = go (r .n) (r .left)
-    where
-      go : (n : ℕ) → at + n * size ≡ N → at + size ≤ N
-      go zero left = absurd (omega arith)
-      go (suc n) left = omega (arith, suc-mul n size)
-
-  -- it is passed where it is not free ..
-  pub reached-next : Reached N a size at → at < N → ((k : ℕ) → size ≡ 2 ^ k → chunkFree k a at ≡ false) → Reached N a size (at + size)
+  none-from : (n i : ℕ) → i % 2 ^ k ≡ 0 → Missed a (2 ^ k) i (i + n * 2 ^ k + 1) → lowestFrom n k a i ≡ none
   unfolding lowestFrom
-  reached-next r l not-free = go (r .n) (r .left) (r .lowest)
-    where
-      go : (n : ℕ) → at + n * size ≡ N → ((k : ℕ) → size ≡ 2 ^ k → lowestFrom n k a at ≡ lowestFree N k a)
-          → Reached N a size (at + size)
-      go zero left lowest = absurd (omega arith)
-      go (suc n) left lowest = record {
-        n = n;
-        left = omega (arith, suc-mul n size);
-        lowest = λ k e.
-            let passed : lowestFrom (suc n) k a at ≡ lowestFrom n k a (at + 2 ^ k) = rw (not-free k e, lowestFrom) in
-            ap (λ (x : ℕ). lowestFrom n k a (at + x)) e ∙ sym passed ∙ lowest k e;
-      }
+  none-from zero i start missed = refl
+  none-from (suc n) i start missed =
+      chunk-passed n i (i + suc n * 2 ^ k + 1) start (omega (arith, suc-mul n (2 ^ k))) missed
+      ∙ none-from n (i + 2 ^ k) (add-mod-right i (2 ^ k) ∙ start) (λ e l u. missed e (omega arith) (omega (arith, suc-mul n (2 ^ k))))
 
-  -- .. as where one of its blocks is used
-  pub reached-used : Reached N a size at → at < N → (i : ℕ) → i < size → (bitAt a (at + i) ≡ 0 → ⊥) → Reached N a size (at + size)
-  reached-used r l i j used =
-      reached-next r l
-      (λ k e. false-unless (chunkFree k a at) (λ f. used (free-all k a at f i (omega arith))))
-
-  -- and is the lowest free chunk where it is free
-  pub reached-free : Reached N a size at → at < N → (k : ℕ) → size ≡ 2 ^ k → chunkFree k a at ≡ true → lowestFree N k a ≡ some at
+  some-from : (at n i : ℕ) → i % 2 ^ k ≡ 0 → at % 2 ^ k ≡ 0 → i ≤ at → at + 2 ^ k ≤ i + n * 2 ^ k → Missed a (2 ^ k) i (at + 1)
+      → Free a at (2 ^ k) → lowestFrom n k a i ≡ some at
   unfolding lowestFrom
-  reached-free r l k e free = go (r .n) (r .left) (r .lowest k e)
-    where
-      go : (n : ℕ) → at + n * size ≡ N → lowestFrom n k a at ≡ lowestFree N k a → lowestFree N k a ≡ some at
-      go zero left lowest = absurd (omega arith)
-      go (suc n) left lowest =
-          let here : lowestFrom (suc n) k a at ≡ some at = rw (free, lowestFrom) in
-          sym lowest ∙ here
+  some-from at zero i start ends low high missed free = absurd (omega (arith, pow-pos k))
+  some-from at (suc n) i start ends low high missed free = elim (ℕ-discrete i at) [
+    | yes e ↦
+        let here : lowestFrom (suc n) k a i ≡ some i = rw (free-chunk k a i (subst⁻¹ (λ (x : ℕ). Free a x (2 ^ k)) e free), lowestFrom) in
+        here ∙ ap some e
+    | no d ↦
+        let apart = multiples-apart (2 ^ k) i at start ends (omega arith) in
+        chunk-passed n i (at + 1) start (omega arith) missed
+        ∙ some-from at n (i + 2 ^ k) (add-mod-right i (2 ^ k) ∙ start) ends apart (omega (arith, suc-mul n (2 ^ k)))
+        (λ e l u. missed e (omega arith) u) free
+  ]
 
--- for a caller that asks first whether a chunk is free
-pub not-found : (o : Option ℕ) → isFound o ≡ false → o ≡ none
-not-found none e = refl
-not-found (some i) e = absurd (true≢false e)
+  -- ---- what it answers: `looks` blocks are passed ..
+
+  module _ (from to looks : ℕ) (part : Part from to (2 ^ k)) where
+    -- .. and the chunk that ends there is the first free one
+    pub search-found : from + looks ≤ to → 2 ^ k ≤ looks → (from + looks) % 2 ^ k ≡ 0 → Missed a (2 ^ k) from (from + looks)
+        → Free a (from + looks - 2 ^ k) (2 ^ k) → Search from to k (lowestIn from to k a) (from + looks - 2 ^ k) looks
+    unfolding lowestIn
+    search-found inside all ends missed free =
+        let at : ℕ = from + looks - 2 ^ k in
+        let end-is : at + 2 ^ k ≡ from + looks = omega arith in
+        let starts : at % 2 ^ k ≡ 0 = sym (add-mod-right at (2 ^ k)) ∙ ap (λ (x : ℕ). x % 2 ^ k) end-is ∙ ends in
+        let found = some-from at ((to - from) / 2 ^ k) from (part .from-chunk) starts (omega arith) (omega (arith, part-chunks from to k part))
+        (λ e l u. missed e l (omega (arith, pow-pos k))) free in
+        rw found (record { at-is = refl; looks-is = omega arith })
+
+    -- .. and they are all there are
+    pub search-none : from + looks ≡ to → Missed a (2 ^ k) from (to + 1) → Search from to k (lowestIn from to k a) to looks
+    unfolding lowestIn
+    search-none done missed =
+        let chunks = part-chunks from to k part in
+        let none-free = none-from ((to - from) / 2 ^ k) from (part .from-chunk) (λ e l u. missed e l (omega arith)) in
+        rw none-free (record { at-is = refl; looks-is = omega arith })
+
+-- the whole heap is the part from block 0 on
+pub lowest-whole : (N k : ℕ) (a : List ℕ) → lowestIn 0 N k a ≡ lowestFree N k a
+unfolding lowestIn lowestFree
+lowest-whole N k a = ap (λ (x : ℕ). lowestFrom (x / 2 ^ k) k a 0) (sub-zero N)

@@ -1,9 +1,9 @@
-// Free chunks of the A-map: the size of chunk that an object asks for, whether one is free (the or-tree), whether any is, and the lowest.
+// Free chunks of the A-map: the size of chunk that an object asks for, whether one is free (the or-tree), and the search for the lowest.
 ghost use mathlib.Core.Path.{_≡_};
 ghost use Prim.Native.Nat.{ℕ, _+_, _*_, _^_, _<_, _≤_};
 ghost use lib.ListN.{length};
-ghost use Rattle.rules.specs.Heap.{exponent, chunkFree, lowestFree};
-ghost use Rattle.blocks.specs.Search.{isFound, orElse};
+ghost use Rattle.rules.specs.Heap.{exponent, chunkFree};
+ghost use Rattle.blocks.specs.Search.{Part, lowestIn, Search};
 
 // The least power of two that is n or more.
 pub fn chunk_size(n: usize) -> usize
@@ -35,43 +35,69 @@ pub fn chunk_is_free(a: &[u8], at: usize, size: usize) -> bool
     }
 }
 
-// Whether some chunk of `size` blocks is free. One whose first block is used is not; the or-tree judges the others.
-pub fn some_chunk_free(blocks: usize, a: &[u8], size: usize) -> bool
-    requires { ⌜ ((d : ℕ) × (k : ℕ) × (size ≡ 2 ^ k) × (blocks ≡ 2 ^ d * 2 ^ k)) ⌝ }
-    requires { ⌜ (blocks ≤ 8 * length (now a)) × (blocks ≤ 65536) ⌝ }
-    ensures { λ r. ⌜ ((k : ℕ) → size ≡ 2 ^ k → r ≡ isFound (lowestFree blocks k (now (a .entry)))) ⌝ }
-{
-    let mut at = 0;
-    while at < blocks {
-        if bitmap::get_bit(a, at) == 0 {
-            if chunk_is_free(a, at, size) {
-                return true;
-            }
-        }
-        at += size;
-    }
-    false
+// What a search found: the first block of a chunk, or the end of the part searched, and how many blocks it looked at.
+pub struct Searched {
+    pub at: usize,
+    pub looks: usize,
 }
 
-// The first block of the lowest free chunk of `size` blocks, or `blocks` where none is free.
-pub fn lowest_chunk(blocks: usize, a: &[u8], size: usize) -> usize
-    requires { ⌜ ((d : ℕ) × (k : ℕ) × (size ≡ 2 ^ k) × (blocks ≡ 2 ^ d * 2 ^ k)) ⌝ }
-    requires { ⌜ (blocks ≤ 8 * length (now a)) × (blocks ≤ 65536) ⌝ }
-    ensures { λ r. ⌜ ((k : ℕ) → size ≡ 2 ^ k → r ≡ orElse blocks (lowestFree blocks k (now (a .entry)))) ⌝ }
+// The first block of the lowest free chunk of `size` blocks from block `from` up to block `to`, or `to` where none is free. The walk
+// has come to block `from + looks`, and `stretch` is the length of the free stretch that ends there: from it a chunk is judged where
+// it ends. Each byte is read once, and its value judges its blocks: eight free ones at once (as many as a chunk has, where that is
+// less), eight with a used one at once where no chunk ends among them or none is free, others one by one.
+pub fn lowest_chunk(a: &[u8], from: usize, to: usize, size: usize) -> Searched
+    requires { ⌜ Part from to size ⌝ }
+    requires { ⌜ (to ≤ 8 * length (now a)) × (to ≤ 65536) ⌝ }
+    ensures { λ r. ⌜ ((k : ℕ) → size ≡ 2 ^ k → Search from to k (lowestIn from to k (now (a .entry))) (r .at) (r .looks)) ⌝ }
 {
-    let mut at = 0;
-    'chunks: loop {
-        if blocks <= at {
-            break at;
+    let mut looks = 0;
+    let mut stretch = 0;
+    let at = 'bytes: loop {
+        if from + looks == to {
+            break to;
         }
-        let mut i = 0;
-        while i < size {
-            if bitmap::get_bit(a, at + i) != 0 {
-                at += size;
-                continue 'chunks;
+        let byte = a[(from + looks) / 8];
+        if byte == 0 {
+            let free = if size < 8 { size } else { 8 };
+            looks += free;
+            stretch += free;
+            if size <= stretch {
+                if (from + looks) % size == 0 {
+                    break from + looks - size;
+                }
             }
-            i += 1;
+            continue 'bytes;
         }
-        break at;
+        if size < 8 {
+            if byte != 255 {
+                let mut i: usize = 0;
+                'stretches: loop {
+                    loop {
+                        if i == 8 {
+                            continue 'bytes;
+                        }
+                        let bit = (byte >> i) % 2;
+                        i += 1;
+                        looks += 1;
+                        if bit != 0 {
+                            stretch = 0;
+                            continue 'stretches;
+                        }
+                        stretch += 1;
+                        if size <= stretch {
+                            if (from + looks) % size == 0 {
+                                break 'bytes from + looks - size;
+                            }
+                        }
+                    }
+                }
+            }
+        }
+        looks += 8;
+        stretch = u8::leading_zeros(byte) as usize;
+    };
+    Searched {
+        at: at,
+        looks: looks,
     }
 }

@@ -6,10 +6,11 @@ ghost use Prim.Native.Nat.{_*_, _/_, _≤_};
 ghost use lib.ListN.{length};
 ghost use Rattle.rules.specs.Heap.{memory, maxBlocks, isBlocks, exponent, lowestFree};
 ghost use Rattle.rules.specs.Calls.{reply};
-ghost use Rattle.blocks.specs.Search.{orElse};
+ghost use Rattle.blocks.specs.Search.{Search};
 ghost use Rattle.inner.specs.Replies.{storeRootTest, storeCellTest, allocateReply, lookReply};
 use blocks::Ref;
 use blocks::chunks;
+use blocks::chunks::Searched;
 use blocks::objects;
 use rules::Reply;
 
@@ -66,16 +67,14 @@ pub fn store_cell_test(blocks: usize, a: &[u8], b: &[u8], at: usize, j: usize, v
     acceptance(0)
 }
 
-// The block that an object of n blocks would start at, or `blocks`: first whether any chunk is free, then which is the lowest.
-fn find_place(blocks: usize, a: &[u8], n: usize) -> usize
+// The block that an object of n blocks would start at, or `blocks`, and how many blocks the search looked at.
+fn find_place(blocks: usize, a: &[u8], n: usize) -> Searched
     requires { ⌜ (isBlocks blocks ≡ true) × (blocks ≤ 8 * length (now a)) × (1 ≤ n) × (n ≤ blocks) ⌝ }
-    ensures { λ r. ⌜ r ≡ orElse blocks (lowestFree blocks (exponent n) (now (a .entry))) ⌝ }
+    ensures { λ r.
+        ⌜ Search 0 blocks (exponent n) (lowestFree blocks (exponent n) (now (a .entry))) (r .at) (r .looks) ⌝ }
 {
     let size = chunks::chunk_size(n);
-    if !chunks::some_chunk_free(blocks, a, size) {
-        return blocks;
-    }
-    chunks::lowest_chunk(blocks, a, size)
+    chunks::lowest_chunk(a, 0, blocks, size)
 }
 
 // The reply of an allocation of n blocks into root r.
@@ -92,7 +91,8 @@ pub fn allocate_reply(blocks: usize, a: &[u8], roots: usize, n: usize, r: usize)
     if roots <= r {
         return refusal(4);
     }
-    let at = find_place(blocks, a, n);
+    let found = find_place(blocks, a, n);
+    let at = found.at;
     if at == blocks {
         return refusal(5);
     }
