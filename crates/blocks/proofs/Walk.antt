@@ -2,19 +2,23 @@
 -- is kept, and a chunk is judged from it where it ends.
 use mathlib.Core.Path.{_≡_, sym, ap, _∙_, subst, subst⁻¹}
 use mathlib.Core.Logic.{_⊎_, inl, inr}
+use mathlib.Core.Bool.{true, false, true≢false}
 use mathlib.Core.List.{List}
 use Prim.Native.Nat.{ℕ, suc, _+_, _-_, _*_, _/_, _%_, _^_, _≤_, _<_}
 use native.Mathlib.Nat.{div-eq-of-lt, le-div-iff-mul-le, div-lt-iff-lt-mul, add-mod-right}
 use native.Mathlib.Decide.{decLt}
 use native.Mathlib.Omega.{arith}
+use lib.Dec.{leb, eqb}
 use lib.ListN.{getD}
 use lib.Pow.{pow-pos, pow-mono}
 use lib.Count.{leadingZeros, leading-top}
+use borrow.Author.Tests.{le-leb, leb-true, eq-eqb, eqb-true}
 use Rattle.bitmap.specs.Bit.{bitOf, bitAt}
 use Rattle.bitmap.proofs.Bits.{bit-zero, bit-ones}
 use Rattle.bitmap.proofs.Maps.{bit-of-byte}
+use Rattle.rules.proofs.Tests.{and-true}
 use Rattle.rules.proofs.Chunks.{Free, Used}
-use Rattle.blocks.specs.Search.{Part, lowestIn, Search}
+use Rattle.blocks.specs.Search.{judgedFree, Part, lowestIn, Search}
 use Rattle.blocks.proofs.Powers.{exponent-lt}
 use Rattle.blocks.proofs.LowestChunk.{Missed, multiples-apart, multiple-lower, search-found, search-none}
 
@@ -38,6 +42,18 @@ walked-start from to a size part =
       used = λ l. absurd (omega arith);
       missed = λ e l u m. absurd (omega (arith, size-positive from to size part));
     }
+
+-- ---- a chunk, judged from the stretch
+
+pub judged-true : (end size stretch : ℕ) → judgedFree end size stretch ≡ true → (size ≤ stretch) × (end % size ≡ 0)
+unfolding judgedFree
+judged-true end size stretch e =
+    let (enough, ends) = and-true (leb size stretch) (eqb (end % size) 0) e in
+    (leb-true size stretch enough, eqb-true (end % size) 0 ends)
+
+pub judged-false : (end size stretch : ℕ) → judgedFree end size stretch ≡ false → size ≤ stretch → end % size ≡ 0 → ⊥
+unfolding judgedFree
+judged-false end size stretch e enough ends = true≢false (sym (rw (le-leb size stretch enough, eq-eqb (end % size) 0 ends, judgedFree)) ∙ e)
 
 -- ---- a byte's blocks, from its value
 
@@ -117,17 +133,18 @@ module _ (from to : ℕ) (a : List ℕ) (size looks stretch : ℕ) where
   -- ---- the chunk that ends here is judged
 
   module _ (walk : Walked from to a size looks stretch (from + looks)) where
-    pub judged-free : Part from to size → size ≤ stretch → (from + looks) % size ≡ 0
+    pub judged-free : Part from to size → judgedFree (from + looks) size stretch ≡ true
         → (k : ℕ) → size ≡ 2 ^ k → Search from to k (lowestIn from to k a) (from + looks - size) looks
-    judged-free part enough ends k e =
+    judged-free part judged k e =
+        let (enough, ends) = judged-true (from + looks) size stretch judged in
         let walk' = subst (λ (s : ℕ). Walked from to a s looks stretch (from + looks)) e walk in
         subst⁻¹ (λ (s : ℕ). Search from to k (lowestIn from to k a) (from + looks - s) looks) e
         (search-found k a from to looks (subst (Part from to) e part) (walk .inside) (omega (arith, walk .within))
         (subst (λ (s : ℕ). (from + looks) % s ≡ 0) e ends) (walk' .missed)
         (λ j l u. walk .free j (omega (arith, walk .within)) (omega (arith, walk .within))))
 
-    pub judged-used : (size ≤ stretch → (from + looks) % size ≡ 0 → ⊥) → Walked from to a size looks stretch (from + looks + 1)
-    judged-used short =
+    pub judged-used : judgedFree (from + looks) size stretch ≡ false → Walked from to a size looks stretch (from + looks + 1)
+    judged-used judged =
         record {
           inside = walk .inside;
           within = walk .within;
@@ -140,7 +157,7 @@ module _ (from to : ℕ) (a : List ℕ) (size looks stretch : ℕ) where
                 let ends : (from + looks) % size ≡ 0 = ap (λ (x : ℕ). x % size) (sym here) ∙ m in
                 elim (decLt stretch size) [
                   | yes w ↦ (from + looks - stretch - 1, omega arith, omega arith, walk .used (omega arith))
-                  | no w ↦ absurd (short (omega arith) ends)
+                  | no w ↦ absurd (judged-false (from + looks) size stretch judged (omega arith) ends)
                 ]
           ];
         }

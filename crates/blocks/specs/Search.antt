@@ -1,14 +1,21 @@
 -- What a search of a part of the heap answers, for contracts of inner functions: where it found a chunk, and how many blocks it looked at.
 use Prim.Native.Nat.{ℕ, _+_, _-_, _/_, _%_, _^_, _≤_}
 use mathlib.Core.Path.{_≡_}
+use mathlib.Core.Bool.{Bool, _&&_}
 use mathlib.Core.List.{List}
 use mathlib.Core.Option.{Option, none, some}
+use lib.Dec.{leb, eqb}
 use Rattle.rules.specs.Heap.{lowestFrom}
 
 -- the number that was found, or another where there is none
 abbrev pub orElse : ℕ → Option ℕ → ℕ
 orElse other none = other
 orElse other (some i) = i
+
+-- Request U3: "keep the length of the free stretch that ends here, and judge each chunk from that figure": a chunk ends before block `end`,
+-- and the free stretch that ends there covers it
+unfoldable pub judgedFree : (end size stretch : ℕ) → Bool
+judgedFree end size stretch = leb size stretch && eqb (end % size) 0
 
 -- what can be searched: from block `from` up to block `to` lie whole bytes of the map and whole chunks of `size` blocks
 pub record Part (from to size : ℕ) : Type 0 where

@@ -3,7 +3,7 @@ ghost use mathlib.Core.Path.{_≡_};
 ghost use Prim.Native.Nat.{ℕ, _+_, _*_, _^_, _<_, _≤_};
 ghost use lib.ListN.{length};
 ghost use Rattle.rules.specs.Heap.{exponent, chunkFree};
-ghost use Rattle.blocks.specs.Search.{Part, lowestIn, Search};
+ghost use Rattle.blocks.specs.Search.{judgedFree, Part, lowestIn, Search};
 
 // The least power of two that is n or more.
 pub fn chunk_size(n: usize) -> usize
@@ -41,6 +41,17 @@ pub struct Searched {
     pub looks: usize,
 }
 
+// Whether a chunk of `size` blocks ends before block `end` and is free: `stretch` is the length of the free stretch that ends there.
+fn is_judged_free(end: usize, size: usize, stretch: usize) -> bool
+    requires { ⌜ ((k : ℕ) × (size ≡ 2 ^ k)) ⌝ }
+    ensures { λ r. ⌜ r ≡ judgedFree end size stretch ⌝ }
+{
+    if stretch < size {
+        return false;
+    }
+    end & (size - 1) == 0
+}
+
 // The first block of the lowest free chunk of `size` blocks from block `from` up to block `to`, or `to` where none is free. The walk
 // has come to block `from + looks`, and `stretch` is the length of the free stretch that ends there: from it a chunk is judged where
 // it ends. Each byte is read once, and its value judges its blocks: eight free ones at once (as many as a chunk has, where that is
@@ -61,10 +72,8 @@ pub fn lowest_chunk(a: &[u8], from: usize, to: usize, size: usize) -> Searched
             let free = if size < 8 { size } else { 8 };
             looks += free;
             stretch += free;
-            if size <= stretch {
-                if (from + looks) % size == 0 {
-                    break from + looks - size;
-                }
+            if is_judged_free(from + looks, size, stretch) {
+                break from + looks - size;
             }
             continue 'bytes;
         }
@@ -84,10 +93,8 @@ pub fn lowest_chunk(a: &[u8], from: usize, to: usize, size: usize) -> Searched
                             continue 'stretches;
                         }
                         stretch += 1;
-                        if size <= stretch {
-                            if (from + looks) % size == 0 {
-                                break 'bytes from + looks - size;
-                            }
+                        if is_judged_free(from + looks, size, stretch) {
+                            break 'bytes from + looks - size;
                         }
                     }
                 }
