@@ -1,5 +1,4 @@
 // First blocks, sizes and references, read off the A-map and the B-map.
-use crate::Ref;
 ghost use mathlib.Core.Path.{_≡_};
 ghost use Prim.Native.Nat.{_+_, _-_, _*_, _<_, _≤_};
 ghost use lib.ListN.{length};
@@ -40,13 +39,13 @@ pub fn object_size(blocks: usize, b: &[u8], i: usize) -> usize
     blocks - i
 }
 
-// Whether v is 0 or 1 + a first block.
-pub fn is_reference(blocks: usize, a: &[u8], b: &[u8], v: Ref) -> bool
+// Whether v, which may be any number, is 0 or 1 + a first block.
+pub fn is_reference(blocks: usize, a: &[u8], b: &[u8], v: usize) -> bool
     requires { ⌜ (blocks ≤ 8 * length (now a)) × (blocks ≤ 8 * length (now b)) ⌝ }
     ensures { λ r. ⌜ r ≡ refIn blocks (now (a .entry)) (now (b .entry)) v ⌝ }
 {
     if v == 0 {
         return true;
     }
-    is_first(blocks, a, b, v as usize - 1)
+    is_first(blocks, a, b, v - 1)
 }

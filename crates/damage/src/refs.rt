@@ -21,7 +21,7 @@ pub fn has_bad_cell(blocks: usize, a: &[u8], b: &[u8], cells: &[Ref]) -> bool
             if bitmap::get_bit(a, j / 4) == 0 {
                 return true;
             }
-            if !blocks::objects::is_reference(blocks, a, b, v) {
+            if !blocks::objects::is_reference(blocks, a, b, v as usize) {
                 return true;
             }
         }
@@ -39,7 +39,7 @@ pub fn has_bad_root(blocks: usize, a: &[u8], b: &[u8], roots: &[Ref]) -> bool
 {
     let mut r = 0;
     while r < roots.len() {
-        if !blocks::objects::is_reference(blocks, a, b, roots[r]) {
+        if !blocks::objects::is_reference(blocks, a, b, roots[r] as usize) {
             return true;
         }
         r += 1;

@@ -54,6 +54,9 @@ returns c =
     (omega arith)
     (rw (free, some, badCell))
 
+cast-is-reference : tie.Need-cast-is-reference Inv-loop μ-loop
+cast-is-reference c = omega (arith, c .before .before .before .shared-slice-known4 .given (c .before .before .before .before .before .loop .j))
+
 is-reference-requires : tie.Need-is-reference-requires Inv-loop μ-loop
 is-reference-requires c κs = omega arith
 
@@ -114,6 +117,7 @@ has-bad-cell-spec =
     shared-slice-read-v
     get-bit-requires
     returns
+    cast-is-reference
     is-reference-requires
     returns-2
     add-j

@@ -32,6 +32,9 @@ mul-is-reference c = omega arith
 shared-slice-read-is-reference : tie.Need-shared-slice-read-is-reference Inv-loop μ-loop
 shared-slice-read-is-reference c = omega arith
 
+cast-is-reference : tie.Need-cast-is-reference Inv-loop μ-loop
+cast-is-reference c = omega (arith, c .shared-slice-known4 .given (c .before .before .loop .r))
+
 is-reference-requires : tie.Need-is-reference-requires Inv-loop μ-loop
 is-reference-requires c κs = omega arith
 
@@ -81,6 +84,7 @@ has-bad-root-spec =
     loop-holds
     mul-is-reference
     shared-slice-read-is-reference
+    cast-is-reference
     is-reference-requires
     returns
     add-r
