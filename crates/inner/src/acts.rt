@@ -38,7 +38,7 @@ pub fn allocate(
     tests::acceptance(at)
 }
 
-// Stores v in root r.
+// Stores v in root r. The passed test shows that v fits a cell.
 pub fn store_root(
     blocks: usize,
     width: usize,
@@ -49,7 +49,7 @@ pub fn store_root(
     roots: &mut [Ref],
     waiting: &mut [Ref],
     r: usize,
-    v: Ref,
+    v: usize,
 ) -> Reply
     requires { ⌜ Usable blocks width (memory (now a) (now b) (now counts) (now cells) (now roots) (now waiting))
         × (storeRootTest blocks (memory (now a) (now b) (now counts) (now cells) (now roots) (now waiting)) r v .number ≡ 0) ⌝ }
@@ -59,11 +59,11 @@ pub fn store_root(
         reply
         (memory (now (a .exit)) (now (b .exit)) (now (counts .exit)) (now (cells .exit)) (now (roots .exit)) (now (waiting .exit))) ⌝ }
 {
-    let freed = stores::store_root(blocks, width, a, b, counts, cells, roots, waiting, r, v);
+    let freed = stores::store_root(blocks, width, a, b, counts, cells, roots, waiting, r, v as Ref);
     tests::acceptance(freed)
 }
 
-// Stores v in cell j of the object at block `at`.
+// Stores v in cell j of the object at block `at`. The passed test shows that v fits a cell.
 pub fn store_cell(
     blocks: usize,
     width: usize,
@@ -75,7 +75,7 @@ pub fn store_cell(
     waiting: &mut [Ref],
     at: usize,
     j: usize,
-    v: Ref,
+    v: usize,
 ) -> Reply
     requires { ⌜ Usable blocks width (memory (now a) (now b) (now counts) (now cells) (now roots) (now waiting))
         × (storeCellTest blocks (memory (now a) (now b) (now counts) (now cells) (now roots) (now waiting)) at j v .number ≡ 0) ⌝ }
@@ -95,7 +95,7 @@ pub fn store_cell(
         roots,
         waiting,
         4 * at + j,
-        v,
+        v as Ref,
     );
     tests::acceptance(freed)
 }

@@ -48,7 +48,7 @@ pub fn store_root(
     roots: &mut [Ref],
     waiting: &mut [Ref],
     r: usize,
-    v: Ref,
+    v: usize,
 ) -> Reply
     requires { ⌜ Usable blocks width (memory (now a) (now b) (now counts) (now cells) (now roots) (now waiting)) ⌝ }
     ensures { λ reply.
@@ -77,7 +77,7 @@ pub fn store_cell(
     waiting: &mut [Ref],
     at: usize,
     j: usize,
-    v: Ref,
+    v: usize,
 ) -> Reply
     requires { ⌜ Usable blocks width (memory (now a) (now b) (now counts) (now cells) (now roots) (now waiting)) ⌝ }
     ensures { λ reply.

@@ -37,7 +37,7 @@ pub fn acceptance(value: usize) -> Reply
 }
 
 // The tests of a store in root r.
-pub fn store_root_test(blocks: usize, a: &[u8], b: &[u8], roots: &[Ref], r: usize, v: Ref) -> Reply
+pub fn store_root_test(blocks: usize, a: &[u8], b: &[u8], roots: &[Ref], r: usize, v: usize) -> Reply
     requires { ⌜ (blocks ≤ 8 * length (now a)) × (blocks ≤ 8 * length (now b)) ⌝ }
     ensures { λ t. ⌜ t ≡ storeRootTest blocks (memory (now (a .entry)) (now (b .entry)) [] [] (now (roots .entry)) []) r v ⌝ }
 {
@@ -51,7 +51,7 @@ pub fn store_root_test(blocks: usize, a: &[u8], b: &[u8], roots: &[Ref], r: usiz
 }
 
 // The tests of a store in cell j of the object at block `at`.
-pub fn store_cell_test(blocks: usize, a: &[u8], b: &[u8], at: usize, j: usize, v: Ref) -> Reply
+pub fn store_cell_test(blocks: usize, a: &[u8], b: &[u8], at: usize, j: usize, v: usize) -> Reply
     requires { ⌜ (blocks ≤ 8 * length (now a)) × (blocks ≤ 8 * length (now b)) × (blocks ≤ maxBlocks) ⌝ }
     ensures { λ t. ⌜ t ≡ storeCellTest blocks (memory (now (a .entry)) (now (b .entry)) [] [] [] []) at j v ⌝ }
 {

@@ -17,6 +17,12 @@ add-store-cell c =
     let pre = c .before .before .before .before .before .before .before .before .before .before .before .pre in
     record { fits = omega (arith, cell-passed _ _ _ _ _ (pre .1) .cell-inside, usable-healthy _ _ _ (pre .0) .shape .blocks-max) }
 
+-- a reference is at most the number of blocks, so it fits a cell
+cast-store-cell : tie.Need-cast-store-cell
+cast-store-cell c =
+    let pre = c .before .before .before .before .before .before .before .before .before .before .before .pre in
+    omega (arith, cell-passed _ _ _ _ _ (pre .1) .inside, usable-healthy _ _ _ (pre .0) .shape .blocks-max)
+
 store-cell-requires : tie.Need-store-cell-requires
 store-cell-requires c κs =
     let pre = c .before .before .before .before .before .before .before .before .before .before .before .pre in
@@ -53,6 +59,7 @@ store-cell-spec =
     (tie.spec
     mul-store-cell
     add-store-cell
+    cast-store-cell
     store-cell-requires
     acceptance-requires
     same-length

@@ -1,10 +1,17 @@
 -- `inner::acts::store_root` meets its contract.
-use Rattle.inner.proofs.Idle.{usable-ready}
+use native.Mathlib.Omega.{arith}
+use Rattle.inner.proofs.Idle.{usable-healthy, usable-ready}
 use Rattle.inner.proofs.Passed.{root-passed}
 use Rattle.inner.proofs.Stored.{root-promised}
 use borrow.Author.Needs.{needs}
 use Rattle.inner.proofs.acts.store_root.Statement.{statement}
 use Rattle.inner.proofs.acts.store_root.Tie as tie
+
+-- a reference is at most the number of blocks, so it fits a cell
+cast-store-root : tie.Need-cast-store-root
+cast-store-root c =
+    let pre = c .before .before .before .before .before .before .before .before .before .before .before .before .pre in
+    omega (arith, root-passed _ _ _ _ (pre .1) .inside, usable-healthy _ _ _ (pre .0) .shape .blocks-max)
 
 store-root-requires : tie.Need-store-root-requires
 store-root-requires c κs =
@@ -43,6 +50,7 @@ pub store-root-spec : {M : Type 1} → statement M
 store-root-spec =
     tie.close
     (tie.spec
+    cast-store-root
     store-root-requires
     acceptance-requires
     same-length
