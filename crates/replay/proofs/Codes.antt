@@ -1,59 +1,55 @@
 -- Laws of the encoding, as the tests of a replay and its steps need them: what a call's words and a list of calls pass, and what an
 -- accepted replay has passed.
 use mathlib.Core.Path.{_≡_, refl, sym, ap, _∙_, subst}
-use mathlib.Core.Bool.{Bool, true, false, not, _&&_, _||_}
+use mathlib.Core.Logic.{_≢_}
+use mathlib.Core.Bool.{Bool, true, false, not, true≢false}
 use mathlib.Core.List.{List}
-use Prim.Native.Nat.{ℕ, _*_, _/_, _%_, _≤_, _<_}
+use Prim.Native.Nat.{ℕ, _+_, _*_, _/_, _%_, _≤_, _<_}
 use native.Mathlib.Omega.{arith}
 use lib.ListN.{length}
-use lib.Dec.{ltb, leb, eqb}
-use borrow.Author.Tests.{ltb-true, leb-true, not-true, not-false}
+use lib.Dec.{leb, eqb}
+use borrow.Author.Tests.{le-leb, leb-true, not-true, not-false}
 use Rattle.rules.specs.Heap.{Memory}
 use Rattle.rules.specs.Damage.{someBelow}
+use Rattle.rules.specs.Calls.{reply}
 use Rattle.rules.specs.Promise.{Promise}
 use Rattle.rules.specs.declared.Reply.{Reply}
-use Rattle.rules.proofs.Tests.{and-true, true-some, some-false, false-some}
-use Rattle.replay.specs.Encoding.{cellNumbers, decoded, isCall, isCallAt, areCalls}
+use Rattle.rules.proofs.Tests.{true-some, some-false, false-some}
+use Rattle.replay.specs.Encoding.{decoded, isCall, isCallAt, areCalls}
+use Rattle.replay.specs.Steps.{Stepped}
 use Rattle.replay.specs.Replay.{unlessFails, replyOn}
 
 -- ---- one call
 
-pub known-code : (code y z : ℕ) → isCall code y z ≡ true → code < 9
+-- the call of a known code, as it was made
+pub stepped-as :
+    (N w : ℕ) {code : ℕ} (k x y z : ℕ) {h : Memory} {r : Reply} {g : Memory} → k ≤ 8 → code ≡ k → Promise N w (decoded k x y z) h r g
+    → Stepped N w code x y z h r g
 unfolding isCall
-known-code code y z e =
-    let root : Bool = not (eqb code 3) || ltb y cellNumbers in
-    let cell : Bool = not (eqb code 4) || ltb z cellNumbers in
-    ltb-true code 9 (and-true (ltb code 9) root (and-true (ltb code 9 && root) cell e .0) .0)
+stepped-as N w {code} k x y z {h} {r} {g} known e promise =
+    record {
+      known = λ _. subst (λ (k : ℕ). Promise N w (decoded k x y z) h r g) (sym e) promise;
+      unknown = λ f. absurd (true≢false (sym (le-leb code 8 (omega arith)) ∙ f));
+    }
 
--- the value of a store in a root, or in a cell, is one that a cell can hold
-pub root-value : (code y z : ℕ) → code ≡ 3 → isCall code y z ≡ true → y < cellNumbers
+-- .. and any other code
+pub stepped-none : (N w code x y z : ℕ) {h : Memory} {r : Reply} → 9 ≤ code → r ≡ reply 9 0 0 → Stepped N w code x y z h r h
 unfolding isCall
-root-value code y z at e =
-    let e' : isCall 3 y z ≡ true = ap (λ (k : ℕ). isCall k y z) (sym at) ∙ e in
-    ltb-true y cellNumbers (and-true (ltb y cellNumbers) true e' .0)
+stepped-none N w code x y z past e =
+    record { known = λ t. absurd (omega (arith, leb-true code 8 t)); unknown = λ _. (e, refl) }
 
-pub cell-value : (code y z : ℕ) → code ≡ 4 → isCall code y z ≡ true → z < cellNumbers
-unfolding isCall
-cell-value code y z at e =
-    let e' : isCall 4 y z ≡ true = ap (λ (k : ℕ). isCall k y z) (sym at) ∙ e in
-    ltb-true z cellNumbers e'
+-- a code that is none of the nine is past them; step by step, since there are too many cases for one
+first-code : (code : ℕ) → code ≢ 0 → 1 ≤ code
+first-code code n = omega arith
 
--- a call that neither formats, reads, collects nor returns is one of the three that store
-pub store-code :
-    (code : ℕ) → code < 9 → (code ≡ 0 → ⊥) → (code ≡ 1 → ⊥) → (code ≡ 5 → ⊥) → (code ≡ 6 → ⊥) → (code ≡ 7 → ⊥) → (code ≡ 8 → ⊥)
-    → (2 ≤ code) × (code ≤ 4)
-store-code code known zero one five six seven eight = (omega arith, omega arith)
+next-code : (k code : ℕ) → code ≢ k → k ≤ code → k + 1 ≤ code
+next-code k code n l = omega arith
 
--- the call that a known code stands for
-pub promised-as :
-    (N w : ℕ) {code : ℕ} (k x y z : ℕ) {h : Memory} {r : Reply} {g : Memory} → code ≡ k → Promise N w (decoded k x y z) h r g
-    → Promise N w (decoded code x y z) h r g
-promised-as N w k x y z {h} {r} {g} e promise = subst (λ (k : ℕ). Promise N w (decoded k x y z) h r g) (sym e) promise
-
--- a last test that passes adds nothing
-pub and-passed : (t : Bool) → t ≡ t && true
-and-passed true = refl
-and-passed false = refl
+pub past-codes :
+    (code : ℕ) → code ≢ 0 → code ≢ 1 → code ≢ 2 → code ≢ 3 → code ≢ 4 → code ≢ 5 → code ≢ 6 → code ≢ 7 → code ≢ 8 → 9 ≤ code
+past-codes code n0 n1 n2 n3 n4 n5 n6 n7 n8 =
+    let four : 4 ≤ code = next-code 3 code n3 (next-code 2 code n2 (next-code 1 code n1 (first-code code n0))) in
+    next-code 8 code n8 (next-code 7 code n7 (next-code 6 code n6 (next-code 5 code n5 (next-code 4 code n4 four))))
 
 -- ---- a list of calls
 

@@ -1,32 +1,27 @@
 -- A list of calls in one list of 64-bit words, four words a call, and their replies, three words each.
 use Prim.Native.Nat.{ℕ, zero, suc, _+_, _*_, _/_}
-use mathlib.Core.Bool.{Bool, not, _&&_, _||_}
+use mathlib.Core.Bool.{Bool, not}
 use mathlib.Core.List.{List, [], _∷_}
 use lib.ListN.{length, getD}
-use lib.Dec.{ltb, eqb}
+use lib.Dec.{leb}
 use Rattle.rules.specs.Damage.{someBelow}
 use Rattle.rules.specs.Calls.{Call, format, check, allocate, storeRoot, storeCell, collect, look, freeBlocks, returnRoots, Answer}
-
--- how many numbers a cell can hold: 2 ^ 16
-abbrev pub cellNumbers : ℕ
-cellNumbers = 65536
 
 -- the call that a code and three arguments stand for; the codes are 0 to 8, and what a call does not name is not looked at
 unfoldable pub decoded : (code x y z : ℕ) → Call
 decoded code x y z =
     getD (format ∷ check ∷ allocate x y ∷ storeRoot x y ∷ storeCell x y z ∷ collect ∷ look x ∷ freeBlocks ∷ returnRoots x ∷ []) code check
 
--- a known code, and the value of a store is one that a cell can hold
-unfoldable pub isCall : (code y z : ℕ) → Bool
-isCall code y z =
-    ltb code 9 && (not (eqb code 3) || ltb y cellNumbers) && (not (eqb code 4) || ltb z cellNumbers)
+-- a known code; the arguments may be any words
+unfoldable pub isCall : (code : ℕ) → Bool
+isCall code = leb code 8
 
 -- call number i of the words
 abbrev pub callAt : List ℕ → ℕ → Call
 callAt words i = decoded (getD words (4 * i) 0) (getD words (4 * i + 1) 0) (getD words (4 * i + 2) 0) (getD words (4 * i + 3) 0)
 
 abbrev pub isCallAt : List ℕ → ℕ → Bool
-isCallAt words i = isCall (getD words (4 * i) 0) (getD words (4 * i + 2) 0) (getD words (4 * i + 3) 0)
+isCallAt words i = isCall (getD words (4 * i) 0)
 
 -- each of the first n is a call
 unfoldable pub areCalls : List ℕ → (n : ℕ) → Bool

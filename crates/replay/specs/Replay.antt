@@ -18,7 +18,7 @@ unfoldable pub unlessFails : Bool → ℕ → Reply → Reply
 unlessFails test number next = elim test [ true ↦ next | false ↦ reply number 0 0 ]
 
 -- The reply, from whether the shape is right, the words and the room for replies: 1 for the shape, as in format; 10 for a list that ends
--- inside a call; 9 for words that are no call; 18 for a list of replies that is too short for all of them; else the number of calls.
+-- inside a call; 9 for an unknown code; 18 for a list of replies that is too short for all of them; else the number of calls.
 unfoldable pub replyOn : (shape : Bool) → List ℕ → (room : ℕ) → Reply
 replyOn shape words room =
     unlessFails shape 1

@@ -1,12 +1,19 @@
--- What one turn of the run does, and the whole run: for contracts of inner functions.
+-- What one call, one turn of the run and the whole run do: for contracts of inner functions.
 use Prim.Native.Nat.{ℕ, _+_, _*_, _/_}
 use mathlib.Core.Path.{_≡_}
+use mathlib.Core.Bool.{true, false}
 use mathlib.Core.List.{List, _++_}
 use lib.ListN.{length, drop, set}
 use Rattle.rules.specs.Heap.{Memory}
-use Rattle.rules.specs.Calls.{answer, run, lastMemory}
+use Rattle.rules.specs.Calls.{reply, answer, run, lastMemory}
+use Rattle.rules.specs.Promise.{Promise}
 use Rattle.rules.specs.declared.Reply.{Reply}
-use Rattle.replay.specs.Encoding.{callAt, callsIn, replyWords}
+use Rattle.replay.specs.Encoding.{decoded, isCall, callAt, callsIn, replyWords}
+
+-- the call of a known code keeps its promise; every other code is answered 9, and nothing changes
+pub record Stepped (N w code x y z : ℕ) (h : Memory) (answered : Reply) (after : Memory) : Type 0 where
+  pub known : isCall code ≡ true → Promise N w (decoded code x y z) h answered after
+  pub unknown : isCall code ≡ false → (answered ≡ reply 9 0 0) × (after ≡ h)
 
 -- the list of replies with that of call number i written
 unfoldable pub withReply : List ℕ → (i : ℕ) → Reply → List ℕ

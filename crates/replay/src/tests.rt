@@ -10,19 +10,11 @@ use inner::tests::acceptance;
 use inner::tests::refusal;
 use rules::Reply;
 
-// How many numbers a cell can hold.
-const CELL_NUMBERS: u64 = 65536;
-
-// Whether a code and its arguments are a call. All other codes are answered 9.
-fn is_call(code: u64, y: u64, z: u64) -> bool
-    ensures { λ r. ⌜ r ≡ isCall code y z ⌝ }
+// Whether a code is that of a call. All other codes are answered 9.
+fn is_call(code: u64) -> bool
+    ensures { λ r. ⌜ r ≡ isCall code ⌝ }
 {
-    match code {
-        3 => y < CELL_NUMBERS,
-        4 => z < CELL_NUMBERS,
-        0..=8 => true,
-        _ => false,
-    }
+    code <= 8
 }
 
 // Whether each of the first n calls is a call.
@@ -32,8 +24,7 @@ fn are_calls(calls: &[u64], n: usize) -> bool
 {
     let mut i = 0;
     while i < n {
-        let at = 4 * i;
-        if !is_call(calls[at], calls[at + 2], calls[at + 3]) {
+        if !is_call(calls[4 * i]) {
             return false;
         }
         i += 1;

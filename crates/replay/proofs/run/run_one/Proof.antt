@@ -102,7 +102,7 @@ same-length-7 c = search needs
 returns : tie.Need-returns
 unfolding withReply
 returns c =
-    let made = c .before .before .before .before .before .before .before .before .before .before .before .before .step .ensures in
+    let made = c .before .before .before .before .before .before .before .before .before .before .before .before .step .ensures .known (entry c .pre .1) in
     let args = entry c .args in
     record { after-is = made .after-is; replies-are = ap (λ (x : Reply). withReply (args .replies .now) (args .i) x) (made .reply-is) }
 

@@ -20,39 +20,21 @@ abbrev μ-loop : tie.MeasureT-loop
 loop-holds : tie.Need-loop-holds Inv-loop μ-loop
 loop-holds c = (omega arith, λ j l. absurd (omega arith))
 
-mul-at : tie.Need-mul-at Inv-loop μ-loop
-mul-at c = omega arith
-
 mul-is-call : tie.Need-mul-is-call Inv-loop μ-loop
 mul-is-call c = omega arith
-
-shared-slice-read-is-call : tie.Need-shared-slice-read-is-call Inv-loop μ-loop
-shared-slice-read-is-call c = omega arith
-
-add-is-call : tie.Need-add-is-call Inv-loop μ-loop
-add-is-call c = omega arith
 
 mul-is-call-2 : tie.Need-mul-is-call-2 Inv-loop μ-loop
 mul-is-call-2 c = omega arith
 
-shared-slice-read-is-call-2 : tie.Need-shared-slice-read-is-call-2 Inv-loop μ-loop
-shared-slice-read-is-call-2 c = omega arith
-
-add-is-call-2 : tie.Need-add-is-call-2 Inv-loop μ-loop
-add-is-call-2 c = omega arith
-
-mul-is-call-3 : tie.Need-mul-is-call-3 Inv-loop μ-loop
-mul-is-call-3 c = omega arith
-
-shared-slice-read-is-call-3 : tie.Need-shared-slice-read-is-call-3 Inv-loop μ-loop
-shared-slice-read-is-call-3 c = omega arith
+shared-slice-read-is-call : tie.Need-shared-slice-read-is-call Inv-loop μ-loop
+shared-slice-read-is-call c = omega arith
 
 is-call-requires : tie.Need-is-call-requires Inv-loop μ-loop
 is-call-requires c κs = search needs
 
 returns : tie.Need-returns Inv-loop μ-loop
 returns c =
-    let l = c .before .before .before .before .before .before in
+    let l = c .before .before .before .before in
     let failed = sym (c .before .is-call .ensures) ∙ not-true (c .before .is-call .result) (c .if1 .taken) in
     sym (calls-fail (l .before .before .args .calls .now) (l .before .before .args .n) (l .loop .i) (omega arith) failed)
 
@@ -64,7 +46,7 @@ loop-less c = omega arith
 
 loop-again : tie.Need-loop-again Inv-loop μ-loop
 loop-again c =
-    let l = c .before .before .before .before .before .before in
+    let l = c .before .before .before .before in
     let passed = sym (c .before .is-call .ensures) ∙ not-false (c .before .is-call .result) (c .if1 .left) in
     (omega arith, below-more (λ j. isCallAt (l .before .before .args .calls .now) j ≡ true) (l .loop .i) (l .loop .inv .1) passed)
 
@@ -80,15 +62,9 @@ are-calls-spec =
     Inv-loop
     μ-loop
     loop-holds
-    mul-at
     mul-is-call
-    shared-slice-read-is-call
-    add-is-call
     mul-is-call-2
-    shared-slice-read-is-call-2
-    add-is-call-2
-    mul-is-call-3
-    shared-slice-read-is-call-3
+    shared-slice-read-is-call
     is-call-requires
     returns
     add-i
