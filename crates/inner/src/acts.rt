@@ -59,7 +59,18 @@ pub fn store_root(
         reply
         (memory (now (a .exit)) (now (b .exit)) (now (counts .exit)) (now (cells .exit)) (now (roots .exit)) (now (waiting .exit))) ⌝ }
 {
-    let freed = stores::store_root(blocks, width, a, b, counts, cells, roots, waiting, r, v as Ref);
+    let freed = stores::store_root(
+        blocks,
+        width,
+        a,
+        b,
+        counts,
+        cells,
+        roots,
+        waiting,
+        r,
+        v as Ref,
+    );
     tests::acceptance(freed)
 }
 

@@ -37,7 +37,14 @@ pub fn acceptance(value: usize) -> Reply
 }
 
 // The tests of a store in root r.
-pub fn store_root_test(blocks: usize, a: &[u8], b: &[u8], roots: &[Ref], r: usize, v: usize) -> Reply
+pub fn store_root_test(
+    blocks: usize,
+    a: &[u8],
+    b: &[u8],
+    roots: &[Ref],
+    r: usize,
+    v: usize,
+) -> Reply
     requires { ⌜ (blocks ≤ 8 * length (now a)) × (blocks ≤ 8 * length (now b)) ⌝ }
     ensures { λ t. ⌜ t ≡ storeRootTest blocks (memory (now (a .entry)) (now (b .entry)) [] [] (now (roots .entry)) []) r v ⌝ }
 {
