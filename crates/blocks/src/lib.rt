@@ -4,7 +4,7 @@ pub mod extents;
 pub mod objects;
 
 // A cell or root: 0, or 1 + the first block of an object. To widen references, the first places to change are this type,
-// MAX_BLOCKS, `doublings` of the rules and `cellNumbers` of the replay.
+// MAX_BLOCKS and `doublings` of the rules.
 pub type Ref = u16;
 
 // The largest heap, in blocks.
