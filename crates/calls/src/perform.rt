@@ -39,7 +39,6 @@ fn store_call(
 ) -> Reply {
     let kind = e.kind;
     if kind == 4 {
-        let v = (e.z % 65536) as Ref;
         return mutate::store_cell(
             blocks,
             width,
@@ -51,14 +50,13 @@ fn store_call(
             waiting,
             e.x,
             e.y,
-            v,
+            e.z,
         );
     }
-    let v = (e.y % 65536) as Ref;
-    mutate::store_root(blocks, width, a, b, counts, cells, roots, waiting, e.x, v)
+    mutate::store_root(blocks, width, a, b, counts, cells, roots, waiting, e.x, e.y)
 }
 
-// A call, by the kinds 0 to 8. The value of a store fits a cell.
+// A call, by the kinds 0 to 8.
 pub fn call(
     blocks: usize,
     width: usize,
@@ -88,16 +86,6 @@ pub fn call(
             e.x as u64,
         ),
         _ => read_call(blocks, width, a, b, counts, cells, roots, waiting, e),
-    }
-}
-
-// Whether an entry is a store whose value does not fit a cell.
-pub fn is_wide_store(e: Entry) -> bool {
-    let kind = e.kind;
-    match kind {
-        3 => 65535 < e.y,
-        4 => 65535 < e.z,
-        _ => false,
     }
 }
 

@@ -58,9 +58,6 @@ fn run_lent(
     if LAST_CALL < kind {
         return output::put_unknown(out, place, call, kind);
     }
-    if perform::is_wide_store(e) {
-        return output::put_complaint(out, place, call, b"value does not fit a cell");
-    }
     let reply = perform::call(blocks, width, a, b, counts, cells, roots, waiting, e);
     output::put_reply(out, place, reply)
 }
