@@ -17,7 +17,7 @@ static uint16_t cells[4 * BLOCKS], roots[ROOTS], waiting[BLOCKS];
 
 /* P1 as a list for replay, with one word behind the replies. */
 static const uint64_t p1[] = {2, 2, 0, 0, 2, 1, 1, 0, 2, 3, 2, 0, 6, 4, 0, 0};
-static uint64_t replies[13];
+static uint64_t replies[15];
 
 static int failures = 0;
 
@@ -29,7 +29,7 @@ static void verdict(int same) {
 
 /* A reply, and the one that the case names. */
 static void expect(const char *call, struct huwekapo_reply reply, size_t number, size_t value, size_t second) {
-    printf("%-26s %zu %zu %zu  ", call, reply.number, reply.value, reply.second);
+    printf("%-29s %zu %zu %zu  ", call, reply.number, reply.value, reply.second);
     verdict(reply.number == number && reply.value == value && reply.second == second);
 }
 
@@ -58,6 +58,40 @@ static void replay_p1(void) {
     verdict(replies[12] == 7);
 }
 
+/* Values that no cell can hold, and of which 16 bits would make 1, 0 and 65,535: refused 8. Nothing is written. */
+static const struct {
+    const char *in_root;
+    const char *in_cell;
+    size_t v;
+} wide[] = {
+    {"store 65537 in root 0", "store 65537 in cell 0 of 4", 65537},
+    {"store 2^32 in root 0", "store 2^32 in cell 0 of 4", (size_t)1 << 32},
+    {"store 2^64 - 1 in root 0", "store 2^64 - 1 in cell 0 of 4", SIZE_MAX},
+};
+
+static void store_wide(void) {
+    for (size_t i = 0; i < 3; i++) {
+        expect(wide[i].in_root, huwekapo_store_root(HEAP, 0, wide[i].v), HUWEKAPO_BAD_REFERENCE, 0, 0);
+        expect(wide[i].in_cell, huwekapo_store_cell(HEAP, 4, 0, wide[i].v), HUWEKAPO_BAD_REFERENCE, 0, 0);
+    }
+    printf("root 0 = %d, cell 0 of 4 = %d  ", roots[0], cells[16]);
+    verdict(roots[0] == 1 && cells[16] == 0);
+}
+
+/* The same values in a list, which goes on behind each: allocate 2 into root 0, store each, look at 0. */
+static const uint64_t wide_list[] = {
+    2, 2, 0, 0, 3, 0, 65537, 0, 3, 0, UINT64_C(1) << 32, 0, 4, 0, 0, UINT64_MAX, 6, 0, 0, 0,
+};
+
+static void replay_wide(void) {
+    expect("replay wide values", huwekapo_replay(HEAP, wide_list, 20, replies, 15), HUWEKAPO_ACCEPTED, 5, 0);
+    expect("  allocate 2 into root 0", replied(0), HUWEKAPO_ACCEPTED, 0, 0);
+    expect("  store 65537 in root 0", replied(1), HUWEKAPO_BAD_REFERENCE, 0, 0);
+    expect("  store 2^32 in root 0", replied(2), HUWEKAPO_BAD_REFERENCE, 0, 0);
+    expect("  store 2^64 - 1 in cell 0", replied(3), HUWEKAPO_BAD_REFERENCE, 0, 0);
+    expect("  look at 0", replied(4), HUWEKAPO_ACCEPTED, 2, 1);
+}
+
 int main(void) {
     expect("format", huwekapo_format(HEAP), HUWEKAPO_ACCEPTED, 0, 0);
     expect("allocate 2 into root 0", huwekapo_allocate(HEAP, 2, 0), HUWEKAPO_ACCEPTED, 0, 0);
@@ -69,6 +103,7 @@ int main(void) {
     /* P2, the first line: "Then allocate 2 into root 3: refused 5, with blocks 3 and 7 free." */
     expect("allocate 2 into root 3", huwekapo_allocate(HEAP, 2, 3), HUWEKAPO_NO_CHUNK, 0, 0);
     expect("free blocks", huwekapo_free_blocks(HEAP), HUWEKAPO_ACCEPTED, 2, 0);
+    store_wide();
     /* The rest of the calls, so that each is linked and called once. */
     expect("store 1 in cell 0 of 2", huwekapo_store_cell(HEAP, 2, 0, 1), HUWEKAPO_ACCEPTED, 0, 0);
     expect("store 0 in root 1", huwekapo_store_root(HEAP, 1, 0), HUWEKAPO_ACCEPTED, 1, 0);
@@ -76,6 +111,7 @@ int main(void) {
     expect("return root 4", huwekapo_return_roots(HEAP, 16), HUWEKAPO_BAD_ROOT, 0, 0);
     expect("return roots 0 and 2", huwekapo_return_roots(HEAP, 5), HUWEKAPO_ACCEPTED, 5, 0);
     replay_p1();
+    replay_wide();
     puts(failures == 0 ? "paper: ok" : "paper: DIFFERENT");
     return failures != 0;
 }

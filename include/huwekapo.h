@@ -13,7 +13,7 @@
  * least) of byte i / 8 of a map.
  *
  * Every call may be made with any arguments and any content of the buffers: what is wrong is refused by a number, and a
- * refusal changes no buffer. Format, allocate, both stores, the return, collect and replay leave `waiting` all 0 when
+ * refusal changes no buffer. Arguments are whole words, and nothing of them is cut off: a v of 65,537 is refused 8. Format, allocate, both stores, the return, collect and replay leave `waiting` all 0 when
  * accepted; check, look and free blocks write nothing.
  *
  * The buffers, and the two lists of replay, must not overlap, and each pointer must be good for its length, and not null
@@ -51,7 +51,7 @@ enum huwekapo_number {
     HUWEKAPO_NO_OBJECT = 6,     /* `at` is not a first block (or not below blocks) */
     HUWEKAPO_BAD_CELL = 7,      /* j is not below 4 times the object's size */
     HUWEKAPO_BAD_REFERENCE = 8, /* v is neither 0 nor 1 + a first block */
-    HUWEKAPO_NO_CALL = 9,       /* an entry is no call: its code is above 8, or the v of a store above 65,535 */
+    HUWEKAPO_NO_CALL = 9,       /* an entry is no call: its code is above 8 */
     HUWEKAPO_CUT_OFF = 10,      /* the list ends inside a call */
     HUWEKAPO_SHORT_REPLIES = 18 /* `replies` is too short for the replies of all calls */
 };
@@ -105,7 +105,7 @@ struct huwekapo_reply huwekapo_store_root(size_t blocks, size_t width,
                                           uint16_t *cells, size_t cells_length,
                                           uint16_t *roots, size_t roots_length,
                                           uint16_t *waiting, size_t waiting_length,
-                                          size_t r, uint16_t v);
+                                          size_t r, size_t v);
 
 /* Stores v in cell j of the object at block `at`. The value is the number of blocks freed. Where the cell holds v already,
  * only the waiting list is written. Refusals: 1, 2, 6, 7, 8. */
@@ -116,7 +116,7 @@ struct huwekapo_reply huwekapo_store_cell(size_t blocks, size_t width,
                                           uint16_t *cells, size_t cells_length,
                                           const uint16_t *roots, size_t roots_length,
                                           uint16_t *waiting, size_t waiting_length,
-                                          size_t at, size_t j, uint16_t v);
+                                          size_t at, size_t j, size_t v);
 
 /* Clears the roots of a set, bit r of `chosen` for root r, as stores of 0 do one after another. The value is the number of
  * blocks freed in all. Refusals: 1, 2, 4. */

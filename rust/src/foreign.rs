@@ -73,7 +73,7 @@ extern "C" {
         waiting: *mut Ref,
         waiting_length: usize,
         r: usize,
-        v: Ref,
+        v: usize,
     ) -> Reply;
 
     pub fn huwekapo_store_cell(
@@ -93,7 +93,7 @@ extern "C" {
         waiting_length: usize,
         at: usize,
         j: usize,
-        v: Ref,
+        v: usize,
     ) -> Reply;
 
     pub fn huwekapo_return_roots(

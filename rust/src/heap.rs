@@ -85,13 +85,13 @@ impl Heap {
 
     /// Stores v in root r. The value is the number of blocks freed. Where the root holds v already, nothing but the
     /// waiting list is written. Refusals: 1, 2, 4, 8.
-    pub fn store_root(&mut self, r: usize, v: Ref) -> Result<usize, Refusal> {
+    pub fn store_root(&mut self, r: usize, v: usize) -> Result<usize, Refusal> {
         value(lent::store_root(self.unique(), r, v))
     }
 
     /// Stores v in cell j of the object at block `at`. The value is the number of blocks freed. Where the cell holds v
     /// already, nothing but the waiting list is written. Refusals: 1, 2, 6, 7, 8.
-    pub fn store_cell(&mut self, at: usize, j: usize, v: Ref) -> Result<usize, Refusal> {
+    pub fn store_cell(&mut self, at: usize, j: usize, v: usize) -> Result<usize, Refusal> {
         value(lent::store_cell(self.unique(), at, j, v))
     }
 

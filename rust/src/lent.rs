@@ -13,7 +13,8 @@
 //! the least) of byte i / 8 of a map.
 //!
 //! Every call may be made with any arguments and any content of the buffers: what is wrong is refused by a number,
-//! and a refusal changes no buffer. Format, allocate, both stores, the return, collect and replay leave `waiting`
+//! and a refusal changes no buffer. Arguments are whole words, and nothing of them is cut off: a v of 65,537 is
+//! refused 8. Format, allocate, both stores, the return, collect and replay leave `waiting`
 //! all 0 when accepted; check, look and free blocks write nothing.
 
 use crate::{foreign, Ref};
@@ -102,12 +103,12 @@ pub fn allocate(heap: Unique, n: usize, r: usize) -> Reply {
 }
 
 /// Stores v in root r. The value is the number of blocks freed. Refusals: 1, 2, 4, 8.
-pub fn store_root(heap: Unique, r: usize, v: Ref) -> Reply {
+pub fn store_root(heap: Unique, r: usize, v: usize) -> Reply {
     lend!(huwekapo_store_root, heap, as_mut_ptr, as_mut_ptr, r, v)
 }
 
 /// Stores v in cell j of the object at block `at`. The value is the number of blocks freed. Refusals: 1, 2, 6, 7, 8.
-pub fn store_cell(heap: Unique, at: usize, j: usize, v: Ref) -> Reply {
+pub fn store_cell(heap: Unique, at: usize, j: usize, v: usize) -> Reply {
     lend!(huwekapo_store_cell, heap, as_mut_ptr, as_ptr, at, j, v)
 }
 
@@ -152,7 +153,7 @@ pub fn free_blocks(heap: Shared) -> Reply {
 /// Refusals, which write nothing: 1, 10, 9, 18.
 ///
 /// - 10: the list ends inside a call
-/// - 9: an entry is no call: its code is above 8, or the v of a store above 65,535
+/// - 9: an entry is no call: its code is above 8
 /// - 18: `replies` is too short for the replies of all calls
 pub fn replay(heap: Unique, calls: &[u64], replies: &mut [u64]) -> Reply {
     let (list, replies_at) = (calls.as_ptr(), replies.as_mut_ptr());

@@ -95,7 +95,7 @@ fn p9() {
     assert_eq!(heap.look(0), seen(1, 1));
     assert_eq!(heap.store_root(1, 1), Ok(0));
     assert_eq!(heap.store_root(1, 1), Ok(0));
-    assert_eq!(heap.look(0), seen(1, 3));
+    assert_eq!(heap.look(0), seen(1, 2));
 }
 
 #[test]
@@ -109,6 +109,28 @@ fn p10_and_the_other_refusals() {
     assert_eq!(heap.store_root(1, 2), Err(Refusal::BadReference));
     assert_eq!(heap.store_cell(1, 0, 0), Err(Refusal::NoObject));
     assert_eq!(heap.look(usize::MAX), Err(Refusal::NoObject));
+}
+
+/// Values that no cell can hold, and of which 16 bits would make 1, 0 and 65,535. A refusal writes nothing.
+#[test]
+fn values_are_whole_words() {
+    let mut heap = fresh(2);
+    assert_eq!(heap.allocate(2, 0), Ok(0));
+    let mut buffers = heap.into_buffers();
+    buffers.waiting.fill(99);
+    let mut heap = Heap::from_buffers(8, 2, buffers.clone());
+    for v in [65_537, 1 << 32, usize::MAX] {
+        for r in 0..4 {
+            assert_eq!(heap.store_root(r, v), Err(Refusal::BadReference));
+        }
+        for j in 0..8 {
+            assert_eq!(heap.store_cell(0, j, v), Err(Refusal::BadReference));
+        }
+        assert_eq!(heap.store_root(4, v), Err(Refusal::BadRoot));
+        assert_eq!(heap.store_cell(1, 0, v), Err(Refusal::NoObject));
+        assert_eq!(heap.store_cell(0, 8, v), Err(Refusal::BadCell));
+    }
+    assert_eq!(heap.into_buffers(), buffers);
 }
 
 #[test]

@@ -81,6 +81,27 @@ fn a_return_in_a_list() {
     assert_eq!(Ok(buffers), Heap::new(8, 2, 4).map(Heap::into_buffers));
 }
 
+/// A value that no cell can hold is refused 8, and the list goes on.
+#[test]
+fn a_wide_value_in_a_list() {
+    for v in [65_536, 65_537, 1 << 32, 1 << 40, u64::MAX] {
+        let mut calls = vec![3, 0, v, 0];
+        calls.extend(P1);
+        calls.extend([3, 0, v, 0, 4, 0, 7, v, 6, 0, 0, 0]);
+        let mut buffers = used();
+        let mut replies = [7; 25];
+        let accepted = replay(lend(8, &mut buffers), &calls, &mut replies);
+        assert_eq!(accepted, reply(0, 8));
+        assert_eq!(replies[..3], [8, 0, 0]);
+        assert_eq!(replies[3..15], [0, 0, 0, 0, 2, 0, 0, 4, 0, 0, 3, 1]);
+        assert_eq!(replies[15..], [8, 0, 0, 8, 0, 0, 0, 2, 1, 7]);
+
+        let mut alone = used();
+        replay(lend(8, &mut alone), &P1, &mut replies);
+        assert_eq!(buffers, alone);
+    }
+}
+
 #[test]
 fn an_empty_list_formats() {
     let mut buffers = used();
@@ -97,14 +118,9 @@ fn refusals() {
     for length in 13..16 {
         assert_eq!(refusal(8, &P1[..length], 12), 10);
     }
-    for words in [
-        [9, 0, 0, 0],
-        [u64::MAX, 0, 0, 0],
-        [3, 0, 65_536, 0],
-        [4, 0, 0, 65_536],
-    ] {
+    for code in [9, 256, u64::MAX] {
         let mut calls = P1;
-        calls[8..12].copy_from_slice(&words);
+        calls[8] = code;
         assert_eq!(refusal(8, &calls, 12), 9);
     }
     for room in [0, 3, 11] {

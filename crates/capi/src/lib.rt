@@ -60,7 +60,7 @@ pub extern "C" fn huwekapo_store_root(
     roots: &mut [Ref],
     waiting: &mut [Ref],
     r: usize,
-    v: Ref,
+    v: usize,
 ) -> Reply
     ensures { λ reply.
         ⌜ Promise blocks width (Call.storeRoot r v)
@@ -83,7 +83,7 @@ pub extern "C" fn huwekapo_store_cell(
     waiting: &mut [Ref],
     at: usize,
     j: usize,
-    v: Ref,
+    v: usize,
 ) -> Reply
     ensures { λ reply.
         ⌜ Promise blocks width (Call.storeCell at j v)
