@@ -83,20 +83,22 @@ wrongAnswers =
     ((gives 0, used chained) ∷ (gives 0, fresh 2) ∷ (refuses 2, used chained) ∷ (refuses 1, fresh 2) ∷ [])
     ∷ question 2 (used chained) check (gives 0, used chained)
     -- refuses everything; finds damage; answers the free blocks; writes
-    ((refuses 1, used chained) ∷ (damaged 5, used chained) ∷ (gives 5, used chained) ∷ (gives 0, chained) ∷ [])
-    -- kinds 2 and 5
-    ∷ question 2 (freshBut 1 255) check (damaged 2, freshBut 1 255)
-    -- replies 0 always; no kind, or the kind for the number; the later kind; repairs the heap
-    ((gives 0, freshBut 1 255) ∷ (refuses 2, freshBut 1 255) ∷ (gives 2, freshBut 1 255) ∷ (damaged 5, freshBut 1 255)
-    ∷ (damaged 2, freshBut 0 255) ∷ [])
+    ((refuses 1, used chained) ∷ (refuses 2, used chained) ∷ (damaged 5, used chained) ∷ (gives 5, used chained) ∷ (gives 0, chained) ∷ [])
+    -- kinds 3 and 5: an object at block 1 of 2 blocks, with count 0
+    ∷ question 2 (freshBut 6 251) check (damaged 3, freshBut 6 251)
+    -- replies 0 always; no kind; number and kind exchanged; the later kind; repairs the heap
+    ((gives 0, freshBut 6 251) ∷ (gives 3, freshBut 6 251) ∷ (refuses 2, freshBut 6 251) ∷ (reply 3 2 0, freshBut 6 251)
+    ∷ (damaged 5, freshBut 6 251) ∷ (damaged 3, fresh 2) ∷ [])
     ∷ question 2 (used chained) (allocate 2 1) (gives 4, allocatedTwo)
     -- refuses everything; no chunk without a search; and writes all the same
-    ((refuses 1, used chained) ∷ (refuses 5, used chained) ∷ (refuses 5, allocatedTwo)
+    ((refuses 1, used chained) ∷ (refuses 3, used chained) ∷ (refuses 5, used chained) ∷ (refuses 5, allocatedTwo)
     -- replies 0 always; never writes; the size for the value
     ∷ (gives 0, allocatedTwo) ∷ (gives 4, used chained) ∷ (gives 2, allocatedTwo)
     -- two free blocks wherever they start; a chunk that is not the lowest
     ∷ (gives 3, lent 31 233 13 0 (cellHolding 7 3) (1 ∷ 4 ∷ 0 ∷ 0 ∷ []))
     ∷ (gives 6, lent 199 121 69 0 (cellHolding 7 3) (1 ∷ 7 ∷ 0 ∷ 0 ∷ []))
+    -- size and root exchanged; into root 0
+    ∷ (gives 3, lent 15 241 13 0 (cellHolding 7 3) (1 ∷ 0 ∷ 4 ∷ 0 ∷ [])) ∷ (gives 4, allocatedOver)
     -- counted up again; the root not written, or another; the block without 1 added; the waiting list left
     ∷ (gives 4, lent 55 217 5 16 (cellHolding 7 3) (1 ∷ 5 ∷ 0 ∷ 0 ∷ []))
     ∷ (gives 4, withRoots (rootHolding 0 1) allocatedTwo) ∷ (gives 4, withRoots (1 ∷ 0 ∷ 5 ∷ 0 ∷ []) allocatedTwo)
@@ -111,6 +113,10 @@ wrongAnswers =
     -- the search after the old object is let go; the old object not let go; the blocks freed for the value
     ((gives 0, lent 3 253 1 0 (replicate 32 0) (rootHolding 0 1))
     ∷ (gives 4, lent 55 217 21 0 (cellHolding 7 3) (rootHolding 0 5)) ∷ (gives 3, allocatedOver) ∷ [])
+    -- the whole heap
+    ∷ question 2 (fresh 2) (allocate 8 0) (gives 0, lent 255 127 1 0 (replicate 32 0) (rootHolding 0 1))
+    -- taken for too much; no chunk without a search; half of it
+    ((refuses 3, fresh 2) ∷ (refuses 5, fresh 2) ∷ (gives 0, lent 15 247 1 0 (replicate 32 0) (rootHolding 0 1)) ∷ [])
     -- no chunk is free
     ∷ question 2 (used chained) (allocate 8 1) (refuses 5, used chained)
     -- replies 0 always; another number; the number of blocks for "none"; writes in a refusal
@@ -135,8 +141,10 @@ wrongAnswers =
     ∷ (gives 0, withRoots (rootHolding 0 1) shared) ∷ [])
     -- a reference more
     ∷ question 2 (used chained) (storeRoot 1 3) (gives 0, shared)
-    -- doesn't count up; stores in another root; stores without 1 added
-    ((gives 0, withRoots (1 ∷ 3 ∷ 0 ∷ 0 ∷ []) chained) ∷ (gives 0, withRoots (1 ∷ 0 ∷ 3 ∷ 0 ∷ []) shared)
+    -- clears the root; stores in root 0, and lets X go
+    ((gives 0, chained) ∷ (gives 2, lent 4 251 4 0 (replicate 32 0) (rootHolding 0 3))
+    -- doesn't count up; stores in another root; stores the block without 1 added
+    ∷ (gives 0, withRoots (1 ∷ 3 ∷ 0 ∷ 0 ∷ []) chained) ∷ (gives 0, withRoots (1 ∷ 0 ∷ 3 ∷ 0 ∷ []) shared)
     ∷ (gives 0, withRoots (1 ∷ 2 ∷ 0 ∷ 0 ∷ []) shared) ∷ [])
     -- the value present
     ∷ question 2 (used chained) (storeRoot 0 1) (gives 0, chained)
@@ -144,18 +152,29 @@ wrongAnswers =
     ((gives 0, lent 7 249 4 1 (cellHolding 7 3) (rootHolding 0 1)) ∷ (gives 3, withRoots (rootHolding 0 1) (fresh 2)) ∷ (gives 0, used chained) ∷ [])
     -- block 1 is no first block
     ∷ question 2 (used chained) (storeRoot 1 2) (refuses 8, used chained)
-    -- replies 0 always; stores; another number; writes in a refusal
-    ((gives 0, used chained) ∷ (gives 0, withRoots (1 ∷ 2 ∷ 0 ∷ 0 ∷ []) chained) ∷ (refuses 4, used chained) ∷ (refuses 8, chained) ∷ [])
+    -- replies 0 always; stores, and counts block 1 up or not; another number; writes in a refusal
+    ((gives 0, used chained) ∷ (gives 0, lent 7 249 7 0 (cellHolding 7 3) (1 ∷ 2 ∷ 0 ∷ 0 ∷ []))
+    ∷ (gives 0, withRoots (1 ∷ 2 ∷ 0 ∷ 0 ∷ []) chained) ∷ (refuses 4, used chained) ∷ (refuses 8, chained) ∷ [])
+    -- there are 4 roots
+    ∷ question 2 (used chained) (storeRoot 4 3) (refuses 4, used chained)
+    -- replies 0 always; counts up; another number; writes in a refusal
+    ((gives 0, used chained) ∷ (gives 0, lent 7 249 1 4 (cellHolding 7 3) (rootHolding 0 1)) ∷ (refuses 8, used chained)
+    ∷ (refuses 4, chained) ∷ [])
     -- X lets go of Y
     ∷ question 2 (used chained) (storeCell 0 7 0) (gives 1, alone)
-    -- refuses everything; never writes
-    ((refuses 1, used chained) ∷ (gives 1, used chained) ∷ (gives 0, used chained)
+    -- refuses everything, or takes the cell for the block; never writes
+    ((refuses 1, used chained) ∷ (refuses 6, used chained) ∷ (gives 1, used chained) ∷ (gives 0, used chained)
     -- the figure not read off the A-map: 0 always, the cell number, all free blocks
     ∷ (gives 0, alone) ∷ (gives 7, alone) ∷ (gives 6, alone)
     -- the old object not let go; everything freed; the owner freed with it
     ∷ (gives 0, withCells (replicate 32 0) chained) ∷ (gives 3, fresh 2) ∷ (gives 3, withRoots (rootHolding 0 1) (fresh 2))
     -- the last B bit left; the cell not written; the waiting list left
     ∷ (gives 1, withB (249 ∷ []) alone) ∷ (gives 1, withCells (cellHolding 7 3) alone) ∷ (gives 1, used alone) ∷ [])
+    -- X names Y twice
+    ∷ question 2 (used chained) (storeCell 0 0 3) (gives 0, lent 7 249 1 4 (set (cellHolding 7 3) 0 3) (rootHolding 0 1))
+    -- clears the cell; doesn't count up; doesn't write; stores in the next cell
+    ((gives 0, chained) ∷ (gives 0, lent 7 249 5 0 (set (cellHolding 7 3) 0 3) (rootHolding 0 1))
+    ∷ (gives 0, lent 7 249 1 4 (cellHolding 7 3) (rootHolding 0 1)) ∷ (gives 0, lent 7 249 1 4 (set (cellHolding 7 3) 1 3) (rootHolding 0 1)) ∷ [])
     -- a cell past the object
     ∷ question 2 (used chained) (storeCell 0 8 1) (refuses 7, used chained)
     -- replies 0 always; stores in the next object; another number; writes in a refusal
@@ -177,10 +196,10 @@ wrongAnswers =
     -- replies 0 always; clears those there are; writes in a refusal
     ((gives 0, used shared) ∷ (gives 2, lent 4 251 4 0 (replicate 32 0) (rootHolding 1 3)) ∷ (refuses 4, shared) ∷ [])
     ∷ question 2 (used cyclic) collect (gives 3, collectedCyclic)
-    -- refuses everything; never writes; never collects
-    ((refuses 1, used cyclic) ∷ (gives 3, used cyclic) ∷ (gives 0, used cyclic) ∷ (gives 0, cyclic)
-    -- the figure not read off the A-map: 0 always, objects, all free blocks
-    ∷ (gives 0, collectedCyclic) ∷ (gives 2, collectedCyclic) ∷ (gives 7, collectedCyclic)
+    -- refuses everything, or for the maps exchanged; never writes; never collects
+    ((refuses 1, used cyclic) ∷ (damaged 2, used cyclic) ∷ (gives 3, used cyclic) ∷ (gives 0, used cyclic) ∷ (gives 0, cyclic)
+    -- the figure not read off the A-map: 0 always, objects, all free blocks, N
+    ∷ (gives 0, collectedCyclic) ∷ (gives 2, collectedCyclic) ∷ (gives 7, collectedCyclic) ∷ (gives 8, collectedCyclic)
     -- the reference from an unreached object counted; counts left at 0; frees everything
     ∷ (gives 3, lent 8 247 0 8 (replicate 32 0) (rootHolding 0 4)) ∷ (gives 3, lent 8 247 0 0 (replicate 32 0) (rootHolding 0 4)) ∷ (gives 4, fresh 2)
     -- last B bits left; cells left; the waiting list left
@@ -188,23 +207,36 @@ wrongAnswers =
     ∷ (gives 3, used collectedCyclic) ∷ [])
     -- all is reached
     ∷ question 2 (used chained) collect (gives 0, chained)
-    -- reached by roots alone; a count lost, or one too many; the waiting list left
-    ((gives 1, alone) ∷ (gives 0, lent 7 249 1 0 (cellHolding 7 3) (rootHolding 0 1)) ∷ (gives 0, lent 7 249 1 4 (cellHolding 7 3) (rootHolding 0 1))
+    -- formats; reached by roots alone; a count lost, or one too many; the waiting list left
+    ((gives 0, fresh 2) ∷ (gives 1, alone)
+    ∷ (gives 0, lent 7 249 1 0 (cellHolding 7 3) (rootHolding 0 1)) ∷ (gives 0, lent 7 249 1 4 (cellHolding 7 3) (rootHolding 0 1))
     ∷ (gives 0, used chained) ∷ [])
+    -- a damaged heap
+    ∷ question 2 (freshBut 6 251) collect (damaged 3, freshBut 6 251)
+    -- replies 0 always; not tested; no kind; collects in a refusal
+    ((gives 0, freshBut 6 251) ∷ (gives 2, fresh 2) ∷ (refuses 2, freshBut 6 251) ∷ (damaged 3, fresh 2) ∷ [])
     ∷ question 2 (used chained) (look 0) (shows 2 1, used chained)
-    -- refuses everything; replies 0 always; count and size; no count; a block too many; writes
+    -- refuses everything; replies 0 always; count and size; no count; a block too many; the maps exchanged; block 2; writes
     ((refuses 1, used chained) ∷ (refuses 6, used chained) ∷ (shows 0 0, used chained) ∷ (shows 1 2, used chained) ∷ (gives 2, used chained)
-    ∷ (shows 3 1, used chained) ∷ (shows 2 1, chained) ∷ [])
+    ∷ (shows 3 1, used chained) ∷ (shows 4 1, used chained) ∷ (shows 1 1, used chained) ∷ (shows 2 1, chained) ∷ [])
+    -- Y, with count 2
+    ∷ question 2 (used shared) (look 2) (shows 1 2, used shared)
+    -- the count of block 0, or 1 always; X for Y
+    ((shows 1 1, used shared) ∷ (shows 2 1, used shared) ∷ [])
     -- block 1 is no first block
     ∷ question 2 (used chained) (look 1) (refuses 6, used chained)
     -- replies 0 always; the rest of the object; the object's figures in a refusal
     ((gives 0, used chained) ∷ (shows 1 0, used chained) ∷ (shows 2 1, used chained) ∷ (reply 6 2 1, used chained) ∷ [])
-    ∷ question 2 (used chained) freeBlocks (gives 5, used chained)
-    -- refuses everything; replies 0 always; the blocks in use; the 0 bits of the B-map; N; writes
-    ((refuses 1, used chained) ∷ (gives 0, used chained) ∷ (gives 3, used chained) ∷ (gives 2, used chained) ∷ (gives 8, used chained)
-    ∷ (gives 5, chained) ∷ [])
     -- a damaged heap
-    ∷ question 2 (freshBut 1 255) freeBlocks (damaged 2, freshBut 1 255)
+    ∷ question 2 (freshBut 6 251) (look 1) (damaged 3, freshBut 6 251)
     -- replies 0 always; not tested; no kind
-    ((gives 0, freshBut 1 255) ∷ (gives 7, freshBut 1 255) ∷ (refuses 2, freshBut 1 255) ∷ [])
+    ((gives 0, freshBut 6 251) ∷ (shows 2 0, freshBut 6 251) ∷ (refuses 2, freshBut 6 251) ∷ [])
+    ∷ question 2 (used chained) freeBlocks (gives 5, used chained)
+    -- refuses everything, or for the maps exchanged; replies 0 always; the blocks in use; the 0 bits of the B-map; N; writes
+    ((refuses 1, used chained) ∷ (damaged 2, used chained) ∷ (gives 0, used chained) ∷ (gives 3, used chained) ∷ (gives 2, used chained)
+    ∷ (gives 8, used chained) ∷ (gives 5, chained) ∷ [])
+    -- a damaged heap
+    ∷ question 2 (freshBut 6 251) freeBlocks (damaged 3, freshBut 6 251)
+    -- replies 0 always; not tested; no kind
+    ((gives 0, freshBut 6 251) ∷ (gives 6, freshBut 6 251) ∷ (refuses 2, freshBut 6 251) ∷ [])
     ∷ []
