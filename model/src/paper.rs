@@ -5,21 +5,58 @@
 use crate::calls::Call;
 
 /// One line of a case.
-#[derive(Clone, Copy, Debug)]
+#[derive(Clone, Copy, Debug, PartialEq, Eq)]
 pub enum Step {
     /// This call must give this number, value and second value.
     Gives(Call, usize, usize, usize),
     /// The bytes of the A-map and the B-map must be these now.
     Maps(u8, u8),
+    /// These blocks, and no others, must be free now.
+    Free(&'static [usize]),
     /// The bytes of the A-map and the B-map are overwritten with these.
     Given(u8, u8),
+}
+
+impl Step {
+    /// Whether the line reads the maps.
+    pub fn reads_maps(self) -> bool {
+        matches!(self, Step::Maps(..) | Step::Free(_))
+    }
 }
 
 /// A case: its name, its count width, and its lines, from a heap of 8 blocks and 4 roots, not yet formatted.
 pub struct Case {
     pub name: &'static str,
     pub width: usize,
+    /// The lines of the case before, where this one goes on from there: "Then".
+    pub before: Vec<Step>,
     pub steps: Vec<Step>,
+}
+
+/// A part of a case, on a heap of its own.
+pub struct Part {
+    /// What is carried out once more, to get there.
+    pub again: Vec<Step>,
+    /// The lines that are new. Only the last one may read the maps.
+    pub steps: Vec<Step>,
+}
+
+impl Case {
+    /// The program `calls` prints the maps of a heap only where that heap ends. So a case comes in parts, one up to
+    /// each line that reads the maps, and each starts again on a new heap.
+    pub fn parts(&self) -> Vec<Part> {
+        let mut again: Vec<Step> = self.before.clone();
+        let mut parts = Vec::new();
+        for steps in self.steps.split_inclusive(|step| step.reads_maps()) {
+            again.retain(|step| !step.reads_maps());
+            parts.push(Part {
+                again: again.clone(),
+                steps: steps.to_vec(),
+            });
+            again.extend(steps);
+        }
+        parts
+    }
 }
 
 pub const BLOCKS: usize = 8;
@@ -27,7 +64,7 @@ pub const ROOTS: usize = 4;
 
 /// All cases, in document 01's order.
 pub fn cases() -> Vec<Case> {
-    use Step::{Given, Gives, Maps};
+    use Step::{Free, Given, Gives, Maps};
     let fresh = Gives(Call::Format, 0, 0, 0);
     let allocate = |n, r, number, value| Gives(Call::Allocate { n, r }, number, value, 0);
     let root = |r, v, value| Gives(Call::StoreRoot { r, v }, 0, value, 0);
@@ -36,28 +73,37 @@ pub fn cases() -> Vec<Case> {
     let nothing_at = |a| Gives(Call::Look { a }, 6, 0, 0);
     let collect = |value| Gives(Call::Collect, 0, value, 0);
     let free = |value| Gives(Call::FreeBlocks, 0, value, 0);
-    let case = |name, width, steps| Case { name, width, steps };
+    let case = |name, width, steps| Case {
+        name,
+        width,
+        before: Vec::new(),
+        steps,
+    };
+    // "P1. Fresh; allocate 2 into root 0: block 0. Allocate 1 into root 1: block 2. Allocate 3 into root 2: block 4.
+    // A = 119, B = 185. Look at 4: size 3, count 1."
+    let p1 = vec![
+        fresh,
+        allocate(2, 0, 0, 0),
+        allocate(1, 1, 0, 2),
+        allocate(3, 2, 0, 4),
+        Maps(119, 185),
+        look(4, 3, 1),
+    ];
+    // "P2. Then allocate 2 into root 3: refused 5, with blocks 3 and 7 free. Allocate 1 into root 3: block 3."
+    let p2 = Case {
+        name: "P2",
+        width: 2,
+        before: p1.clone(),
+        steps: vec![
+            allocate(2, 3, 5, 0),
+            Free(&[3, 7]),
+            free(2),
+            allocate(1, 3, 0, 3),
+        ],
+    };
     vec![
-        case(
-            "P1 and P2",
-            2,
-            vec![
-                // "P1. Fresh; allocate 2 into root 0: block 0. Allocate 1 into root 1: block 2. Allocate 3
-                // into root 2: block 4. A = 119, B = 185. Look at 4: size 3, count 1."
-                fresh,
-                allocate(2, 0, 0, 0),
-                allocate(1, 1, 0, 2),
-                allocate(3, 2, 0, 4),
-                Maps(119, 185),
-                look(4, 3, 1),
-                // "P2. Then allocate 2 into root 3: refused 5, with blocks 3 and 7 free. Allocate 1 into
-                // root 3: block 3."
-                allocate(2, 3, 5, 0),
-                Maps(119, 185),
-                free(2),
-                allocate(1, 3, 0, 3),
-            ],
-        ),
+        case("P1", 2, p1),
+        p2,
         case(
             "P3",
             2,

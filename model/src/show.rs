@@ -2,8 +2,9 @@
 
 use crate::calls::{is_chosen, Call};
 use crate::file::Entry;
-use crate::paper::{cases, Step, BLOCKS, ROOTS};
+use crate::paper::{cases, Case, Part, Step, BLOCKS, ROOTS};
 use std::fmt::Write;
+use std::str::Lines;
 
 /// An entry in words.
 pub fn entry_in_words(words: [u64; 4]) -> String {
@@ -77,83 +78,137 @@ pub fn reply_in_words(call: Call, [number, value, second]: [usize; 3]) -> String
     }
 }
 
-/// The paper cases, call by call, beside the lines that `calls` printed for `model paper`; and whether each is
-/// what the documents say. A line that is not there counts as different.
+/// The paper cases, line by line, beside what `calls` printed for `model paper`; and whether each is what the
+/// documents say. A line that is not there counts as different.
 pub fn paper(printed: &str) -> (String, bool) {
-    let mut lines = printed.lines();
-    let mut out = String::new();
-    let mut all_same = true;
+    let mut shown = Shown {
+        lines: printed.lines(),
+        out: String::new(),
+        all_same: true,
+    };
     // The heap of the header, which no case uses, is printed first.
-    let mut maps = buffers(&mut lines);
+    shown.all_same &= shown.maps().is_some();
     for case in cases() {
-        let (name, width) = (case.name, case.width);
-        writeln!(out, "{name}: {BLOCKS} blocks, width {width}, {ROOTS} roots").unwrap();
-        let last = case.steps.last().copied();
-        for step in case.steps {
-            match step {
-                Step::Gives(call, number, value, second) => {
-                    let found = numbers(lines.next());
-                    let same = found.as_deref() == Some(&[number, value, second]);
-                    let reply = match found.as_deref() {
-                        Some([number, value, second]) => {
-                            reply_in_words(call, [*number, *value, *second])
-                        }
-                        _ => "no reply".to_string(),
-                    };
-                    let words = call_in_words(call);
-                    writeln!(out, "  {words:<38} {reply}{}", remark(same)).unwrap();
-                    all_same &= same;
-                }
-                Step::Given(a, b) => {
-                    writeln!(out, "  {:<38} A = {a}, B = {b}", "the maps are overwritten").unwrap();
-                }
-                Step::Maps(..) => {}
-            }
-        }
-        maps = buffers(&mut lines);
-        let same = match last {
-            Some(Step::Maps(a, b)) => maps == Some((a as usize, b as usize)),
-            _ => maps.is_some(),
-        };
-        if let Some((a, b)) = maps {
-            writeln!(
-                out,
-                "  {:<38} A = {a}, B = {b}{}",
-                "at the end",
-                remark(same)
-            )
-            .unwrap();
-        }
-        all_same &= same;
+        shown.case(&case);
     }
-    all_same &= maps.is_some() && lines.next().is_none();
-    let verdict = if all_same {
+    shown.all_same &= shown.lines.next().is_none();
+    let verdict = if shown.all_same {
         "all as the documents say"
     } else {
         "DIFFERENT from the documents"
     };
-    writeln!(out, "{verdict}").unwrap();
-    (out, all_same)
+    writeln!(shown.out, "{verdict}").unwrap();
+    (shown.out, shown.all_same)
 }
 
-fn remark(same: bool) -> &'static str {
-    if same {
-        ""
-    } else {
-        "   DIFFERENT from the documents"
+/// What is printed and not yet read, and what was made of the rest.
+struct Shown<'a> {
+    lines: Lines<'a>,
+    out: String,
+    all_same: bool,
+}
+
+impl Shown<'_> {
+    fn case(&mut self, case: &Case) {
+        let (name, width) = (case.name, case.width);
+        let start = if case.before.is_empty() {
+            format!("{BLOCKS} blocks, width {width}, {ROOTS} roots")
+        } else {
+            "then".to_string()
+        };
+        writeln!(self.out, "{name}: {start}").unwrap();
+        for part in case.parts() {
+            self.part(&part);
+        }
+    }
+
+    /// A part of a case, and the maps that its heap ends with, where its last line reads them.
+    fn part(&mut self, part: &Part) {
+        for step in &part.again {
+            self.step(*step, false);
+        }
+        for step in &part.steps {
+            self.step(*step, true);
+        }
+        let maps = self.maps();
+        self.all_same &= maps.is_some();
+        match part.steps.last() {
+            Some(Step::Maps(a, b)) => {
+                let same = maps == Some([*a as usize, *b as usize]);
+                let found = in_words(maps, |[a, b]| format!("A = {a}, B = {b}"));
+                self.line("the maps", &found, same);
+            }
+            Some(Step::Free(free)) => {
+                let found = maps.map(|[a, _]| free_blocks(a));
+                let same = found.as_deref() == Some(*free);
+                self.line("the blocks that are free", &in_words(found, list), same);
+            }
+            _ => {}
+        }
+    }
+
+    /// A line of a case beside its reply. What is carried out once more is shown only where it differs.
+    fn step(&mut self, step: Step, is_new: bool) {
+        match step {
+            Step::Gives(call, number, value, second) => {
+                let found: Option<[usize; 3]> = self.numbers();
+                let same = found == Some([number, value, second]);
+                if is_new || !same {
+                    let reply = in_words(found, |reply| reply_in_words(call, reply));
+                    self.line(&call_in_words(call), &reply, same);
+                }
+            }
+            Step::Given(a, b) if is_new => {
+                self.line(
+                    "the maps are overwritten",
+                    &format!("A = {a}, B = {b}"),
+                    true,
+                );
+            }
+            Step::Given(..) | Step::Maps(..) | Step::Free(_) => {}
+        }
+    }
+
+    fn line(&mut self, what: &str, found: &str, same: bool) {
+        let remark = if same {
+            ""
+        } else {
+            "   DIFFERENT from the documents"
+        };
+        writeln!(self.out, "  {what:<38} {found}{remark}").unwrap();
+        self.all_same &= same;
+    }
+
+    /// The next line, where it is so many numbers.
+    fn numbers<const COUNT: usize>(&mut self) -> Option<[usize; COUNT]> {
+        let words = self.lines.next()?.split(' ');
+        let numbers: Option<Vec<usize>> = words.map(|word| word.parse().ok()).collect();
+        numbers?.try_into().ok()
+    }
+
+    /// The six lines of a heap of eight blocks: the bytes of its A-map and its B-map.
+    fn maps(&mut self) -> Option<[usize; 2]> {
+        let maps = [self.numbers::<1>(), self.numbers::<1>()];
+        let others = [(); 4].map(|()| self.lines.next());
+        let complete = others.iter().all(|line| line.is_some());
+        match maps {
+            [Some([a]), Some([b])] if complete => Some([a, b]),
+            _ => None,
+        }
     }
 }
 
-/// The six lines of a heap: the first bytes of its A-map and its B-map.
-fn buffers<'a>(lines: &mut impl Iterator<Item = &'a str>) -> Option<(usize, usize)> {
-    let six: Vec<_> = lines.take(6).collect();
-    let first = |line: Option<&&str>| numbers(line.copied())?.first().copied();
-    if six.len() < 6 {
-        return None;
-    }
-    Some((first(six.first())?, first(six.get(1))?))
+/// What was printed, in words, or that it wasn't.
+fn in_words<T>(found: Option<T>, words: impl FnOnce(T) -> String) -> String {
+    found.map_or("nothing is printed".to_string(), words)
 }
 
-fn numbers(line: Option<&str>) -> Option<Vec<usize>> {
-    line?.split(' ').map(|word| word.parse().ok()).collect()
+/// The blocks whose bit is 0 in this byte.
+fn free_blocks(byte: usize) -> Vec<usize> {
+    (0..BLOCKS).filter(|i| byte >> i & 1 == 0).collect()
+}
+
+fn list(numbers: Vec<usize>) -> String {
+    let words: Vec<String> = numbers.iter().map(|number| number.to_string()).collect();
+    words.join(", ")
 }

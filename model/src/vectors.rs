@@ -9,20 +9,22 @@ use crate::paper::{self, Step};
 use crate::random::Random;
 use crate::request_vectors::{present_values, returns};
 
-/// The paper cases as a list, each on a new heap.
+/// The paper cases as a list, each part of a case on a new heap.
 pub fn paper_cases(desk: &mut Desk) {
     for case in paper::cases() {
-        desk.new_heap([paper::BLOCKS as u64, case.width as u64, paper::ROOTS as u64]);
-        for step in case.steps {
-            match step {
-                Step::Gives(call, ..) => {
-                    desk.call(call);
+        for part in case.parts() {
+            desk.new_heap([paper::BLOCKS as u64, case.width as u64, paper::ROOTS as u64]);
+            for step in part.again.into_iter().chain(part.steps) {
+                match step {
+                    Step::Gives(call, ..) => {
+                        desk.call(call);
+                    }
+                    Step::Given(a, b) => {
+                        desk.load(0, 0, a as u64);
+                        desk.load(1, 0, b as u64);
+                    }
+                    Step::Maps(..) | Step::Free(_) => {}
                 }
-                Step::Given(a, b) => {
-                    desk.load(0, 0, a as u64);
-                    desk.load(1, 0, b as u64);
-                }
-                Step::Maps(..) => {}
             }
         }
     }

@@ -4,6 +4,7 @@ mod common;
 use common::say;
 use model::expect::expect;
 use model::file::{bytes, LENGTH, LOAD, NEW};
+use model::paper::cases;
 use model::vectors::{paper_file, vectors};
 use model::{families, trace, Call};
 
@@ -147,7 +148,8 @@ fn the_large_file() {
         out.len()
     ));
     let (_, paper) = expect(&paper_file());
-    assert_eq!(paper.heaps, 11);
+    let parts: usize = cases().iter().map(|case| case.parts().len()).sum();
+    assert_eq!(paper.heaps, 1 + parts);
     assert_eq!(paper.complaints, 0);
 }
 

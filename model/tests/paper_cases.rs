@@ -12,7 +12,8 @@ fn p1_to_p11() {
     for case in cases() {
         let width = case.width;
         let mut memory = Memory::zeros(BLOCKS, width, ROOTS);
-        for (k, step) in case.steps.into_iter().enumerate() {
+        let steps = case.before.into_iter().chain(case.steps);
+        for (k, step) in steps.enumerate() {
             let line = format!("{}, line {k}: {step:?}", case.name);
             match step {
                 Step::Gives(call, number, value, second) => {
@@ -25,6 +26,11 @@ fn p1_to_p11() {
                     assert_eq!((memory.a[0], memory.b[0]), (a, b), "{line}");
                     maps += 1;
                 }
+                Step::Free(blocks) => {
+                    let free = (0..BLOCKS).filter(|i| memory.a[0] >> i & 1 == 0);
+                    assert_eq!(free.collect::<Vec<_>>(), blocks, "{line}");
+                    maps += 1;
+                }
                 Step::Given(a, b) => {
                     memory.a[0] = a;
                     memory.b[0] = b;
@@ -33,7 +39,7 @@ fn p1_to_p11() {
         }
     }
     say(&format!(
-        "P1 to P11, {calls} calls and {maps} pairs of maps"
+        "P1 to P11, {calls} calls and the maps {maps} times"
     ));
 }
 
