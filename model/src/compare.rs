@@ -2,15 +2,21 @@
 
 use crate::calls::apply;
 use crate::expect::{buffer_lines, numbers};
-use crate::file::{Bench, Entry};
+use crate::file::{Apply, Bench, Entry};
 use crate::heap::Memory;
-use crate::library;
 use crate::met::Met;
 use crate::replay::replay;
 use crate::rules::Reply;
 use crate::show::{buffer_name, entry_in_words};
-use crate::spoiling::Lent;
+use crate::spoiling::{Lent, Replay};
 use std::fmt::Write;
+
+/// The library, or in a test another heap in its place.
+#[derive(Clone, Copy)]
+pub struct Library {
+    pub apply: Apply,
+    pub replay: Replay,
+}
 
 /// What one side answered and left. An entry that is no call has no reply, and only a replay has replies.
 #[derive(PartialEq, Eq)]
@@ -21,15 +27,20 @@ struct Outcome<'a> {
 }
 
 /// Runs a list on both, comparing the reply and every buffer after every entry.
-pub fn call_by_call(header: [u64; 3], entries: &[[u64; 4]], met: &mut Met) -> Option<String> {
+pub fn call_by_call(
+    other: Library,
+    header: [u64; 3],
+    entries: &[[u64; 4]],
+    met: &mut Met,
+) -> Option<String> {
     let mut model = Bench::of_any_size(header);
     let mut library = model.clone();
     for (k, words) in entries.iter().enumerate() {
         let entry = Entry::from_words(*words);
         let by_model = model.carry_out(entry, apply);
-        let by_library = library.carry_out(entry, library::apply);
-        if let Some(reply) = by_model {
-            met.call(model.blocks, reply);
+        let by_library = library.carry_out(entry, other.apply);
+        if let (Entry::Call(call), Some(reply)) = (entry, by_model) {
+            met.call(model.blocks, call, reply);
         }
         let sides = [(by_model, &model), (by_library, &library)].map(|(reply, bench)| Outcome {
             reply,
@@ -46,10 +57,10 @@ pub fn call_by_call(header: [u64; 3], entries: &[[u64; 4]], met: &mut Met) -> Op
 }
 
 /// Makes a replay on both, comparing the reply, every buffer and every word of the list of replies.
-pub fn replayed(lent: &Lent, met: &mut Met) -> Option<String> {
+pub fn replayed(other: Library, lent: &Lent, met: &mut Met) -> Option<String> {
     let (mut model, mut library) = (lent.clone(), lent.clone());
     let by_model = model.replay(replay);
-    let by_library = library.replay(library::replay);
+    let by_library = library.replay(other.replay);
     met.replay(by_model);
     let sides = [(by_model, &model), (by_library, &library)].map(|(reply, lent)| Outcome {
         reply: Some(reply),

@@ -1,13 +1,13 @@
-//! Fresh random lists and damaged memories, on the model and on the product's library side by side: call by
-//! call, and then the calls of the list as one replay, as they are and spoilt. Before these, the check of every
-//! pair of maps of eight blocks.
+//! Random lists and damaged memories, on the model and on the product's library side by side: call by call, and
+//! then the calls of the list as one replay, as they are and spoilt. First come the check of every pair of maps of
+//! eight blocks and lists that are always the same, which meet all that can be met; then fresh ones.
 
-use crate::compare::{call_by_call, replayed};
+use crate::compare::{call_by_call, replayed, Library};
 use crate::damaging::{some_damage, AIMS};
 use crate::families::{random as random_calls, some_shape, FAMILIES};
 use crate::file::Entry;
 use crate::generate::Desk;
-use crate::met::{Met, TOO_MANY_BLOCKS};
+use crate::met::{Met, PAIRS_OF_MAPS, TOO_MANY_BLOCKS};
 use crate::random::Random;
 use crate::shrink::shrink;
 use crate::spoiling::some_replay;
@@ -23,19 +23,25 @@ struct Found {
     text: String,
 }
 
-/// Checks all pairs of maps, then runs lists for so many seconds. What was met, and a difference, as text.
-pub fn fuzz(seconds: u64, seed: u64) -> (Met, Option<String>) {
+/// Checks all pairs of maps and the lists that are always the same, then runs fresh lists for so many seconds. What
+/// was met, and a difference, as text.
+pub fn fuzz(seconds: u64, seed: u64, library: Library) -> (Met, Option<String>) {
     let mut met = Met::default();
-    if let Some(difference) = pairs_of_maps(&mut met) {
+    if let Some(difference) = pairs_of_maps(library, &mut met) {
         return (met, Some(difference));
     }
     let mut end = Instant::now() + Duration::from_secs(seconds);
     let mut random = Random::new(seed);
+    let mut always = always().into_iter();
     let mut shortest: Option<Found> = None;
-    while Instant::now() < end {
-        let desk = some_list(&mut random);
+    loop {
+        let desk = match always.next() {
+            Some(desk) => desk,
+            None if Instant::now() < end => some_list(&mut random),
+            None => break,
+        };
         met.lists += 1;
-        let Some(found) = try_list(&desk, &mut random, &mut met) else {
+        let Some(found) = try_list(library, &desk, &mut met) else {
             continue;
         };
         match &shortest {
@@ -49,32 +55,58 @@ pub fn fuzz(seconds: u64, seed: u64) -> (Met, Option<String>) {
 }
 
 /// The check of every pair of an A-map and a B-map of eight blocks, in a heap that is otherwise fresh.
-fn pairs_of_maps(met: &mut Met) -> Option<String> {
+fn pairs_of_maps(library: Library, met: &mut Met) -> Option<String> {
     let shape = [8, 2, 4];
-    (0..65_536).find_map(|pair| {
+    (0..PAIRS_OF_MAPS as u64).find_map(|pair| {
         let mut desk = Desk::new(Random::new(0), shape);
         desk.call(Call::Format);
         desk.load(0, 0, pair / 256);
         desk.load(1, 0, pair % 256);
         desk.call(Call::Check);
         met.pairs_of_maps += 1;
-        call_by_call(shape, &desk.entries, &mut Met::default())
+        call_by_call(library, shape, &desk.entries, &mut Met::default())
     })
 }
 
+/// The lists that are always the same, at each width: every family, every aim of damage on several heaps, and every
+/// call on too many blocks with buffers that fit. `Met::unmet` says what they would leave out.
+fn always() -> Vec<Desk> {
+    let mut lists = Vec::new();
+    let mut list = |shape: [u64; 3], write: &dyn Fn(&mut Desk)| {
+        let mut desk = Desk::new(Random::new(lists.len() as u64), shape);
+        write(&mut desk);
+        lists.push(desk);
+    };
+    for width in 1..=4 {
+        list([TOO_MANY_BLOCKS as u64, width, 4], &every_call);
+        for blocks in [8, 16, 32] {
+            for (_, write) in FAMILIES {
+                list([blocks, width, 4], &|desk| write(desk, 60));
+            }
+            for aim in 0..AIMS {
+                list([blocks, width, 4], &|desk| damaged_calls(desk, 40, aim));
+            }
+        }
+    }
+    lists
+}
+
 /// A list call by call, and its calls replayed, as they are and spoilt.
-fn try_list(desk: &Desk, random: &mut Random, met: &mut Met) -> Option<Found> {
+fn try_list(library: Library, desk: &Desk, met: &mut Met) -> Option<Found> {
     let found = cut_down(&desk.entries, met, |entries, met| {
-        call_by_call(desk.header, entries, met)
+        call_by_call(library, desk.header, entries, met)
     });
     if found.is_some() {
         return found;
     }
-    let calls = calls_of(desk, random);
+    // From the list's own seed.
+    let mut random = desk.random.clone();
+    let calls = calls_of(desk, &mut random);
     let seed = random.word();
     [false, true].into_iter().find_map(|spoilt| {
         cut_down(&calls, met, |calls, met| {
-            replayed(&some_replay(seed, desk.header, calls, spoilt), met)
+            let lent = some_replay(seed, desk.header, calls, spoilt);
+            replayed(library, &lent, met)
         })
     })
 }
@@ -124,11 +156,12 @@ fn some_list(random: &mut Random) -> Desk {
     };
     let mut desk = Desk::new(own, shape);
     let count = 20 + desk.random.below(150);
+    let aim = desk.random.below(AIMS);
     match kind {
-        0 => damaged_calls(&mut desk, 16),
+        0 => damaged_calls(&mut desk, 16, aim),
         1 => random_calls(&mut desk, 16),
         2 => every_call(&mut desk),
-        3..=24 => damaged_calls(&mut desk, count),
+        3..=24 => damaged_calls(&mut desk, count, aim),
         _ => {
             let (_, write) = desk.random.pick(&FAMILIES);
             write(&mut desk, count);
@@ -137,14 +170,13 @@ fn some_list(random: &mut Random) -> Desk {
     desk
 }
 
-/// Every call on a damaged memory, before anything mends it.
-fn damaged_calls(desk: &mut Desk, count: usize) {
+/// Every call on a memory with damage of an aim, before anything mends it.
+fn damaged_calls(desk: &mut Desk, count: usize, aim: usize) {
     desk.call(Call::Format);
     for _ in 0..count / 2 {
         let call = desk.some_call();
         desk.call(call);
     }
-    let aim = desk.random.below(AIMS);
     for (buffer, index, value) in some_damage(&mut desk.random, &desk.bench, aim) {
         desk.load(buffer, index, value);
     }

@@ -15,7 +15,6 @@ pub mod calls;
 pub mod chunks;
 pub mod claims;
 pub mod collection;
-#[cfg(feature = "library")]
 pub mod compare;
 pub mod counting;
 pub mod damage;
@@ -23,14 +22,12 @@ pub mod damaging;
 pub mod expect;
 pub mod families;
 pub mod file;
-#[cfg(feature = "library")]
 pub mod fuzz;
 pub mod generate;
 pub mod heap;
 #[cfg(feature = "library")]
 pub mod library;
 pub mod list_claims;
-#[cfg(feature = "library")]
 pub mod met;
 pub mod paper;
 pub mod port;

@@ -1,9 +1,13 @@
 //! The product: the calls of its C library on the model's memories.
 
 use crate::calls::Call;
+use crate::compare::Library;
 use crate::heap::Memory;
 use crate::rules::Reply;
 use huwekapo::lent::{self, Shared, Unique};
+
+/// What the fuzz compares the model with.
+pub const LIBRARY: Library = Library { apply, replay };
 
 /// Carries out one call by the library, as `calls::apply` does by the model.
 pub fn apply(blocks: usize, width: usize, memory: &mut Memory, call: Call) -> Reply {

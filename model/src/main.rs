@@ -67,13 +67,18 @@ fn main() {
 
 #[cfg(feature = "library")]
 fn fuzz(seconds: u64, seed: u64) {
-    let (met, difference) = model::fuzz::fuzz(seconds, seed);
+    let (met, difference) = model::fuzz::fuzz(seconds, seed, model::library::LIBRARY);
     print(met.lines().as_bytes());
     if let Some(report) = difference {
         print(report.as_bytes());
         exit(1);
     }
-    print(b"no difference, every pair of maps of 8 blocks included\n");
+    let unmet = met.unmet();
+    if !unmet.is_empty() {
+        print(format!("no difference, but not met: {}\n", unmet.join("; ")).as_bytes());
+        exit(1);
+    }
+    print(b"no difference; every number of every call and every damage kind was met, and every pair of maps of 8 blocks\n");
 }
 
 #[cfg(feature = "library")]

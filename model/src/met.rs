@@ -1,23 +1,42 @@
-//! What a run of the fuzz met, counted.
+//! What a run of the fuzz met, counted, and what it could have met and didn't.
 
+use crate::calls::Call;
 use crate::rules::Reply;
 
 /// More blocks than a heap can have: "16,384 refused 1".
 pub const TOO_MANY_BLOCKS: usize = 16_384;
 
+/// Each call, by its code, with the numbers that it can answer, in document 01's order.
+pub const CALLS: [(&str, &[usize]); 9] = [
+    ("format", &[0, 1]),
+    ("check", &[0, 1, 2]),
+    ("allocate", &[0, 1, 2, 3, 4, 5]),
+    ("store in a root", &[0, 1, 2, 4, 8]),
+    ("store in a cell", &[0, 1, 2, 6, 7, 8]),
+    ("collect", &[0, 1, 2]),
+    ("look", &[0, 1, 2, 6]),
+    ("free blocks", &[0, 1, 2]),
+    ("return", &[0, 1, 2, 4]),
+];
+
+/// The numbers that a replay can answer, in docs/DECISIONS.md's order.
+pub const REPLAY: [usize; 5] = [0, 1, 10, 9, 18];
+
+/// The pairs of an A-map and a B-map of eight blocks.
+pub const PAIRS_OF_MAPS: usize = 65_536;
+
 /// Calls one by one, and replays.
 #[derive(Clone, Debug, Default)]
 pub struct Met {
     pub lists: usize,
-    pub calls: usize,
-    /// Replies by number, 0 to 8.
-    pub numbers: [usize; 9],
-    /// Damage kinds by kind, 1 to 5.
-    pub kinds: [usize; 6],
+    /// Replies by call and number, 0 to 8.
+    pub numbers: [[usize; 9]; CALLS.len()],
+    /// Damage kinds by call and kind, 1 to 5.
+    pub kinds: [[usize; 6]; CALLS.len()],
+    /// Calls on too many blocks, by call.
+    pub too_many_blocks: [usize; CALLS.len()],
     /// Pairs of an A-map and a B-map that were checked.
     pub pairs_of_maps: usize,
-    /// Calls on too many blocks.
-    pub too_many_blocks: usize,
     pub replays: usize,
     /// Calls of the replays that were accepted.
     pub replayed_calls: usize,
@@ -27,14 +46,14 @@ pub struct Met {
 
 impl Met {
     /// Counts the reply to a call on so many blocks.
-    pub fn call(&mut self, blocks: usize, reply: Reply) {
-        self.calls += 1;
-        self.numbers[reply.number] += 1;
+    pub fn call(&mut self, blocks: usize, call: Call, reply: Reply) {
+        let code = call.words()[0] as usize;
+        self.numbers[code][reply.number] += 1;
         if reply.number == 2 {
-            self.kinds[reply.value] += 1;
+            self.kinds[code][reply.value] += 1;
         }
         if blocks == TOO_MANY_BLOCKS {
-            self.too_many_blocks += 1;
+            self.too_many_blocks[code] += 1;
         }
     }
 
@@ -45,8 +64,39 @@ impl Met {
         self.replayed_calls += reply.value;
     }
 
+    /// What can be met and was not: each number of each call, each damage kind in each call that has number 2, each
+    /// call on too many blocks, each pair of maps, each number of a replay.
+    pub fn unmet(&self) -> Vec<String> {
+        let mut unmet = Vec::new();
+        let mut expect = |count: usize, what: String| {
+            if count == 0 {
+                unmet.push(what);
+            }
+        };
+        for (code, (name, numbers)) in CALLS.into_iter().enumerate() {
+            for number in numbers {
+                let count = self.numbers[code][*number];
+                expect(count, format!("{name}, number {number}"));
+            }
+            for kind in (1..=5).filter(|_| numbers.contains(&2)) {
+                expect(self.kinds[code][kind], format!("{name}, damage {kind}"));
+            }
+            let count = self.too_many_blocks[code];
+            expect(count, format!("{name}, {TOO_MANY_BLOCKS} blocks"));
+        }
+        for number in REPLAY {
+            let count = self.replay_numbers[number];
+            expect(count, format!("replay, number {number}"));
+        }
+        let all_pairs = self.pairs_of_maps == PAIRS_OF_MAPS;
+        expect(all_pairs as usize, "every pair of maps".to_string());
+        unmet
+    }
+
     /// The counts, some to a line.
     pub fn lines(&self) -> String {
+        let number = |number: usize| self.numbers.iter().map(|by| by[number]).sum::<usize>();
+        let kind = |kind: usize| self.kinds.iter().map(|by| by[kind]).sum::<usize>();
         format!(
             "lists {}, calls {}, accepted {}\n\
              refusals by number  {}\n\
@@ -56,25 +106,26 @@ impl Met {
              replays {}, accepted {}, calls in those {}\n\
              refusals of replays {}\n",
             self.lists,
-            self.calls,
-            self.numbers[0],
-            by(&self.numbers, 1..=8),
-            by(&self.kinds, 1..=5),
+            (0..=8).map(number).sum::<usize>(),
+            number(0),
+            by(1..=8, number),
+            by(1..=5, kind),
             self.pairs_of_maps,
-            self.too_many_blocks,
+            self.too_many_blocks.iter().sum::<usize>(),
             self.replays,
             self.replay_numbers[0],
             self.replayed_calls,
-            by(&self.replay_numbers, [1, 10, 9, 18]),
+            by(REPLAY.into_iter().skip(1), |number| self.replay_numbers
+                [number]),
         )
     }
 }
 
 /// The counts of some numbers.
-fn by(counts: &[usize], numbers: impl IntoIterator<Item = usize>) -> String {
+fn by(numbers: impl IntoIterator<Item = usize>, count: impl Fn(usize) -> usize) -> String {
     let words: Vec<String> = numbers
         .into_iter()
-        .map(|number| format!("{number}: {}", counts[number]))
+        .map(|number| format!("{number}: {}", count(number)))
         .collect();
     words.join(", ")
 }

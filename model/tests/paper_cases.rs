@@ -3,6 +3,7 @@
 mod common;
 use common::{call_and_claims, say};
 use model::paper::{cases, Step, BLOCKS, ROOTS};
+use model::replay::replay;
 use model::{apply, Call, Memory};
 
 #[test]
@@ -77,22 +78,59 @@ fn formats_accepted_and_refused() {
     say(&format!("{formats} formats of good and bad numbers"));
 }
 
+const EVERY_CALL: [Call; 9] = [
+    Call::Format,
+    Call::Check,
+    Call::Allocate { n: 1, r: 0 },
+    Call::StoreRoot { r: 0, v: 0 },
+    Call::StoreCell { a: 0, j: 0, v: 0 },
+    Call::Collect,
+    Call::Look { a: 0 },
+    Call::FreeBlocks,
+    Call::ReturnRoots { chosen: 16 },
+];
+
+/// "16,384 refused 1": by every call and by a replay, with buffers that fit. 8,192 is not.
+#[test]
+fn too_many_blocks_in_every_call() {
+    let heap = |blocks, width| {
+        let mut memory = Memory::zeros(blocks, width, 64);
+        memory.b.fill(255);
+        memory.waiting.fill(7);
+        memory
+    };
+    let mut refused = 0;
+    for (blocks, width) in (1..=4).flat_map(|width| [(8192, width), (16_384, width)]) {
+        let due = blocks > 8192;
+        for call in EVERY_CALL {
+            let mut memory = heap(blocks, width);
+            let reply = apply(blocks, width, &mut memory, call);
+            assert_eq!(reply.number == 1, due, "{blocks} {width} {call:?}");
+            if due {
+                assert_eq!((reply.value, reply.second), (0, 0), "{call:?}");
+                assert_eq!(memory, heap(blocks, width), "{call:?}");
+                refused += 1;
+            }
+        }
+        let mut memory = heap(blocks, width);
+        let reply = replay(
+            blocks,
+            width,
+            &mut memory,
+            &Call::Check.words(),
+            &mut [7; 3],
+        );
+        assert_eq!(reply.number == 1, due, "{blocks} {width}, a replay");
+        assert_eq!(memory == heap(blocks, width), due);
+    }
+    say(&format!("{refused} calls on 16,384 blocks, all refused 1"));
+}
+
 /// A wrong length of any buffer is refused 1 by each of the calls, and so are N and w themselves.
 #[test]
 fn every_wrong_length_in_every_call() {
-    let calls = [
-        Call::Format,
-        Call::Check,
-        Call::Allocate { n: 1, r: 0 },
-        Call::StoreRoot { r: 0, v: 0 },
-        Call::StoreCell { a: 0, j: 0, v: 0 },
-        Call::Collect,
-        Call::Look { a: 0 },
-        Call::FreeBlocks,
-        Call::ReturnRoots { chosen: 16 },
-    ];
     let mut refused = 0;
-    for call in calls {
+    for call in EVERY_CALL {
         for buffer in 0..6 {
             for by in [-1i64, 1] {
                 let mut memory = common::fresh(16, 3, 4);

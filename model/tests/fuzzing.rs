@@ -1,0 +1,110 @@
+//! The fuzz with the model itself, and with wrong heaps, in the library's place.
+
+mod common;
+use common::say;
+use model::compare::Library;
+use model::fuzz::fuzz;
+use model::met::{Met, CALLS};
+use model::replay::replay;
+use model::{apply, Call, Memory, Reply};
+
+/// A run of no seconds: the pairs of maps and the lists that are always the same.
+fn met_always() -> Met {
+    let (met, difference) = fuzz(0, 1, Library { apply, replay });
+    assert_eq!(difference, None);
+    met
+}
+
+#[test]
+fn what_can_be_met_is_met_whatever_the_seed() {
+    let met = met_always();
+    assert_eq!(met.unmet(), Vec::<String>::new());
+    // And no call answers a number that it doesn't have.
+    for (code, (name, numbers)) in CALLS.into_iter().enumerate() {
+        for number in (0..9).filter(|number| !numbers.contains(number)) {
+            assert_eq!(met.numbers[code][number], 0, "{name}, number {number}");
+        }
+        assert_eq!(met.too_many_blocks[code], 4, "{name}, at each width");
+    }
+    say(&format!(
+        "the fuzz against the model itself:\n{}",
+        met.lines()
+    ));
+}
+
+/// Each count in turn is 0, and is named.
+#[test]
+fn what_was_not_met_is_named() {
+    let met = met_always();
+    let mut named = 0;
+    let mut without = |leave_out: &dyn Fn(&mut Met), what: String| {
+        let mut less = met.clone();
+        leave_out(&mut less);
+        assert_eq!(less.unmet(), [what]);
+        named += 1;
+    };
+    for (code, (name, numbers)) in CALLS.into_iter().enumerate() {
+        for number in numbers {
+            let what = format!("{name}, number {number}");
+            without(&|met| met.numbers[code][*number] = 0, what);
+        }
+        if numbers.contains(&2) {
+            for kind in 1..=5 {
+                let what = format!("{name}, damage {kind}");
+                without(&|met| met.kinds[code][kind] = 0, what);
+            }
+        }
+        let what = format!("{name}, 16384 blocks");
+        without(&|met| met.too_many_blocks[code] = 0, what);
+    }
+    for number in [0, 1, 10, 9, 18] {
+        let what = format!("replay, number {number}");
+        without(&|met| met.replay_numbers[number] = 0, what);
+    }
+    without(
+        &|met| met.pairs_of_maps -= 1,
+        "every pair of maps".to_string(),
+    );
+    assert_eq!(Met::default().unmet().len(), named);
+}
+
+fn wrong_apply(blocks: usize, width: usize, memory: &mut Memory, call: Call) -> Reply {
+    let mut reply = apply(blocks, width, memory, call);
+    if (reply.number, blocks) == (1, 16_384) && call == Call::Collect {
+        reply.value = 1;
+    }
+    reply
+}
+
+fn wrong_replay(
+    blocks: usize,
+    width: usize,
+    memory: &mut Memory,
+    words: &[u64],
+    replies: &mut [u64],
+) -> Reply {
+    let reply = replay(blocks, width, memory, words, replies);
+    if let (18, Some(last)) = (reply.number, replies.last_mut()) {
+        *last = 0;
+    }
+    reply
+}
+
+#[test]
+fn a_difference_is_found_and_cut_down() {
+    let apply_only = Library {
+        apply: wrong_apply,
+        replay,
+    };
+    let (_, found) = fuzz(0, 1, apply_only);
+    let text = found.expect("a wrong value in a refusal on 16,384 blocks");
+    assert!(text.starts_with("a difference: 16384 blocks"), "{text}");
+    assert_eq!(text.matches("collect").count(), 1, "{text}");
+    let replay_only = Library {
+        apply,
+        replay: wrong_replay,
+    };
+    let (_, found) = fuzz(0, 1, replay_only);
+    let text = found.expect("a word written in a refused replay");
+    assert!(text.starts_with("a difference: a replay of "), "{text}");
+}
