@@ -13,14 +13,15 @@ pub enum Call {
         n: usize,
         r: usize,
     },
+    /// v is any word, as the other arguments are: one that no cell can hold is refused.
     StoreRoot {
         r: usize,
-        v: u16,
+        v: usize,
     },
     StoreCell {
         a: usize,
         j: usize,
-        v: u16,
+        v: usize,
     },
     Collect,
     Look {
@@ -63,11 +64,11 @@ pub mod short {
         Call::Allocate { n, r }
     }
 
-    pub fn root(r: usize, v: u16) -> Call {
+    pub fn root(r: usize, v: usize) -> Call {
         Call::StoreRoot { r, v }
     }
 
-    pub fn cell(a: usize, j: usize, v: u16) -> Call {
+    pub fn cell(a: usize, j: usize, v: usize) -> Call {
         Call::StoreCell { a, j, v }
     }
 

@@ -132,8 +132,8 @@ pub fn written_in(before: &Memory, call: Call, reply: Reply) -> Memory {
             memory.cells.fill(0);
         }
         Call::Allocate { r, .. } => memory.roots[r] = (1 + reply.value) as u16,
-        Call::StoreRoot { r, v } => memory.roots[r] = v,
-        Call::StoreCell { a, j, v } => memory.cells[4 * a + j] = v,
+        Call::StoreRoot { r, v } => memory.roots[r] = v as u16,
+        Call::StoreCell { a, j, v } => memory.cells[4 * a + j] = v as u16,
         Call::ReturnRoots { chosen } => {
             for (r, root) in memory.roots.iter_mut().enumerate() {
                 if is_chosen(chosen, r) {

@@ -60,7 +60,6 @@ pub fn expect(file: &[u8]) -> (String, Tally) {
                     tally.kinds[reply.value] += 1;
                 }
             }
-            Entry::ValueDoesNotFit => complain("value does not fit a cell"),
             Entry::Load {
                 buffer,
                 index,

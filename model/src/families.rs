@@ -117,7 +117,7 @@ pub fn saturation(desk: &mut Desk, count: usize) {
         let target = desk.some_object();
         let times = 1 + desk.random.below((1 << desk.bench.width) + 2);
         let cells = desk.cells_of(a);
-        let v = 1 + target as u16;
+        let v = 1 + target;
         for time in 0..times {
             let j = (time + desk.random.below(2)) % cells;
             desk.call(Call::StoreCell { a, j, v });
@@ -167,14 +167,14 @@ pub fn cycles(desk: &mut Desk, count: usize) {
                 desk.call(Call::StoreCell {
                     a: new,
                     j,
-                    v: 1 + old as u16,
+                    v: 1 + old,
                 });
             }
             // Keep it by a second root, so that the next allocation into the first one doesn't free it.
             let other = desk.random.below(desk.roots());
             desk.call(Call::StoreRoot {
                 r: other,
-                v: 1 + new as u16,
+                v: 1 + new,
             });
             before = Some(new);
         }
@@ -184,7 +184,7 @@ pub fn cycles(desk: &mut Desk, count: usize) {
                 desk.call(Call::StoreCell {
                     a: first,
                     j,
-                    v: 1 + last as u16,
+                    v: 1 + last,
                 });
             }
         }
@@ -218,7 +218,7 @@ pub fn self_references(desk: &mut Desk, count: usize) {
         let n = 1 + desk.random.below(2);
         desk.call(Call::Allocate { n, r });
         let a = desk.some_object();
-        let v = 1 + a as u16;
+        let v = 1 + a;
         let j = desk.random.below(desk.cells_of(a));
         desk.call(Call::StoreCell { a, j, v });
         if desk.random.percent(50) {
@@ -226,13 +226,13 @@ pub fn self_references(desk: &mut Desk, count: usize) {
         }
         if desk.random.percent(50) {
             // A root stored over itself.
-            let held = desk.bench.memory.roots[r];
+            let held = desk.bench.memory.roots[r] as usize;
             desk.call(Call::StoreRoot { r, v: held });
         }
         if desk.random.percent(70) {
             // Only its own cell names it now; writing that cell frees the owner of the cell.
             for r in 0..desk.roots() {
-                if desk.bench.memory.roots[r] == v {
+                if desk.bench.memory.roots[r] as usize == v {
                     desk.call(Call::StoreRoot { r, v: 0 });
                 }
             }
@@ -281,12 +281,12 @@ fn chain(desk: &mut Desk) {
     let length = 2 + desk.random.below(desk.blocks());
     desk.call(Call::Allocate { n: 1, r: 0 });
     for _ in 0..length {
-        let held = desk.bench.memory.roots[0];
+        let held = desk.bench.memory.roots[0] as usize;
         let reply = desk.call(Call::Allocate { n: 1, r: new_root });
         if reply.number != 0 {
             break;
         }
-        let new = 1 + reply.value as u16;
+        let new = 1 + reply.value;
         if new_root != 0 {
             let j = desk.random.below(4);
             let a = reply.value;
@@ -311,7 +311,7 @@ fn star(desk: &mut Desk) {
         if reply.number != 0 || new_root == 0 {
             break;
         }
-        let v = 1 + reply.value as u16;
+        let v = 1 + reply.value;
         desk.call(Call::StoreCell { a: 0, j, v });
         j += 1;
         if desk.random.percent(30) {
@@ -466,9 +466,9 @@ pub fn huge_arguments(desk: &mut Desk, count: usize) {
         let r = desk.some_root() as u64;
         let a = desk.some_object() as u64;
         let v = desk.some_value(50) as u64;
-        let bad_v = desk
-            .random
-            .pick(&[65_535, 65_534, 32_768, blocks, blocks + 1, 65_536, x]);
+        let wide = desk.some_wide_value() as u64;
+        let bad_v = [blocks, blocks + 1, 32_768, 65_534, x, x, wide, wide, wide];
+        let bad_v = desk.random.pick(&bad_v);
         let words = match desk.random.below(14) {
             0 => [2, x, r, 0],
             1 => [2, 1, x, 0],

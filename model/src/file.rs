@@ -22,22 +22,9 @@ pub const NEW: u64 = 255;
 #[derive(Clone, Copy, Debug, PartialEq, Eq)]
 pub enum Entry {
     Call(Call),
-    /// A store whose v is above 65,535.
-    ValueDoesNotFit,
-    Load {
-        buffer: u64,
-        index: u64,
-        value: u64,
-    },
-    Length {
-        buffer: u64,
-        length: u64,
-    },
-    New {
-        blocks: u64,
-        width: u64,
-        roots: u64,
-    },
+    Load { buffer: u64, index: u64, value: u64 },
+    Length { buffer: u64, length: u64 },
+    New { blocks: u64, width: u64, roots: u64 },
     Unknown(u64),
 }
 
@@ -53,14 +40,12 @@ impl Entry {
             0 => Entry::Call(Call::Format),
             1 => Entry::Call(Call::Check),
             2 => Entry::Call(Call::Allocate { n: p, r: q }),
-            3 => match u16::try_from(y) {
-                Ok(v) => Entry::Call(Call::StoreRoot { r: p, v }),
-                Err(_) => Entry::ValueDoesNotFit,
-            },
-            4 => match u16::try_from(z) {
-                Ok(v) => Entry::Call(Call::StoreCell { a: p, j: q, v }),
-                Err(_) => Entry::ValueDoesNotFit,
-            },
+            3 => Entry::Call(Call::StoreRoot { r: p, v: q }),
+            4 => Entry::Call(Call::StoreCell {
+                a: p,
+                j: q,
+                v: z as usize,
+            }),
             5 => Entry::Call(Call::Collect),
             6 => Entry::Call(Call::Look { a: p }),
             7 => Entry::Call(Call::FreeBlocks),
@@ -151,7 +136,7 @@ impl Bench {
                     *self = next;
                 }
             }
-            Entry::ValueDoesNotFit | Entry::Unknown(_) => {}
+            Entry::Unknown(_) => {}
         }
         None
     }

@@ -96,18 +96,27 @@ impl Desk {
         self.random.below(roots)
     }
 
+    /// A value that no cell can hold, and that names an object once it is cut down to 16 bits.
+    pub fn some_wide_value(&mut self) -> usize {
+        let above = self.random.pick(&[1 << 16, 1 << 17, 1 << 32, 1 << 63]);
+        above + 1 + self.some_object()
+    }
+
     /// A value to store: mostly an object's name or 0, seldom one that names nothing.
-    pub fn some_value(&mut self, percent_zero: usize) -> u16 {
+    pub fn some_value(&mut self, percent_zero: usize) -> usize {
         if self.random.percent(4) {
-            return self.random.below(self.bench.blocks + 4) as u16;
+            return self.random.below(self.bench.blocks + 4);
         }
-        if self.random.percent(1) {
-            return self.random.word() as u16;
+        if self.random.percent(2) {
+            return match self.random.below(2) {
+                0 => self.random.below(65_536),
+                _ => self.some_wide_value(),
+            };
         }
         if self.random.percent(percent_zero) || self.objects().is_empty() {
             return 0;
         }
-        1 + self.some_object() as u16
+        1 + self.some_object()
     }
 
     /// A size: mostly small, seldom large, seldom refused.
@@ -131,9 +140,9 @@ impl Desk {
     }
 
     /// A value to store where this one is present: seldom the same again.
-    fn some_value_over(&mut self, present: Option<u16>, percent_zero: usize) -> u16 {
+    fn some_value_over(&mut self, present: Option<u16>, percent_zero: usize) -> usize {
         match present {
-            Some(v) if self.random.percent(8) => v,
+            Some(v) if self.random.percent(8) => v as usize,
             _ => self.some_value(percent_zero),
         }
     }

@@ -94,9 +94,9 @@ fn own_reference(step: &Step) -> Option<u16> {
     let v = match step.call {
         _ if step.reply.number != 0 => 0,
         Call::StoreRoot { v, .. } | Call::StoreCell { v, .. } => v,
-        Call::Allocate { .. } => (1 + step.reply.value) as u16,
+        Call::Allocate { .. } => 1 + step.reply.value,
         Call::Format | Call::Check | Call::Collect | Call::Look { .. } | Call::FreeBlocks => 0,
         Call::ReturnRoots { .. } => 0,
     };
-    (v != 0).then_some(v)
+    (v != 0).then_some(v as u16)
 }

@@ -25,7 +25,7 @@ pub fn replay(
     if !words.len().is_multiple_of(4) {
         return refused(10);
     }
-    // "9 where an entry is no call (an unknown code, or a value that no cell can hold)"
+    // "9 where an entry is no call (an unknown code)"
     let Some(calls) = calls_in(words) else {
         return refused(9);
     };

@@ -10,9 +10,7 @@ use crate::chunks::{least_power_of_two, lowest_free_chunk};
 use crate::collection::sweep_and_recount;
 use crate::counting::{count_up, release, Order};
 use crate::damage::damage;
-use crate::heap::{
-    count, free_count, is_first_block, misshapen, named, set_bit, set_count, size, Memory,
-};
+use crate::heap::{count, free_count, is_first_block, misshapen, set_bit, set_count, size, Memory};
 
 /// "A reply is a number and a value (two values for the look). Number 0 is acceptance."
 #[derive(Clone, Copy, Debug, PartialEq, Eq, Hash)]
@@ -132,6 +130,11 @@ pub fn allocate(
     accepted(first)
 }
 
+/// "8 if v is neither 0 nor 1 + a first block." What is left, as a cell holds it.
+fn reference(blocks: usize, memory: &Memory, v: usize) -> Option<u16> {
+    (v == 0 || is_first_block(blocks, memory, v - 1)).then_some(v as u16)
+}
+
 /// Document 02, U2: "From now on an accepted store of the value present changes no buffer but the waiting list".
 fn store_value_present(memory: &mut Memory) -> Reply {
     leave_waiting_list_zero(memory);
@@ -146,7 +149,7 @@ pub fn store_root(
     width: usize,
     memory: &mut Memory,
     r: usize,
-    v: u16,
+    v: usize,
     order: Order,
 ) -> Reply {
     if let Some(reply) = refused_1_or_2(blocks, width, memory) {
@@ -155,9 +158,9 @@ pub fn store_root(
     if r >= memory.roots.len() {
         return refused(4);
     }
-    if v != 0 && named(blocks, memory, v).is_none() {
+    let Some(v) = reference(blocks, memory, v) else {
         return refused(8);
-    }
+    };
     if v == memory.roots[r] {
         return store_value_present(memory);
     }
@@ -182,7 +185,7 @@ pub fn store_cell(
     memory: &mut Memory,
     a: usize,
     j: usize,
-    v: u16,
+    v: usize,
     order: Order,
 ) -> Reply {
     if let Some(reply) = refused_1_or_2(blocks, width, memory) {
@@ -194,9 +197,9 @@ pub fn store_cell(
     if j >= 4 * size(blocks, memory, a) {
         return refused(7);
     }
-    if v != 0 && named(blocks, memory, v).is_none() {
+    let Some(v) = reference(blocks, memory, v) else {
         return refused(8);
-    }
+    };
     if v == memory.cells[4 * a + j] {
         return store_value_present(memory);
     }

@@ -10,7 +10,6 @@ use std::str::Lines;
 pub fn entry_in_words(words: [u64; 4]) -> String {
     match Entry::from_words(words) {
         Entry::Call(call) => call_in_words(call),
-        Entry::ValueDoesNotFit => "a store whose value does not fit a cell".to_string(),
         Entry::Load {
             buffer,
             index,

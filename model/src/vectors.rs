@@ -1,6 +1,7 @@
 //! The one large file of lists that the program `calls` is tested with: the paper cases, all families on
 //! many small heaps, a few large heaps, and every complaint that a file can meet.
 
+use crate::calls::short::{allocate, cell, root};
 use crate::calls::Call;
 use crate::families::{some_shape, FAMILIES};
 use crate::file::{LENGTH, LOAD, NEW};
@@ -47,6 +48,7 @@ pub fn vectors(seed: u64) -> Vec<u8> {
     paper_cases(&mut desk);
     complaints(&mut desk);
     shapes(&mut desk);
+    whole_words(&mut desk);
     waiting_list(&mut desk);
     present_values(&mut desk);
     returns(&mut desk);
@@ -72,11 +74,6 @@ fn complaints(desk: &mut Desk) {
     desk.call(Call::Allocate { n: 2, r: 0 });
     for unknown in [9, 10, 252, 256, 264, 1 << 32, (1 << 32) + 8, m] {
         desk.words([unknown, 1, 2, 3]);
-    }
-    for v in [65_536, 65_537, 1 << 32, m] {
-        desk.words([3, 0, v, 0]);
-        desk.words([4, 0, 0, v]);
-        desk.words([3, m, v, 0]);
     }
     for load in [[0, 1, 0], [0, 0, 256], [3, 32, 0], [3, 0, 65_536]] {
         desk.words([LOAD, load[0], load[1], load[2]]);
@@ -171,6 +168,57 @@ fn shapes(desk: &mut Desk) {
         desk.length(buffer, length);
     }
     desk.call(Call::Format);
+}
+
+/// Values up to the largest word: "8 if v is neither 0 nor 1 + a first block", and the numbers that come before 8. Cut
+/// down to 16 bits, four of these would be 0 or name the object at 0.
+fn whole_words(desk: &mut Desk) {
+    let values = [65_535, 65_536, 65_537, 1 << 32, (1 << 32) + 1, usize::MAX];
+    let stores = |v| [root(0, v), root(3, v), cell(0, 0, v), cell(0, 7, v)];
+    // Before 8: a root, a block or a cell out of range.
+    let refused_before = |v| {
+        let m = usize::MAX;
+        [
+            root(4, v),
+            root(m, v),
+            cell(1, 0, v),
+            cell(m, 0, v),
+            cell(0, 8, v),
+            cell(0, m, v),
+        ]
+    };
+    desk.new_heap([8, 2, 4]);
+    // Not formatted: 2 before all of them.
+    for v in values {
+        desk.call(root(0, v));
+        desk.call(cell(0, 0, v));
+    }
+    desk.call(Call::Format);
+    desk.call(allocate(2, 0));
+    for v in values {
+        for call in [&stores(v)[..], &refused_before(v)].concat() {
+            desk.call(call);
+        }
+    }
+    desk.call(Call::Check);
+    // A buffer too short: 1.
+    desk.length(5, 7);
+    for v in values {
+        desk.call(root(4, v));
+        desk.call(cell(8, 0, v));
+    }
+    // The largest heap: the largest value that is good, and the next.
+    desk.new_heap([8192, 2, 1]);
+    desk.call(Call::Format);
+    for n in [4096, 2048, 1024, 512, 256, 128, 64, 32, 16, 8, 4, 2, 1, 1] {
+        desk.call(allocate(n, 0));
+        let last = desk.bench.memory.roots[0] as usize;
+        desk.call(cell(last - 1, 3, last));
+    }
+    for v in [8192, 8193, 8192 + 65_536, 8192] {
+        desk.call(root(0, v));
+        desk.call(cell(8191, 0, v));
+    }
 }
 
 /// Rubbish in the waiting list before one call, accepted or refused; the new heap after it prints the list.

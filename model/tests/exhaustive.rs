@@ -33,7 +33,7 @@ const ALPHABET: [Call; 21] = [
 ];
 
 /// Calls that only read or are refused on every heap of eight blocks and two roots.
-const BESIDE: [Call; 8] = [
+const BESIDE: [Call; 10] = [
     Call::Check,
     Call::FreeBlocks,
     Call::Look { a: 2 },
@@ -41,6 +41,12 @@ const BESIDE: [Call; 8] = [
     Call::Allocate { n: 9, r: 0 },
     Call::StoreRoot { r: 2, v: 0 },
     Call::StoreCell { a: 0, j: 32, v: 0 },
+    Call::StoreRoot { r: 0, v: 65_537 },
+    Call::StoreCell {
+        a: 0,
+        j: 0,
+        v: 65_537,
+    },
     Call::ReturnRoots { chosen: 4 },
 ];
 

@@ -50,9 +50,12 @@ fn entries() {
     let most = u64::MAX;
     let line = "call 0: unknown call 18446744073709551615\n";
     assert_eq!(first([most, 0, 0, 0]).unwrap(), line);
-    let line = "call 0: value does not fit a cell\n";
-    assert_eq!(first([3, 0, 65_536, 0]).unwrap(), line);
-    assert_eq!(first([4, 0, 0, most]).unwrap(), line);
+    // The value of a store is a whole word: the call is made.
+    assert_eq!(first([3, 0, most, 0]).unwrap(), "2 1 0\n");
+    assert_eq!(first([4, 0, 0, most]).unwrap(), "2 1 0\n");
+    let formatted = [Call::Format.words(), [3, 0, 65_536, 0], [3, 4, most, 0]];
+    let out = printed([8, 2, 4], &formatted);
+    assert!(out.starts_with("0 0 0\n8 0 0\n4 0 0\n0\n255\n"), "{out}");
     for load in [
         [0, 1, 0],
         [1, 0, 256],
@@ -134,7 +137,6 @@ fn the_large_file() {
     for line in [
         "cut off",
         "too large",
-        "value does not fit a cell",
         "load out of range",
         "length out of range",
         "unknown call",

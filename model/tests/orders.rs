@@ -72,7 +72,7 @@ fn tangle(seed: u64) -> Bench {
         for a in owners {
             let j = desk.random.below(desk.cells_of(a));
             if reply.number == 0 && desk.bench.memory.cells[4 * a + j] == 0 {
-                let v = 1 + reply.value as u16;
+                let v = 1 + reply.value;
                 desk.call(Call::StoreCell { a, j, v });
             }
         }
@@ -138,7 +138,7 @@ fn faulty(fault: Fault, memory: &mut Memory, shape: [usize; 2], call: Call, orde
             return reply;
         }
     };
-    let (place, v) = written;
+    let (place, v) = (written.0, written.1 as u16);
     let old = std::mem::replace(place, v);
     count_up(blocks, width, memory, v);
     let mut waiting = Vec::new();

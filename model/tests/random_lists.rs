@@ -54,7 +54,6 @@ fn claims_in_every_family() {
                         width,
                         roots,
                     } => bench = Bench::new(blocks, width, roots).unwrap(),
-                    Entry::ValueDoesNotFit => {}
                     Entry::Unknown(_) => panic!("an unknown entry"),
                 }
             }

@@ -65,7 +65,7 @@ fn refusals_in_order() {
     say("a replay with each set of its four faults");
 }
 
-/// "an unknown code, or a value that no cell can hold"
+/// "9 where an entry is no call (an unknown code)"
 #[test]
 fn what_is_no_call() {
     let most = u64::MAX;
@@ -74,10 +74,8 @@ fn what_is_no_call() {
         ([253, 0, 0, 0], 9),
         ([255, 8, 2, 4], 9),
         ([most, 0, 0, 0], 9),
-        ([3, 0, 65_536, 0], 9),
-        ([3, most, 65_535, most], 0),
-        ([4, 0, 0, 65_536], 9),
-        ([4, most, most, 65_535], 0),
+        ([3, most, most, most], 0),
+        ([4, most, most, most], 0),
         ([2, most, most, most], 0),
         ([7, most, most, most], 0),
         ([8, most, most, most], 0),
@@ -86,4 +84,28 @@ fn what_is_no_call() {
         let reply = replay(8, 2, &mut memory, &list, &mut [0; 3]);
         assert_eq!(reply.number, number, "{list:?}");
     }
+}
+
+/// A store of a value that no cell can hold is answered 8, and the list goes on.
+#[test]
+fn a_value_that_no_cell_can_hold() {
+    let list = words(&[
+        Call::Allocate { n: 1, r: 0 },
+        Call::StoreRoot { r: 1, v: 1 << 40 },
+        Call::StoreRoot { r: 1, v: 65_537 },
+        Call::StoreCell {
+            a: 0,
+            j: 0,
+            v: usize::MAX,
+        },
+        Call::StoreRoot { r: 1, v: 1 },
+        Call::Look { a: 0 },
+    ]);
+    let mut memory = Memory::zeros(8, 2, 4);
+    let mut replies = [7; 18];
+    let reply = replay(8, 2, &mut memory, &list, &mut replies);
+    assert_eq!((reply.number, reply.value, reply.second), (0, 6, 0));
+    let numbers: Vec<u64> = replies.chunks(3).map(|reply| reply[0]).collect();
+    assert_eq!(numbers, [0, 8, 8, 8, 0, 0]);
+    assert_eq!(replies[15..], [0, 1, 2]);
 }

@@ -61,11 +61,11 @@ impl Heap {
         match call {
             Call::StoreRoot { r, v } => {
                 *memory = before;
-                self.store(blocks, width, memory, (true, r), v)
+                self.store(blocks, width, memory, (true, r), v as u16)
             }
             Call::StoreCell { a, j, v } => {
                 *memory = before;
-                self.store(blocks, width, memory, (false, 4 * a + j), v)
+                self.store(blocks, width, memory, (false, 4 * a + j), v as u16)
             }
             Call::Collect if self == Heap::CollectionGivesOneMore => {
                 for (first, _) in objects(blocks, memory) {

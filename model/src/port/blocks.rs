@@ -62,8 +62,8 @@ pub fn object_size(blocks: usize, b: &[u8], i: usize) -> usize {
     blocks - i
 }
 
-pub fn is_reference(blocks: usize, a: &[u8], b: &[u8], v: u16) -> bool {
-    v == 0 || is_first(blocks, a, b, v as usize - 1)
+pub fn is_reference(blocks: usize, a: &[u8], b: &[u8], v: usize) -> bool {
+    v == 0 || is_first(blocks, a, b, v - 1)
 }
 
 pub fn chunk_size(n: usize) -> usize {

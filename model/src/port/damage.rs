@@ -53,7 +53,7 @@ fn has_unaligned(blocks: usize, a: &[u8], b: &[u8]) -> bool {
 
 fn has_bad_cell(blocks: usize, a: &[u8], b: &[u8], cells: &[u16]) -> bool {
     for (j, v) in cells.iter().enumerate() {
-        if *v != 0 && (get_bit(a, j / 4) == 0 || !is_reference(blocks, a, b, *v)) {
+        if *v != 0 && (get_bit(a, j / 4) == 0 || !is_reference(blocks, a, b, *v as usize)) {
             return true;
         }
     }
@@ -62,7 +62,7 @@ fn has_bad_cell(blocks: usize, a: &[u8], b: &[u8], cells: &[u16]) -> bool {
 
 fn has_bad_root(blocks: usize, a: &[u8], b: &[u8], roots: &[u16]) -> bool {
     for v in roots {
-        if !is_reference(blocks, a, b, *v) {
+        if !is_reference(blocks, a, b, *v as usize) {
             return true;
         }
     }

@@ -33,17 +33,17 @@ fn allocate(blocks: usize, width: usize, m: &mut Lent, n: usize, r: usize) -> An
     acceptance(at)
 }
 
-fn put_in_root(blocks: usize, width: usize, m: &mut Lent, r: usize, v: u16) -> Answer {
+fn put_in_root(blocks: usize, width: usize, m: &mut Lent, r: usize, v: usize) -> Answer {
     if m.roots.len() <= r {
         return refusal(4);
     }
     if !is_reference(blocks, m.a, m.b, v) {
         return refusal(8);
     }
-    acceptance(store_root(blocks, width, m, r, v))
+    acceptance(store_root(blocks, width, m, r, v as u16))
 }
 
-fn put_in_cell(blocks: usize, width: usize, m: &mut Lent, at: usize, j: usize, v: u16) -> Answer {
+fn put_in_cell(blocks: usize, width: usize, m: &mut Lent, at: usize, j: usize, v: usize) -> Answer {
     if !is_first(blocks, m.a, m.b, at) {
         return refusal(6);
     }
@@ -53,7 +53,7 @@ fn put_in_cell(blocks: usize, width: usize, m: &mut Lent, at: usize, j: usize, v
     if !is_reference(blocks, m.a, m.b, v) {
         return refusal(8);
     }
-    acceptance(store_cell(blocks, width, m, 4 * at + j, v))
+    acceptance(store_cell(blocks, width, m, 4 * at + j, v as u16))
 }
 
 fn let_go_of(blocks: usize, width: usize, m: &mut Lent, chosen: u64) -> Answer {
@@ -84,8 +84,8 @@ pub fn step(blocks: usize, width: usize, m: &mut Lent, call: &[u64]) -> Answer {
             acceptance(0)
         }
         2 => allocate(blocks, width, m, x, y),
-        3 => put_in_root(blocks, width, m, x, call[2] as u16),
-        4 => put_in_cell(blocks, width, m, x, y, call[3] as u16),
+        3 => put_in_root(blocks, width, m, x, y),
+        4 => put_in_cell(blocks, width, m, x, y, call[3] as usize),
         5 => acceptance(collect(blocks, width, m)),
         6 => look(blocks, width, m, x),
         7 => acceptance(count_zeros(m.a)),
@@ -96,11 +96,7 @@ pub fn step(blocks: usize, width: usize, m: &mut Lent, call: &[u64]) -> Answer {
 
 /// Whether four words are a call.
 fn is_call(call: &[u64]) -> bool {
-    match call[0] {
-        3 => call[2] < 65_536,
-        4 => call[3] < 65_536,
-        code => code < 9,
-    }
+    call[0] < 9
 }
 
 /// Formats, then runs calls of four words each and writes replies of three words each.
