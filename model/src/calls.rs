@@ -99,15 +99,28 @@ pub fn apply_in_order(
     call: Call,
     order: Order,
 ) -> Reply {
+    match rules::refused_first(blocks, width, memory, call) {
+        Some(reply) => reply,
+        None => carry_out(blocks, width, memory, call, order),
+    }
+}
+
+/// The same on a heap that is neither misshapen nor damaged: "A run of many calls may check once and then rely on the
+/// proved fact that calls keep a heap undamaged."
+pub fn apply_undamaged(blocks: usize, width: usize, memory: &mut Memory, call: Call) -> Reply {
+    carry_out(blocks, width, memory, call, &mut longest_waiting)
+}
+
+fn carry_out(blocks: usize, width: usize, memory: &mut Memory, call: Call, order: Order) -> Reply {
     match call {
-        Call::Format => rules::format(blocks, width, memory),
-        Call::Check => rules::check(blocks, width, memory),
+        Call::Format => rules::format(memory),
+        Call::Check => rules::check(),
         Call::Allocate { n, r } => rules::allocate(blocks, width, memory, n, r, order),
         Call::StoreRoot { r, v } => rules::store_root(blocks, width, memory, r, v, order),
         Call::StoreCell { a, j, v } => rules::store_cell(blocks, width, memory, a, j, v, order),
         Call::Collect => rules::collect(blocks, width, memory),
         Call::Look { a } => rules::look(blocks, width, memory, a),
-        Call::FreeBlocks => rules::free_blocks(blocks, width, memory),
+        Call::FreeBlocks => rules::free_blocks(blocks, memory),
         Call::ReturnRoots { chosen } => rules::return_roots(blocks, width, memory, chosen, order),
     }
 }

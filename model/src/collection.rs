@@ -18,33 +18,32 @@ pub fn reached(blocks: usize, memory: &Memory) -> BTreeSet<usize> {
     reached
 }
 
-/// "the number of roots and cells of reached objects that name it"
-pub fn reached_references(
-    blocks: usize,
-    memory: &Memory,
-    reached: &BTreeSet<usize>,
-    first: usize,
-) -> usize {
-    let name = 1 + first;
-    let mut number = memory.roots.iter().filter(|v| **v as usize == name).count();
-    for owner in reached {
-        let cells = &memory.cells[cell_places(blocks, memory, *owner)];
-        number += cells.iter().filter(|v| **v as usize == name).count();
+/// "the number of roots and cells of reached objects that name it", at the first block of each reached object.
+pub fn reached_references(blocks: usize, memory: &Memory, reached: &BTreeSet<usize>) -> Vec<usize> {
+    let mut numbers = vec![0; blocks];
+    let cells = reached
+        .iter()
+        .flat_map(|owner| &memory.cells[cell_places(blocks, memory, *owner)]);
+    for v in memory.roots.iter().chain(cells) {
+        if let Some(first) = named(blocks, memory, *v) {
+            numbers[first] += 1;
+        }
     }
-    number
+    numbers
 }
 
 /// "Objects not reached are freed, without count-downs. Each reached object's count becomes the smaller of
 /// the capacity and the number of roots and cells of reached objects that name it."
 pub fn sweep_and_recount(blocks: usize, width: usize, memory: &mut Memory) {
     let reached = reached(blocks, memory);
+    let numbers = reached_references(blocks, memory, &reached);
     for first in first_blocks(blocks, memory) {
         if !reached.contains(&first) {
             erase(blocks, width, memory, first);
         }
     }
     for first in &reached {
-        let number = reached_references(blocks, memory, &reached, *first);
-        set_count(blocks, width, memory, *first, number.min(capacity(width)));
+        let number = numbers[*first].min(capacity(width));
+        set_count(blocks, width, memory, *first, number);
     }
 }

@@ -146,5 +146,6 @@ pub fn cell_places(blocks: usize, memory: &Memory, first: usize) -> std::ops::Ra
 
 /// "the value is the number of 0 bits in the A-map"
 pub fn free_count(blocks: usize, memory: &Memory) -> usize {
-    (0..blocks).filter(|i| !is_allocated(memory, *i)).count()
+    let bytes = memory.a[..blocks / 8].iter();
+    bytes.map(|byte| byte.count_zeros() as usize).sum()
 }

@@ -3,9 +3,10 @@
 //! "Each list is in order, and the first number that applies is given. No refusal is given when its
 //! condition is false."
 //!
-//! The calls that let go of a reference take the order in which objects that wait are freed (counting.rs).
+//! The numbers 1 and 2 stand first in every list: `refused_first`. The calls are for heaps that these don't apply to.
+//! Those that let go of a reference take the order in which objects that wait are freed (counting.rs).
 
-use crate::calls::is_chosen;
+use crate::calls::{is_chosen, Call};
 use crate::chunks::{least_power_of_two, lowest_free_chunk};
 use crate::collection::sweep_and_recount;
 use crate::counting::{count_up, release, Order};
@@ -39,10 +40,15 @@ pub(crate) fn refused(number: usize) -> Reply {
     }
 }
 
-/// The two refusals that stand first in every call but format: "1 as before; 2 if the heap is damaged."
-fn refused_1_or_2(blocks: usize, width: usize, memory: &Memory) -> Option<Reply> {
+/// What stands first in the list of every call. "Format: 1 if N, w, the number of roots or any buffer's length is not as
+/// above." "A heap that a call formats isn't tested for more than 1." In all others: "1 as before; 2 if the heap is
+/// damaged."
+pub fn refused_first(blocks: usize, width: usize, memory: &Memory, call: Call) -> Option<Reply> {
     if misshapen(blocks, width, memory) {
         return Some(refused(1));
+    }
+    if call == Call::Format {
+        return None;
     }
     match damage(blocks, width, memory) {
         0 => None,
@@ -61,13 +67,7 @@ fn leave_waiting_list_zero(memory: &mut Memory) {
 }
 
 /// "Format. A-map 0, B-map all ones, everything else 0. The value is 0."
-///
-/// "Format: 1 if N, w, the number of roots or any buffer's length is not as above." "A heap that a call
-/// formats isn't tested for more than 1."
-pub fn format(blocks: usize, width: usize, memory: &mut Memory) -> Reply {
-    if misshapen(blocks, width, memory) {
-        return refused(1);
-    }
+pub fn format(memory: &mut Memory) -> Reply {
     memory.a.fill(0);
     memory.b.fill(255);
     memory.counts.fill(0);
@@ -78,10 +78,7 @@ pub fn format(blocks: usize, width: usize, memory: &mut Memory) -> Reply {
 }
 
 /// "Check: value 0." "Check and free blocks: 1 as before; 2 if the heap is damaged. Both test the whole heap."
-pub fn check(blocks: usize, width: usize, memory: &Memory) -> Reply {
-    if let Some(reply) = refused_1_or_2(blocks, width, memory) {
-        return reply;
-    }
+pub fn check() -> Reply {
     accepted(0)
 }
 
@@ -97,9 +94,6 @@ pub fn allocate(
     r: usize,
     order: Order,
 ) -> Reply {
-    if let Some(reply) = refused_1_or_2(blocks, width, memory) {
-        return reply;
-    }
     if n == 0 || n > blocks {
         return refused(3);
     }
@@ -152,9 +146,6 @@ pub fn store_root(
     v: usize,
     order: Order,
 ) -> Reply {
-    if let Some(reply) = refused_1_or_2(blocks, width, memory) {
-        return reply;
-    }
     if r >= memory.roots.len() {
         return refused(4);
     }
@@ -188,9 +179,6 @@ pub fn store_cell(
     v: usize,
     order: Order,
 ) -> Reply {
-    if let Some(reply) = refused_1_or_2(blocks, width, memory) {
-        return reply;
-    }
     if !is_first_block(blocks, memory, a) {
         return refused(6);
     }
@@ -225,9 +213,6 @@ pub fn return_roots(
     chosen: u64,
     order: Order,
 ) -> Reply {
-    if let Some(reply) = refused_1_or_2(blocks, width, memory) {
-        return reply;
-    }
     let roots = memory.roots.len();
     if (roots..64).any(|r| is_chosen(chosen, r)) {
         return refused(4);
@@ -247,9 +232,6 @@ pub fn return_roots(
 
 /// "Collect." "Collect: 1, 2." "The value is the number of blocks freed."
 pub fn collect(blocks: usize, width: usize, memory: &mut Memory) -> Reply {
-    if let Some(reply) = refused_1_or_2(blocks, width, memory) {
-        return reply;
-    }
     let free_before = free_count(blocks, memory);
     sweep_and_recount(blocks, width, memory);
     leave_waiting_list_zero(memory);
@@ -258,9 +240,6 @@ pub fn collect(blocks: usize, width: usize, memory: &mut Memory) -> Reply {
 
 /// "Look at block a: the object's size and its count." "Look: 1, 2, 6."
 pub fn look(blocks: usize, width: usize, memory: &Memory, a: usize) -> Reply {
-    if let Some(reply) = refused_1_or_2(blocks, width, memory) {
-        return reply;
-    }
     if !is_first_block(blocks, memory, a) {
         return refused(6);
     }
@@ -272,9 +251,6 @@ pub fn look(blocks: usize, width: usize, memory: &Memory, a: usize) -> Reply {
 }
 
 /// "Free blocks: the value is the number of 0 bits in the A-map."
-pub fn free_blocks(blocks: usize, width: usize, memory: &Memory) -> Reply {
-    if let Some(reply) = refused_1_or_2(blocks, width, memory) {
-        return reply;
-    }
+pub fn free_blocks(blocks: usize, memory: &Memory) -> Reply {
     accepted(free_count(blocks, memory))
 }
