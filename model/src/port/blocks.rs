@@ -74,39 +74,53 @@ pub fn chunk_size(n: usize) -> usize {
     size
 }
 
-fn chunk_is_free(a: &[u8], at: usize, size: usize) -> bool {
-    if size == 1 {
-        return get_bit(a, at) == 0;
-    }
-    let half = size / 2;
-    chunk_is_free(a, at, half) && chunk_is_free(a, at + half, half)
+/// What a search found: the first block of a chunk, or the end of the part searched, and how many blocks it
+/// looked at.
+#[derive(Clone, Copy, Debug, PartialEq, Eq)]
+pub struct Searched {
+    pub at: usize,
+    pub looks: usize,
 }
 
-pub fn some_chunk_free(blocks: usize, a: &[u8], size: usize) -> bool {
-    let mut at = 0;
-    while at < blocks {
-        if get_bit(a, at) == 0 && chunk_is_free(a, at, size) {
-            return true;
-        }
-        at += size;
-    }
-    false
+fn is_judged_free(end: usize, size: usize, stretch: usize) -> bool {
+    size <= stretch && end & (size - 1) == 0
 }
 
-pub fn lowest_chunk(blocks: usize, a: &[u8], size: usize) -> usize {
-    let mut at = 0;
-    'chunks: loop {
-        if blocks <= at {
-            break at;
+pub fn lowest_chunk(a: &[u8], from: usize, to: usize, size: usize) -> Searched {
+    let mut looks = 0;
+    let mut stretch = 0;
+    let at = 'bytes: loop {
+        if from + looks == to {
+            break to;
         }
-        for i in 0..size {
-            if get_bit(a, at + i) != 0 {
-                at += size;
-                continue 'chunks;
+        let byte = a[(from + looks) / 8];
+        if byte == 0 {
+            let free = size.min(8);
+            looks += free;
+            stretch += free;
+            if is_judged_free(from + looks, size, stretch) {
+                break from + looks - size;
             }
+            continue 'bytes;
         }
-        break at;
-    }
+        if size < 8 && byte != 255 {
+            for i in 0..8 {
+                looks += 1;
+                if (byte >> i) % 2 != 0 {
+                    stretch = 0;
+                    continue;
+                }
+                stretch += 1;
+                if is_judged_free(from + looks, size, stretch) {
+                    break 'bytes from + looks - size;
+                }
+            }
+            continue 'bytes;
+        }
+        looks += 8;
+        stretch = byte.leading_zeros() as usize;
+    };
+    Searched { at, looks }
 }
 
 pub fn mark_extent(a: &mut [u8], b: &mut [u8], i: usize, n: usize) {

@@ -5,12 +5,15 @@ mod blocks;
 mod damage;
 mod references;
 mod replay;
+mod two_passes;
 
 use crate::heap::Memory;
 
+pub use blocks::{lowest_chunk, Searched};
 pub use damage::check;
 pub use references::collect;
-pub use replay::{replay, step};
+pub use replay::{replay, replay_by, step};
+pub use two_passes::search_in_two_passes;
 
 /// The six lent buffers.
 pub struct Lent<'a> {

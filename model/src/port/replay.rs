@@ -2,7 +2,6 @@
 
 use super::blocks::{
     chunk_size, count_zeros, get_count, is_first, is_reference, lowest_chunk, object_size,
-    some_chunk_free,
 };
 use super::damage::is_shaped;
 use super::references::{collect, place, return_roots, store_cell, store_root};
@@ -17,18 +16,33 @@ fn format(m: &mut Lent) {
     m.waiting.fill(0);
 }
 
-fn allocate(blocks: usize, width: usize, m: &mut Lent, n: usize, r: usize) -> Answer {
+/// A search of a map of so many blocks for the lowest free chunk of a size: its first block, or the number of blocks.
+pub trait Search: Fn(&[u8], usize, usize) -> usize {}
+
+impl<F: Fn(&[u8], usize, usize) -> usize> Search for F {}
+
+fn search(a: &[u8], blocks: usize, size: usize) -> usize {
+    lowest_chunk(a, 0, blocks, size).at
+}
+
+fn allocate(
+    find: &impl Search,
+    blocks: usize,
+    width: usize,
+    m: &mut Lent,
+    n: usize,
+    r: usize,
+) -> Answer {
     if n == 0 || blocks < n {
         return refusal(3);
     }
     if m.roots.len() <= r {
         return refusal(4);
     }
-    let size = chunk_size(n);
-    if !some_chunk_free(blocks, m.a, size) {
+    let at = find(m.a, blocks, chunk_size(n));
+    if at == blocks {
         return refusal(5);
     }
-    let at = lowest_chunk(blocks, m.a, size);
     place(blocks, width, m, n, r, at);
     acceptance(at)
 }
@@ -77,13 +91,17 @@ fn look(blocks: usize, width: usize, m: &Lent, at: usize) -> Answer {
 
 /// One call of four words, on an undamaged heap with a cleared waiting list.
 pub fn step(blocks: usize, width: usize, m: &mut Lent, call: &[u64]) -> Answer {
+    step_by(&search, blocks, width, m, call)
+}
+
+fn step_by(find: &impl Search, blocks: usize, width: usize, m: &mut Lent, call: &[u64]) -> Answer {
     let (x, y) = (call[1] as usize, call[2] as usize);
     match call[0] {
         0 => {
             format(m);
             acceptance(0)
         }
-        2 => allocate(blocks, width, m, x, y),
+        2 => allocate(find, blocks, width, m, x, y),
         3 => put_in_root(blocks, width, m, x, y),
         4 => put_in_cell(blocks, width, m, x, y, call[3] as usize),
         5 => acceptance(collect(blocks, width, m)),
@@ -107,6 +125,18 @@ pub fn replay(
     calls: &[u64],
     replies: &mut [u64],
 ) -> Answer {
+    replay_by(&search, blocks, width, m, calls, replies)
+}
+
+/// The same with another search.
+pub fn replay_by(
+    find: &impl Search,
+    blocks: usize,
+    width: usize,
+    m: &mut Lent,
+    calls: &[u64],
+    replies: &mut [u64],
+) -> Answer {
     if !is_shaped(blocks, width, m) {
         return refusal(1);
     }
@@ -122,7 +152,7 @@ pub fn replay(
     }
     format(m);
     for (call, reply) in calls.chunks_exact(4).zip(replies.chunks_exact_mut(3)) {
-        let answer = step(blocks, width, m, call);
+        let answer = step_by(find, blocks, width, m, call);
         reply[0] = answer.number as u64;
         reply[1] = answer.value as u64;
         reply[2] = answer.second as u64;
