@@ -15,7 +15,8 @@ use Rattle.bitmap.specs.Bit.{bitAt}
 use Rattle.rules.specs.Heap.{Memory, shaped, exponent, lowestFree}
 use Rattle.rules.specs.Store.{formatted, letGo, putRoot, putCell, changeRoot, changeCell, placed, allocateIn}
 use Rattle.rules.specs.declared.Reply.{Reply}
-use Rattle.rules.specs.Calls.{allocate, Answer, accepted, require, onUndamaged, allocation, answer}
+use Rattle.rules.specs.Promise.{Promise}
+use Rattle.rules.specs.Calls.{Call, format, allocate, Answer, accepted, require, onUndamaged, allocation, answer}
 use Rattle.theory.specs.Demand.{Demand3}
 use Rattle.rules.proofs.Replies.{on-undamaged-shaped, on-undamaged-no-damage, on-undamaged-next}
 use Rattle.rules.proofs.Tests.{true-and, require-true, require-passed}
@@ -152,15 +153,30 @@ pub claim-from-undamaged : ClaimFromUndamaged
 claim-from-undamaged N w h u made chain = claim N w h (undamaged-healthy N w h u) made chain
 
 -- an accepted format was not refused with 1, so it left a formatted heap
-pub claim-from-format : ClaimFromFormat
+accepted-format :
+    (N w : ℕ) (lent : Memory) (x : Reply) (left : Memory) → Promise N w format lent x left → x .number ≡ 0
+    → (shaped N w lent ≡ true) × (left ≡ formatted N w (length (lent .roots)))
 unfolding answer
-claim-from-format N w lent x left promise taken made chain =
+accepted-format N w lent x left promise taken =
     let empty : Memory = formatted N w (length (lent .roots)) in
     let fits : shaped N w lent ≡ true =
     require-passed (shaped N w lent) 1 lent (accepted empty 0) (omega arith) (ap (λ (r : Reply). r .number) (sym (promise .reply-is)) ∙ taken) in
-    let left-is : left ≡ empty =
-    promise .after-is ∙ ap (λ (y : Answer). y .1) (require-true (shaped N w lent) 1 lent (accepted empty 0) fits) in
-    claim N w left (subst (λ (g : Memory). Healthy N w g) (sym left-is) (formatted-healthy N w lent (shape-facts N w lent fits))) made chain
+    (fits, promise .after-is ∙ ap (λ (y : Answer). y .1) (require-true (shaped N w lent) 1 lent (accepted empty 0) fits))
+
+pub accepted-format-undamaged :
+    (N w : ℕ) (lent : Memory) (x : Reply) (left : Memory) → Promise N w format lent x left → x .number ≡ 0 → Undamaged N w left
+accepted-format-undamaged N w lent x left promise taken =
+    let made = accepted-format N w lent x left promise taken in
+    subst (λ (g : Memory). Undamaged N w g) (sym (made .1)) (format-makes-undamaged N w lent (made .0))
+
+pub promise-keeps-undamaged :
+    (N w : ℕ) (call : Call) (h : Memory) (x : Reply) (g : Memory) → Undamaged N w h → Promise N w call h x g → Undamaged N w g
+promise-keeps-undamaged N w call h x g fine promise =
+    subst (λ (k : Memory). Undamaged N w k) (sym (promise .after-is)) (calls-keep-undamaged N w h fine call)
+
+pub claim-from-format : ClaimFromFormat
+claim-from-format N w lent x left promise taken made chain =
+    claim-from-undamaged N w left (accepted-format-undamaged N w lent x left promise taken) made chain
 
 -- the maps' own sizes
 ends-represent :
