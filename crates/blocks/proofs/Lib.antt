@@ -2,6 +2,7 @@ pub mod Cells
 pub mod Firsts
 pub mod FreeChunks
 pub mod LowestChunk
+pub mod Parts
 pub mod Powers
 pub mod Sizes
 pub mod Walk

@@ -4,7 +4,7 @@ use mathlib.Core.Bool.{false}
 use mathlib.Core.Option.{none, some}
 use mathlib.Core.List.{List}
 use Prim.Native.Nat.{ℕ, zero, suc, _+_, _-_, _*_, _/_, _%_, _^_, _≤_, _<_}
-use native.Mathlib.Nat.{suc-mul, add-mul, sub-zero, mul-div-cancel, zero-mod, div-add-mod', add-mod-right, mul-le-mul-right, le-of-mul-le-mul-right, lt-of-mul-lt-mul-right}
+use native.Mathlib.Nat.{suc-mul, add-mul, sub-zero, mul-div-cancel, zero-mod, div-add-mod', add-mod, add-mod-right, mul-le-mul-right, le-of-mul-le-mul-right, lt-of-mul-lt-mul-right}
 use native.Mathlib.Decide.{ℕ-discrete}
 use native.Mathlib.Omega.{arith}
 use lib.Pow.{pow-pos, mod-mod-pow}
@@ -21,6 +21,10 @@ multiples-apart size i j p q l =
     let before : i / size < j / size = lt-of-mul-lt-mul-right size (omega (arith, div-add-mod' i size, div-add-mod' j size)) in
     let next : suc (i / size) * size ≤ j / size * size = mul-le-mul-right size before in
     omega (arith, div-add-mod' i size, div-add-mod' j size, suc-mul (i / size) size)
+
+pub sum-multiple : (size i j : ℕ) → i % size ≡ 0 → j % size ≡ 0 → (i + j) % size ≡ 0
+sum-multiple size i j p q =
+    add-mod i j size ∙ ap (λ (x : ℕ). (x + j % size) % size) p ∙ ap (λ (x : ℕ). (0 + x) % size) q ∙ zero-mod size
 
 -- a multiple of a power of two is one of each lower power
 pub multiple-lower : (k j x : ℕ) → k ≤ j → x % 2 ^ j ≡ 0 → x % 2 ^ k ≡ 0

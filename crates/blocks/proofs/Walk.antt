@@ -1,26 +1,24 @@
 -- Laws of the walk up the map that searches a free chunk: blocks are looked at from the value of their byte, the length of the free stretch
 -- is kept, and a chunk is judged from it where it ends.
-use mathlib.Core.Path.{_≡_, sym, ap, _∙_, subst, subst⁻¹}
+use mathlib.Core.Path.{_≡_, refl, sym, ap, _∙_, subst, subst⁻¹}
 use mathlib.Core.Logic.{_⊎_, inl, inr}
 use mathlib.Core.Bool.{true, false, true≢false}
 use mathlib.Core.List.{List}
-use Prim.Native.Nat.{ℕ, suc, _+_, _-_, _*_, _/_, _%_, _^_, _≤_, _<_}
-use native.Mathlib.Nat.{div-eq-of-lt, le-div-iff-mul-le, div-lt-iff-lt-mul, add-mod-right}
+use Prim.Native.Nat.{ℕ, _+_, _-_, _/_, _%_, _^_, _≤_, _<_}
 use native.Mathlib.Decide.{decLt}
 use native.Mathlib.Omega.{arith}
 use lib.Dec.{leb, eqb}
 use lib.ListN.{getD}
 use lib.Pow.{pow-pos, pow-mono}
-use lib.Count.{leadingZeros, leading-top}
+use lib.Count.{leadingZeros}
 use borrow.Author.Tests.{le-leb, leb-true, eq-eqb, eqb-true}
-use Rattle.bitmap.specs.Bit.{bitOf, bitAt}
-use Rattle.bitmap.proofs.Bits.{bit-zero, bit-ones}
-use Rattle.bitmap.proofs.Maps.{bit-of-byte}
+use Rattle.bitmap.specs.Bit.{bitAt}
 use Rattle.rules.proofs.Tests.{and-true}
 use Rattle.rules.proofs.Chunks.{Free, Used}
 use Rattle.blocks.specs.Search.{judgedFree, Part, lowestIn, Search}
+use Rattle.blocks.proofs.Parts.{Tail, partOf, part-whole, part-free, part-used, byte-free, byte-full}
 use Rattle.blocks.proofs.Powers.{exponent-lt}
-use Rattle.blocks.proofs.LowestChunk.{Missed, multiples-apart, multiple-lower, search-found, search-none}
+use Rattle.blocks.proofs.LowestChunk.{Missed, multiples-apart, sum-multiple, multiple-lower, search-found, search-none}
 
 -- `looks` blocks are looked at, the free stretch that ends there is `stretch` blocks long, and no chunk that ends before block `judged` is free
 pub record Walked (from to : ℕ) (a : List ℕ) (size looks stretch judged : ℕ) : Type 0 where
@@ -55,41 +53,6 @@ pub judged-false : (end size stretch : ℕ) → judgedFree end size stretch ≡ 
 unfolding judgedFree
 judged-false end size stretch e enough ends = true≢false (sym (rw (le-leb size stretch enough, eq-eqb (end % size) 0 ends, judgedFree)) ∙ e)
 
--- ---- a byte's blocks, from its value
-
-module _ (a : List ℕ) (i : ℕ) (starts : i % 8 ≡ 0) where
-  pub bit-in-byte : (j : ℕ) → i ≤ j → j < i + 8 → bitAt a j ≡ bitOf (getD a (i / 8) 0) (j - i)
-  bit-in-byte j l u =
-      let there : 8 * (i / 8) + (j - i) ≡ j = omega arith in
-      ap (bitAt a) (sym there) ∙ bit-of-byte a (i / 8) (j - i) (omega arith)
-
-  pub byte-free : getD a (i / 8) 0 ≡ 0 → Free a i 8
-  byte-free e j l u = bit-in-byte j l u ∙ ap (λ (b : ℕ). bitOf b (j - i)) e ∙ bit-zero (j - i)
-
-  pub byte-used : getD a (i / 8) 0 ≡ 255 → (j : ℕ) → i ≤ j → j < i + 8 → bitAt a j ≡ 1
-  byte-used e j l u = bit-in-byte j l u ∙ ap (λ (b : ℕ). bitOf b (j - i)) e ∙ bit-ones 8 (j - i) (omega arith)
-
--- the leading zeros of a number that is not 0, and the one below them
-pub record Top (b zeros : ℕ) : Type 0 where
-  pub within : zeros < 8
-  pub one : bitOf b (8 - zeros - 1) ≡ 1
-  pub above : (k : ℕ) → 8 - zeros ≤ k → bitOf b k ≡ 0
-
-pub leading-zeros : (b : ℕ) → 0 < b → b < 256 → Top b (leadingZeros 8 b)
-leading-zeros b positive byte =
-    let zeros : ℕ = leadingZeros 8 b in
-    let top = leading-top 8 b positive byte in
-    let place = top .0 in
-    let count : zeros + suc place ≡ 8 = top .1 in
-    let here : 8 - zeros - 1 ≡ place = omega arith in
-    let least : 1 ≤ b / 2 ^ place = le-div-iff-mul-le {k = 2 ^ place} {x = 1} {y = b} (pow-pos place) .1 (omega (arith, top .2)) in
-    let most : b / 2 ^ place < 2 = div-lt-iff-lt-mul {k = 2 ^ place} {x = b} {y = 2} (pow-pos place) .1 (omega (arith, top .3)) in
-    record {
-      within = omega arith;
-      one = ap (bitOf b) here ∙ (omega arith);
-      above = λ k l. ap (λ (x : ℕ). x % 2) (div-eq-of-lt (omega (arith, top .3, pow-mono {i = suc place} {j = k} (omega arith))));
-    }
-
 module _ (from to : ℕ) (a : List ℕ) (size looks stretch : ℕ) where
   -- ---- n more blocks are looked at
 
@@ -115,15 +78,16 @@ module _ (from to : ℕ) (a : List ℕ) (size looks stretch : ℕ) where
         }
 
     -- the last `zeros` of them free, the one before them used, and no chunk that ends among them free
-    pub more-used : (zeros : ℕ) → zeros < n → bitAt a (from + (looks + n) - zeros - 1) ≡ 1 → Free a (from + (looks + n) - zeros) zeros
+    pub more-used : (zeros : ℕ) → Tail a (from + looks) n zeros
         → ((e : ℕ) → from + looks < e → e ≤ from + (looks + n) → e % size ≡ 0 → Used a (e - size) size)
         → Walked from to a size (looks + n) zeros (from + (looks + n) + 1)
-    more-used zeros l used free among =
+    more-used zeros tail among =
+        let end-is : from + looks + n ≡ from + (looks + n) = omega arith in
         record {
           inside = inside;
-          within = omega arith;
-          free = free;
-          used = λ _. used;
+          within = omega (arith, tail .within);
+          free = λ j l u. tail .free j (omega arith) (omega arith);
+          used = λ _. ap (λ (x : ℕ). bitAt a (x - zeros - 1)) (sym end-is) ∙ tail .used;
           missed = λ e low u m. elim (decLt e (from + looks + 1)) [
             | yes v ↦ walk .missed e low v m
             | no v ↦ among e (omega arith) (omega arith) m
@@ -171,14 +135,19 @@ module _ (from to : ℕ) (a : List ℕ) (size looks stretch : ℕ) where
 
 -- ---- the steps of the search: at a byte's first block ..
 
-in-byte : (from looks zeros j : ℕ) → from + (looks + 8) - zeros ≤ j → 8 - zeros ≤ j - (from + looks)
-in-byte from looks zeros j l = omega arith
+-- the block before the free ones at the end lies in every chunk that ends with them
+tail-covered : (a : List ℕ) (i n zeros size : ℕ) → n ≤ size → Tail a i n zeros → Used a (i + n - size) size
+tail-covered a i n zeros size l tail =
+    let within : zeros < n = tail .within in
+    (i + n - zeros - 1, omega arith, omega arith, tail .used)
 
-under : (from looks size zeros : ℕ) → 8 ≤ size → zeros < 8 → from + (looks + 8) - size ≤ from + (looks + 8) - zeros - 1
-under from looks size zeros large l = omega arith
-
-over : (from looks size zeros : ℕ) → 8 ≤ size → from + (looks + 8) - zeros - 1 < from + (looks + 8) - size + size
-over from looks size zeros large = omega arith
+-- the chunk from block `from + looks` on, block i of the byte that starts at block p
+pub record ChunkAt (from to size looks p i : ℕ) : Type 0 where
+  pub within : i + size ≤ 8
+  pub inside : from + (looks + size) ≤ to
+  pub at : from + looks ≡ p + i
+  pub byte-starts : p % 8 ≡ 0
+  pub starts : (from + looks) % size ≡ 0
 
 module _ (from to : ℕ) (a : List ℕ) (size looks stretch : ℕ) (part : Part from to size)
     (walk : Walked from to a size looks stretch (from + looks + 1)) (starts : (from + looks) % 8 ≡ 0) (more : from + looks ≡ to → ⊥) where
@@ -201,65 +170,69 @@ module _ (from to : ℕ) (a : List ℕ) (size looks stretch : ℕ) (part : Part 
   pub byte-inside : from + looks + 8 ≤ to
   byte-inside = omega (arith, walk .inside, part .to-byte)
 
-  -- its blocks are free: eight are looked at, or as many as a chunk has where that is less
-  pub free-byte : getD a ((from + looks) / 8) 0 ≡ 0 → (n : ℕ) → ((size < 8) × (n ≡ size)) ⊎ ((8 ≤ size) × (n ≡ 8))
-      → Walked from to a size (looks + n) (stretch + n) (from + (looks + n))
-  free-byte zero n (inl (small, e)) =
-      more-free from to a size looks stretch walk n (omega (arith, byte-inside))
-      (λ j l u. byte-free a (from + looks) starts zero j l (omega arith))
-      (λ end l u m. omega (arith, multiples-apart size (from + looks) end (small-starts small) m l))
-  free-byte zero n (inr (large, e)) =
-      more-free from to a size looks stretch walk n (omega (arith, byte-inside))
-      (λ j l u. byte-free a (from + looks) starts zero j l (omega arith))
-      (λ end l u m. omega (arith, large-ends large end m))
-
-  -- where that is less, the chunk ends there
-  pub small-ends : size < 8 → (from + (looks + size)) % size ≡ 0
-  small-ends small =
-      let end-is : from + looks + size ≡ from + (looks + size) = omega arith in
-      ap (λ (x : ℕ). x % size) (sym end-is) ∙ add-mod-right (from + looks) size ∙ small-starts small
+  -- its blocks are free, and no chunk ends before the last: eight are looked at
+  pub free-byte : 8 ≤ size → getD a ((from + looks) / 8) 0 ≡ 0 → Walked from to a size (looks + 8) (stretch + 8) (from + (looks + 8))
+  free-byte large zero =
+      more-free from to a size looks stretch walk 8 (omega (arith, byte-inside)) (byte-free a (from + looks) starts zero)
+      (λ e l u m. omega (arith, large-ends large e m))
 
   -- all are used, and so are the chunks that end among them
   full-byte : getD a ((from + looks) / 8) 0 ≡ 255 → (e : ℕ) → from + looks < e → e ≤ from + (looks + 8) → Used a (e - size) size
   full-byte full e l u =
       let positive = size-positive from to size part in
-      (e - 1, omega arith, omega arith, byte-used a (from + looks) starts full (e - 1) (omega arith) (omega arith))
+      (e - 1, omega arith, omega arith, byte-full a (from + looks) starts full (e - 1) (omega arith) (omega arith))
 
   -- one of its blocks is used, and no chunk ends before the last, or all are used: eight are looked at
   pub used-byte : (b : ℕ) → b ≡ getD a ((from + looks) / 8) 0 → b < 256 → (b ≡ 0 → ⊥) → (8 ≤ size) ⊎ (b ≡ 255)
       → Walked from to a size (looks + 8) (leadingZeros 8 b) (from + (looks + 8) + 1)
   used-byte b b-is byte some-used whole =
-      let zeros : ℕ = leadingZeros 8 b in
-      let top : Top b zeros = leading-zeros b (omega arith) byte in
-      let last : ℕ = from + (looks + 8) - zeros - 1 in
-      let read : (j : ℕ) → from + looks ≤ j → j < from + looks + 8 → bitAt a j ≡ bitOf b (j - (from + looks)) =
-      λ j l u. bit-in-byte a (from + looks) starts j l u ∙ ap (λ (x : ℕ). bitOf x (j - (from + looks))) (sym b-is) in
-      let place : last - (from + looks) ≡ 8 - zeros - 1 = omega (arith, top .within) in
-      let last-used : bitAt a last ≡ 1 = read last (omega (arith, top .within)) (omega (arith, top .within)) ∙ ap (bitOf b) place ∙ top .one in
-      more-used from to a size looks stretch walk 8 (omega (arith, byte-inside)) zeros (top .within) last-used
-      (λ j l u. read j (omega (arith, top .within)) (omega (arith, top .within)) ∙ top .above (j - (from + looks)) (in-byte from looks zeros j l))
+      let value : partOf (getD a ((from + looks) / 8) 0) 0 8 ≡ b = ap (λ (x : ℕ). partOf x 0 8) (sym b-is) ∙ part-whole b byte in
+      let first : from + looks + 0 ≡ from + looks = omega arith in
+      let tail : Tail a (from + looks) 8 (leadingZeros 8 b) =
+      subst (λ (x : ℕ). Tail a x 8 (leadingZeros 8 b)) first
+      (subst (λ (x : ℕ). Tail a (from + looks + 0) 8 (leadingZeros 8 x)) value
+      (part-used a (from + looks) 0 8 starts (omega arith) (λ z. some-used (sym value ∙ z)))) in
+      more-used from to a size looks stretch walk 8 (omega (arith, byte-inside)) (leadingZeros 8 b) tail
       (λ e l u m. elim whole [
         | inl large ↦
-            let end-is : e ≡ from + (looks + 8) = omega (arith, large-ends large e m) in
-            let covered : Used a (from + (looks + 8) - size) size = (last, under from looks size zeros large (top .within), over from looks size zeros large, last-used) in
-            subst⁻¹ (λ (x : ℕ). Used a (x - size) size) end-is covered
+            let end-is : e ≡ from + looks + 8 = omega (arith, large-ends large e m) in
+            subst⁻¹ (λ (x : ℕ). Used a (x - size) size) end-is (tail-covered a (from + looks) 8 (leadingZeros 8 b) size large tail)
         | inr full ↦ full-byte (sym b-is ∙ full) e l u
       ])
 
--- .. and at block i of a byte
-module _ (from to : ℕ) (a : List ℕ) (size looks stretch : ℕ) (part : Part from to size)
-    (walk : Walked from to a size looks stretch (from + looks + 1)) (inside : from + (looks + 1) ≤ to) where
-  pub used-block : bitAt a (from + looks) ≡ 1 → Walked from to a size (looks + 1) 0 (from + (looks + 1) + 1)
-  used-block used =
-      let positive = size-positive from to size part in
-      let here : from + (looks + 1) - 0 - 1 ≡ from + looks = omega arith in
-      more-used from to a size looks stretch walk 1 inside 0 (omega arith) (ap (bitAt a) here ∙ used) (λ j l u. absurd (omega arith))
-      (λ e l u m.
-      let end-is : e ≡ from + looks + 1 = omega arith in
-      (from + looks, omega arith, omega arith, used))
+  -- ---- .. and inside the byte: a chunk of less than eight blocks starts at its block i
 
-  pub free-block : bitAt a (from + looks) ≡ 0 → Walked from to a size (looks + 1) (stretch + 1) (from + (looks + 1))
-  free-block free =
-      more-free from to a size looks stretch walk 1 inside
-      (λ j l u. let here : j ≡ from + looks = omega arith in ap (bitAt a) here ∙ free)
-      (λ e l u m. omega arith)
+  pub chunk-at : size < 8 → (now i : ℕ) → now ≡ looks + i → i % size ≡ 0 → i < 8 → ChunkAt from to size now (from + looks) i
+  chunk-at small now i now-is multiple l =
+      let power-is : 2 ^ part .exponent ≡ size = sym (part .power) in
+      let eight : 8 % size ≡ 0 =
+      ap (λ (s : ℕ). 8 % s) (part .power)
+      ∙ multiple-lower (part .exponent) 3 8 (omega (arith, exponent-lt (part .exponent) 3 (omega arith))) refl in
+      let apart = multiples-apart size i 8 multiple eight l in
+      let place : from + now ≡ from + looks + i = omega arith in
+      record {
+        within = apart;
+        inside = omega (arith, byte-inside);
+        at = place;
+        byte-starts = starts;
+        starts = ap (λ (x : ℕ). x % size) place ∙ sum-multiple size (from + looks) i (small-starts small) multiple;
+      }
+
+module _ (from to : ℕ) (a : List ℕ) (size looks stretch p i : ℕ) (walk : Walked from to a size looks stretch (from + looks + 1))
+    (chunk : ChunkAt from to size looks p i) where
+  pub free-chunk : partOf (getD a (p / 8) 0) i size ≡ 0 → Walked from to a size (looks + size) (stretch + size) (from + (looks + size))
+  free-chunk zero =
+      more-free from to a size looks stretch walk size (chunk .inside)
+      (λ j l u. part-free a p i size (chunk .byte-starts) (chunk .within) zero j (omega (arith, chunk .at)) (omega (arith, chunk .at)))
+      (λ e l u m. omega (arith, multiples-apart size (from + looks) e (chunk .starts) m l))
+
+  pub used-chunk : (partOf (getD a (p / 8) 0) i size ≡ 0 → ⊥)
+      → Walked from to a size (looks + size) (leadingZeros 8 (partOf (getD a (p / 8) 0) i size)) (from + (looks + size) + 1)
+  used-chunk some-used =
+      let zeros : ℕ = leadingZeros 8 (partOf (getD a (p / 8) 0) i size) in
+      let tail : Tail a (from + looks) size zeros =
+      subst⁻¹ (λ (x : ℕ). Tail a x size zeros) (chunk .at) (part-used a p i size (chunk .byte-starts) (chunk .within) some-used) in
+      more-used from to a size looks stretch walk size (chunk .inside) zeros tail
+      (λ e l u m.
+      let end-is : e ≡ from + looks + size = omega (arith, multiples-apart size (from + looks) e (chunk .starts) m l) in
+      subst⁻¹ (λ (x : ℕ). Used a (x - size) size) end-is (tail-covered a (from + looks) size zeros size (omega arith) tail))

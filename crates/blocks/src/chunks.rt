@@ -53,9 +53,9 @@ fn is_judged_free(end: usize, size: usize, stretch: usize) -> bool
 }
 
 // The first block of the lowest free chunk of `size` blocks from block `from` up to block `to`, or `to` where none is free. The walk
-// has come to block `from + looks`, and `stretch` is the length of the free stretch that ends there: from it a chunk is judged where
-// it ends. Each byte is read once, and its value judges its blocks: eight free ones at once (as many as a chunk has, where that is
-// less), eight with a used one at once where no chunk ends among them or none is free, others one by one.
+// has come to block `from + looks`, and `stretch` is the length of the free stretch that ends there: a chunk is judged from it where
+// it ends. Each byte is read once, and its value judges its blocks: chunk by chunk where chunks have less than eight, else, and where
+// all are used, eight at once. A used block ends the stretch; the free ones after it begin the next.
 pub fn lowest_chunk(a: &[u8], from: usize, to: usize, size: usize) -> Searched
     requires { ⌜ Part from to size ⌝ }
     requires { ⌜ (to ≤ 8 * length (now a)) × (to ≤ 65536) ⌝ }
@@ -68,15 +68,6 @@ pub fn lowest_chunk(a: &[u8], from: usize, to: usize, size: usize) -> Searched
             break to;
         }
         let byte = a[(from + looks) / 8];
-        if byte == 0 {
-            let free = if size < 8 { size } else { 8 };
-            looks += free;
-            stretch += free;
-            if is_judged_free(from + looks, size, stretch) {
-                break from + looks - size;
-            }
-            continue 'bytes;
-        }
         if size < 8 {
             if byte != 255 {
                 let mut i: usize = 0;
@@ -85,14 +76,14 @@ pub fn lowest_chunk(a: &[u8], from: usize, to: usize, size: usize) -> Searched
                         if i == 8 {
                             continue 'bytes;
                         }
-                        let bit = (byte >> i) % 2;
-                        i += 1;
-                        looks += 1;
-                        if bit != 0 {
-                            stretch = 0;
+                        let chunk = (byte >> i) << (8 - size);
+                        i += size;
+                        looks += size;
+                        if chunk != 0 {
+                            stretch = u8::leading_zeros(chunk) as usize;
                             continue 'stretches;
                         }
-                        stretch += 1;
+                        stretch += size;
                         if is_judged_free(from + looks, size, stretch) {
                             break 'bytes from + looks - size;
                         }
@@ -101,7 +92,14 @@ pub fn lowest_chunk(a: &[u8], from: usize, to: usize, size: usize) -> Searched
             }
         }
         looks += 8;
-        stretch = u8::leading_zeros(byte) as usize;
+        if byte != 0 {
+            stretch = u8::leading_zeros(byte) as usize;
+            continue 'bytes;
+        }
+        stretch += 8;
+        if is_judged_free(from + looks, size, stretch) {
+            break from + looks - size;
+        }
     };
     Searched {
         at: at,

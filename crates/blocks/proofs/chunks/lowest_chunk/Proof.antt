@@ -1,29 +1,29 @@
 -- `chunks::lowest_chunk` meets its contract. The bytes' loop: the walk has come to a byte's first block. The two loops inside: it has come to
--- block i of that byte, whose value `byte` is. The measures are what is left of the part and of the byte.
-use mathlib.Core.Path.{_≡_, refl, sym, ap, _∙_}
+-- block i of that byte, where a chunk starts. The measures are what is left of the part and of the byte.
+use mathlib.Core.Path.{_≡_, refl, sym, _∙_}
 use mathlib.Core.Logic.{_⊎_, inl, inr}
 use mathlib.Core.Bool.{false}
 use Prim.Native.Nat.{ℕ, _≤_, _<_, _-_, _+_, _/_, _%_, _^_}
+use native.Mathlib.Nat.{zero-mod, add-mod-right}
 use native.Mathlib.Omega.{arith}
 use lib.Count.{leading-le}
 use lib.ListN.{getD}
-use Rattle.bitmap.specs.Bit.{bitAt, bitOf}
-use Rattle.bitmap.proofs.Maps.{bit-at-lt}
 use Rattle.blocks.specs.Search.{judgedFree}
-use Rattle.blocks.proofs.Walk.{Walked, size-positive, walked-start, walked-none, judged-true, judged-false, judged-free, judged-used, bit-in-byte, byte-inside, free-byte, small-ends, used-byte, used-block, free-block}
+use Rattle.blocks.proofs.Parts.{partOf}
+use Rattle.blocks.proofs.Walk.{Walked, size-positive, walked-start, walked-none, judged-true, judged-free, judged-used, ChunkAt, chunk-at, byte-inside, free-byte, used-byte, free-chunk, used-chunk}
 use Rattle.blocks.proofs.chunks.lowest_chunk.Statement.{statement}
 use Rattle.blocks.proofs.chunks.lowest_chunk.Tie as tie
 
 abbrev Inv-loop : tie.InvT-loop
 Inv-loop a from to size looks₀ stretch₀ byte i₀ looks stretch i =
-    (i₀ ≤ i) × (i ≤ 8) × (looks + i₀ ≡ looks₀ + i) × Walked from to a size looks stretch (from + looks + 1)
+    (i₀ ≤ i) × (i ≤ 8) × (looks + i₀ ≡ looks₀ + i) × (i % size ≡ 0) × Walked from to a size looks stretch (from + looks + 1)
 
 abbrev μ-loop : tie.MeasureT-loop
 μ-loop a from to size looks₀ stretch₀ byte i₀ looks stretch i = 8 - i
 
 abbrev Inv-stretches : tie.InvT-stretches
 Inv-stretches a from to size looks₀ stretch₀ byte i₀ looks stretch i =
-    (i ≤ 8) × (looks ≡ looks₀ + i) × Walked from to a size looks stretch (from + looks + 1)
+    (i ≤ 8) × (looks ≡ looks₀ + i) × (i % size ≡ 0) × Walked from to a size looks stretch (from + looks + 1)
 
 abbrev μ-stretches : tie.MeasureT-stretches
 μ-stretches a from to size looks₀ stretch₀ byte i₀ looks stretch i = 8 - i
@@ -64,215 +64,206 @@ add-byte c = omega (arith, inside c)
 shared-slice-read-byte : tie.Need-shared-slice-read-byte Inv-loop μ-loop Inv-stretches μ-stretches Inv-bytes μ-bytes
 shared-slice-read-byte c = omega (arith, inside (c .before))
 
--- ---- its blocks are free
-
--- as many are looked at as a chunk has, or eight
-taken : (c : tie.Joined3 Inv-loop μ-loop Inv-stretches μ-stretches Inv-bytes μ-bytes)
-    → let s = c .before .before .before .before .before .before in
-    ((s .args .size < 8) × (c .if3 .free ≡ s .args .size)) ⊎ ((8 ≤ s .args .size) × (c .if3 .free ≡ 8))
-taken c = elim (c .if3 .came) [ inl w ↦ inl (w .0 .taken, w .1) | inr w ↦ inr (w .0 .left, w .1) ]
-
-freed : (c : tie.Joined3 Inv-loop μ-loop Inv-stretches μ-stretches Inv-bytes μ-bytes)
-    → let b = c .before .before .before .before in
-    let s = b .before .before in
-    Walked (s .args .from) (s .args .to) (s .args .a .now) (s .args .size) (b .bytes .looks + c .if3 .free) (b .bytes .stretch + c .if3 .free)
-    (s .args .from + (b .bytes .looks + c .if3 .free))
-freed c =
-    let e = c .before .before .before in
-    let b = e .before in
-    let s = b .before .before in
-    free-byte (s .args .from) (s .args .to) (s .args .a .now) (s .args .size) (b .bytes .looks) (b .bytes .stretch) (s .pre .0) (b .bytes .inv .1) (b .bytes .inv .0) (e .if1 .left)
-    (c .before .if2 .taken) (c .if3 .free) (taken c)
-
-some-freed : (c : tie.Joined3 Inv-loop μ-loop Inv-stretches μ-stretches Inv-bytes μ-bytes) → 0 < c .if3 .free
-some-freed c =
-    let some-blocks = positive (c .before .before .before .before .before .before) in
-    elim (taken c) [ inl w ↦ omega arith | inr w ↦ omega arith ]
-
--- where the chunk that ends there is not free, there the byte ends too
-freed-on : (c : tie.Joined3 Inv-loop μ-loop Inv-stretches μ-stretches Inv-bytes μ-bytes)
-    → let b = c .before .before .before .before in
-    let s = b .before .before in
-    judgedFree (s .args .from + (b .bytes .looks + c .if3 .free)) (s .args .size) (b .bytes .stretch + c .if3 .free) ≡ false
-    → ((s .args .from + (b .bytes .looks + c .if3 .free)) % 8 ≡ 0)
-    × Walked (s .args .from) (s .args .to) (s .args .a .now) (s .args .size) (b .bytes .looks + c .if3 .free) (b .bytes .stretch + c .if3 .free)
-    (s .args .from + (b .bytes .looks + c .if3 .free) + 1)
-freed-on c judged =
-    let e = c .before .before .before in
-    let b = e .before in
-    let s = b .before .before in
-    let ends = small-ends (s .args .from) (s .args .to) (s .args .a .now) (s .args .size) (b .bytes .looks) (b .bytes .stretch) (s .pre .0) (b .bytes .inv .1) (b .bytes .inv .0) (e .if1 .left) in
-    let short = judged-false (s .args .from + (b .bytes .looks + c .if3 .free)) (s .args .size) (b .bytes .stretch + c .if3 .free) judged in (
-      elim (taken c) [
-        | inl w ↦
-            absurd (short (omega arith) (ap (λ (x : ℕ). (s .args .from + (b .bytes .looks + x)) % s .args .size) (w .1) ∙ ends (w .0)))
-        | inr w ↦ omega (arith, b .bytes .inv .0)
-      ],
-      judged-used (s .args .from) (s .args .to) (s .args .a .now) (s .args .size) (b .bytes .looks + c .if3 .free) (b .bytes .stretch + c .if3 .free) (freed c) judged,
-    )
-
-add-looks : tie.Need-add-looks Inv-loop μ-loop Inv-stretches μ-stretches Inv-bytes μ-bytes
-add-looks c = omega (arith, freed (c .before) .inside)
-
-add-stretch : tie.Need-add-stretch Inv-loop μ-loop Inv-stretches μ-stretches Inv-bytes μ-bytes
-add-stretch c = omega (arith, freed (c .before) .inside, freed (c .before) .within)
-
-add-is-judged-free : tie.Need-add-is-judged-free Inv-loop μ-loop Inv-stretches μ-stretches Inv-bytes μ-bytes
-add-is-judged-free c = omega (arith, freed (c .before) .inside)
-
-is-judged-free-requires : tie.Need-is-judged-free-requires Inv-loop μ-loop Inv-stretches μ-stretches Inv-bytes μ-bytes
-is-judged-free-requires c κs = power (c .before .before .before .before .before .before .before)
-
-add-at : tie.Need-add-at Inv-loop μ-loop Inv-stretches μ-stretches Inv-bytes μ-bytes
-add-at c = omega (arith, freed (c .before .before .before) .inside)
-
-sub-at : tie.Need-sub-at Inv-loop μ-loop Inv-stretches μ-stretches Inv-bytes μ-bytes
-sub-at c =
-    let j = c .before .before .before in
-    let b = j .before .before .before .before in
-    let s = b .before .before in
-    let judged = judged-true (s .args .from + (b .bytes .looks + j .if3 .free)) (s .args .size) (b .bytes .stretch + j .if3 .free) in
-    omega (arith, freed j .within, judged (sym (c .before .is-judged-free .ensures) ∙ c .if4 .taken) .0)
-
-bytes-less : tie.Need-bytes-less Inv-loop μ-loop Inv-stretches μ-stretches Inv-bytes μ-bytes
-bytes-less c = omega (arith, freed (c .before .before .before) .inside, some-freed (c .before .before .before))
-
-bytes-again : tie.Need-bytes-again Inv-loop μ-loop Inv-stretches μ-stretches Inv-bytes μ-bytes
-bytes-again c = freed-on (c .before .before .before) (sym (c .before .is-judged-free .ensures) ∙ c .if4 .left)
-
--- ---- some are used, and a chunk may end among them: block by block
+-- ---- chunks end among its blocks: chunk by chunk
 
 stretches-holds : tie.Need-stretches-holds Inv-loop μ-loop Inv-stretches μ-stretches Inv-bytes μ-bytes
-stretches-holds c = (omega arith, omega arith, c .before .before .before .before .before .bytes .inv .1)
+stretches-holds c =
+    let b = c .before .before .before .before in
+    (omega arith, omega arith, zero-mod (b .before .before .args .size), b .bytes .inv .1)
 
 loop-holds : tie.Need-loop-holds Inv-loop μ-loop Inv-stretches μ-stretches Inv-bytes μ-bytes
-loop-holds c = (omega arith, c .stretches .inv .0, refl, c .stretches .inv .2)
+loop-holds c = (omega arith, c .stretches .inv .0, refl, c .stretches .inv .2, c .stretches .inv .3)
 
-bytes-less-2 : tie.Need-bytes-less-2 Inv-loop μ-loop Inv-stretches μ-stretches Inv-bytes μ-bytes
-bytes-less-2 c = omega (arith, inside (c .before .before .before .before .before .before .before))
+bytes-less : tie.Need-bytes-less Inv-loop μ-loop Inv-stretches μ-stretches Inv-bytes μ-bytes
+bytes-less c = omega (arith, inside (c .before .before .before .before .before .before))
 
-bytes-again-2 : tie.Need-bytes-again-2 Inv-loop μ-loop Inv-stretches μ-stretches Inv-bytes μ-bytes
-bytes-again-2 c = (omega (arith, c .before .before .before .before .before .before .before .before .bytes .inv .0), c .before .loop .inv .3)
+bytes-again : tie.Need-bytes-again Inv-loop μ-loop Inv-stretches μ-stretches Inv-bytes μ-bytes
+bytes-again c = (omega (arith, c .before .before .before .before .before .before .before .bytes .inv .0), c .before .loop .inv .4)
 
-cast-bit : tie.Need-cast-bit Inv-loop μ-loop Inv-stretches μ-stretches Inv-bytes μ-bytes
-cast-bit c = omega arith
+cast-chunk : tie.Need-cast-chunk Inv-loop μ-loop Inv-stretches μ-stretches Inv-bytes μ-bytes
+cast-chunk c = omega arith
 
-shr-bit : tie.Need-shr-bit Inv-loop μ-loop Inv-stretches μ-stretches Inv-bytes μ-bytes
-shr-bit c = omega arith
+shr-chunk : tie.Need-shr-chunk Inv-loop μ-loop Inv-stretches μ-stretches Inv-bytes μ-bytes
+shr-chunk c = omega arith
+
+sub-chunk : tie.Need-sub-chunk Inv-loop μ-loop Inv-stretches μ-stretches Inv-bytes μ-bytes
+sub-chunk c = omega arith
+
+cast-chunk-2 : tie.Need-cast-chunk-2 Inv-loop μ-loop Inv-stretches μ-stretches Inv-bytes μ-bytes
+cast-chunk-2 c = omega arith
+
+shl-chunk : tie.Need-shl-chunk Inv-loop μ-loop Inv-stretches μ-stretches Inv-bytes μ-bytes
+shl-chunk c = omega (arith, positive (c .before .before .before .before .before .before .before .before .before))
+
+chunk : (c : tie.In-loop Inv-loop μ-loop Inv-stretches μ-stretches Inv-bytes μ-bytes)
+    → let b = c .before .before .before .before .before .before .before in
+    let s = b .before .before in
+    ChunkAt (s .args .from) (s .args .to) (s .args .size) (c .before .loop .looks) (s .args .from + b .bytes .looks) (c .before .loop .i)
+chunk c =
+    let l = c .before in
+    let small = c .before .before .before .before in
+    let e = small .before .before in
+    let b = e .before in
+    let s = b .before .before in
+    chunk-at (s .args .from) (s .args .to) (s .args .a .now) (s .args .size) (b .bytes .looks) (b .bytes .stretch) (s .pre .0) (b .bytes .inv .1) (b .bytes .inv .0) (e .if1 .left)
+    (small .if2 .taken) (l .loop .looks) (l .loop .i) (omega arith) (l .loop .inv .3) (omega arith)
 
 add-i : tie.Need-add-i Inv-loop μ-loop Inv-stretches μ-stretches Inv-bytes μ-bytes
-add-i c = omega arith
+add-i c = omega (arith, chunk c .within)
 
--- the block lies in the part
-block-inside : (c : tie.In-loop Inv-loop μ-loop Inv-stretches μ-stretches Inv-bytes μ-bytes)
-    → let s = c .before .before .before .before .before .before .before .before .before .before in
-    s .args .from + (c .before .loop .looks + 1) ≤ s .args .to
-block-inside c = omega (arith, inside (c .before .before .before .before .before .before .before))
+add-looks : tie.Need-add-looks Inv-loop μ-loop Inv-stretches μ-stretches Inv-bytes μ-bytes
+add-looks c = omega (arith, chunk c .inside)
 
--- it is block i of the byte
-block-bit : (c : tie.In-loop Inv-loop μ-loop Inv-stretches μ-stretches Inv-bytes μ-bytes)
-    → let b = c .before .before .before .before .before .before .before .before in
+cast-stretch : tie.Need-cast-stretch Inv-loop μ-loop Inv-stretches μ-stretches Inv-bytes μ-bytes
+cast-stretch c =
+    let l = c .before .before in
+    let b = l .before .before .before .before .before .before in
     let s = b .before .before in
-    bitAt (s .args .a .now) (s .args .from + c .before .loop .looks)
-    ≡ bitOf (getD (s .args .a .now) ((s .args .from + b .bytes .looks) / 8) 0) (c .before .loop .i)
-block-bit c =
-    let l = c .before in
-    let b = l .before .before .before .before .before .before .before in
-    let s = b .before .before in
-    let place : s .args .from + l .loop .looks - (s .args .from + b .bytes .looks) ≡ l .loop .i = omega arith in
-    bit-in-byte (s .args .a .now) (s .args .from + b .bytes .looks) (b .bytes .inv .0) (s .args .from + l .loop .looks) (omega arith) (omega arith)
-    ∙ ap (bitOf (getD (s .args .a .now) ((s .args .from + b .bytes .looks) / 8) 0)) place
-
-add-looks-2 : tie.Need-add-looks-2 Inv-loop μ-loop Inv-stretches μ-stretches Inv-bytes μ-bytes
-add-looks-2 c = omega (arith, block-inside c)
+    omega (arith, leading-le 8 (partOf (getD (s .args .a .now) ((s .args .from + b .bytes .looks) / 8) 0) (l .loop .i) (s .args .size)))
 
 stretches-less : tie.Need-stretches-less Inv-loop μ-loop Inv-stretches μ-stretches Inv-bytes μ-bytes
-stretches-less c = omega arith
+stretches-less c = omega (arith, chunk (c .before) .within, positive (c .before .before .before .before .before .before .before .before .before .before))
 
 stretches-again : tie.Need-stretches-again Inv-loop μ-loop Inv-stretches μ-stretches Inv-bytes μ-bytes
 stretches-again c =
     let i = c .before in
     let l = i .before in
-    let b = l .before .before .before .before .before .before .before in
-    let s = b .before .before in
-    let used : bitAt (s .args .a .now) (s .args .from + l .loop .looks) ≡ 1 =
-    omega (arith, block-bit i, c .if7 .taken, bit-at-lt (s .args .a .now) (s .args .from + l .loop .looks)) in (
+    let b = l .before .before .before .before .before .before in
+    let s = b .before .before in (
+      chunk i .within,
       omega arith,
-      omega arith,
-      used-block (s .args .from) (s .args .to) (s .args .a .now) (s .args .size) (l .loop .looks) (l .loop .stretch) (s .pre .0) (l .loop .inv .3) (block-inside i) used,
+      add-mod-right (l .loop .i) (s .args .size) ∙ l .loop .inv .3,
+      used-chunk (s .args .from) (s .args .to) (s .args .a .now) (s .args .size) (l .loop .looks) (l .loop .stretch) (s .args .from + b .bytes .looks) (l .loop .i) (l .loop .inv .4) (chunk i)
+          (c .if4 .taken),
     )
 
--- where it is free, the stretch is longer by one
-longer : (c : tie.Else7 Inv-loop μ-loop Inv-stretches μ-stretches Inv-bytes μ-bytes)
+-- where it is free, the stretch is longer by a chunk
+longer : (c : tie.Else4 Inv-loop μ-loop Inv-stretches μ-stretches Inv-bytes μ-bytes)
     → let l = c .before .before in
-    let s = l .before .before .before .before .before .before .before .before .before in
-    Walked (s .args .from) (s .args .to) (s .args .a .now) (s .args .size) (l .loop .looks + 1) (l .loop .stretch + 1) (s .args .from + (l .loop .looks + 1))
+    let s = l .before .before .before .before .before .before .before .before in
+    Walked (s .args .from) (s .args .to) (s .args .a .now) (s .args .size) (l .loop .looks + s .args .size) (l .loop .stretch + s .args .size)
+    (s .args .from + (l .loop .looks + s .args .size))
 longer c =
     let i = c .before in
     let l = i .before in
-    let s = l .before .before .before .before .before .before .before .before .before in
-    free-block (s .args .from) (s .args .to) (s .args .a .now) (s .args .size) (l .loop .looks) (l .loop .stretch) (s .pre .0) (l .loop .inv .3) (block-inside i)
-    (block-bit i ∙ c .if7 .left)
+    let b = l .before .before .before .before .before .before in
+    let s = b .before .before in
+    free-chunk (s .args .from) (s .args .to) (s .args .a .now) (s .args .size) (l .loop .looks) (l .loop .stretch) (s .args .from + b .bytes .looks) (l .loop .i) (l .loop .inv .4) (chunk i)
+    (c .if4 .left)
 
-longer-on : (c : tie.Else7 Inv-loop μ-loop Inv-stretches μ-stretches Inv-bytes μ-bytes)
+longer-on : (c : tie.Else4 Inv-loop μ-loop Inv-stretches μ-stretches Inv-bytes μ-bytes)
     → let l = c .before .before in
-    let s = l .before .before .before .before .before .before .before .before .before in
-    judgedFree (s .args .from + (l .loop .looks + 1)) (s .args .size) (l .loop .stretch + 1) ≡ false
-    → Walked (s .args .from) (s .args .to) (s .args .a .now) (s .args .size) (l .loop .looks + 1) (l .loop .stretch + 1) (s .args .from + (l .loop .looks + 1) + 1)
+    let s = l .before .before .before .before .before .before .before .before in
+    judgedFree (s .args .from + (l .loop .looks + s .args .size)) (s .args .size) (l .loop .stretch + s .args .size) ≡ false
+    → Walked (s .args .from) (s .args .to) (s .args .a .now) (s .args .size) (l .loop .looks + s .args .size) (l .loop .stretch + s .args .size)
+    (s .args .from + (l .loop .looks + s .args .size) + 1)
 longer-on c judged =
     let l = c .before .before in
-    let s = l .before .before .before .before .before .before .before .before .before in
-    judged-used (s .args .from) (s .args .to) (s .args .a .now) (s .args .size) (l .loop .looks + 1) (l .loop .stretch + 1) (longer c) judged
+    let s = l .before .before .before .before .before .before .before .before in
+    judged-used (s .args .from) (s .args .to) (s .args .a .now) (s .args .size) (l .loop .looks + s .args .size) (l .loop .stretch + s .args .size) (longer c) judged
 
-add-stretch-2 : tie.Need-add-stretch-2 Inv-loop μ-loop Inv-stretches μ-stretches Inv-bytes μ-bytes
-add-stretch-2 c = omega (arith, longer c .inside, longer c .within)
+add-stretch : tie.Need-add-stretch Inv-loop μ-loop Inv-stretches μ-stretches Inv-bytes μ-bytes
+add-stretch c = omega (arith, longer c .inside, longer c .within)
 
-add-is-judged-free-2 : tie.Need-add-is-judged-free-2 Inv-loop μ-loop Inv-stretches μ-stretches Inv-bytes μ-bytes
-add-is-judged-free-2 c = omega (arith, longer c .inside)
+add-is-judged-free : tie.Need-add-is-judged-free Inv-loop μ-loop Inv-stretches μ-stretches Inv-bytes μ-bytes
+add-is-judged-free c = omega (arith, longer c .inside)
 
-is-judged-free-requires-2 : tie.Need-is-judged-free-requires-2 Inv-loop μ-loop Inv-stretches μ-stretches Inv-bytes μ-bytes
-is-judged-free-requires-2 c κs = power (c .before .before .before .before .before .before .before .before .before .before .before)
+is-judged-free-requires : tie.Need-is-judged-free-requires Inv-loop μ-loop Inv-stretches μ-stretches Inv-bytes μ-bytes
+is-judged-free-requires c κs = power (c .before .before .before .before .before .before .before .before .before .before)
 
-add-at-2 : tie.Need-add-at-2 Inv-loop μ-loop Inv-stretches μ-stretches Inv-bytes μ-bytes
-add-at-2 c = omega (arith, longer (c .before .before) .inside)
+add-at : tie.Need-add-at Inv-loop μ-loop Inv-stretches μ-stretches Inv-bytes μ-bytes
+add-at c = omega (arith, longer (c .before .before) .inside)
 
-sub-at-2 : tie.Need-sub-at-2 Inv-loop μ-loop Inv-stretches μ-stretches Inv-bytes μ-bytes
-sub-at-2 c =
-    let j = c .before .before in
-    let l = j .before .before in
-    let s = l .before .before .before .before .before .before .before .before .before in
-    let judged = judged-true (s .args .from + (l .loop .looks + 1)) (s .args .size) (l .loop .stretch + 1) in
-    omega (arith, longer j .within, judged (sym (c .before .is-judged-free2 .ensures) ∙ c .if8 .taken) .0)
+sub-at : tie.Need-sub-at Inv-loop μ-loop Inv-stretches μ-stretches Inv-bytes μ-bytes
+sub-at c = omega arith
 
 loop-less : tie.Need-loop-less Inv-loop μ-loop Inv-stretches μ-stretches Inv-bytes μ-bytes
-loop-less c = omega arith
+loop-less c = omega (arith, chunk (c .before .before .before) .within, positive (c .before .before .before .before .before .before .before .before .before .before .before .before))
 
 loop-again : tie.Need-loop-again Inv-loop μ-loop Inv-stretches μ-stretches Inv-bytes μ-bytes
-loop-again c = (omega arith, omega arith, omega arith, longer-on (c .before .before) (sym (c .before .is-judged-free2 .ensures) ∙ c .if8 .left))
+loop-again c =
+    let i = c .before .before .before in
+    let l = i .before in
+    let s = l .before .before .before .before .before .before .before .before in (
+      omega arith,
+      omega (arith, chunk i .within),
+      omega arith,
+      add-mod-right (l .loop .i) (s .args .size) ∙ l .loop .inv .3,
+      longer-on (c .before .before) (sym (c .before .is-judged-free .ensures) ∙ c .if5 .left),
+    )
 
--- ---- some are used, and no chunk that ends among them is free
+-- ---- no chunk ends among its blocks but at the last, or all are used: eight at once
 
-add-looks-3 : tie.Need-add-looks-3 Inv-loop μ-loop Inv-stretches μ-stretches Inv-bytes μ-bytes
-add-looks-3 c = omega (arith, inside (c .before .before .before))
+whole : (c : tie.Joined2 Inv-loop μ-loop Inv-stretches μ-stretches Inv-bytes μ-bytes)
+    → let b = c .before .before .before in
+    let s = b .before .before in
+    (8 ≤ s .args .size) ⊎ (getD (s .args .a .now) ((s .args .from + b .bytes .looks) / 8) 0 ≡ 255)
+whole c = elim (c .if2 .came) [ inl w ↦ inr (w .1 .left) | inr w ↦ inl (w .left) ]
 
-cast-stretch : tie.Need-cast-stretch Inv-loop μ-loop Inv-stretches μ-stretches Inv-bytes μ-bytes
-cast-stretch c =
+add-looks-2 : tie.Need-add-looks-2 Inv-loop μ-loop Inv-stretches μ-stretches Inv-bytes μ-bytes
+add-looks-2 c = omega (arith, inside (c .before .before))
+
+cast-stretch-2 : tie.Need-cast-stretch-2 Inv-loop μ-loop Inv-stretches μ-stretches Inv-bytes μ-bytes
+cast-stretch-2 c =
     let b = c .before .before .before .before in
-    omega (arith, leading-le 8 (getD (b .before .before .args .a .now) ((b .before .before .args .from + b .bytes .looks) / 8) 0))
+    let s = b .before .before in
+    omega (arith, leading-le 8 (getD (s .args .a .now) ((s .args .from + b .bytes .looks) / 8) 0))
 
-bytes-less-3 : tie.Need-bytes-less-3 Inv-loop μ-loop Inv-stretches μ-stretches Inv-bytes μ-bytes
-bytes-less-3 c = omega (arith, inside (c .before .before .before))
+bytes-less-2 : tie.Need-bytes-less-2 Inv-loop μ-loop Inv-stretches μ-stretches Inv-bytes μ-bytes
+bytes-less-2 c = omega (arith, inside (c .before .before .before))
 
-bytes-again-3 : tie.Need-bytes-again-3 Inv-loop μ-loop Inv-stretches μ-stretches Inv-bytes μ-bytes
-bytes-again-3 c =
-    let e = c .before .before .before in
+bytes-again-2 : tie.Need-bytes-again-2 Inv-loop μ-loop Inv-stretches μ-stretches Inv-bytes μ-bytes
+bytes-again-2 c =
+    let j = c .before in
+    let e = j .before .before in
     let b = e .before in
     let s = b .before .before in
     let at : ℕ = (s .args .from + b .bytes .looks) / 8 in (
       omega (arith, b .bytes .inv .0),
       used-byte (s .args .from) (s .args .to) (s .args .a .now) (s .args .size) (b .bytes .looks) (b .bytes .stretch) (s .pre .0) (b .bytes .inv .1) (b .bytes .inv .0) (e .if1 .left)
-          (getD (s .args .a .now) at 0) refl (c .before .before .shared-slice-known2 .given at .fits) (c .before .if2 .left)
-          (elim (c .if5 .came) [ inl w ↦ inr (w .1 .left) | inr w ↦ inl (w .left) ]),
+          (getD (s .args .a .now) at 0) refl (j .before .shared-slice-known2 .given at .fits) (c .if6 .taken) (whole j),
+    )
+
+eight-free : (c : tie.Else6 Inv-loop μ-loop Inv-stretches μ-stretches Inv-bytes μ-bytes)
+    → let b = c .before .before .before .before in
+    let s = b .before .before in
+    Walked (s .args .from) (s .args .to) (s .args .a .now) (s .args .size) (b .bytes .looks + 8) (b .bytes .stretch + 8) (s .args .from + (b .bytes .looks + 8))
+eight-free c =
+    let j = c .before in
+    let e = j .before .before in
+    let b = e .before in
+    let s = b .before .before in
+    let large : 8 ≤ s .args .size = elim (whole j) [ inl l ↦ l | inr full ↦ absurd (omega (arith, c .if6 .left)) ] in
+    free-byte (s .args .from) (s .args .to) (s .args .a .now) (s .args .size) (b .bytes .looks) (b .bytes .stretch) (s .pre .0) (b .bytes .inv .1) (b .bytes .inv .0) (e .if1 .left) large (c .if6 .left)
+
+add-stretch-2 : tie.Need-add-stretch-2 Inv-loop μ-loop Inv-stretches μ-stretches Inv-bytes μ-bytes
+add-stretch-2 c = omega (arith, eight-free c .inside, eight-free c .within)
+
+add-is-judged-free-2 : tie.Need-add-is-judged-free-2 Inv-loop μ-loop Inv-stretches μ-stretches Inv-bytes μ-bytes
+add-is-judged-free-2 c = omega (arith, eight-free c .inside)
+
+is-judged-free-requires-2 : tie.Need-is-judged-free-requires-2 Inv-loop μ-loop Inv-stretches μ-stretches Inv-bytes μ-bytes
+is-judged-free-requires-2 c κs = power (c .before .before .before .before .before .before)
+
+add-at-2 : tie.Need-add-at-2 Inv-loop μ-loop Inv-stretches μ-stretches Inv-bytes μ-bytes
+add-at-2 c = omega (arith, eight-free (c .before .before) .inside)
+
+sub-at-2 : tie.Need-sub-at-2 Inv-loop μ-loop Inv-stretches μ-stretches Inv-bytes μ-bytes
+sub-at-2 c =
+    let b = c .before .before .before .before .before .before in
+    let s = b .before .before in
+    let judged = judged-true (s .args .from + (b .bytes .looks + 8)) (s .args .size) (b .bytes .stretch + 8) in
+    omega (arith, eight-free (c .before .before) .within, judged (sym (c .before .is-judged-free2 .ensures) ∙ c .if7 .taken) .0)
+
+bytes-less-3 : tie.Need-bytes-less-3 Inv-loop μ-loop Inv-stretches μ-stretches Inv-bytes μ-bytes
+bytes-less-3 c = omega (arith, eight-free (c .before .before) .inside)
+
+bytes-again-3 : tie.Need-bytes-again-3 Inv-loop μ-loop Inv-stretches μ-stretches Inv-bytes μ-bytes
+bytes-again-3 c =
+    let b = c .before .before .before .before .before .before in
+    let s = b .before .before in (
+      omega (arith, b .bytes .inv .0),
+      judged-used (s .args .from) (s .args .to) (s .args .a .now) (s .args .size) (b .bytes .looks + 8) (b .bytes .stretch + 8) (eight-free (c .before .before)) (sym (c .before .is-judged-free2 .ensures) ∙ c .if7 .left),
     )
 
 -- ---- what is found
@@ -285,19 +276,18 @@ returns c k e =
 
 returns-2 : tie.Need-returns-2 Inv-loop μ-loop Inv-stretches μ-stretches Inv-bytes μ-bytes
 returns-2 c k e =
-    let j = c .before .before .before in
-    let b = j .before .before .before .before in
-    let s = b .before .before in
-    judged-free (s .args .from) (s .args .to) (s .args .a .now) (s .args .size) (b .bytes .looks + j .if3 .free) (b .bytes .stretch + j .if3 .free) (freed j) (s .pre .0)
-    (sym (c .before .is-judged-free .ensures) ∙ c .if4 .taken) k e
+    let j = c .before .before in
+    let l = j .before .before in
+    let s = l .before .before .before .before .before .before .before .before in
+    judged-free (s .args .from) (s .args .to) (s .args .a .now) (s .args .size) (l .loop .looks + s .args .size) (l .loop .stretch + s .args .size) (longer j) (s .pre .0)
+    (sym (c .before .is-judged-free .ensures) ∙ c .if5 .taken) k e
 
 returns-3 : tie.Need-returns-3 Inv-loop μ-loop Inv-stretches μ-stretches Inv-bytes μ-bytes
 returns-3 c k e =
-    let j = c .before .before in
-    let l = j .before .before in
-    let s = l .before .before .before .before .before .before .before .before .before in
-    judged-free (s .args .from) (s .args .to) (s .args .a .now) (s .args .size) (l .loop .looks + 1) (l .loop .stretch + 1) (longer j) (s .pre .0)
-    (sym (c .before .is-judged-free2 .ensures) ∙ c .if8 .taken) k e
+    let b = c .before .before .before .before .before .before in
+    let s = b .before .before in
+    judged-free (s .args .from) (s .args .to) (s .args .a .now) (s .args .size) (b .bytes .looks + 8) (b .bytes .stretch + 8) (eight-free (c .before .before)) (s .pre .0)
+    (sym (c .before .is-judged-free2 .ensures) ∙ c .if7 .taken) k e
 
 pub lowest-chunk-spec : {M : Type 1} → statement M
 lowest-chunk-spec =
@@ -313,33 +303,36 @@ lowest-chunk-spec =
     add-if1
     add-byte
     shared-slice-read-byte
+    stretches-holds
+    loop-holds
+    bytes-less
+    bytes-again
+    cast-chunk
+    shr-chunk
+    sub-chunk
+    cast-chunk-2
+    shl-chunk
+    add-i
     add-looks
+    cast-stretch
+    stretches-less
+    stretches-again
     add-stretch
     add-is-judged-free
     is-judged-free-requires
     add-at
     sub-at
-    bytes-less
-    bytes-again
-    stretches-holds
-    loop-holds
+    loop-less
+    loop-again
+    add-looks-2
+    cast-stretch-2
     bytes-less-2
     bytes-again-2
-    cast-bit
-    shr-bit
-    add-i
-    add-looks-2
-    stretches-less
-    stretches-again
     add-stretch-2
     add-is-judged-free-2
     is-judged-free-requires-2
     add-at-2
     sub-at-2
-    loop-less
-    loop-again
-    add-looks-3
-    cast-stretch
     bytes-less-3
     bytes-again-3
     returns
