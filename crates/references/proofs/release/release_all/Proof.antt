@@ -57,8 +57,9 @@ object-size-requires c κs =
 clear-extent-requires : tie.Need-clear-extent-requires Inv-loop μ-loop
 clear-extent-requires c κs =
     let sized = c .before .before in
-    let inv = sized .before .before .before .before .loop .inv in (
-      sized .object-size .ensures .1,
+    let l = sized .before .before .before .before .loop in
+    let inv = l .inv in (
+      omega (arith, sized .object-size .ensures .1, inv .stack .blocks (l .t - 1) (omega arith)),
       omega (arith, inv .extents .a-length, inv .planes .eighths),
       omega (arith, inv .extents .b-length, inv .planes .eighths),
       omega (arith, inv .extents .a-length, inv .planes .eighths, inv .planes .most),
