@@ -1,0 +1,158 @@
+-- What a record asks for, one law for each way that the code's plan of it can go.
+use mathlib.Core.Path.{_≡_, refl, ap, _∙_}
+use mathlib.Core.Bool.{true, false}
+use mathlib.Core.List.{List, [], _∷_}
+use Prim.Native.Nat.{ℕ, _*_, _≤_, _<_}
+use native.Mathlib.Decide.{ℕ-discrete}
+use native.Mathlib.Omega.{arith}
+use lib.ListN.{length, getD, List·getD-eq-default}
+use borrow.Author.Tests.{lt-ltb, le-ltb, eq-eqb, ne-eqb}
+use Rattle.rules.specs.Heap.{Memory, all, sizeAt}
+use Rattle.rules.specs.Calls.{storeRoot, storeCell}
+use Rattle.records.specs.declared.Fields.{Fields}
+use Rattle.records.specs.Records.{unnamedBy, unnamed, areZero, Asked, makes, stops, unless, root, objectIn, cellIn, onRoots}
+use Rattle.records.specs.Records.{copying, writing, reading, clearing, operations, operation, asked}
+
+-- ---- the roots
+
+module _ (h : Memory) (f : Fields) (next : Asked) where
+  no-target : length (h .roots) ≤ f .d → onRoots h f next ≡ stops 4
+  unfolding onRoots unless
+  no-target past = rw (le-ltb (f .d) (length (h .roots)) past, onRoots, unless)
+
+  module _ (target : f .d < length (h .roots)) where
+    no-source : length (h .roots) ≤ f .s → onRoots h f next ≡ stops 4
+    unfolding onRoots unless
+    no-source past = rw (lt-ltb (f .d) (length (h .roots)) target, le-ltb (f .s) (length (h .roots)) past, onRoots, unless)
+
+    both-roots : f .s < length (h .roots) → onRoots h f next ≡ next
+    unfolding onRoots unless
+    both-roots source =
+        rw (lt-ltb (f .d) (length (h .roots)) target, lt-ltb (f .s) (length (h .roots)) source, onRoots, unless)
+
+-- ---- the operations
+
+module _ (h : Memory) (f : Fields) where
+  pub copy-target : length (h .roots) ≤ f .d → copying h f ≡ stops 4
+  unfolding copying
+  copy-target past = no-target h f _ past
+
+  pub write-target : length (h .roots) ≤ f .d → writing h f ≡ stops 4
+  unfolding writing
+  write-target past = no-target h f _ past
+
+  pub clear-target : length (h .roots) ≤ f .d → clearing h f ≡ stops 4
+  unfolding clearing unless
+  clear-target past = rw (le-ltb (f .d) (length (h .roots)) past, clearing, unless)
+
+  module _ (target : f .d < length (h .roots)) where
+    pub clear-asked : clearing h f ≡ makes (storeRoot (f .d) 0)
+    unfolding clearing unless
+    clear-asked = rw (lt-ltb (f .d) (length (h .roots)) target, clearing, unless)
+
+    pub copy-source : length (h .roots) ≤ f .s → copying h f ≡ stops 4
+    unfolding copying
+    copy-source past = no-source h f _ target past
+
+    pub write-source : length (h .roots) ≤ f .s → writing h f ≡ stops 4
+    unfolding writing
+    write-source past = no-source h f _ target past
+
+    module _ (source : f .s < length (h .roots)) where
+      pub copy-asked : copying h f ≡ makes (storeRoot (f .d) (root h (f .s)))
+      unfolding copying
+      copy-asked = both-roots h f _ target source
+
+      pub write-empty : root h (f .d) ≡ 0 → writing h f ≡ stops 6
+      unfolding writing unless
+      write-empty e = both-roots h f _ target source ∙ rw (eq-eqb (root h (f .d)) 0 e, unless)
+
+      pub write-asked : (root h (f .d) ≡ 0 → ⊥) → writing h f ≡ makes (storeCell (objectIn h (f .d)) (f .c) (root h (f .s)))
+      unfolding writing unless
+      write-asked some = both-roots h f _ target source ∙ rw (ne-eqb (root h (f .d)) 0 some, unless)
+
+module _ (N : ℕ) (h : Memory) (f : Fields) where
+  pub read-target : length (h .roots) ≤ f .d → reading N h f ≡ stops 4
+  unfolding reading
+  read-target past = no-target h f _ past
+
+  module _ (target : f .d < length (h .roots)) where
+    pub read-source : length (h .roots) ≤ f .s → reading N h f ≡ stops 4
+    unfolding reading
+    read-source past = no-source h f _ target past
+
+    module _ (source : f .s < length (h .roots)) where
+      pub read-empty : root h (f .s) ≡ 0 → reading N h f ≡ stops 6
+      unfolding reading unless
+      read-empty e = both-roots h f _ target source ∙ rw (eq-eqb (root h (f .s)) 0 e, unless)
+
+      module _ (some : root h (f .s) ≡ 0 → ⊥) where
+        pub read-past : 4 * sizeAt N h (objectIn h (f .s)) ≤ f .c → reading N h f ≡ stops 7
+        unfolding reading unless
+        read-past past =
+            both-roots h f _ target source
+            ∙ rw (ne-eqb (root h (f .s)) 0 some, le-ltb (f .c) (4 * sizeAt N h (objectIn h (f .s))) past, unless)
+
+        pub read-asked : f .c < 4 * sizeAt N h (objectIn h (f .s)) → reading N h f ≡ makes (storeRoot (f .d) (cellIn h (f .s) (f .c)))
+        unfolding reading unless
+        read-asked inside =
+            both-roots h f _ target source
+            ∙ rw (ne-eqb (root h (f .s)) 0 some, lt-ltb (f .c) (4 * sizeAt N h (objectIn h (f .s))) inside, unless)
+
+-- ---- an unknown operation
+
+past-three : (k : ℕ) → (k ≡ 0 → ⊥) → (k ≡ 1 → ⊥) → (k ≡ 2 → ⊥) → (k ≡ 3 → ⊥) → 4 ≤ k
+past-three k zero one two three = omega arith
+
+past-six : (k : ℕ) → 4 ≤ k → (k ≡ 4 → ⊥) → (k ≡ 5 → ⊥) → (k ≡ 6 → ⊥) → 7 ≤ k
+past-six k low four five six = omega arith
+
+-- of a list with places 0 to 6 such a number picks the first, or what stands for the rest
+picks-other :
+    {A : Type 0} (k : ℕ) (l : List A) (d : A) → length l ≡ 7 → getD l 0 d ≡ d
+    → (k ≡ 1 → ⊥) → (k ≡ 2 → ⊥) → (k ≡ 3 → ⊥) → (k ≡ 4 → ⊥) → (k ≡ 5 → ⊥) → (k ≡ 6 → ⊥) → getD l k d ≡ d
+picks-other k l d places same one two three four five six = elim (ℕ-discrete k 0) [
+  | yes z ↦ ap (λ (i : ℕ). getD l i d) z ∙ same
+  | no z ↦ List·getD-eq-default l d {n = k} (enough places (past-six k (past-three k z one two three) four five six))
+]
+  where
+    enough : length l ≡ 7 → 7 ≤ k → length l ≤ k
+    enough e low = omega arith
+
+module _
+    (f : Fields) (one : f .operation ≡ 1 → ⊥) (two : f .operation ≡ 2 → ⊥) (three : f .operation ≡ 3 → ⊥)
+    (four : f .operation ≡ 4 → ⊥) (five : f .operation ≡ 5 → ⊥) (six : f .operation ≡ 6 → ⊥) where
+  pub unknown-zero : f .unused ≡ 0 → areZero (unnamed f) ≡ true
+  unfolding unnamed all
+  unknown-zero e =
+      ap (λ (l : List ℕ). areZero (f .unused ∷ l)) (picks-other (f .operation) (unnamedBy f) [] refl refl one two three four five six)
+      ∙ rw (eq-eqb (f .unused) 0 e, all)
+
+  unknown-stops : (N : ℕ) (h : Memory) → operation N h f ≡ stops 9
+  unfolding operation
+  unknown-stops N h = picks-other (f .operation) (operations N h f) (stops 9) refl refl one two three four five six
+
+  pub unknown-asked : (N : ℕ) (h : Memory) → areZero (unnamed f) ≡ true → asked N h f ≡ stops 9
+  unfolding asked unless
+  unknown-asked N h e = rw (e, asked, unless) (unknown-stops N h)
+
+-- ---- the record
+
+-- where byte 3 is 0, the fields that operation k doesn't name are looked at
+pub unnamed-zero : (f : Fields) (k : ℕ) → f .unused ≡ 0 → f .operation ≡ k → areZero (unnamed f) ≡ areZero (getD (unnamedBy f) k [])
+unfolding unnamed all
+unnamed-zero f k e at =
+    ap (λ (i : ℕ). areZero (f .unused ∷ getD (unnamedBy f) i [])) at ∙ rw (eq-eqb (f .unused) 0 e, all)
+
+pub unused-set : (f : Fields) → (f .unused ≡ 0 → ⊥) → areZero (unnamed f) ≡ false
+unfolding unnamed all
+unused-set f some = rw (ne-eqb (f .unused) 0 some, all)
+
+module _ (N : ℕ) (h : Memory) (f : Fields) where
+  pub nonzero-asked : areZero (unnamed f) ≡ false → asked N h f ≡ stops 9
+  unfolding asked unless
+  nonzero-asked e = rw (e, asked, unless)
+
+  pub known-asked : areZero (unnamed f) ≡ true → (k : ℕ) → f .operation ≡ k → asked N h f ≡ getD (operations N h f) k (stops 9)
+  unfolding asked unless operation
+  known-asked e k at = rw (e, asked, unless) (ap (λ (i : ℕ). getD (operations N h f) i (stops 9)) at)
