@@ -1,0 +1,67 @@
+-- `figures::line::put_figures` meets its contract: five items, one behind the other.
+use native.Mathlib.Omega.{arith}
+use Rattle.figures.specs.Line.{figuresLine}
+use Rattle.figures.proofs.Lines.{put-next}
+use borrow.Author.Needs.{needs}
+use Rattle.figures.proofs.line.put_figures.Statement.{statement}
+use Rattle.figures.proofs.line.put_figures.Tie as tie
+
+slice-aggregate-put-item : tie.Need-slice-aggregate-put-item
+slice-aggregate-put-item c = search needs
+
+put-item-requires : tie.Need-put-item-requires
+put-item-requires c κs = search needs
+
+slice-aggregate-put-item-2 : tie.Need-slice-aggregate-put-item-2
+slice-aggregate-put-item-2 c = search needs
+
+put-item-requires-2 : tie.Need-put-item-requires-2
+put-item-requires-2 c κs = search needs
+
+slice-aggregate-put-item-3 : tie.Need-slice-aggregate-put-item-3
+slice-aggregate-put-item-3 c = search needs
+
+put-item-requires-3 : tie.Need-put-item-requires-3
+put-item-requires-3 c κs = search needs
+
+slice-aggregate-put-item-4 : tie.Need-slice-aggregate-put-item-4
+slice-aggregate-put-item-4 c = search needs
+
+put-item-requires-4 : tie.Need-put-item-requires-4
+put-item-requires-4 c κs = search needs
+
+slice-aggregate-put-item-5 : tie.Need-slice-aggregate-put-item-5
+slice-aggregate-put-item-5 c = search needs
+
+put-item-requires-5 : tie.Need-put-item-requires-5
+put-item-requires-5 c κs = search needs
+
+same-length : tie.Need-same-length
+same-length c = search needs
+
+returns : tie.Need-returns
+unfolding figuresLine
+returns c =
+    let one = c .before .before .before .before .before .before .before .before .before .before .before .before .before .before .before .before .before .before .before .before .before .before .put-item .ensures in
+    let two = c .before .before .before .before .before .before .before .before .before .before .before .before .before .before .before .before .before .put-item2 .ensures in
+    let three = c .before .before .before .before .before .before .before .before .before .before .before .before .put-item3 .ensures in
+    let four = c .before .before .before .before .before .before .before .put-item4 .ensures in
+    put-next (put-next (put-next (put-next (one .0) (omega arith) (two .0)) (omega arith) (three .0)) (omega arith) (four .0)) (omega arith)
+    (c .before .before .put-item5 .ensures .0)
+
+pub put-figures-spec : {M : Type 1} → statement M
+put-figures-spec =
+    tie.close
+    (tie.spec
+    slice-aggregate-put-item
+    put-item-requires
+    slice-aggregate-put-item-2
+    put-item-requires-2
+    slice-aggregate-put-item-3
+    put-item-requires-3
+    slice-aggregate-put-item-4
+    put-item-requires-4
+    slice-aggregate-put-item-5
+    put-item-requires-5
+    same-length
+    returns)

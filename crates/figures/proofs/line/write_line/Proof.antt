@@ -1,0 +1,20 @@
+-- `figures::line::write_line` meets its contract.
+use Rattle.figures.proofs.Lines.{figures-written, refusal-written}
+use borrow.Author.Needs.{needs}
+use Rattle.figures.proofs.line.write_line.Statement.{statement}
+use Rattle.figures.proofs.line.write_line.Tie as tie
+
+put-figures-requires : tie.Need-put-figures-requires
+put-figures-requires c κs = search needs
+
+returns : tie.Need-returns
+returns c = figures-written _ (c .before .before .before .if1 .taken) (c .put-figures .ensures)
+
+put-refusal-requires : tie.Need-put-refusal-requires
+put-refusal-requires c κs = search needs
+
+returns-2 : tie.Need-returns-2
+returns-2 c = refusal-written _ (c .before .before .if1 .left) (c .put-refusal .ensures)
+
+pub write-line-spec : {M : Type 1} → statement M
+write-line-spec = tie.close (tie.spec put-figures-requires returns put-refusal-requires returns-2)
