@@ -15,7 +15,7 @@ use Rattle.theory.proofs.Memories.Healthy.{Healthy}
 use Rattle.theory.proofs.Memories.ViewRelease.{Releasing, freed-zeros, releasing-next}
 use Rattle.theory.proofs.Memories.Stores.{store-root, store-cell}
 
-release-zeros :
+pub release-zeros :
     (N w fuel : ℕ) {h : Memory} {stack : List ℕ} → Releasing N w h stack
     → zeros ((release fuel N w h stack) .a) ≡ zeros (h .a) + releasedBlocks fuel N w h stack
 unfolding release releasedBlocks freed

@@ -5,3 +5,4 @@ pub mod CollectorProcedure
 pub mod CollectorWaiting
 pub mod Freed
 pub mod Settled
+pub mod Placed

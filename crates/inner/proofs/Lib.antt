@@ -5,3 +5,4 @@ pub mod Stored
 pub mod Allocated
 pub mod Collected
 pub mod Kept
+pub mod Balanced

@@ -5,12 +5,19 @@ ghost use lib.ListN.{length};
 ghost use Rattle.rules.specs.Heap.{memory};
 ghost use Rattle.rules.specs.Calls.{Call, reply};
 ghost use Rattle.rules.specs.Promise.{Promise};
+ghost use Rattle.inner.specs.Allocating.{Allocating};
 ghost use Rattle.inner.specs.Usable.{Usable};
 ghost use Rattle.inner.specs.Replies.{storeRootTest, storeCellTest, allocateReply};
 use crate::tests;
 use blocks::Ref;
 use references::stores;
 use rules::Reply;
+
+// The reply of an allocation, and the number of blocks that it freed.
+pub struct Allocated {
+    pub reply: Reply,
+    pub freed: usize,
+}
 
 // Makes the object of n blocks at block `at`, which the search found, and stores its reference in root r.
 pub fn allocate(
@@ -25,17 +32,21 @@ pub fn allocate(
     n: usize,
     r: usize,
     at: usize,
-) -> Reply
+) -> Allocated
     requires { ⌜ Usable blocks width (memory (now a) (now b) (now counts) (now cells) (now roots) (now waiting))
         × (allocateReply blocks (now a) (length (now roots)) n r ≡ reply 0 at 0) ⌝ }
-    ensures { λ reply.
-        ⌜ Promise blocks width (Call.allocate n r)
+    ensures { λ done.
+        ⌜ Allocating blocks width n r
         (memory (now (a .entry)) (now (b .entry)) (now (counts .entry)) (now (cells .entry)) (now (roots .entry)) (now (waiting .entry)))
-        reply
+        done
         (memory (now (a .exit)) (now (b .exit)) (now (counts .exit)) (now (cells .exit)) (now (roots .exit)) (now (waiting .exit))) ⌝ }
 {
-    stores::place(blocks, width, a, b, counts, cells, roots, waiting, n, r, at);
-    tests::acceptance(at)
+    let freed = stores::place(blocks, width, a, b, counts, cells, roots, waiting, n, r, at);
+    let reply = tests::acceptance(at);
+    Allocated {
+        reply: reply,
+        freed: freed,
+    }
 }
 
 // Stores v in root r. The passed test shows that v fits a cell.

@@ -2,13 +2,15 @@
 ghost use Rattle.rules.specs.Heap.{memory};
 ghost use Rattle.rules.specs.Calls.{Call};
 ghost use Rattle.rules.specs.Promise.{Promise};
+ghost use Rattle.inner.specs.Allocating.{Allocating};
 ghost use Rattle.inner.specs.Usable.{Usable};
 use crate::acts;
+use crate::acts::Allocated;
 use crate::tests;
 use blocks::Ref;
 use rules::Reply;
 
-// Allocates n blocks into root r.
+// Allocates n blocks into root r; a refused allocation frees nothing.
 pub fn allocate(
     blocks: usize,
     width: usize,
@@ -20,18 +22,21 @@ pub fn allocate(
     waiting: &mut [Ref],
     n: usize,
     r: usize,
-) -> Reply
+) -> Allocated
     requires { ⌜ Usable blocks width (memory (now a) (now b) (now counts) (now cells) (now roots) (now waiting)) ⌝ }
-    ensures { λ reply.
-        ⌜ Promise blocks width (Call.allocate n r)
+    ensures { λ done.
+        ⌜ Allocating blocks width n r
         (memory (now (a .entry)) (now (b .entry)) (now (counts .entry)) (now (cells .entry)) (now (roots .entry)) (now (waiting .entry)))
-        reply
+        done
         (memory (now (a .exit)) (now (b .exit)) (now (counts .exit)) (now (cells .exit)) (now (roots .exit)) (now (waiting .exit))) ⌝ }
 {
     let test = tests::allocate_reply(blocks, a, roots.len(), n, r);
     let number = test.number;
     if number != 0 {
-        return test;
+        return Allocated {
+            reply: test,
+            freed: 0,
+        };
     }
     let at = test.value;
     acts::allocate(blocks, width, a, b, counts, cells, roots, waiting, n, r, at)

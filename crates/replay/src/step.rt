@@ -33,18 +33,21 @@ pub(crate) fn step(
     match code {
         0 => mutate::format(blocks, width, a, b, counts, cells, roots, waiting),
         1 => tests::acceptance(0),
-        2 => steps::allocate(
-            blocks,
-            width,
-            a,
-            b,
-            counts,
-            cells,
-            roots,
-            waiting,
-            x as usize,
-            y as usize,
-        ),
+        2 => {
+            let done = steps::allocate(
+                blocks,
+                width,
+                a,
+                b,
+                counts,
+                cells,
+                roots,
+                waiting,
+                x as usize,
+                y as usize,
+            );
+            done.reply
+        }
         3 => steps::store_root(
             blocks,
             width,

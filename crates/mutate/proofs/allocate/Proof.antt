@@ -99,7 +99,7 @@ returns-3 c =
     allocate-cleared _ _ _ _ (sound .before .check .ensures) (sound .if1 .left) _ (called .before .before .before .before .before .before .before .before .before .clear-all .ensures)
     _ _ _ (allocate-accepts _ _ _ _ _ _ (tested .before .allocate-reply .ensures) (tested .if2 .left))
     _ _
-    (called .allocate .ensures)
+    (called .allocate .ensures .promise)
 
 pub allocate-spec : {M : Type 1} → statement M
 allocate-spec =

@@ -158,7 +158,7 @@ pub record Even (N : ℕ) (c : Call) (h : Memory) (x : Answer) : Type 0 where
   pub kept : inUse N h + allocatedBy c (x .0) ≡ freedBlocks N h (x .1) + inUse N (x .1)
 
 module _ (N w : ℕ) (h : Memory) (healthy : Healthy N w h) where
-  abbrev sizes : List ℕ
+  abbrev pub sizes : List ℕ
   sizes = sizesOf N (h .a) (h .b)
 
   -- the heap as it was, with whatever waiting list
@@ -269,7 +269,7 @@ module _ (N w : ℕ) (h : Memory) (healthy : Healthy N w h) where
     space : Room N (h .a) n i
     space = room N (h .a) n i found
 
-    fresh : getD sizes i 0 ≡ 0
+    pub fresh : getD sizes i 0 ≡ 0
     fresh = elim (test-cases (isFirst N h i)) [
       | inl f ↦ absurd (omega (arith, first-facts N (h .a) (h .b) i f .used, space .free i (omega arith) (omega arith)))
       | inr f ↦ not-first-size N (h .a) (h .b) sizes (healthy .represents) i f

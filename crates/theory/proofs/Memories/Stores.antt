@@ -231,7 +231,7 @@ module _ (N w : ℕ) (h : Memory) (healthy : Healthy N w h) where
         go (inl l) = omega (arith, p)
         go (inr (x, own)) = beside x own (room-vacant .clear x (omega (arith, own)))
 
-    maps-placed : Represents N (fillBits (h .a) i n 1) (setBit (h .b) (i + n - 1) 0) (set (sizesOf N (h .a) (h .b)) i n)
+    pub maps-placed : Represents N (fillBits (h .a) i n 1) (setBit (h .b) (i + n - 1) 0) (set (sizesOf N (h .a) (h .b)) i n)
     maps-placed = placed-represents N (h .a) (h .b) (sizesOf N (h .a) (h .b)) (healthy .represents) i n some (room .inside) (room .free)
 
     placed-shows : Shows N w (length (h .roots)) (placed N w h i n) (place (view N w h) i n)

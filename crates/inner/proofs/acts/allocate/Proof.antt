@@ -1,6 +1,7 @@
 -- `inner::acts::allocate` meets its contract: the object is placed where the search found room.
 use Rattle.inner.proofs.Idle.{usable-ready}
-use Rattle.inner.proofs.Allocated.{allocate-passed, allocate-promised}
+use Rattle.inner.proofs.Allocated.{allocate-passed}
+use Rattle.inner.proofs.Balanced.{allocate-accepting}
 use borrow.Author.Needs.{needs}
 use Rattle.inner.proofs.acts.allocate.Statement.{statement}
 use Rattle.inner.proofs.acts.allocate.Tie as tie
@@ -35,9 +36,8 @@ same-length-6 c = search needs
 returns : tie.Need-returns
 returns c =
     let pre = c .before .before .before .before .before .before .before .before .before .before .before .before .before .before .before .before .before .before .before .before .before .before .before .before .before .before .pre in
-    allocate-promised _ _ _ _ _ _ (allocate-passed _ _ _ _ _ _ (pre .1)) (pre .0) _ _
-    (c .before .before .before .before .before .before .before .before .before .before .before .before .before .place .ensures .0)
-    (c .acceptance .ensures)
+    let placed = c .before .before .before .before .before .before .before .before .before .before .before .before .before .place .ensures in
+    allocate-accepting _ _ _ (pre .0) _ _ _ (allocate-passed _ _ _ _ _ _ (pre .1)) _ _ (placed .0) (placed .1) (c .acceptance .ensures)
 
 pub allocate-spec : {M : Type 1} → statement M
 allocate-spec =

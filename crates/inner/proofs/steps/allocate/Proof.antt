@@ -1,7 +1,9 @@
 -- `inner::steps::allocate` meets its contract.
+use mathlib.Core.Path.{refl}
 use native.Mathlib.Omega.{arith}
 use Rattle.inner.proofs.Idle.{healthy-blocks, usable-healthy}
 use Rattle.inner.proofs.Allocated.{allocate-accepts, allocate-refused}
+use Rattle.inner.proofs.Balanced.{allocate-refusing}
 use borrow.Author.Needs.{needs}
 use Rattle.inner.proofs.steps.allocate.Statement.{statement}
 use Rattle.inner.proofs.steps.allocate.Tie as tie
@@ -16,7 +18,9 @@ same-length c = search needs
 
 returns : tie.Need-returns
 returns c =
-    allocate-refused _ _ _ _ _ (usable-healthy _ _ _ (c .before .before .before .before .before .before .before .before .before .pre)) _ (c .before .allocate-reply .ensures) (c .if1 .taken)
+    let usable = c .before .before .before .before .before .before .before .before .before .pre in
+    allocate-refusing _ _ _ usable _ _ _ (c .if1 .taken) refl
+    (allocate-refused _ _ _ _ _ (usable-healthy _ _ _ usable) _ (c .before .allocate-reply .ensures) (c .if1 .taken))
 
 allocate-requires : tie.Need-allocate-requires
 allocate-requires c κs =

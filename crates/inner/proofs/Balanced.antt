@@ -1,0 +1,77 @@
+-- The blocks that an allocation frees, from what it left and counted.
+use mathlib.Core.Path.{_≡_, refl, sym, ap, _∙_}
+use Prim.Native.Nat.{ℕ, _+_, _-_}
+use native.Mathlib.Omega.{arith}
+use lib.ListN.{length}
+use borrow.Author.Tests.{eq-eqb, ne-eqb}
+use Rattle.bitmap.specs.Bit.{zeros}
+use Rattle.rules.specs.Heap.{Memory}
+use Rattle.rules.specs.Store.{allocateIn}
+use Rattle.rules.specs.Calls.{allocate, reply, Answer, answer}
+use Rattle.rules.specs.Promise.{Promise}
+use Rattle.rules.specs.declared.Reply.{Reply}
+use Rattle.references.specs.Blocks.{allocateBlocks}
+use Rattle.theory.specs.Balance.{freedBlocks, inUse, allocates, allocatedBy}
+use Rattle.theory.proofs.Maps.Totals.{free-and-sizes}
+use Rattle.theory.proofs.Memories.Healthy.{Healthy}
+use Rattle.theory.proofs.EachCall.Balance.{answer-even}
+use Rattle.bridge.proofs.Placed.{allocate-freed}
+use Rattle.inner.specs.Usable.{Usable}
+use Rattle.inner.specs.Allocating.{Allocating}
+use Rattle.inner.specs.declared.acts.Allocated.{Allocated}
+use Rattle.inner.proofs.Idle.{usable-healthy}
+use Rattle.inner.proofs.Kept.{usable-kept}
+use Rattle.inner.proofs.Allocated.{Found, allocate-promised}
+
+module _ (N w : ℕ) (h : Memory) (usable : Usable N w h) (n r : ℕ) {x : Reply} {g : Memory} (promise : Promise N w (allocate n r) h x g) where
+  balance : inUse N h + allocatedBy (allocate n r) x ≡ freedBlocks N h g + inUse N g
+  balance =
+      rw (promise .reply-is, promise .after-is) (answer-even N w h (usable-healthy N w h usable) (allocate n r) .kept)
+
+  zeros-most : zeros (h .a) + (N - zeros (h .a)) ≡ N
+  zeros-most = omega (arith, free-and-sizes N (h .a) (h .b) _ (usable-healthy N w h usable .represents))
+
+  -- a refused one
+  pub refused-freed : (x .number ≡ 0 → ⊥) → g ≡ h → freedBlocks N h g ≡ 0
+  unfolding allocatedBy allocates
+  refused-freed refused same =
+      let none : allocatedBy (allocate n r) x ≡ 0 = rw (ne-eqb (x .number) 0 refused, allocatedBy) in
+      omega (arith, balance, none, ap (λ (k : Memory). zeros (k .a)) same)
+
+  -- an accepted one
+  pub accepted-freed : x .number ≡ 0 → (freed : ℕ) → zeros (g .a) + n ≡ zeros (h .a) + freed → freed ≡ freedBlocks N h g
+  unfolding allocatedBy allocates
+  accepted-freed accepted freed counted =
+      let all : allocatedBy (allocate n r) x ≡ n = rw (eq-eqb (x .number) 0 accepted, allocatedBy) in
+      let after = usable-healthy N w g (usable-kept N w h usable (allocate n r) x g promise) .represents in
+      omega (arith, balance, all, zeros-most, free-and-sizes N (g .a) (g .b) _ after)
+
+module _ (N w : ℕ) (h : Memory) (usable : Usable N w h) (n r : ℕ) where
+  pub allocate-refusing :
+      (done : Allocated) → (done .reply .number ≡ 0 → ⊥) → done .freed ≡ 0 → Promise N w (allocate n r) h (done .reply) h
+      → Allocating N w n r h done h
+  allocate-refusing done refused none promise =
+      record {
+        promise = promise;
+        freed-is = none ∙ sym (refused-freed N w h usable n r promise refused refl);
+        refused-same = λ _. refl;
+      }
+
+  pub allocate-accepting :
+      (at : ℕ) → Found N (h .a) (length (h .roots)) n r at → (done : Allocated) (g : Memory) → g ≡ allocateIn N w h n r at
+      → done .freed ≡ allocateBlocks N w h n r at → done .reply ≡ reply 0 at 0 → Allocating N w n r h done g
+  allocate-accepting at free done g left counted replied =
+      let promise = allocate-promised N w h n r at free usable (done .reply) g left replied in
+      let healthy = usable-healthy N w h usable in
+      let zeros-are : zeros (g .a) + n ≡ zeros (h .a) + done .freed =
+      omega (
+        arith,
+        allocate-freed N w h healthy n r at (free .some-blocks) (free .place) (free .lowest),
+        ap (λ (k : Memory). zeros (k .a)) left,
+      ) in
+      record {
+        promise = promise;
+        freed-is =
+            accepted-freed N w h usable n r promise (ap (λ (y : Reply). y .number) replied) (done .freed) zeros-are;
+        refused-same = λ refused. absurd (refused (ap (λ (y : Reply). y .number) replied));
+      }
