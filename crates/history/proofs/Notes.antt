@@ -1,0 +1,156 @@
+-- What came of a record, noted: nothing wraps, the run is the one after the turn, and it is in range.
+use mathlib.Core.Path.{_≡_, refl, sym, ap, _∙_, subst}
+use mathlib.Core.Bool.{Bool, true, false}
+use Prim.Native.Nat.{ℕ, _+_, _-_, _*_, _^_, _≤_, _<_}
+use native.Mathlib.Decide.{ℕ-discrete}
+use native.Mathlib.Omega.{arith}
+use lib.Dec.{eqb}
+use borrow.Author.Tests.{eq-eqb, ne-eqb}
+use Rattle.rules.specs.Heap.{Memory, maxBlocks}
+use Rattle.theory.specs.Balance.{inUse}
+use Rattle.figures.specs.declared.tally.Tally.{Tally}
+use Rattle.figures.specs.declared.tally.Run.{Run}
+use Rattle.figures.specs.Figures.{collected, used, notedAll, run, mostRecords, inRange}
+use Rattle.figures.proofs.Ranges.{Within, in-range-within, within-in-range, going-collections, stopped-collections}
+use Rattle.history.specs.declared.acts.Done.{Done}
+use Rattle.history.specs.declared.noting.Running.{Running}
+use Rattle.history.specs.Runs.{Turn, afterTurn}
+use Rattle.history.specs.Steps.{running, withCollection, withAllocation, Acted, Going, CanNote, notedBy, Stepped}
+
+-- ---- figures grow by little
+
+-- at most one allocation and one collection more, and the blocks allocated
+record Grown (d : Done) (t is : Tally) : Type 0 where
+  collections : is .collections ≤ t .collections + 1
+  allocations : is .allocations ≤ t .allocations + 1
+  no-allocation : d .allocated ≡ 0 → is .allocations ≡ t .allocations
+  blocks : is .blocks ≡ t .blocks + d .allocated
+
+pub collection-grows : (d : Done) (t : Tally)
+    → let is = withCollection d t in (is .collections ≤ t .collections + 1) × (is .allocations ≡ t .allocations) × (is .blocks ≡ t .blocks)
+unfolding withCollection
+collection-grows d t = go (d .collected)
+  where
+    go : (b : Bool)
+        → let is : Tally = elim b [ true ↦ collected t | false ↦ t ] in
+        (is .collections ≤ t .collections + 1) × (is .allocations ≡ t .allocations) × (is .blocks ≡ t .blocks)
+    go true = (omega arith, refl, refl)
+    go false = (omega arith, refl, refl)
+
+figures-grow : (d : Done) (t : Tally) → Grown d t (withAllocation d (withCollection d t))
+unfolding withAllocation
+figures-grow d t =
+    let first = collection-grows d t in
+    elim (ℕ-discrete (d .allocated) 0) [
+      | yes e ↦
+          rw (eq-eqb (d .allocated) 0 e, withAllocation)
+          record { collections = first .0; allocations = omega (arith, first .1); no-allocation = λ _. first .1; blocks = omega (arith, first .2) }
+      | no e ↦
+          rw (ne-eqb (d .allocated) 0 e, withAllocation)
+          record {
+            collections = first .0;
+            allocations = omega (arith, first .1);
+            no-allocation = λ z. absurd (e z);
+            blocks = omega (arith, first .2);
+          }
+    ]
+
+-- ---- one record
+
+module _ (N : ℕ) (small : N ≤ maxBlocks) (h : Memory) (state : Running) (going : Going N h 1 state) (x : Turn) (d : Done) (g : Memory)
+    (acted : Acted N h x d g) where
+  within : Within (state .run)
+  within = in-range-within (state .run) (going .in-range)
+
+  few-collections : state .run .tally .collections ≤ state .run .records
+  few-collections = omega (arith, within .collections-few, going-collections (state .run) (going .goes-on))
+
+  pub can-note : CanNote d state
+  can-note =
+      record {
+        collections-fit = omega (arith, few-collections, going .more);
+        allocations-fit = omega (arith, within .allocations-few, going .more);
+        blocks-fit = omega (arith, within .blocks-few, going .more, acted .allocated-few);
+        records-fit = omega (arith, going .more);
+        used-fits = omega (arith, going .used-is, acted .allocated-few);
+        freed-few = omega (arith, going .used-is, acted .balance);
+      }
+
+  -- the blocks in use are known again
+  used-again : state .used + d .allocated - d .freed ≡ inUse N g
+  used-again = omega (arith, going .used-is, acted .balance)
+
+  abbrev figures : Tally
+  figures = withAllocation d (withCollection d (state .run .tally))
+
+  grown : Grown d (state .run .tally) figures
+  grown = figures-grow d (state .run .tally)
+
+  accepted-within : Within (run 0 (state .run .records + 1) (used (inUse N g) figures))
+  accepted-within =
+      let r : Run = run 0 (state .run .records + 1) (used (inUse N g) figures) in
+      record {
+        few = omega (arith, going .more);
+        allocations-few = omega (arith, grown .allocations, within .allocations-few);
+        blocks-few = omega (arith, grown .blocks, within .blocks-few, acted .allocated-few);
+        collections-few = omega (arith, grown .collections, few-collections, going-collections r refl);
+      }
+
+  refused-within : (number : ℕ) → (number ≡ 0 → ⊥) → d .allocated ≡ 0 → Within (run number (state .run .records) figures)
+  refused-within number stopped none-new =
+      let r : Run = run number (state .run .records) figures in
+      record {
+        few = omega (arith, going .more);
+        allocations-few = omega (arith, grown .no-allocation none-new, within .allocations-few);
+        blocks-few = omega (arith, grown .blocks, within .blocks-few);
+        collections-few = omega (arith, grown .collections, few-collections, stopped-collections r stopped);
+      }
+
+  -- the run after the turn, of an accepted record and of one that stops the run
+  after-accepted : d .number ≡ 0 → afterTurn N x (state .run) ≡ run 0 (state .run .records + 1) (used (inUse N g) figures)
+  unfolding afterTurn
+  after-accepted e =
+      rw (eq-eqb (x .number) 0 (sym (acted .number-is) ∙ e), afterTurn)
+      (ap (λ (t : Tally). run 0 (state .run .records + 1) (used (inUse N (x .after)) t)) (sym (acted .figures-are (state .run .tally)))
+      ∙ ap (λ (m : Memory). run 0 (state .run .records + 1) (used (inUse N m) figures)) (sym (acted .after-is)))
+
+  after-refused : (d .number ≡ 0 → ⊥) → afterTurn N x (state .run) ≡ run (d .number) (state .run .records) figures
+  unfolding afterTurn
+  after-refused stopped =
+      rw (ne-eqb (x .number) 0 (λ e. stopped (acted .number-is ∙ e)), afterTurn)
+      (ap (λ (t : Tally). run (x .number) (state .run .records) t) (sym (acted .figures-are (state .run .tally)))
+      ∙ ap (λ (k : ℕ). run k (state .run .records) figures) (sym (acted .number-is)))
+
+  noted-accepted : d .number ≡ 0 → notedBy d state ≡ running (run 0 (state .run .records + 1) (used (inUse N g) figures)) (inUse N g)
+  unfolding notedBy
+  noted-accepted e =
+      rw (eq-eqb (d .number) 0 e, notedBy)
+      (ap (λ (k : ℕ). running (run 0 (state .run .records + 1) (used k figures)) k) used-again)
+
+  noted-refused : (d .number ≡ 0 → ⊥) → notedBy d state ≡ running (run (d .number) (state .run .records) figures) (inUse N g)
+  unfolding notedBy
+  noted-refused stopped =
+      rw (ne-eqb (d .number) 0 stopped, notedBy) (ap (λ (k : ℕ). running (run (d .number) (state .run .records) figures) k) used-again)
+
+  noted-step : Stepped N x state (notedBy d state) g
+  noted-step = elim (ℕ-discrete (d .number) 0) [
+    | yes e ↦
+        rw (noted-accepted e)
+        record {
+          run-is = sym (after-accepted e);
+          after-is = acted .after-is;
+          in-range = within-in-range _ accepted-within;
+          used-is = refl;
+        }
+    | no stopped ↦
+        rw (noted-refused stopped)
+        record {
+          run-is = sym (after-refused stopped);
+          after-is = acted .after-is;
+          in-range = within-in-range _ (refused-within (d .number) stopped (acted .refused-none stopped));
+          used-is = refl;
+        }
+  ]
+
+  pub noted-stepped : (is : Running) → is ≡ notedBy d state → Stepped N x state is g
+  noted-stepped is e = subst (λ (s : Running). Stepped N x state s g) (sym e) noted-step

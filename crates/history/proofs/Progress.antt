@@ -1,0 +1,182 @@
+-- The run over whole records, turn by turn: what is left of it after some records is the run over those that are left, from where it stands.
+use mathlib.Core.Path.{_≡_, refl, sym, ap, _∙_, subst}
+use mathlib.Core.Logic.{inl, inr}
+use mathlib.Core.List.{List}
+use Prim.Native.Nat.{ℕ, suc, _+_, _-_, _*_, _≤_, _<_}
+use native.Mathlib.Decide.{ℕ-discrete}
+use native.Mathlib.Omega.{arith}
+use lib.ListN.{length}
+use borrow.Author.Tests.{eq-eqb, ne-eqb}
+use Rattle.rules.specs.Heap.{Memory}
+use Rattle.rules.specs.Calls.{Call, collect, answer}
+use Rattle.rules.proofs.Tests.{test-cases}
+use Rattle.inner.specs.Usable.{Usable}
+use Rattle.inner.proofs.Kept.{usable-kept}
+use Rattle.records.specs.Records.{recordLength, fieldsAt, Asked, makes, stops, asked}
+use Rattle.records.specs.declared.Fields.{Fields}
+use Rattle.figures.specs.declared.tally.Run.{Run}
+use Rattle.history.specs.declared.noting.Running.{Running}
+use Rattle.history.specs.Runs.{Turn, triesAgain, triedAgain, turnOf, afterTurn, Came, recordAt, ranFrom}
+use Rattle.history.specs.Steps.{Going, Stepped, RunBy}
+use Rattle.history.proofs.Turns.{turn-once, turn-again}
+
+-- ---- one turn
+
+call-usable : (N w : ℕ) (h : Memory) → Usable N w h → (c : Call) → Usable N w (answer N w h c .1)
+call-usable N w h usable c = usable-kept N w h usable c (answer N w h c .0) (answer N w h c .1) (record { reply-is = refl; after-is = refl })
+
+turn-usable : (N w : ℕ) (h : Memory) → Usable N w h → (x : Asked) → Usable N w (turnOf N w h x .after)
+unfolding turnOf triedAgain
+turn-usable N w h usable (stops number) = usable
+turn-usable N w h usable (makes c) =
+    let first = call-usable N w h usable c in
+    let second = call-usable N w _ (call-usable N w _ first collect) c in
+    elim (test-cases (triesAgain c (answer N w h c .0))) [
+      | inl e ↦ subst (λ (x : Turn). Usable N w (x .after)) (sym (turn-again N w h c e)) second
+      | inr e ↦ subst (λ (x : Turn). Usable N w (x .after)) (sym (turn-once N w h c e)) first
+    ]
+
+-- the run after a turn has the turn's number
+pub after-number : (N : ℕ) (x : Turn) (r : Run) → afterTurn N x r .number ≡ x .number
+unfolding afterTurn
+after-number N x r = elim (ℕ-discrete (x .number) 0) [
+  | yes e ↦ rw (eq-eqb (x .number) 0 e, afterTurn) (sym e)
+  | no e ↦ rw (ne-eqb (x .number) 0 e, afterTurn)
+]
+
+-- ---- the records left
+
+module _ (n N w : ℕ) (bytes : List ℕ) (i : ℕ) (h : Memory) (r : Run) where
+  abbrev x : Turn
+  x = recordAt N w bytes i h
+
+  -- an accepted record, and those behind it
+  rest-run : x .number ≡ 0 → ranFrom (suc n) N w bytes i h r .run ≡ ranFrom n N w bytes (i + 1) (x .after) (afterTurn N x r) .run
+  unfolding ranFrom
+  rest-run e = rw (eq-eqb (x .number) 0 e, ranFrom)
+
+  rest-memory : x .number ≡ 0 → ranFrom (suc n) N w bytes i h r .memory ≡ ranFrom n N w bytes (i + 1) (x .after) (afterTurn N x r) .memory
+  unfolding ranFrom
+  rest-memory e = rw (eq-eqb (x .number) 0 e, ranFrom)
+
+  -- one that stops the run
+  stop-run : (x .number ≡ 0 → ⊥) → ranFrom (suc n) N w bytes i h r .run ≡ afterTurn N x r
+  unfolding ranFrom
+  stop-run e = rw (ne-eqb (x .number) 0 e, ranFrom)
+
+  stop-memory : (x .number ≡ 0 → ⊥) → ranFrom (suc n) N w bytes i h r .memory ≡ x .after
+  unfolding ranFrom
+  stop-memory e = rw (ne-eqb (x .number) 0 e, ranFrom)
+
+-- ---- the loop's invariant: i records are run
+
+pub record Progress (n N w : ℕ) (bytes : List ℕ) (start : Memory) (r : Run) (i : ℕ) (h : Memory) (state : Running) : Type 0 where
+  pub usable : Usable N w h
+  pub going : Going N h (n - i) state
+  pub made : i ≤ n
+  pub roots-length : length (h .roots) ≡ length (start .roots)
+  pub run-left : ranFrom n N w bytes 0 start r .run ≡ ranFrom (n - i) N w bytes i h (state .run) .run
+  pub memory-left : ranFrom n N w bytes 0 start r .memory ≡ ranFrom (n - i) N w bytes i h (state .run) .memory
+
+module _ (n N w : ℕ) (bytes : List ℕ) (start : Memory) (r : Run) where
+  pub progress-start : (state : Running) → state .run ≡ r → Usable N w start → Going N start n state → Progress n N w bytes start r 0 start state
+  progress-start state same usable going =
+      let all : n - 0 ≡ n = omega arith in
+      record {
+        usable = usable;
+        going = rw all going;
+        made = omega arith;
+        roots-length = refl;
+        run-left = rw (all, same);
+        memory-left = rw (all, same);
+      }
+
+  module _ (i : ℕ) (h : Memory) (state : Running) (l : i < n) (p : Progress n N w bytes start r i h state) where
+    abbrev left : ℕ
+    left = n - (i + 1)
+
+    more : n - i ≡ suc left
+    more = omega arith
+
+    -- one record can be run
+    pub step-going : Going N h 1 state
+    step-going =
+        let going = p .going in
+        record { goes-on = going .goes-on; in-range = going .in-range; more = omega (arith, going .more); used-is = going .used-is }
+
+    module _ (f : Fields) (read : f ≡ fieldsAt bytes (recordLength * i)) (next : Running) (g : Memory)
+        (stepped : Stepped N (turnOf N w h (asked N h f)) state next g) where
+      turned : Stepped N (recordAt N w bytes i h) state next g
+      turned = subst (λ (y : Fields). Stepped N (turnOf N w h (asked N h y)) state next g) read stepped
+
+      number-is : next .run .number ≡ recordAt N w bytes i h .number
+      number-is = ap (λ (y : Run). y .number) (turned .run-is) ∙ after-number N (recordAt N w bytes i h) (state .run)
+
+      pub next-usable : Usable N w g
+      next-usable = subst (λ (m : Memory). Usable N w m) (sym (turned .after-is)) (turn-usable N w h (p .usable) (asked N h (fieldsAt bytes (recordLength * i))))
+
+      -- the record was accepted
+      records-next : next .run .number ≡ 0 → next .run .records ≡ state .run .records + 1
+      unfolding afterTurn
+      records-next e =
+          ap (λ (y : Run). y .records) (turned .run-is) ∙ rw (eq-eqb (recordAt N w bytes i h .number) 0 (sym number-is ∙ e), afterTurn)
+
+      pub progress-next :
+          length (g .roots) ≡ length (h .roots) → next .run .number ≡ 0 → Progress n N w bytes start r (i + 1) g next
+      progress-next kept e =
+          let accepted = sym number-is ∙ e in
+          record {
+            usable = next-usable;
+            going =
+                record {
+                  goes-on = e;
+                  in-range = turned .in-range;
+                  more = omega (arith, p .going .more, records-next e);
+                  used-is = turned .used-is;
+                };
+            made = omega arith;
+            roots-length = kept ∙ p .roots-length;
+            run-left =
+                p .run-left
+                ∙ ap (λ (k : ℕ). ranFrom k N w bytes i h (state .run) .run) more
+                ∙ rest-run left N w bytes i h (state .run) accepted
+                ∙ sym (rw (turned .run-is, turned .after-is));
+            memory-left =
+                p .memory-left
+                ∙ ap (λ (k : ℕ). ranFrom k N w bytes i h (state .run) .memory) more
+                ∙ rest-memory left N w bytes i h (state .run) accepted
+                ∙ sym (rw (turned .run-is, turned .after-is));
+          }
+
+      -- the record stopped the run
+      pub progress-stop : (next .run .number ≡ 0 → ⊥) → RunBy N w (ranFrom n N w bytes 0 start r) (next .run) g
+      progress-stop stopped =
+          let refused : recordAt N w bytes i h .number ≡ 0 → ⊥ = λ e. stopped (number-is ∙ e) in
+          record {
+            run-is =
+                turned .run-is
+                ∙ sym
+                (p .run-left
+                ∙ ap (λ (k : ℕ). ranFrom k N w bytes i h (state .run) .run) more
+                ∙ stop-run left N w bytes i h (state .run) refused);
+            memory-is =
+                turned .after-is
+                ∙ sym
+                (p .memory-left
+                ∙ ap (λ (k : ℕ). ranFrom k N w bytes i h (state .run) .memory) more
+                ∙ stop-memory left N w bytes i h (state .run) refused);
+            usable = next-usable;
+          }
+
+  -- all records are run
+  pub progress-done :
+      (i : ℕ) (h : Memory) (state : Running) → n ≤ i → Progress n N w bytes start r i h state
+      → RunBy N w (ranFrom n N w bytes 0 start r) (state .run) h
+  unfolding ranFrom
+  progress-done i h state past p =
+      let none : n - i ≡ 0 = omega arith in
+      record {
+        run-is = sym (p .run-left ∙ ap (λ (k : ℕ). ranFrom k N w bytes i h (state .run) .run) none);
+        memory-is = sym (p .memory-left ∙ ap (λ (k : ℕ). ranFrom k N w bytes i h (state .run) .memory) none);
+        usable = p .usable;
+      }

@@ -1,0 +1,37 @@
+-- A usable heap can be read by the plan of a record, which looks at three of its buffers alone.
+use mathlib.Core.Path.{_≡_, subst, _∙_}
+use mathlib.Core.Logic.{_⊎_, inl, inr}
+use mathlib.Core.List.{List, []}
+use Prim.Native.Nat.{ℕ, _*_, _≤_}
+use native.Mathlib.Omega.{arith}
+use lib.ListN.{length, getD}
+use Rattle.rules.specs.Heap.{Memory, memory}
+use Rattle.references.specs.Ready.{Ready}
+use Rattle.inner.specs.Usable.{Usable}
+use Rattle.inner.proofs.Idle.{usable-healthy, usable-ready}
+use Rattle.records.specs.declared.Fields.{Fields}
+use Rattle.records.specs.declared.Plan.{Plan}
+use Rattle.records.specs.Meaning.{meaning}
+use Rattle.records.specs.Readable.{Readable}
+use Rattle.records.specs.Records.{Asked, unless, onRoots, copying, writing, reading, clearing, operation, asked}
+use Rattle.history.specs.declared.acts.Done.{Done}
+use Rattle.history.specs.Runs.{turnOf}
+use Rattle.history.specs.Steps.{Acted}
+
+pub usable-readable : (N w : ℕ) (h : Memory) → Usable N w h → Readable N (h .b) (h .cells) (h .roots)
+usable-readable N w h usable =
+    let shape = usable-healthy N w h usable .shape in
+    record {
+      most = shape .blocks-max;
+      b-length = omega (arith, shape .length-b, shape .whole-bytes);
+      cells-length = shape .length-cells;
+      named = usable-ready N w h usable .named;
+    }
+
+-- what is asked for on the three buffers is what is asked for on the heap
+pub planned :
+    (N w : ℕ) (h : Memory) (f : Fields) (plan : Plan) {d : Done} {g : Memory}
+    → meaning plan ≡ asked N (memory [] (h .b) [] (h .cells) (h .roots) []) f → Acted N h (turnOf N w h (meaning plan)) d g
+    → Acted N h (turnOf N w h (asked N h f)) d g
+unfolding asked operation copying writing reading clearing onRoots
+planned N w h f plan {d} {g} e acted = subst (λ (x : Asked). Acted N h (turnOf N w h x) d g) e acted

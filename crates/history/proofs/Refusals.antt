@@ -1,0 +1,41 @@
+-- A refused store on an undamaged heap changes no buffer, and its value is 0.
+use mathlib.Core.Path.{_≡_, refl, sym, subst}
+use mathlib.Core.Bool.{Bool, true, false}
+use Prim.Native.Nat.{ℕ, _+_, _*_}
+use lib.Dec.{ltb}
+use lib.ListN.{length}
+use Rattle.rules.specs.Heap.{Memory, isFirst, sizeAt, isRef}
+use Rattle.rules.specs.Store.{storeRootIn, storeCellIn}
+use Rattle.rules.specs.Calls.{storeRoot, storeCell, Answer, require, onUndamaged, freeing, answer}
+use Rattle.theory.proofs.Memories.Healthy.{Healthy}
+use Rattle.theory.proofs.EachCall.Served.{on-undamaged}
+
+pub record Keeps (h : Memory) (x : Answer) : Type 0 where
+  pub kept : (x .0 .number ≡ 0 → ⊥) → (x .1 ≡ h) × (x .0 .value ≡ 0)
+
+module _ (N w : ℕ) (h : Memory) (healthy : Healthy N w h) where
+  freeing-keeps : (g : Memory) → Keeps h (freeing N h g)
+  unfolding freeing
+  freeing-keeps g = record { kept = λ refused. absurd (refused refl) }
+
+  require-keeps : {next : Answer} (test : Bool) (number : ℕ) → Keeps h next → Keeps h (require test number h next)
+  unfolding require
+  require-keeps true number next = next
+  require-keeps false number next = record { kept = λ _. (refl, refl) }
+
+  on-undamaged-keeps : {next : Answer} → Keeps h next → Keeps h (onUndamaged N w h next)
+  on-undamaged-keeps {next} keeps = subst (λ (x : Answer). Keeps h x) (sym (on-undamaged N w h healthy next)) keeps
+
+  pub store-root-keeps : (r v : ℕ) → Keeps h (answer N w h (storeRoot r v))
+  unfolding answer
+  store-root-keeps r v =
+      on-undamaged-keeps
+      (require-keeps (ltb r (length (h .roots))) 4 (require-keeps (isRef N h v) 8 (freeing-keeps (storeRootIn N w h r v))))
+
+  pub store-cell-keeps : (a j v : ℕ) → Keeps h (answer N w h (storeCell a j v))
+  unfolding answer
+  store-cell-keeps a j v =
+      on-undamaged-keeps
+      (require-keeps (isFirst N h a) 6
+      (require-keeps (ltb j (4 * sizeAt N h a)) 7
+      (require-keeps (isRef N h v) 8 (freeing-keeps (storeCellIn N w h (4 * a + j) v)))))

@@ -1,0 +1,392 @@
+-- What came of a record, from what its calls promise.
+use mathlib.Core.Path.{_≡_, refl, sym, ap, _∙_, subst}
+use mathlib.Core.Bool.{Bool, true, false, _&&_}
+use mathlib.Core.List.{List, [], _∷_}
+use Prim.Native.Nat.{ℕ, _+_, _≤_}
+use native.Mathlib.Decide.{ℕ-discrete}
+use native.Mathlib.Omega.{arith}
+use lib.Dec.{eqb, leb, ltb}
+use lib.ListN.{length}
+use borrow.Author.Tests.{eq-eqb, ne-eqb, leb-true}
+use Rattle.rules.specs.Heap.{Memory, exponent, lowestFree}
+use Rattle.rules.specs.Calls.{Call, collect, allocate, storeRoot, storeCell, Answer, require, freeing, allocation, answer}
+use Rattle.rules.specs.Promise.{Promise}
+use Rattle.theory.specs.Words.{Made}
+use Rattle.rules.specs.declared.Reply.{Reply}
+use Rattle.rules.proofs.Tests.{and-true, require-passed}
+use Rattle.theory.specs.Balance.{freedBlocks, inUse, allocates, allocatedBy}
+use Rattle.theory.proofs.Memories.Healthy.{Healthy}
+use Rattle.theory.proofs.EachCall.Served.{on-undamaged}
+use Rattle.theory.proofs.EachCall.Balance.{answer-even, blocks-add-up}
+use Rattle.inner.specs.Usable.{Usable}
+use Rattle.inner.specs.Allocating.{Allocating}
+use Rattle.inner.specs.declared.acts.Allocated.{Allocated}
+use Rattle.inner.proofs.Idle.{usable-healthy}
+use Rattle.inner.proofs.Kept.{usable-kept}
+use Rattle.inner.proofs.Collected.{collect-answered}
+use Rattle.records.specs.declared.Plan.{Plan}
+use Rattle.records.specs.Meaning.{meaning}
+use Rattle.records.specs.Records.{makes, stops}
+use Rattle.figures.specs.declared.tally.Tally.{Tally}
+use Rattle.figures.specs.Figures.{allocated, collected, countedIn, noted, notedAll}
+use Rattle.history.specs.declared.acts.Done.{Done}
+use Rattle.history.specs.Runs.{madeOn, Turn, turn, triesAgain, triedAgain, turnOf}
+use Rattle.history.specs.Steps.{withCollection, withAllocation, Acted}
+use Rattle.history.proofs.Refusals.{Keeps, store-root-keeps, store-cell-keeps}
+
+abbrev pub done : (number allocated : ℕ) → Bool → (freed : ℕ) → Done
+done number allocated collected freed = record { number = number; allocated = allocated; collected = collected; freed = freed }
+
+-- ---- blocks allocated
+
+accepted-allocates : (c : Call) (x : Reply) → x .number ≡ 0 → allocatedBy c x ≡ allocates c
+unfolding allocatedBy
+accepted-allocates c x e = rw (eq-eqb (x .number) 0 e, allocatedBy)
+
+refused-allocates : (c : Call) (x : Reply) → (x .number ≡ 0 → ⊥) → allocatedBy c x ≡ 0
+unfolding allocatedBy
+refused-allocates c x refused = rw (ne-eqb (x .number) 0 refused, allocatedBy)
+
+-- ---- figures
+
+-- a refused call adds nothing
+noted-refused : (m : Made) (t : Tally) → (m .reply .number ≡ 0 → ⊥) → noted m t ≡ t
+unfolding noted
+noted-refused m t refused = rw (ne-eqb (m .reply .number) 0 refused, noted)
+
+noted-accepted : (m : Made) (t : Tally) → m .reply .number ≡ 0 → noted m t ≡ countedIn (m .call) t
+unfolding noted
+noted-accepted m t accepted = rw (eq-eqb (m .reply .number) 0 accepted, noted)
+
+with-allocated : (n : ℕ) (c : Bool) (number freed : ℕ) (t : Tally) → 1 ≤ n → withAllocation (done number n c freed) t ≡ allocated n t
+unfolding withAllocation
+with-allocated n c number freed t some = rw (ne-eqb n 0 (λ z. omega arith), withAllocation)
+
+-- ---- a turn of one call, and of three
+
+module _ (N w : ℕ) (h : Memory) (c : Call) where
+  pub turn-once : triesAgain c (answer N w h c .0) ≡ false
+      → turnOf N w h (makes c) ≡ turn (answer N w h c .0 .number) (madeOn N w h c ∷ []) (answer N w h c .1)
+  unfolding turnOf
+  turn-once e = rw (e, turnOf)
+
+  pub turn-again : triesAgain c (answer N w h c .0) ≡ true
+      → let again = triedAgain N w (answer N w h c .1) c in
+      turnOf N w h (makes c) ≡ turn (again .number) (madeOn N w h c ∷ again .made) (again .after)
+  unfolding turnOf
+  turn-again e = rw (e, turnOf)
+
+-- one equal to what came of a turn
+acted-as : {N : ℕ} {h : Memory} {x y : Turn} {d : Done} {g : Memory} → x ≡ y → Acted N h y d g → Acted N h x d g
+acted-as {N} {h} {x} {y} {d} {g} e acted = subst (λ (z : Turn). Acted N h z d g) (sym e) acted
+
+-- the plan of a record stands for what the record asks for
+pub acted-plan :
+    (w : ℕ) {N : ℕ} {h : Memory} {plan q : Plan} {d : Done} {g : Memory} → plan ≡ q → Acted N h (turnOf N w h (meaning q)) d g
+    → Acted N h (turnOf N w h (meaning plan)) d g
+acted-plan w {N} {h} {plan} {q} {d} {g} e acted = subst (λ (p : Plan). Acted N h (turnOf N w h (meaning p)) d g) (sym e) acted
+
+-- ---- what a call keeps
+
+module _ (N w : ℕ) (h : Memory) (usable : Usable N w h) (c : Call) {x : Reply} {g : Memory} (promise : Promise N w c h x g) where
+  call-balance : inUse N h + allocatedBy c x ≡ freedBlocks N h g + inUse N g
+  call-balance = rw (promise .reply-is, promise .after-is) (answer-even N w h (usable-healthy N w h usable) c .kept)
+
+-- ---- stores, and a number that stops the run
+
+pub acted-stop : (N w : ℕ) (h : Memory) (number : ℕ) → Acted N h (turnOf N w h (stops number)) (done number 0 false 0) h
+unfolding turnOf notedAll withCollection withAllocation
+acted-stop N w h number =
+    record {
+      number-is = refl;
+      after-is = refl;
+      figures-are = λ t. refl;
+      balance = omega arith;
+      allocated-few = omega arith;
+      refused-none = λ _. refl;
+    }
+
+-- a call that is made once, allocates nothing, is counted in no figure, and whose value is the number of blocks freed
+record Plain (c : Call) : Type 0 where
+  once : (x : Reply) → triesAgain c x ≡ false
+  uncounted : (t : Tally) → countedIn c t ≡ t
+  none-new : allocates c ≡ 0
+  frees : (N w : ℕ) (h : Memory) → let x = answer N w h c in x .0 .number ≡ 0 → x .0 .value ≡ freedBlocks N h (x .1)
+  keeps : (N w : ℕ) (h : Memory) → Healthy N w h → Keeps h (answer N w h c)
+
+store-root-plain : (r v : ℕ) → Plain (storeRoot r v)
+unfolding triesAgain countedIn allocates
+store-root-plain r v =
+    record {
+      once = λ x. refl;
+      uncounted = λ t. refl;
+      none-new = refl;
+      frees = λ N w h e. blocks-add-up N w h .store-root r v e .by-objects;
+      keeps = λ N w h healthy. store-root-keeps N w h healthy r v;
+    }
+
+store-cell-plain : (a j v : ℕ) → Plain (storeCell a j v)
+unfolding triesAgain countedIn allocates
+store-cell-plain a j v =
+    record {
+      once = λ x. refl;
+      uncounted = λ t. refl;
+      none-new = refl;
+      frees = λ N w h e. blocks-add-up N w h .store-cell a j v e .by-objects;
+      keeps = λ N w h healthy. store-cell-keeps N w h healthy a j v;
+    }
+
+module _ (N w : ℕ) (h : Memory) (usable : Usable N w h) where
+  acted-plain :
+      (c : Call) → Plain c → {x : Reply} {g : Memory} → Promise N w c h x g
+      → Acted N h (turnOf N w h (makes c)) (done (x .number) 0 false (x .value)) g
+  unfolding notedAll withCollection withAllocation
+  acted-plain c plain {x} {g} promise =
+      acted-as (turn-once N w h c (plain .once (answer N w h c .0)))
+      record {
+        number-is = ap (λ (y : Reply). y .number) (promise .reply-is);
+        after-is = promise .after-is;
+        figures-are = λ t. sym (uncounted t);
+        balance = balance;
+        allocated-few = omega arith;
+        refused-none = λ _. refl;
+      }
+    where
+      accepted-balance : x .number ≡ 0 → inUse N h + 0 ≡ x .value + inUse N g
+      accepted-balance e =
+          let freed : x .value ≡ freedBlocks N h g =
+          rw (promise .reply-is, promise .after-is) (plain .frees N w h (ap (λ (y : Reply). y .number) (sym (promise .reply-is)) ∙ e)) in
+          let none : allocatedBy c x ≡ 0 = accepted-allocates c x e ∙ plain .none-new in
+          omega (arith, call-balance N w h usable c promise)
+
+      balance : inUse N h + 0 ≡ x .value + inUse N g
+      balance = elim (ℕ-discrete (x .number) 0) [
+        | yes e ↦ accepted-balance e
+        | no e ↦
+            let kept =
+            plain .keeps N w h (usable-healthy N w h usable) .kept (λ z. e (ap (λ (y : Reply). y .number) (promise .reply-is) ∙ z)) in
+            omega (
+              arith,
+              ap (λ (y : Reply). y .value) (promise .reply-is) ∙ kept .1,
+              ap (λ (m : Memory). inUse N m) (promise .after-is ∙ kept .0),
+            )
+      ]
+
+      uncounted : (t : Tally) → noted (madeOn N w h c) t ≡ t
+      uncounted t = elim (ℕ-discrete (answer N w h c .0 .number) 0) [
+        | yes e ↦ noted-accepted (madeOn N w h c) t e ∙ plain .uncounted t
+        | no e ↦ noted-refused (madeOn N w h c) t e
+      ]
+
+  pub acted-root :
+      (r v : ℕ) {x : Reply} {g : Memory} → Promise N w (storeRoot r v) h x g
+      → Acted N h (turnOf N w h (makes (storeRoot r v))) (done (x .number) 0 false (x .value)) g
+  acted-root r v = acted-plain (storeRoot r v) (store-root-plain r v)
+
+  pub acted-cell :
+      (a j v : ℕ) {x : Reply} {g : Memory} → Promise N w (storeCell a j v) h x g
+      → Acted N h (turnOf N w h (makes (storeCell a j v))) (done (x .number) 0 false (x .value)) g
+  acted-cell a j v = acted-plain (storeCell a j v) (store-cell-plain a j v)
+
+  -- ---- a collection
+
+  collect-accepted : answer N w h collect .0 .number ≡ 0
+  unfolding freeing
+  collect-accepted = ap (λ (y : Answer). y .0 .number) (collect-answered N w h (usable-healthy N w h usable))
+
+  collect-noted : (t : Tally) → noted (madeOn N w h collect) t ≡ collected t
+  unfolding countedIn
+  collect-noted t = noted-accepted (madeOn N w h collect) t collect-accepted
+
+  collect-balance : {y : Reply} {k : Memory} → Promise N w collect h y k → inUse N h ≡ y .value + inUse N k
+  unfolding allocates
+  collect-balance {y} {k} promise =
+      let freed : y .value ≡ freedBlocks N h k =
+      rw (promise .reply-is, promise .after-is) (blocks-add-up N w h .collection collect-accepted .by-objects) in
+      let number : y .number ≡ 0 = ap (λ (v : Reply). v .number) (promise .reply-is) ∙ collect-accepted in
+      omega (arith, call-balance N w h usable collect promise, accepted-allocates collect y number)
+
+  pub acted-collect :
+      {x : Reply} {g : Memory} → Promise N w collect h x g → Acted N h (turnOf N w h (makes collect)) (done 0 0 true (x .value)) g
+  unfolding notedAll withCollection withAllocation triesAgain
+  acted-collect {x} {g} promise =
+      acted-as (turn-once N w h collect refl)
+      record {
+        number-is = sym collect-accepted;
+        after-is = promise .after-is;
+        figures-are = λ t. sym (collect-noted t);
+        balance = omega (arith, collect-balance promise);
+        allocated-few = omega arith;
+        refused-none = λ _. refl;
+      }
+
+-- ---- an allocation
+
+module _ (N w : ℕ) (h : Memory) (usable : Usable N w h) (n r : ℕ) where
+  -- what is accepted has a size from 1 to N
+  accepted-size : answer N w h (allocate n r) .0 .number ≡ 0 → (1 ≤ n) × (n ≤ N)
+  unfolding answer
+  accepted-size accepted =
+      let search : Answer = allocation N w h n r (lowestFree N (exponent n) (h .a)) in
+      let placed : Answer = require (ltb r (length (h .roots))) 4 h search in
+      let tested : Answer = require (leb 1 n && leb n N) 3 h placed in
+      let passed : tested .0 .number ≡ 0 =
+      ap (λ (y : Answer). y .0 .number) (sym (on-undamaged N w h (usable-healthy N w h usable) tested)) ∙ accepted in
+      let sizes = and-true (leb 1 n) (leb n N) (require-passed (leb 1 n && leb n N) 3 h placed (omega arith) passed) in
+      (leb-true 1 n (sizes .0), leb-true n N (sizes .1))
+
+  module _ (done′ : Allocated) (g : Memory) (tried : Allocating N w n r h done′ g) where
+    reply-number : answer N w h (allocate n r) .0 .number ≡ done′ .reply .number
+    reply-number = ap (λ (y : Reply). y .number) (sym (tried .promise .reply-is))
+
+    tried-balance : inUse N h + allocatedBy (allocate n r) (done′ .reply) ≡ done′ .freed + inUse N g
+    tried-balance = omega (arith, call-balance N w h usable (allocate n r) (tried .promise), tried .freed-is)
+
+    -- it was refused ..
+    module _ (refused : done′ .reply .number ≡ 0 → ⊥) where
+      refused-noted : (t : Tally) → noted (madeOn N w h (allocate n r)) t ≡ t
+      refused-noted t = noted-refused (madeOn N w h (allocate n r)) t (λ e. refused (sym reply-number ∙ e))
+
+      refused-balance : inUse N h ≡ done′ .freed + inUse N g
+      refused-balance = omega (arith, tried-balance, refused-allocates (allocate n r) (done′ .reply) refused)
+
+    -- .. or accepted
+    module _ (accepted : done′ .reply .number ≡ 0) where
+      size-fits : (1 ≤ n) × (n ≤ N)
+      size-fits = accepted-size (reply-number ∙ accepted)
+
+      accepted-noted : (t : Tally) → noted (madeOn N w h (allocate n r)) t ≡ allocated n t
+      unfolding countedIn
+      accepted-noted t = noted-accepted (madeOn N w h (allocate n r)) t (reply-number ∙ accepted)
+
+      accepted-balance : inUse N h + n ≡ done′ .freed + inUse N g
+      unfolding allocates
+      accepted-balance = omega (arith, tried-balance, accepted-allocates (allocate n r) (done′ .reply) accepted)
+
+    once : (done′ .reply .number ≡ 5 → ⊥) → triesAgain (allocate n r) (answer N w h (allocate n r) .0) ≡ false
+    unfolding triesAgain
+    once other = ne-eqb (answer N w h (allocate n r) .0 .number) 5 (λ e. other (sym reply-number ∙ e))
+
+    pub acted-refused :
+        (done′ .reply .number ≡ 0 → ⊥) → (done′ .reply .number ≡ 5 → ⊥)
+        → Acted N h (turnOf N w h (makes (allocate n r))) (done (done′ .reply .number) 0 false (done′ .freed)) g
+    unfolding notedAll withCollection withAllocation
+    acted-refused refused other =
+        acted-as (turn-once N w h (allocate n r) (once other))
+        record {
+          number-is = sym reply-number;
+          after-is = tried .promise .after-is;
+          figures-are = λ t. sym (refused-noted refused t);
+          balance = omega (arith, refused-balance refused);
+          allocated-few = omega arith;
+          refused-none = λ _. refl;
+        }
+
+    pub acted-allocated :
+        done′ .reply .number ≡ 0 → Acted N h (turnOf N w h (makes (allocate n r))) (done 0 n false (done′ .freed)) g
+    unfolding notedAll withCollection
+    acted-allocated accepted =
+        acted-as (turn-once N w h (allocate n r) (once (λ e. omega arith)))
+        record {
+          number-is = sym (reply-number ∙ accepted);
+          after-is = tried .promise .after-is;
+          figures-are = λ t. with-allocated n false 0 (done′ .freed) t (size-fits accepted .0) ∙ sym (accepted-noted accepted t);
+          balance = accepted-balance accepted;
+          allocated-few = size-fits accepted .1;
+          refused-none = λ some. absurd (some refl);
+        }
+
+    -- no chunk was free: what came of the second try came of the record
+    pub acted-again :
+        done′ .reply .number ≡ 5 → {d : Done} {k : Memory} → Acted N g (triedAgain N w g (allocate n r)) d k
+        → Acted N h (turnOf N w h (makes (allocate n r))) d k
+    unfolding notedAll triesAgain
+    acted-again none-free {d} {k} acted =
+        let refused : done′ .reply .number ≡ 0 → ⊥ = λ z. omega arith in
+        let there : triedAgain N w g (allocate n r) ≡ triedAgain N w (answer N w h (allocate n r) .1) (allocate n r) =
+        ap (λ (m : Memory). triedAgain N w m (allocate n r)) (tried .promise .after-is) in
+        let second = subst (λ (x : Turn). Acted N g x d k) there acted in
+        acted-as (turn-again N w h (allocate n r) (eq-eqb (answer N w h (allocate n r) .0 .number) 5 (reply-number ∙ none-free)))
+        record {
+          number-is = second .number-is;
+          after-is = second .after-is;
+          figures-are = λ t.
+              second .figures-are t
+              ∙ ap (notedAll (triedAgain N w (answer N w h (allocate n r) .1) (allocate n r) .made)) (sym (refused-noted refused t));
+          balance = omega (arith, acted .balance, ap (λ (m : Memory). inUse N m) (tried .refused-same refused));
+          allocated-few = acted .allocated-few;
+          refused-none = acted .refused-none;
+        }
+
+-- ---- the second try: the collection left k, on which the allocation was tried
+
+module _ (N w : ℕ) (h : Memory) (usable : Usable N w h) (n r : ℕ) (y : Reply) (k : Memory) (forced : Promise N w collect h y k)
+    (second : Allocated) (g : Memory) (tried : Allocating N w n r k second g) where
+  pub forced-usable : Usable N w k
+  forced-usable = usable-kept N w h usable collect y k forced
+
+  abbrev again : Turn
+  again =
+      turn (answer N w k (allocate n r) .0 .number) (madeOn N w h collect ∷ madeOn N w k (allocate n r) ∷ [])
+      (answer N w k (allocate n r) .1)
+
+  tried-again : triedAgain N w h (allocate n r) ≡ again
+  unfolding triedAgain
+  tried-again =
+      ap
+      (λ (m : Memory).
+      turn (answer N w m (allocate n r) .0 .number) (madeOn N w h collect ∷ madeOn N w m (allocate n r) ∷ [])
+      (answer N w m (allocate n r) .1))
+      (sym (forced .after-is))
+
+  -- the two calls noted, one after the other
+  both-noted : (t : Tally) → notedAll (again .made) t ≡ noted (madeOn N w k (allocate n r)) (collected t)
+  unfolding notedAll
+  both-noted t = ap (noted (madeOn N w k (allocate n r))) (collect-noted N w h usable t)
+
+  -- together they free no more blocks than two heaps have
+  pub freed-few : y .value + second .freed ≤ N + N
+  freed-few = elim (ℕ-discrete (second .reply .number) 0) [
+    | yes e ↦
+        omega (
+          arith,
+          collect-balance N w h usable forced,
+          accepted-balance N w k forced-usable n r second g tried e,
+          size-fits N w k forced-usable n r second g tried e .1,
+        )
+    | no e ↦ omega (arith, collect-balance N w h usable forced, refused-balance N w k forced-usable n r second g tried e)
+  ]
+
+  pub again-refused :
+      (second .reply .number ≡ 0 → ⊥)
+      → Acted N h (triedAgain N w h (allocate n r)) (done (second .reply .number) 0 true (y .value + second .freed)) g
+  unfolding withCollection withAllocation
+  again-refused refused =
+      acted-as tried-again
+      record {
+        number-is = sym (reply-number N w k forced-usable n r second g tried);
+        after-is = tried .promise .after-is;
+        figures-are = λ t. sym (both-noted t ∙ refused-noted N w k forced-usable n r second g tried refused (collected t));
+        balance =
+            omega (arith, collect-balance N w h usable forced, refused-balance N w k forced-usable n r second g tried refused);
+        allocated-few = omega arith;
+        refused-none = λ _. refl;
+      }
+
+  pub again-allocated :
+      second .reply .number ≡ 0 → Acted N h (triedAgain N w h (allocate n r)) (done 0 n true (y .value + second .freed)) g
+  unfolding withCollection
+  again-allocated accepted =
+      let size = size-fits N w k forced-usable n r second g tried accepted in
+      acted-as tried-again
+      record {
+        number-is = sym (reply-number N w k forced-usable n r second g tried ∙ accepted);
+        after-is = tried .promise .after-is;
+        figures-are = λ t.
+            with-allocated n true 0 (y .value + second .freed) (collected t) (size .0)
+            ∙ sym (both-noted t ∙ accepted-noted N w k forced-usable n r second g tried accepted (collected t));
+        balance =
+            omega (arith, collect-balance N w h usable forced, accepted-balance N w k forced-usable n r second g tried accepted);
+        allocated-few = size .1;
+        refused-none = λ some. absurd (some refl);
+      }

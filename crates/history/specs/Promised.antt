@@ -1,0 +1,34 @@
+-- What a run of records promises: its reply, the run it answers, and every lent number.
+use Prim.Native.Nat.{ℕ}
+use mathlib.Core.Path.{_≡_}
+use mathlib.Core.Bool.{true, false}
+use mathlib.Core.List.{List}
+use lib.Dec.{eqb}
+use lib.ListN.{replicate}
+use Rattle.rules.specs.Heap.{Memory}
+use Rattle.rules.specs.Calls.{check, reply, settled, answer}
+use Rattle.rules.specs.declared.Reply.{Reply}
+use Rattle.figures.specs.declared.tally.Run.{Run}
+use Rattle.figures.specs.Figures.{newRun, inRange}
+use Rattle.history.specs.declared.Ran.{Ran}
+use Rattle.history.specs.Runs.{ran}
+use Rattle.history.specs.Claims.{AsCalls}
+
+-- "1 as before; 2 if the heap is damaged", as the check; then 19 for a run that no run leaves
+unfoldable pub runReply : ℕ → ℕ → Memory → Run → Reply
+runReply N w h r =
+    let checked = answer N w h check .0 in
+    elim (eqb (checked .number) 0) [ true ↦ elim (inRange r) [ true ↦ reply 0 0 0 | false ↦ reply 19 0 0 ] | false ↦ checked ]
+
+-- "any further value of a reply is 0 .. in every refusal": the run answered is all 0
+abbrev pub refusal : Reply → Ran
+refusal x = record { reply = x; run = newRun }
+
+-- Accepted: the run goes on over the bytes, on the heap with its waiting list cleared, and where it stands then is answered. A
+-- refusal changes no buffer. Demand 3 holds of the calls that the run made.
+pub record Promised (N w : ℕ) (bytes : List ℕ) (h : Memory) (r : Run) (x : Ran) (g : Memory) : Type 0 where
+  pub reply-is : x .reply ≡ runReply N w h r
+  pub run-is : x .run ≡ elim (eqb (runReply N w h r .number) 0) [ true ↦ ran N w bytes (settled N h) r .run | false ↦ newRun ]
+  pub after-is : g ≡ elim (eqb (runReply N w h r .number) 0) [ true ↦ ran N w bytes (settled N h) r .memory | false ↦ h ]
+  pub idle : x .reply .number ≡ 0 → g .waiting ≡ replicate N 0
+  pub calls : x .reply .number ≡ 0 → AsCalls N w (settled N h) r (ran N w bytes (settled N h) r)

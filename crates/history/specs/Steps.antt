@@ -1,0 +1,73 @@
+-- What the steps of a run give, for contracts of inner functions.
+use Prim.Native.Nat.{ℕ, _+_, _-_, _^_, _≤_, _<_}
+use mathlib.Core.Path.{_≡_}
+use mathlib.Core.Bool.{true, false}
+use lib.Dec.{eqb}
+use Rattle.rules.specs.Heap.{Memory}
+use Rattle.theory.specs.Balance.{inUse}
+use Rattle.inner.specs.Usable.{Usable}
+use Rattle.figures.specs.declared.tally.Tally.{Tally}
+use Rattle.figures.specs.declared.tally.Run.{Run}
+use Rattle.figures.specs.Figures.{allocated, collected, used, notedAll, run, mostRecords, inRange}
+use Rattle.history.specs.declared.acts.Done.{Done}
+use Rattle.history.specs.declared.noting.Running.{Running}
+use Rattle.history.specs.Runs.{Turn, afterTurn, Came}
+
+abbrev pub running : Run → (used : ℕ) → Running
+running r used = record { run = r; used = used }
+
+-- figures with a collection more, where one was made; with an allocation of n blocks more, where n is not 0
+unfoldable pub withCollection : Done → Tally → Tally
+withCollection d t = elim (d .collected) [ true ↦ collected t | false ↦ t ]
+
+unfoldable pub withAllocation : Done → Tally → Tally
+withAllocation d t = elim (eqb (d .allocated) 0) [ true ↦ t | false ↦ allocated (d .allocated) t ]
+
+-- Calls of a record were made on h, as in turn x, and left g; `d` says what came of them: the number; the figures; and the blocks balance.
+-- A record that is refused has allocated nothing.
+pub record Acted (N : ℕ) (h : Memory) (x : Turn) (d : Done) (g : Memory) : Type 0 where
+  pub number-is : d .number ≡ x .number
+  pub after-is : g ≡ x .after
+  pub figures-are : (t : Tally) → withAllocation d (withCollection d t) ≡ notedAll (x .made) t
+  pub balance : inUse N h + d .allocated ≡ d .freed + inUse N g
+  pub allocated-few : d .allocated ≤ N
+  pub refused-none : (d .number ≡ 0 → ⊥) → d .allocated ≡ 0
+
+-- a run under way on memory h: not stopped, in range, with room for n records more, and the blocks in use are known
+pub record Going (N : ℕ) (h : Memory) (n : ℕ) (now : Running) : Type 0 where
+  pub goes-on : now .run .number ≡ 0
+  pub in-range : inRange (now .run) ≡ true
+  pub more : now .run .records + n ≤ mostRecords
+  pub used-is : now .used ≡ inUse N h
+
+-- what came of a record can be noted: nothing wraps
+pub record CanNote (d : Done) (now : Running) : Type 0 where
+  pub collections-fit : now .run .tally .collections + 1 < 2 ^ 64
+  pub allocations-fit : now .run .tally .allocations + 1 < 2 ^ 64
+  pub blocks-fit : now .run .tally .blocks + d .allocated < 2 ^ 64
+  pub records-fit : now .run .records + 1 < 2 ^ 64
+  pub used-fits : now .used + d .allocated < 2 ^ 64
+  pub freed-few : d .freed ≤ now .used + d .allocated
+
+-- the run with what came of a record noted
+unfoldable pub notedBy : Done → Running → Running
+notedBy d now =
+    let figures = withAllocation d (withCollection d (now .run .tally)) in
+    let blocks = now .used + d .allocated - d .freed in
+    elim (eqb (d .number) 0) [
+      | true ↦ running (run 0 (now .run .records + 1) (used blocks figures)) blocks
+      | false ↦ running (run (d .number) (now .run .records) figures) blocks
+    ]
+
+-- one record was run: the run and the memory are the turn's, the run is in range, and the blocks in use are known again
+pub record Stepped (N : ℕ) (x : Turn) (was is : Running) (g : Memory) : Type 0 where
+  pub run-is : is .run ≡ afterTurn N x (was .run)
+  pub after-is : g ≡ x .after
+  pub in-range : inRange (is .run) ≡ true
+  pub used-is : is .used ≡ inUse N g
+
+-- records were run: the run and the memory are what came of them, and the heap can be used again
+pub record RunBy (N w : ℕ) (x : Came) (r : Run) (g : Memory) : Type 0 where
+  pub run-is : r ≡ x .run
+  pub memory-is : g ≡ x .memory
+  pub usable : Usable N w g

@@ -1,0 +1,189 @@
+// The calls of one record, on an undamaged heap with a cleared waiting list.
+ghost use Rattle.rules.specs.Heap.{memory};
+ghost use Rattle.rules.specs.Calls.{Call};
+ghost use Rattle.inner.specs.Usable.{Usable};
+ghost use Rattle.records.specs.Records.{makes};
+ghost use Rattle.records.specs.Meaning.{meaning};
+ghost use Rattle.history.specs.Runs.{triedAgain, turnOf};
+ghost use Rattle.history.specs.Steps.{Acted};
+use blocks::Ref;
+use inner::acts;
+use inner::steps;
+use records::Plan;
+
+// What came of a record's calls: the number that stops the run or 0, the blocks allocated, whether a collection was made, the blocks freed.
+pub struct Done {
+    pub number: usize,
+    pub allocated: usize,
+    pub collected: bool,
+    pub freed: usize,
+}
+
+// Collects, and tries once more to allocate n blocks into root r.
+fn collect_and_allocate(
+    blocks: usize,
+    width: usize,
+    a: &mut [u8],
+    b: &mut [u8],
+    counts: &mut [u8],
+    cells: &mut [Ref],
+    roots: &mut [Ref],
+    waiting: &mut [Ref],
+    n: usize,
+    r: usize,
+) -> Done
+    requires { ⌜ Usable blocks width (memory (now a) (now b) (now counts) (now cells) (now roots) (now waiting)) ⌝ }
+    ensures { λ done.
+        ⌜ Acted blocks
+        (memory (now (a .entry)) (now (b .entry)) (now (counts .entry)) (now (cells .entry)) (now (roots .entry)) (now (waiting .entry)))
+        (triedAgain blocks width
+        (memory (now (a .entry)) (now (b .entry)) (now (counts .entry)) (now (cells .entry)) (now (roots .entry)) (now (waiting .entry)))
+        (Call.allocate n r))
+        done
+        (memory (now (a .exit)) (now (b .exit)) (now (counts .exit)) (now (cells .exit)) (now (roots .exit)) (now (waiting .exit))) ⌝ }
+{
+    let forced = acts::collect(blocks, width, a, b, counts, cells, roots, waiting);
+    let second = steps::allocate(blocks, width, a, b, counts, cells, roots, waiting, n, r);
+    let number = second.reply.number;
+    if number != 0 {
+        return Done {
+            number: number,
+            allocated: 0,
+            collected: true,
+            freed: forced.value + second.freed,
+        };
+    }
+    Done {
+        number: 0,
+        allocated: n,
+        collected: true,
+        freed: forced.value + second.freed,
+    }
+}
+
+// Allocates n blocks into root r; where no chunk is free, collects and tries once more.
+fn allocate(
+    blocks: usize,
+    width: usize,
+    a: &mut [u8],
+    b: &mut [u8],
+    counts: &mut [u8],
+    cells: &mut [Ref],
+    roots: &mut [Ref],
+    waiting: &mut [Ref],
+    n: usize,
+    r: usize,
+) -> Done
+    requires { ⌜ Usable blocks width (memory (now a) (now b) (now counts) (now cells) (now roots) (now waiting)) ⌝ }
+    ensures { λ done.
+        ⌜ Acted blocks
+        (memory (now (a .entry)) (now (b .entry)) (now (counts .entry)) (now (cells .entry)) (now (roots .entry)) (now (waiting .entry)))
+        (turnOf blocks width
+        (memory (now (a .entry)) (now (b .entry)) (now (counts .entry)) (now (cells .entry)) (now (roots .entry)) (now (waiting .entry)))
+        (makes (Call.allocate n r)))
+        done
+        (memory (now (a .exit)) (now (b .exit)) (now (counts .exit)) (now (cells .exit)) (now (roots .exit)) (now (waiting .exit))) ⌝ }
+{
+    let first = steps::allocate(blocks, width, a, b, counts, cells, roots, waiting, n, r);
+    let number = first.reply.number;
+    if number == 5 {
+        return collect_and_allocate(blocks, width, a, b, counts, cells, roots, waiting, n, r);
+    }
+    if number != 0 {
+        return Done {
+            number: number,
+            allocated: 0,
+            collected: false,
+            freed: first.freed,
+        };
+    }
+    Done {
+        number: 0,
+        allocated: n,
+        collected: false,
+        freed: first.freed,
+    }
+}
+
+// The calls that a plan asks for.
+pub(crate) fn act(
+    blocks: usize,
+    width: usize,
+    a: &mut [u8],
+    b: &mut [u8],
+    counts: &mut [u8],
+    cells: &mut [Ref],
+    roots: &mut [Ref],
+    waiting: &mut [Ref],
+    plan: Plan,
+) -> Done
+    requires { ⌜ Usable blocks width (memory (now a) (now b) (now counts) (now cells) (now roots) (now waiting)) ⌝ }
+    ensures { λ done.
+        ⌜ Acted blocks
+        (memory (now (a .entry)) (now (b .entry)) (now (counts .entry)) (now (cells .entry)) (now (roots .entry)) (now (waiting .entry)))
+        (turnOf blocks width
+        (memory (now (a .entry)) (now (b .entry)) (now (counts .entry)) (now (cells .entry)) (now (roots .entry)) (now (waiting .entry)))
+        (meaning plan))
+        done
+        (memory (now (a .exit)) (now (b .exit)) (now (counts .exit)) (now (cells .exit)) (now (roots .exit)) (now (waiting .exit))) ⌝ }
+{
+    match plan {
+        Plan::Stop(number) => Done {
+            number: number,
+            allocated: 0,
+            collected: false,
+            freed: 0,
+        },
+        Plan::Allocate { n, r } => allocate(
+            blocks,
+            width,
+            a,
+            b,
+            counts,
+            cells,
+            roots,
+            waiting,
+            n,
+            r,
+        ),
+        Plan::StoreRoot { r, v } => {
+            let reply = steps::store_root(blocks, width, a, b, counts, cells, roots, waiting, r, v);
+            Done {
+                number: reply.number,
+                allocated: 0,
+                collected: false,
+                freed: reply.value,
+            }
+        }
+        Plan::StoreCell { at, j, v } => {
+            let reply = steps::store_cell(
+                blocks,
+                width,
+                a,
+                b,
+                counts,
+                cells,
+                roots,
+                waiting,
+                at,
+                j,
+                v,
+            );
+            Done {
+                number: reply.number,
+                allocated: 0,
+                collected: false,
+                freed: reply.value,
+            }
+        }
+        Plan::Collect => {
+            let reply = acts::collect(blocks, width, a, b, counts, cells, roots, waiting);
+            Done {
+                number: 0,
+                allocated: 0,
+                collected: true,
+                freed: reply.value,
+            }
+        }
+    }
+}

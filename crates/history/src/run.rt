@@ -1,0 +1,169 @@
+// The run over the records of a piece, on an undamaged heap with a cleared waiting list.
+ghost use mathlib.Core.Path.{_≡_};
+ghost use mathlib.Core.Bool.{true};
+ghost use Prim.Native.Nat.{_+_, _*_, _/_, _-_, _≤_, min};
+ghost use lib.ListN.{length};
+ghost use Rattle.rules.specs.Heap.{memory};
+ghost use Rattle.inner.specs.Usable.{Usable};
+ghost use Rattle.records.specs.Records.{asked};
+ghost use Rattle.figures.specs.Figures.{mostRecords, inRange};
+ghost use Rattle.history.specs.Runs.{turnOf, ranFrom, ended, ran};
+ghost use Rattle.history.specs.Steps.{Going, Stepped, RunBy};
+use crate::acts;
+use crate::noting;
+use crate::noting::Running;
+use blocks::Ref;
+use figures::tally::MAX_RECORDS;
+use figures::tally::Run;
+use records::Fields;
+
+// Runs one record.
+fn step(
+    blocks: usize,
+    width: usize,
+    a: &mut [u8],
+    b: &mut [u8],
+    counts: &mut [u8],
+    cells: &mut [Ref],
+    roots: &mut [Ref],
+    waiting: &mut [Ref],
+    f: Fields,
+    state: Running,
+) -> Running
+    requires { ⌜ Usable blocks width (memory (now a) (now b) (now counts) (now cells) (now roots) (now waiting))
+        × Going blocks (memory (now a) (now b) (now counts) (now cells) (now roots) (now waiting)) 1 state ⌝ }
+    ensures { λ next.
+        ⌜ Stepped blocks
+        (turnOf blocks width
+        (memory (now (a .entry)) (now (b .entry)) (now (counts .entry)) (now (cells .entry)) (now (roots .entry)) (now (waiting .entry)))
+        (asked blocks
+        (memory (now (a .entry)) (now (b .entry)) (now (counts .entry)) (now (cells .entry)) (now (roots .entry)) (now (waiting .entry)))
+        f))
+        state next
+        (memory (now (a .exit)) (now (b .exit)) (now (counts .exit)) (now (cells .exit)) (now (roots .exit)) (now (waiting .exit))) ⌝ }
+{
+    let plan = records::plan_of(blocks, b, cells, roots, f);
+    let done = acts::act(blocks, width, a, b, counts, cells, roots, waiting, plan);
+    noting::noted(state, done)
+}
+
+// Runs n records, from the start of the bytes, until one is refused.
+fn run_whole(
+    blocks: usize,
+    width: usize,
+    a: &mut [u8],
+    b: &mut [u8],
+    counts: &mut [u8],
+    cells: &mut [Ref],
+    roots: &mut [Ref],
+    waiting: &mut [Ref],
+    bytes: &[u8],
+    n: usize,
+    start: Running,
+) -> Run
+    requires { ⌜ Usable blocks width (memory (now a) (now b) (now counts) (now cells) (now roots) (now waiting))
+        × Going blocks (memory (now a) (now b) (now counts) (now cells) (now roots) (now waiting)) n start
+        × (8 * n ≤ length (now bytes)) ⌝ }
+    ensures { λ r.
+        ⌜ RunBy blocks width
+        (ranFrom n blocks width (now (bytes .entry)) 0
+        (memory (now (a .entry)) (now (b .entry)) (now (counts .entry)) (now (cells .entry)) (now (roots .entry)) (now (waiting .entry)))
+        (start .run))
+        r
+        (memory (now (a .exit)) (now (b .exit)) (now (counts .exit)) (now (cells .exit)) (now (roots .exit)) (now (waiting .exit))) ⌝ }
+{
+    let mut state = start;
+    let mut i = 0;
+    while i < n {
+        let f = records::fields_at(bytes, 8 * i);
+        state = step(blocks, width, a, b, counts, cells, roots, waiting, f, state);
+        let number = state.run.number;
+        if number != 0 {
+            return state.run;
+        }
+        i += 1;
+    }
+    state.run
+}
+
+// The whole records of so many bytes, but no more than a run may still take.
+fn whole_records(length: usize, records: usize) -> usize
+    requires { ⌜ records ≤ mostRecords ⌝ }
+    ensures { λ n. ⌜ n ≡ min (length / 8) (mostRecords - records) ⌝ }
+{
+    let n = length / 8;
+    let most = MAX_RECORDS - records;
+    if most < n {
+        return most;
+    }
+    n
+}
+
+// The run at the end of a piece of so many bytes with n whole records: stopped with 10 where the bytes go on behind them.
+fn end_piece(run: Run, length: usize, n: usize) -> Run
+    requires { ⌜ 8 * n ≤ length ⌝ }
+    ensures { λ r. ⌜ r ≡ ended length n run ⌝ }
+{
+    let number = run.number;
+    if number != 0 {
+        return run;
+    }
+    if length == 8 * n {
+        return run;
+    }
+    let t = run.tally;
+    Run {
+        number: 10,
+        records: run.records,
+        tally: t,
+    }
+}
+
+// Runs the records of a piece, from where the run stands.
+pub(crate) fn run_piece(
+    blocks: usize,
+    width: usize,
+    a: &mut [u8],
+    b: &mut [u8],
+    counts: &mut [u8],
+    cells: &mut [Ref],
+    roots: &mut [Ref],
+    waiting: &mut [Ref],
+    bytes: &[u8],
+    run: Run,
+) -> Run
+    requires { ⌜ Usable blocks width (memory (now a) (now b) (now counts) (now cells) (now roots) (now waiting))
+        × (inRange run ≡ true) ⌝ }
+    ensures { λ r.
+        ⌜ RunBy blocks width
+        (ran blocks width (now (bytes .entry))
+        (memory (now (a .entry)) (now (b .entry)) (now (counts .entry)) (now (cells .entry)) (now (roots .entry)) (now (waiting .entry)))
+        run)
+        r
+        (memory (now (a .exit)) (now (b .exit)) (now (counts .exit)) (now (cells .exit)) (now (roots .exit)) (now (waiting .exit))) ⌝ }
+{
+    let number = run.number;
+    if number != 0 {
+        return run;
+    }
+    let n = whole_records(bytes.len(), run.records);
+    let used = blocks - bitmap::count_zeros(a);
+    let state = Running {
+        run: run,
+        used: used,
+    };
+    let last = run_whole(
+        blocks,
+        width,
+        a,
+        b,
+        counts,
+        cells,
+        roots,
+        waiting,
+        bytes,
+        n,
+        state,
+    );
+    end_piece(last, bytes.len(), n)
+}
