@@ -1,0 +1,25 @@
+-- What public calls made one after another come to: a chain, and demand 3's claim of it.
+use Prim.Native.Nat.{ℕ}
+use mathlib.Core.Path.{_≡_}
+use mathlib.Core.List.{List, [], _∷_}
+use Rattle.rules.specs.Heap.{Memory}
+use Rattle.rules.specs.Calls.{format, allocate, storeRoot, collect}
+use Rattle.rules.specs.Promise.{Promise}
+use Rattle.rules.specs.declared.Reply.{Reply}
+use Rattle.theory.specs.Words.{Made, callsOf, leftBy}
+use Rattle.theory.specs.Demand.{Chain, Claim}
+
+-- the heap was formatted; an object was made in root 0 and let go; a collection followed
+pub record Life (N w : ℕ) (h : Memory) (x : Reply) (g : Memory) : Type 0 where
+  pub start : Memory
+  pub formatting : Promise N w format h x start
+  pub made : List Made
+  pub calls-are : callsOf made ≡ allocate 1 0 ∷ storeRoot 0 0 ∷ collect ∷ []
+  pub chain : Chain N w start made
+  pub left-is : g ≡ leftBy start made
+  pub claim : Claim N w start made
+
+pub record Lived (N w : ℕ) (h : Memory) (x : Reply) (g : Memory) : Type 0 where
+  -- a refused format changes nothing, and no other call is made
+  pub refused : (x .number ≡ 0 → ⊥) → Promise N w format h x g
+  pub lived : x .number ≡ 0 → Life N w h x g

@@ -1,0 +1,35 @@
+// Public calls made one after another on the same buffers, with demand 3's claim as the contract: an example for callers of what the promises
+// of single calls come to.
+ghost use Rattle.rules.specs.Heap.{memory};
+ghost use Rattle.session.specs.Session.{Lived};
+use blocks::Ref;
+use rules::Reply;
+
+// Formats the heap, allocates one block into root 0, clears that root and collects. The reply is format's; where it refuses, no other call
+// is made.
+pub fn one_life(
+    blocks: usize,
+    width: usize,
+    a: &mut [u8],
+    b: &mut [u8],
+    counts: &mut [u8],
+    cells: &mut [Ref],
+    roots: &mut [Ref],
+    waiting: &mut [Ref],
+) -> Reply
+    ensures { λ reply.
+        ⌜ Lived blocks width
+        (memory (now (a .entry)) (now (b .entry)) (now (counts .entry)) (now (cells .entry)) (now (roots .entry)) (now (waiting .entry)))
+        reply
+        (memory (now (a .exit)) (now (b .exit)) (now (counts .exit)) (now (cells .exit)) (now (roots .exit)) (now (waiting .exit))) ⌝ }
+{
+    let formatting = mutate::format(blocks, width, a, b, counts, cells, roots, waiting);
+    let number = formatting.number;
+    if number != 0 {
+        return formatting;
+    }
+    mutate::allocate(blocks, width, a, b, counts, cells, roots, waiting, 1, 0);
+    mutate::store_root(blocks, width, a, b, counts, cells, roots, waiting, 0, 0);
+    mutate::collect(blocks, width, a, b, counts, cells, roots, waiting);
+    formatting
+}
