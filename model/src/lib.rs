@@ -6,8 +6,8 @@
 //! stands under the sentence of document 01 that it renders.
 //!
 //! Read in this order: heap, chunks, counting, collection, damage, rules. Then claims (demand 3) and list_claims (U2).
-//! The rest writes and reads lists of calls: calls, replay, file, expect, show, and the generator. Beside these
-//! stand the comparisons with the product: fuzz, and bench with its port.
+//! Then history (recorded histories, U1). The rest writes and reads lists of calls: calls, replay, file, expect, show,
+//! and the generator. Beside these stand the comparisons with the product: fuzz, and bench with its port.
 
 #[cfg(feature = "library")]
 pub mod bench;
@@ -25,6 +25,7 @@ pub mod file;
 pub mod fuzz;
 pub mod generate;
 pub mod heap;
+pub mod history;
 #[cfg(feature = "library")]
 pub mod library;
 pub mod list_claims;

@@ -2,6 +2,7 @@
 
 use model::expect::expect;
 use model::families::{generate, FAMILIES};
+use model::history::{report, text};
 use model::{show, trace, vectors};
 use std::io::{Read, Write};
 use std::process::exit;
@@ -16,6 +17,9 @@ const USAGE: &str = "usage:
   model trace SEED COUNT N W         a random list as text, with replies and buffers
   model damaged SEED COUNT           damaged memories as text, with their kinds
   model steps SEED COUNT             single calls as text, each on a memory of its own
+  model history assemble < TEXT      a recorded history from its text, to standard output
+  model history words < FILE         the text of a recorded history
+  model history run < FILE           the line that the program `report` must print for it
 with the product's library, `--features library`:
   model fuzz SECONDS SEED            all pairs of maps of 8 blocks, random lists, damaged memories and replays,
                                      model against library
@@ -59,8 +63,21 @@ fn main() {
             print(text.as_bytes());
             exit(if same { 0 } else { 1 });
         }
+        ["history", ref words @ ..] => history(words),
         ["fuzz", seconds, seed] => fuzz(number(seconds), number(seed)),
         ["bench"] => bench(),
+        _ => stop(USAGE),
+    }
+}
+
+fn history(words: &[&str]) {
+    match words {
+        ["assemble"] => match text::assemble(&String::from_utf8_lossy(&input())) {
+            Ok(bytes) => print(&bytes),
+            Err(message) => stop(&format!("{message}\n")),
+        },
+        ["words"] => print(text::words(&input()).as_bytes()),
+        ["run"] => print(report(&input()).as_bytes()),
         _ => stop(USAGE),
     }
 }

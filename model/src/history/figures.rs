@@ -1,0 +1,47 @@
+//! The five figures of a run.
+
+use crate::calls::Call;
+use crate::rules::Reply;
+
+/// "The report is one line of five figures: accepted allocations, blocks allocated in all, largest accepted size, full
+/// collections forced or recorded, most blocks in use after any record"
+#[derive(Clone, Copy, Debug, Default, PartialEq, Eq)]
+pub struct Figures {
+    pub allocations: u64,
+    pub blocks: u64,
+    pub largest: u64,
+    pub collections: u64,
+    pub most_in_use: u64,
+}
+
+impl Figures {
+    /// Counts a call as it was made. Blocks are those of the object, not of the chunk.
+    pub fn call(&mut self, call: Call, reply: Reply) {
+        match call {
+            _ if reply.number != 0 => {}
+            Call::Allocate { n, .. } => {
+                self.allocations += 1;
+                self.blocks += n as u64;
+                self.largest = self.largest.max(n as u64);
+            }
+            Call::Collect => self.collections += 1,
+            _ => {}
+        }
+    }
+
+    /// "most blocks in use after any record"
+    pub fn after_record(&mut self, in_use: usize) {
+        self.most_in_use = self.most_in_use.max(in_use as u64);
+    }
+
+    /// In the order of the line.
+    pub fn in_order(&self) -> [u64; 5] {
+        [
+            self.allocations,
+            self.blocks,
+            self.largest,
+            self.collections,
+            self.most_in_use,
+        ]
+    }
+}

@@ -1,0 +1,150 @@
+//! Records: eight bytes, their fields, and the operation that they stand for.
+
+/// "Byte 0 is the operation, byte 1 the root d, byte 2 the root s, byte 3 unused, bytes 4 and 5 a cell number c, bytes 6
+/// and 7 a size, low byte first."
+#[derive(Clone, Copy, Debug, Default, PartialEq, Eq)]
+pub struct Record {
+    pub operation: u8,
+    pub d: u8,
+    pub s: u8,
+    pub unused: u8,
+    pub c: u16,
+    pub size: u16,
+}
+
+/// What a record asks for, with the fields that it names.
+#[derive(Clone, Copy, Debug, PartialEq, Eq)]
+pub enum Operation {
+    /// "Operation 1 allocates the size into d"
+    Allocate { size: u16, d: u8 },
+    /// "2 copies root s to d"
+    Copy { s: u8, d: u8 },
+    /// "3 writes root s into cell c of the object in d"
+    Write { s: u8, c: u16, d: u8 },
+    /// "4 reads cell c of the object in s into d"
+    Read { c: u16, s: u8, d: u8 },
+    /// "5 clears d"
+    Clear { d: u8 },
+    /// "6 collects."
+    Collect,
+}
+
+impl Record {
+    pub fn from_bytes(bytes: [u8; 8]) -> Record {
+        Record {
+            operation: bytes[0],
+            d: bytes[1],
+            s: bytes[2],
+            unused: bytes[3],
+            c: bytes[4] as u16 + 256 * bytes[5] as u16,
+            size: bytes[6] as u16 + 256 * bytes[7] as u16,
+        }
+    }
+
+    pub fn bytes(self) -> [u8; 8] {
+        let [c_low, c_high] = self.c.to_le_bytes();
+        let [size_low, size_high] = self.size.to_le_bytes();
+        [
+            self.operation,
+            self.d,
+            self.s,
+            self.unused,
+            c_low,
+            c_high,
+            size_low,
+            size_high,
+        ]
+    }
+
+    /// The operation; none where document 02 has "9 for an unknown operation or a nonzero unused field".
+    pub fn operation(self) -> Option<Operation> {
+        let Record { d, s, c, size, .. } = self;
+        let operation = match self.operation {
+            1 => Operation::Allocate { size, d },
+            2 => Operation::Copy { s, d },
+            3 => Operation::Write { s, c, d },
+            4 => Operation::Read { c, s, d },
+            5 => Operation::Clear { d },
+            6 => Operation::Collect,
+            _ => return None,
+        };
+        (operation.record() == self).then_some(operation)
+    }
+}
+
+impl Operation {
+    /// "Fields an operation doesn't name, and byte 3, are 0."
+    pub fn record(self) -> Record {
+        let zero = Record::default();
+        match self {
+            Operation::Allocate { size, d } => Record {
+                operation: 1,
+                d,
+                size,
+                ..zero
+            },
+            Operation::Copy { s, d } => Record {
+                operation: 2,
+                d,
+                s,
+                ..zero
+            },
+            Operation::Write { s, c, d } => Record {
+                operation: 3,
+                d,
+                s,
+                c,
+                ..zero
+            },
+            Operation::Read { c, s, d } => Record {
+                operation: 4,
+                d,
+                s,
+                c,
+                ..zero
+            },
+            Operation::Clear { d } => Record {
+                operation: 5,
+                d,
+                ..zero
+            },
+            Operation::Collect => Record {
+                operation: 6,
+                ..zero
+            },
+        }
+    }
+}
+
+/// The bytes of a history of these operations.
+pub fn bytes(operations: &[Operation]) -> Vec<u8> {
+    let records = operations.iter().map(|operation| operation.record());
+    records.flat_map(|record| record.bytes()).collect()
+}
+
+/// Operations under short names, for histories written by hand.
+pub mod short {
+    use super::Operation;
+
+    pub fn allocate(size: u16, d: u8) -> Operation {
+        Operation::Allocate { size, d }
+    }
+
+    pub fn copy(s: u8, d: u8) -> Operation {
+        Operation::Copy { s, d }
+    }
+
+    pub fn write(s: u8, c: u16, d: u8) -> Operation {
+        Operation::Write { s, c, d }
+    }
+
+    pub fn read(c: u16, s: u8, d: u8) -> Operation {
+        Operation::Read { c, s, d }
+    }
+
+    pub fn clear(d: u8) -> Operation {
+        Operation::Clear { d }
+    }
+
+    pub const COLLECT: Operation = Operation::Collect;
+}

@@ -1,0 +1,70 @@
+//! What an operation comes to on a heap: a call of document 01, or a number that stops the run.
+
+use super::record::Operation;
+use crate::calls::Call;
+use crate::heap::{named, size, Memory};
+
+/// "A root out of range gives 4, in operation 1 only after 3. Then an empty root gives 6 where an object is needed, which
+/// is d in 3 and s in 4; elsewhere an empty root is copied or written as 0. Then comes 7, in 4 as in 3."
+pub fn request(blocks: usize, memory: &Memory, operation: Operation) -> Result<Call, usize> {
+    match operation {
+        // The call itself has 3, 4 and 5, in this order.
+        Operation::Allocate { size, d } => Ok(Call::Allocate {
+            n: size as usize,
+            r: d as usize,
+        }),
+        Operation::Copy { s, d } => {
+            let [s, d] = roots_in_range(memory, [s, d])?;
+            store_root(d, memory.roots[s])
+        }
+        Operation::Write { s, c, d } => {
+            let [s, d] = roots_in_range(memory, [s, d])?;
+            let a = object_in(blocks, memory, d)?;
+            let j = cell_in_range(blocks, memory, a, c)?;
+            let v = memory.roots[s] as usize;
+            Ok(Call::StoreCell { a, j, v })
+        }
+        Operation::Read { c, s, d } => {
+            let [s, d] = roots_in_range(memory, [s, d])?;
+            let a = object_in(blocks, memory, s)?;
+            let j = cell_in_range(blocks, memory, a, c)?;
+            store_root(d, memory.cells[4 * a + j])
+        }
+        Operation::Clear { d } => {
+            let [d] = roots_in_range(memory, [d])?;
+            store_root(d, 0)
+        }
+        Operation::Collect => Ok(Call::Collect),
+    }
+}
+
+fn store_root(r: usize, v: u16) -> Result<Call, usize> {
+    let v = v as usize;
+    Ok(Call::StoreRoot { r, v })
+}
+
+/// "A root out of range gives 4"
+fn roots_in_range<const COUNT: usize>(
+    memory: &Memory,
+    roots: [u8; COUNT],
+) -> Result<[usize; COUNT], usize> {
+    let roots = roots.map(usize::from);
+    if roots.iter().any(|root| *root >= memory.roots.len()) {
+        return Err(4);
+    }
+    Ok(roots)
+}
+
+/// "Then an empty root gives 6 where an object is needed": the first block of the object in a root.
+fn object_in(blocks: usize, memory: &Memory, root: usize) -> Result<usize, usize> {
+    named(blocks, memory, memory.roots[root]).ok_or(6)
+}
+
+/// "Then comes 7": "7 if j is not below 4 × size".
+fn cell_in_range(blocks: usize, memory: &Memory, a: usize, c: u16) -> Result<usize, usize> {
+    let j = c as usize;
+    if j >= 4 * size(blocks, memory, a) {
+        return Err(7);
+    }
+    Ok(j)
+}

@@ -1,0 +1,97 @@
+//! Runs of histories: the line, what a stop leaves, and the limit.
+
+mod common;
+use common::say;
+use model::history::figures::Figures;
+use model::history::record::bytes;
+use model::history::record::short::{allocate, clear, copy, read, write, COLLECT};
+use model::history::run::{new_heap, run_as_report, MOST_RECORDS};
+use model::history::{report, Record, Run};
+use model::{apply, Call};
+
+#[test]
+fn the_lines_of_document_02() {
+    // "an empty file gives five zeros"
+    assert_eq!(report(&[]), "0 0 0 0 0\n");
+    let three = bytes(&[allocate(2, 0), allocate(1, 1), allocate(3, 2)]);
+    assert_eq!(report(&three), "3 6 3 0 6\n");
+    // "`refused 5 at record 7`, say"
+    let mut full = vec![COLLECT; 6];
+    full.extend([allocate(8192, 0), allocate(1, 1)]);
+    assert_eq!(report(&bytes(&full)), "refused 5 at record 7\n");
+}
+
+/// "the heap stands as before that record, save a forced collection."
+#[test]
+fn what_a_stop_leaves() {
+    let stuck = (1..8).map(|d| copy(0, d)).chain((0..8).map(clear));
+    let mut before = vec![allocate(9, 0)];
+    before.extend(stuck);
+    before.extend([allocate(3, 0), write(0, 5, 0), allocate(4, 1), copy(1, 2)]);
+    let mut stops = 0;
+    for (number, record) in [
+        (3, allocate(0, 0).record()),
+        (4, allocate(1, 64).record()),
+        (5, allocate(8192, 2).record()),
+        (4, copy(0, 64).record()),
+        (4, copy(64, 0).record()),
+        (6, write(0, 0, 9).record()),
+        (7, write(0, 12, 0).record()),
+        (6, read(0, 9, 0).record()),
+        (7, read(12, 0, 0).record()),
+        (4, clear(64).record()),
+        (9, Record::from_bytes([7, 0, 0, 0, 0, 0, 0, 0])),
+        (9, Record::from_bytes([6, 0, 0, 1, 0, 0, 0, 0])),
+    ] {
+        let mut memory = new_heap();
+        let so_far = run_as_report(&mut memory, Run::default(), &bytes(&before));
+        assert_eq!(so_far.number, 0);
+        let mut due = memory.clone();
+        let mut figures = so_far.figures;
+        if number == 5 {
+            // It frees the 9 blocks, and counts, though the second try is refused too.
+            let reply = apply(8192, 3, &mut due, Call::Collect);
+            assert_eq!((reply.number, reply.value), (0, 9));
+            figures.collections += 1;
+        }
+        let stopped = run_as_report(&mut memory, so_far, &record.bytes());
+        assert_eq!((stopped.number, stopped.records), (number, so_far.records));
+        assert_eq!(stopped.figures, figures, "{record:?}");
+        assert!(memory.same_but_for_waiting(&due), "{record:?}");
+        assert_eq!(memory.waiting, [0; 8192]);
+        // Handed in again, it stays stopped.
+        let again = run_as_report(&mut memory, stopped, &bytes(&[clear(0), COLLECT]));
+        assert_eq!(again, stopped);
+        assert!(memory.same_but_for_waiting(&due), "{record:?}");
+        stops += 1;
+    }
+    say(&format!("{stops} stops, and what they leave"));
+}
+
+/// "going on past 4,294,967,295 records, met after the whole records up to that number."
+#[test]
+fn the_limit() {
+    let far = Run {
+        number: 0,
+        records: MOST_RECORDS - 1,
+        figures: Figures::default(),
+    };
+    let ends = |piece: &[u8]| {
+        let end = run_as_report(&mut new_heap(), far, piece);
+        (end.number, end.records, end.figures.allocations)
+    };
+    let one = allocate(1, 0).record().bytes();
+    assert_eq!(ends(&[]), (0, 4_294_967_294, 0));
+    assert_eq!(ends(&one), (0, 4_294_967_295, 1));
+    let two = [one, one].concat();
+    assert_eq!(ends(&two), (10, 4_294_967_295, 1));
+    // A tail, or an unknown operation, past the limit: 10 too.
+    assert_eq!(ends(&two[..9]), (10, 4_294_967_295, 1));
+    let unknown = [one, [9; 8]].concat();
+    assert_eq!(ends(&unknown), (10, 4_294_967_295, 1));
+    // The last record that is allowed is refused for itself.
+    assert_eq!(ends(&[9; 8]), (9, 4_294_967_294, 0));
+    assert_eq!(ends(&[9; 7]), (10, 4_294_967_294, 0));
+    let line = run_as_report(&mut new_heap(), far, &two).line();
+    assert_eq!(line, "refused 10 at record 4294967295\n");
+}
