@@ -2,7 +2,8 @@
 
 use model::expect::expect;
 use model::families::{generate, FAMILIES};
-use model::history::{report, text};
+use model::history::vectors::{histories, History};
+use model::history::{driver, report, text};
 use model::{show, trace, vectors};
 use std::io::{Read, Write};
 use std::process::exit;
@@ -20,6 +21,8 @@ const USAGE: &str = "usage:
   model history assemble < TEXT      a recorded history from its text, to standard output
   model history words < FILE         the text of a recorded history
   model history run < FILE           the line that the program `report` must print for it
+  model history vectors FOLDER       some 300 histories, NAME.history and NAME.line each
+  model history check PROGRAM ..     runs a program on all of these, by file and through a pipe
 with the product's library, `--features library`:
   model fuzz SECONDS SEED            all pairs of maps of 8 blocks, random lists, damaged memories and replays,
                                      model against library
@@ -78,7 +81,25 @@ fn history(words: &[&str]) {
         },
         ["words"] => print(text::words(&input()).as_bytes()),
         ["run"] => print(report(&input()).as_bytes()),
+        ["vectors", folder] => {
+            for History { name, bytes } in histories() {
+                let place = |ending: &str| format!("{folder}/{name}.{ending}");
+                write_file(&place("history"), &bytes);
+                write_file(&place("line"), report(&bytes).as_bytes());
+            }
+        }
+        ["check", program @ ..] if !program.is_empty() => check_program(program),
         _ => stop(USAGE),
+    }
+}
+
+fn check_program(program: &[&str]) {
+    match driver::check(program, &histories()) {
+        Ok(checked) => {
+            print(checked.lines().as_bytes());
+            exit(if checked.differences.is_empty() { 0 } else { 1 });
+        }
+        Err(error) => stop(&format!("{}: {error}\n", program[0])),
     }
 }
 

@@ -1,4 +1,4 @@
-//! Runs of histories: the line, what a stop leaves, and the limit.
+//! Runs of histories: the line, what a stop leaves, pieces, and the limit.
 
 mod common;
 use common::say;
@@ -6,7 +6,9 @@ use model::history::figures::Figures;
 use model::history::record::bytes;
 use model::history::record::short::{allocate, clear, copy, read, write, COLLECT};
 use model::history::run::{new_heap, run_as_report, MOST_RECORDS};
+use model::history::vectors::all_but_the_longest;
 use model::history::{report, Record, Run};
+use model::random::Random;
 use model::{apply, Call};
 
 #[test]
@@ -66,6 +68,41 @@ fn what_a_stop_leaves() {
         stops += 1;
     }
     say(&format!("{stops} stops, and what they leave"));
+}
+
+/// Pieces of whole records come to what the whole comes to.
+#[test]
+fn pieces_and_the_whole() {
+    let mut random = Random::new(3);
+    let mut cuts = 0;
+    for history in all_but_the_longest() {
+        let records = history.bytes.len() / 8;
+        if records > 2000 {
+            continue;
+        }
+        let mut whole = new_heap();
+        let at_once = run_as_report(&mut whole, Run::default(), &history.bytes);
+        for _ in 0..3 {
+            let mut memory = new_heap();
+            let mut so_far = Run::default();
+            let mut rest = &history.bytes[..];
+            while !rest.is_empty() {
+                // The last piece has the tail, if there is one.
+                let piece = 8 * random.below(rest.len() / 8 + 1);
+                let piece = if rest.len() - piece < 8 {
+                    rest.len()
+                } else {
+                    piece
+                };
+                so_far = run_as_report(&mut memory, so_far, &rest[..piece]);
+                rest = &rest[piece..];
+                cuts += 1;
+            }
+            assert_eq!(so_far, at_once, "{}", history.name);
+            assert_eq!(memory, whole, "{}", history.name);
+        }
+    }
+    say(&format!("{cuts} pieces of histories"));
 }
 
 /// "going on past 4,294,967,295 records, met after the whole records up to that number."

@@ -1,12 +1,15 @@
 //! Recorded histories (document 01, "Recorded histories"; document 02, U1), from these documents alone.
 //!
-//! Read in this order: record, request, figures, run. Then text: histories written by hand.
+//! Read in this order: record, request, figures, run. The rest writes histories and runs other programs on them: text,
+//! vectors and its parts, driver.
 
+pub mod driver;
 pub mod figures;
 pub mod record;
 pub mod request;
 pub mod run;
 pub mod text;
+pub mod vectors;
 
 pub use record::{Operation, Record};
 pub use run::{report, Run};

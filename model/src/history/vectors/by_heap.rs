@@ -1,0 +1,262 @@
+//! Histories about the heap: what is let go, forced collections, stuck counts, long chains, figures, and lengths.
+//!
+//! Many end by asking for the whole heap. That is accepted at once where everything was let go, after a forced collection
+//! where something was garbage, and refused 5 where a root still leads to something.
+
+use super::Shelf;
+use crate::history::record::short::{allocate, clear, copy, read, write, COLLECT};
+use crate::history::record::{bytes, Operation};
+
+const EVERYTHING: Operation = Operation::Allocate { size: 8192, d: 63 };
+
+pub fn histories(shelf: &mut Shelf) {
+    empty_roots(shelf);
+    letting_go(shelf);
+    forced_collections(shelf);
+    stuck(shelf);
+    at_once(shelf);
+    figures(shelf);
+    lengths(shelf);
+}
+
+/// An object that names itself in cell 0: let go, it stays until a collection.
+fn cycle(size: u16, d: u8) -> [Operation; 2] {
+    [allocate(size, d), write(d, 0, d)]
+}
+
+/// "elsewhere an empty root is copied or written as 0"
+fn empty_roots(shelf: &mut Shelf) {
+    let copied = [allocate(5, 0), copy(1, 0), EVERYTHING];
+    shelf.operations("prints-2-8197-8192-0-8192-empty-copied", &copied);
+    let written = [
+        allocate(5, 0),
+        allocate(3, 1),
+        write(1, 19, 0),
+        clear(1),
+        write(2, 19, 0),
+        clear(0),
+        EVERYTHING,
+    ];
+    shelf.operations("prints-3-8200-8192-0-8192-empty-written", &written);
+    let read_into = [
+        allocate(5, 0),
+        allocate(3, 1),
+        read(19, 0, 1),
+        clear(0),
+        EVERYTHING,
+    ];
+    shelf.operations("prints-3-8200-8192-0-8192-empty-cell-read", &read_into);
+    let nothing = [copy(0, 0), copy(0, 1), clear(0), clear(63), COLLECT];
+    shelf.operations("prints-0-0-0-1-0-nothing-there", &nothing);
+}
+
+/// Copies, writes and reads count; clears and what is overwritten let go.
+fn letting_go(shelf: &mut Shelf) {
+    let copied = [allocate(5, 0), copy(0, 1), clear(0)];
+    let still_held = [&copied[..], &[EVERYTHING]].concat();
+    shelf.operations("gives-5-held-by-a-copy", &still_held);
+    let cleared = [&copied[..], &[clear(1), EVERYTHING]].concat();
+    shelf.operations("prints-2-8197-8192-0-8192-copies-cleared", &cleared);
+    // A read counts as a copy does.
+    let read_out = [
+        allocate(2, 0),
+        allocate(3, 1),
+        write(1, 7, 0),
+        read(7, 0, 2),
+        clear(1),
+        clear(0),
+    ];
+    let still_held = [&read_out[..], &[EVERYTHING]].concat();
+    shelf.operations("gives-5-held-by-a-read", &still_held);
+    let cleared = [&read_out[..], &[clear(2), EVERYTHING]].concat();
+    shelf.operations("prints-3-8197-8192-0-8192-reads-cleared", &cleared);
+    // The owner of the written cell is freed by the write: d's own object, held by its own cell alone.
+    let owner = [
+        allocate(2, 0),
+        allocate(2, 1),
+        write(1, 0, 0),
+        write(0, 0, 1),
+        clear(1),
+        read(0, 0, 2),
+        clear(0),
+        write(3, 0, 2),
+        clear(2),
+        EVERYTHING,
+    ];
+    shelf.operations("prints-3-8196-8192-0-8192-owner", &owner);
+    let both_ways = [
+        allocate(2, 0),
+        allocate(2, 1),
+        write(1, 0, 0),
+        write(0, 0, 1),
+    ];
+    let garbage = [&both_ways[..], &[clear(0), clear(1), EVERYTHING]].concat();
+    shelf.operations("prints-3-8196-8192-1-8192-cycle", &garbage);
+    let collected = [&both_ways[..], &[clear(0), clear(1), COLLECT, EVERYTHING]].concat();
+    shelf.operations("prints-3-8196-8192-1-8192-cycle-collected", &collected);
+    // A new object lets go of what its root held, after the search.
+    let over = [allocate(4096, 0), allocate(4096, 0), allocate(4096, 1)];
+    shelf.operations("prints-3-12288-4096-0-8192-over-the-old-one", &over);
+    let same_root = [allocate(8192, 0), allocate(8192, 0)];
+    shelf.operations("gives-5-over-the-old-one", &same_root);
+}
+
+/// "When allocation gives 5 the run collects and tries once more."
+fn forced_collections(shelf: &mut Shelf) {
+    let halves = [cycle(4096, 0), cycle(4096, 1)].concat();
+    let garbage = [&halves[..], &[clear(0)]].concat();
+    let helps = [&garbage[..], &[allocate(4096, 2)]].concat();
+    shelf.operations("prints-3-12288-4096-1-8192-forced-helps", &helps);
+    // The object in root 1 becomes garbage by the first of the two.
+    let in_a_row = [&garbage[..], &[allocate(4096, 1), allocate(4096, 2)]].concat();
+    shelf.operations("prints-4-16384-4096-2-8192-two-in-a-row", &in_a_row);
+    let thrice = [&in_a_row[..], &[allocate(4096, 3)]].concat();
+    shelf.operations("gives-5-third-in-a-row", &thrice);
+    let no_help = [&halves[..], &[allocate(1, 2)]].concat();
+    shelf.operations("gives-5-forced-is-no-help", &no_help);
+    let too_little = [&garbage[..], &[allocate(4097, 2)]].concat();
+    shelf.operations("gives-5-forced-is-too-little", &too_little);
+    let then_fits = [&garbage[..], &[COLLECT, allocate(4096, 2)]].concat();
+    shelf.operations("prints-3-12288-4096-1-8192-recorded-helps", &then_fits);
+    let recorded_too = [&helps[..], &[COLLECT, clear(1), COLLECT]].concat();
+    shelf.operations(
+        "prints-3-12288-4096-3-8192-forced-and-recorded",
+        &recorded_too,
+    );
+    // 8,191 blocks are free, but not the one chunk of 8,192.
+    let no_chunk = [
+        allocate(4096, 0),
+        allocate(1, 1),
+        clear(0),
+        allocate(4097, 2),
+    ];
+    shelf.operations("gives-5-no-chunk", &no_chunk);
+    let rest_of_a_chunk = [allocate(4097, 0), allocate(4096, 1)];
+    shelf.operations("gives-5-rest-of-a-chunk", &rest_of_a_chunk);
+    let smaller = [allocate(4097, 0), allocate(2048, 1), allocate(1024, 2)];
+    shelf.operations("prints-3-7169-4097-0-7169-rest-of-a-chunk", &smaller);
+    // Only 5 is tried again.
+    let not_for_3 = [&garbage[..], &[allocate(8193, 2)]].concat();
+    shelf.operations("gives-3-no-collection", &not_for_3);
+    let not_for_4 = [&garbage[..], &[allocate(4096, 64)]].concat();
+    shelf.operations("gives-4-no-collection", &not_for_4);
+    // The most in use is lower after the forced collection than before it.
+    let falls = [&cycle(6000, 0)[..], &[clear(0), allocate(8000, 1)]].concat();
+    shelf.operations("prints-2-14000-8000-1-8000-falls", &falls);
+}
+
+/// "A count at capacity is stuck", the capacity being 7: only a collection frees what it held.
+fn stuck(shelf: &mut Shelf) {
+    for references in [5, 6, 7, 8, 9] {
+        let mut history = vec![allocate(1, 0)];
+        history.extend((1..references).map(|d| copy(0, d)));
+        history.extend((0..references).map(clear));
+        let collections = usize::from(references >= 7);
+        let figures = format!("2-8193-8192-{collections}-8192");
+        history.push(EVERYTHING);
+        let name = format!("prints-{figures}-with-{references}-references");
+        shelf.operations(name, &history);
+    }
+    // By cells as by roots.
+    let mut by_cells = vec![allocate(2, 0), allocate(3, 1)];
+    by_cells.extend((0..6).map(|c| write(1, c, 0)));
+    by_cells.extend([clear(1), clear(0), EVERYTHING]);
+    shelf.operations("prints-3-8197-8192-1-8192-stuck-by-cells", &by_cells);
+    // A collection counts anew, and then the last reference frees it.
+    let mut counted_anew = vec![allocate(1, 0)];
+    counted_anew.extend((1..10).map(|d| copy(0, d)));
+    counted_anew.extend((2..10).map(clear));
+    counted_anew.push(COLLECT);
+    counted_anew.extend([clear(0), clear(1), EVERYTHING]);
+    shelf.operations("prints-2-8193-8192-1-8192-counted-anew", &counted_anew);
+    // Document 02, U2: the value present is no further reference.
+    let mut over_itself = vec![allocate(1, 0), copy(0, 1), write(0, 2, 0)];
+    over_itself.extend([copy(0, 1), copy(0, 0), write(1, 2, 1), read(2, 0, 1)].repeat(3));
+    over_itself.extend([write(5, 2, 0), clear(0), clear(1), EVERYTHING]);
+    shelf.operations("prints-2-8193-8192-0-8192-over-itself", &over_itself);
+    // Stuck garbage fills the heap: the forced collection frees all of it.
+    let mut full = Vec::new();
+    for _ in 0..8 {
+        full.push(allocate(1024, 0));
+        full.extend((1..8).map(|d| copy(0, d)));
+        full.extend((0..8).map(clear));
+    }
+    let one_more = [&full[..], &[allocate(1, 0)]].concat();
+    shelf.operations("prints-9-8193-1024-1-8192-stuck-garbage", &one_more);
+    let all_of_it = [&full[..], &[EVERYTHING]].concat();
+    shelf.operations("prints-9-16384-8192-1-8192-stuck-garbage", &all_of_it);
+}
+
+/// Much is let go by one record.
+fn at_once(shelf: &mut Shelf) {
+    // Each names the one before it; the last one is in roots 0 and 1.
+    let mut chain = vec![allocate(1, 0)];
+    for _ in 1..8191 {
+        chain.extend([allocate(1, 1), write(0, 3, 1), copy(1, 0)]);
+    }
+    chain.push(clear(1));
+    let cleared = [&chain[..], &[clear(0), EVERYTHING]].concat();
+    shelf.operations("prints-8192-16383-8192-0-8192-chain", &cleared);
+    let by_allocation = [&chain[..], &[allocate(1, 0), clear(0), EVERYTHING]].concat();
+    shelf.operations(
+        "prints-8193-16384-8192-0-8192-chain-by-allocation",
+        &by_allocation,
+    );
+    let by_collection = [&chain[..], &[write(0, 0, 0), clear(0), EVERYTHING]].concat();
+    shelf.operations(
+        "prints-8192-16383-8192-1-8192-chain-by-collection",
+        &by_collection,
+    );
+    // One object names all others.
+    let mut star = vec![allocate(2048, 0)];
+    for c in 0..6144 {
+        star.extend([allocate(1, 1), write(1, c, 0)]);
+    }
+    let cleared = [&star[..], &[clear(1), clear(0), EVERYTHING]].concat();
+    shelf.operations("prints-6146-16384-8192-0-8192-star", &cleared);
+}
+
+/// Figures that can be taken for one another, or by the chunk, or inside a record.
+fn figures(shelf: &mut Shelf) {
+    let not_the_last = [allocate(3, 0), allocate(7, 1), allocate(5, 2)];
+    shelf.operations("prints-3-15-7-0-15-largest-in-the-middle", &not_the_last);
+    let not_refused = [allocate(3, 0), allocate(8192, 1)];
+    shelf.operations("gives-5-largest-is-accepted", &not_refused);
+    let fell = [allocate(100, 0), clear(0), allocate(60, 0)];
+    shelf.operations("prints-2-160-100-0-100-most-in-the-middle", &fell);
+    // 8,000 are in use inside the last record, and never after one.
+    let inside = [allocate(4000, 0), allocate(4000, 0)];
+    shelf.operations("prints-2-8000-4000-0-4000-most-after-a-record", &inside);
+    let collects = [COLLECT; 5];
+    shelf.operations("prints-0-0-0-5-0-collections", &collects);
+    let by_the_block = [allocate(5, 0), allocate(9, 1), allocate(1025, 2)];
+    shelf.operations("prints-3-1039-1025-0-1039-by-the-block", &by_the_block);
+    let mut many = [allocate(8192, 0), clear(0)].repeat(600);
+    shelf.operations("prints-600-4915200-8192-0-8192-many", &many);
+    many.push(clear(64));
+    shelf.operations("gives-4-behind-many", &many);
+}
+
+/// Files about as long as a piece that a program reads at once.
+fn lengths(shelf: &mut Shelf) {
+    let clears = |count| bytes(&vec![clear(0); count]);
+    let at = |count: usize, behind: &[u8]| [&clears(count), behind].concat();
+    shelf.add("prints-0-0-0-0-0-65536-bytes", clears(8192));
+    shelf.add("prints-0-0-0-0-0-131072-bytes", clears(16_384));
+    for count in [8190, 8191, 8192, 8193, 16_383, 16_384] {
+        let file = at(count, &clear(64).record().bytes());
+        shelf.add(format!("gives-4-at-{count}"), file);
+    }
+    let example = bytes(&[allocate(2, 0), allocate(1, 1), allocate(3, 2)]);
+    for count in [511, 512, 4095, 8189, 8190, 8191, 8192] {
+        let file = at(count, &example);
+        shelf.add(format!("prints-3-6-3-0-6-behind-{count}"), file);
+    }
+    for tail in [1, 4, 7] {
+        let unknown = [255; 7];
+        for count in [512, 8191, 8192] {
+            let file = at(count, &unknown[..tail]);
+            shelf.add(format!("gives-10-{count}-and-{tail}"), file);
+        }
+    }
+}

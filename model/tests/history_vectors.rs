@@ -1,0 +1,360 @@
+//! The histories that the program `report` is tested with: what their names say, what they meet, and that each wrong
+//! reading of the documents prints another line for one of them.
+
+mod common;
+use common::say;
+use model::calls::{apply_undamaged, Call};
+use model::chunks::least_power_of_two;
+use model::heap::{free_count, size, Memory};
+use model::history::run::{new_heap, BLOCKS, WIDTH};
+use model::history::vectors::{all_but_the_longest, histories, History};
+use model::history::{report, Record};
+use std::collections::BTreeSet;
+
+#[test]
+fn names_say_what_is_printed() {
+    let all = all_but_the_longest();
+    let names: BTreeSet<&str> = all.iter().map(|history| &history.name[..]).collect();
+    assert_eq!(names.len(), all.len());
+    assert!(all.len() >= 300);
+    let (mut given, mut printed) = ([0; 11], 0);
+    for History { name, bytes } in &all {
+        let line = report(bytes);
+        let words: Vec<&str> = name.split('-').collect();
+        match words[0] {
+            "gives" => {
+                let number: usize = words[1].parse().unwrap();
+                // The last record, whole or cut off.
+                let record = (bytes.len() - 1) / 8;
+                let due = format!("refused {number} at record {record}\n");
+                assert_eq!(line, due, "{name}");
+                given[number] += 1;
+            }
+            "prints" => {
+                assert_eq!(line, words[1..6].join(" ") + "\n", "{name}");
+                printed += 1;
+            }
+            "stops" => assert_eq!(line, "refused 4 at record 3\n", "{name}"),
+            "random" => {}
+            _ => assert!(!line.starts_with("refused"), "{name}: {line}"),
+        }
+    }
+    for number in [3, 4, 5, 6, 7, 9, 10] {
+        assert!(given[number] >= 4, "{number}: {}", given[number]);
+    }
+    let records: usize = all.iter().map(|history| history.bytes.len() / 8).sum();
+    say(&format!(
+        "{} histories of {records} records, {printed} with their line in their name",
+        all.len()
+    ));
+}
+
+/// 200,000 records, with collections forced and recorded, and one more that is refused.
+#[test]
+fn the_longest() {
+    let all = histories();
+    let [.., whole, refused] = &all[..] else {
+        panic!("no histories");
+    };
+    assert_eq!(whole.bytes.len(), 8 * 200_000);
+    assert_eq!(refused.bytes[..8 * 200_000], whole.bytes);
+    let line = report(&whole.bytes);
+    let figures: Vec<usize> = line
+        .split_whitespace()
+        .map(|word| word.parse().unwrap())
+        .collect();
+    let recorded = whole
+        .bytes
+        .chunks(8)
+        .filter(|record| record[0] == 6)
+        .count();
+    assert!(recorded > 100 && figures[3] > recorded + 100, "{line}");
+    let line = report(&refused.bytes);
+    assert!(line.ends_with(" at record 200000\n"), "{line}");
+}
+
+/// What the documents don't say.
+#[derive(Clone, Copy, Debug, PartialEq)]
+enum Wrong {
+    Nothing,
+    HighByteFirst,
+    UnusedFieldNotLookedAt,
+    Byte3NotLookedAt,
+    UnknownOperationPassedOver,
+    NineAfterTheOthers,
+    NineInTheTail,
+    TenBeforeAllRecords,
+    TailPassedOver,
+    FourBeforeThree,
+    SixBeforeFour,
+    SixAndSevenExchanged,
+    SevenBeforeSix,
+    SevenNotInFour,
+    EmptyRootOfTheOtherField,
+    EmptyRootNeverGood,
+    CopiedTheOtherWay,
+    NoSecondTry,
+    SecondTryWithoutCollecting,
+    ForcedNotCounted,
+    RecordedNotCounted,
+    MostInsideARecord,
+    MostAtTheEnd,
+    BlocksByTheChunk,
+    MostByTheChunk,
+    LargestIsTheLast,
+    RefusedAllocationCounted,
+    CountedFromOne,
+}
+
+const WRONG: [Wrong; 27] = [
+    Wrong::HighByteFirst,
+    Wrong::UnusedFieldNotLookedAt,
+    Wrong::Byte3NotLookedAt,
+    Wrong::UnknownOperationPassedOver,
+    Wrong::NineAfterTheOthers,
+    Wrong::NineInTheTail,
+    Wrong::TenBeforeAllRecords,
+    Wrong::TailPassedOver,
+    Wrong::FourBeforeThree,
+    Wrong::SixBeforeFour,
+    Wrong::SixAndSevenExchanged,
+    Wrong::SevenBeforeSix,
+    Wrong::SevenNotInFour,
+    Wrong::EmptyRootOfTheOtherField,
+    Wrong::EmptyRootNeverGood,
+    Wrong::CopiedTheOtherWay,
+    Wrong::NoSecondTry,
+    Wrong::SecondTryWithoutCollecting,
+    Wrong::ForcedNotCounted,
+    Wrong::RecordedNotCounted,
+    Wrong::MostInsideARecord,
+    Wrong::MostAtTheEnd,
+    Wrong::BlocksByTheChunk,
+    Wrong::MostByTheChunk,
+    Wrong::LargestIsTheLast,
+    Wrong::RefusedAllocationCounted,
+    Wrong::CountedFromOne,
+];
+
+/// A run written once more, by the numbers of bytes and fields alone, with one thing wrong.
+struct Reading {
+    wrong: Wrong,
+    memory: Memory,
+    /// Allocations, blocks, largest, collections, most in use.
+    figures: [usize; 5],
+}
+
+impl Reading {
+    fn report(wrong: Wrong, history: &[u8]) -> String {
+        let mut reading = Reading {
+            wrong,
+            memory: new_heap(),
+            figures: [0; 5],
+        };
+        let from = usize::from(wrong == Wrong::CountedFromOne);
+        if wrong == Wrong::TenBeforeAllRecords && !history.len().is_multiple_of(8) {
+            return format!("refused 10 at record {}\n", history.len() / 8);
+        }
+        for (k, bytes) in history.chunks(8).enumerate() {
+            let number = match bytes.len() {
+                8 => reading.record(bytes),
+                _ if wrong == Wrong::TailPassedOver => 0,
+                _ if wrong == Wrong::NineInTheTail && !(1..=6).contains(&bytes[0]) => 9,
+                _ => 10,
+            };
+            if number != 0 {
+                return format!("refused {number} at record {}\n", from + k);
+            }
+        }
+        let [allocations, blocks, largest, collections, most] = reading.figures;
+        format!("{allocations} {blocks} {largest} {collections} {most}\n")
+    }
+
+    fn record(&mut self, bytes: &[u8]) -> usize {
+        let wrong = self.wrong;
+        let mut bytes: [u8; 8] = bytes.try_into().unwrap();
+        if wrong == Wrong::HighByteFirst {
+            bytes[4..6].reverse();
+            bytes[6..8].reverse();
+        }
+        let record = Record::from_bytes(bytes);
+        let known = (1..=6).contains(&record.operation);
+        if wrong == Wrong::UnknownOperationPassedOver && !known {
+            return 0;
+        }
+        let nine = match wrong {
+            Wrong::UnusedFieldNotLookedAt => !known || record.unused != 0,
+            Wrong::Byte3NotLookedAt => Record {
+                unused: 0,
+                ..record
+            }
+            .operation()
+            .is_none(),
+            _ => record.operation().is_none(),
+        };
+        if nine && (wrong != Wrong::NineAfterTheOthers || !known) {
+            return 9;
+        }
+        let number = match self.request(record) {
+            Ok(call) if !nine => self.perform(call),
+            Ok(_) => 9,
+            Err(number) => number,
+        };
+        if number == 0 {
+            self.sample();
+        }
+        number
+    }
+
+    fn sample(&mut self) {
+        let in_use = BLOCKS - free_count(BLOCKS, &self.memory);
+        let in_use = match self.wrong {
+            Wrong::MostByTheChunk => {
+                let firsts = model::heap::first_blocks(BLOCKS, &self.memory).into_iter();
+                let sizes = firsts.map(|first| size(BLOCKS, &self.memory, first));
+                sizes.map(least_power_of_two).sum()
+            }
+            _ => in_use,
+        };
+        self.figures[4] = match self.wrong {
+            Wrong::MostAtTheEnd => in_use,
+            _ => self.figures[4].max(in_use),
+        };
+    }
+
+    fn request(&self, record: Record) -> Result<Call, usize> {
+        let Record { operation, c, .. } = record;
+        let (mut d, mut s) = (record.d as usize, record.s as usize);
+        if self.wrong == Wrong::CopiedTheOtherWay && operation == 2 {
+            (d, s) = (s, d);
+        }
+        let n = record.size as usize;
+        let holds = |root: usize| self.memory.roots.get(root).map_or(0, |v| *v as usize);
+        let out = d >= 64 || s >= 64;
+        if operation == 1 {
+            if self.wrong == Wrong::FourBeforeThree && d >= 64 {
+                return Err(4);
+            }
+            return Ok(Call::Allocate { n, r: d });
+        }
+        if operation == 6 {
+            return Ok(Call::Collect);
+        }
+        let mut needed = match operation {
+            3 => Some(d),
+            4 => Some(s),
+            _ => None,
+        };
+        if self.wrong == Wrong::EmptyRootOfTheOtherField {
+            needed = needed.map(|root| d + s - root);
+        }
+        let is_empty = needed.is_some_and(|root| holds(root) == 0);
+        let owner = if operation == 3 { holds(d) } else { holds(s) };
+        let cells = match owner {
+            0 => 0,
+            v => 4 * size(BLOCKS, &self.memory, v - 1),
+        };
+        let is_past = needed.is_some() && c as usize >= cells;
+        let is_past = is_past && (self.wrong != Wrong::SevenNotInFour || operation == 3);
+        let never_good = self.wrong == Wrong::EmptyRootNeverGood && operation < 5 && holds(s) == 0;
+        let conditions = match self.wrong {
+            Wrong::SixBeforeFour => [(is_empty, 6), (out, 4), (is_past, 7)],
+            Wrong::SixAndSevenExchanged => [(out, 4), (is_empty, 7), (is_past, 6)],
+            Wrong::SevenBeforeSix => [(out, 4), (is_past, 7), (is_empty, 6)],
+            _ => [(out, 4), (is_empty || never_good, 6), (is_past, 7)],
+        };
+        if let Some((_, number)) = conditions.into_iter().find(|(applies, _)| *applies) {
+            return Err(number);
+        }
+        Ok(match operation {
+            2 => Call::StoreRoot { r: d, v: holds(s) },
+            // What the wrong readings let through.
+            3 | 4 if owner == 0 || c as usize >= cells => Call::Check,
+            3 => Call::StoreCell {
+                a: owner - 1,
+                j: c as usize,
+                v: holds(s),
+            },
+            4 => Call::StoreRoot {
+                r: d,
+                v: self.memory.cells[4 * (owner - 1) + c as usize] as usize,
+            },
+            _ => Call::StoreRoot { r: d, v: 0 },
+        })
+    }
+
+    fn perform(&mut self, call: Call) -> usize {
+        let number = self.call(call, false);
+        if number != 5 || self.wrong == Wrong::NoSecondTry {
+            return number;
+        }
+        if self.wrong != Wrong::SecondTryWithoutCollecting {
+            self.call(Call::Collect, true);
+        }
+        self.call(call, false)
+    }
+
+    fn call(&mut self, call: Call, forced: bool) -> usize {
+        let free = free_count(BLOCKS, &self.memory);
+        let reply = apply_undamaged(BLOCKS, WIDTH, &mut self.memory, call);
+        let accepted = reply.number == 0;
+        match call {
+            Call::Allocate { n, .. }
+                if accepted || self.wrong == Wrong::RefusedAllocationCounted =>
+            {
+                self.figures[0] += 1;
+                self.figures[1] += match self.wrong {
+                    Wrong::BlocksByTheChunk => least_power_of_two(n),
+                    _ => n,
+                };
+                self.figures[2] = match self.wrong {
+                    Wrong::LargestIsTheLast => n,
+                    _ => self.figures[2].max(n),
+                };
+                if self.wrong == Wrong::MostInsideARecord {
+                    self.figures[4] = self.figures[4].max(BLOCKS - free + n);
+                }
+            }
+            Call::Collect => {
+                let counted = match self.wrong {
+                    Wrong::ForcedNotCounted => !forced,
+                    Wrong::RecordedNotCounted => forced,
+                    _ => true,
+                };
+                self.figures[3] += usize::from(counted);
+            }
+            _ => {}
+        }
+        reply.number
+    }
+}
+
+/// The histories that a wrong reading is tried on.
+fn tried() -> Vec<History> {
+    let mut all = all_but_the_longest();
+    all.retain(|history| history.bytes.len() < 8 * 1000);
+    all
+}
+
+#[test]
+fn wrong_readings_are_told_apart() {
+    let histories = tried();
+    let lines: Vec<String> = histories
+        .iter()
+        .map(|history| report(&history.bytes))
+        .collect();
+    let others = |wrong: Wrong| {
+        let both = histories.iter().zip(&lines);
+        both.filter(|(history, line)| Reading::report(wrong, &history.bytes) != **line)
+            .count()
+    };
+    assert_eq!(others(Wrong::Nothing), 0);
+    for wrong in WRONG {
+        let count = others(wrong);
+        assert!(count > 0, "{wrong:?}");
+        let all = histories.len();
+        say(&format!(
+            "wrong reading of histories, {wrong:?}: {count} of {all} lines differ"
+        ));
+    }
+}
