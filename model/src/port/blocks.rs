@@ -94,23 +94,17 @@ pub fn lowest_chunk(a: &[u8], from: usize, to: usize, size: usize) -> Searched {
             break to;
         }
         let byte = a[(from + looks) / 8];
-        if byte == 0 {
-            let free = size.min(8);
-            looks += free;
-            stretch += free;
-            if is_judged_free(from + looks, size, stretch) {
-                break from + looks - size;
-            }
-            continue 'bytes;
-        }
         if size < 8 && byte != 255 {
-            for i in 0..8 {
-                looks += 1;
-                if (byte >> i) % 2 != 0 {
-                    stretch = 0;
+            let mut i = 0;
+            while i < 8 {
+                let chunk = (byte >> i) << (8 - size);
+                i += size;
+                looks += size;
+                if chunk != 0 {
+                    stretch = chunk.leading_zeros() as usize;
                     continue;
                 }
-                stretch += 1;
+                stretch += size;
                 if is_judged_free(from + looks, size, stretch) {
                     break 'bytes from + looks - size;
                 }
@@ -118,7 +112,14 @@ pub fn lowest_chunk(a: &[u8], from: usize, to: usize, size: usize) -> Searched {
             continue 'bytes;
         }
         looks += 8;
-        stretch = byte.leading_zeros() as usize;
+        if byte != 0 {
+            stretch = byte.leading_zeros() as usize;
+            continue 'bytes;
+        }
+        stretch += 8;
+        if is_judged_free(from + looks, size, stretch) {
+            break from + looks - size;
+        }
     };
     Searched { at, looks }
 }

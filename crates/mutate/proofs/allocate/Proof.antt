@@ -93,7 +93,7 @@ same-length-18 c = search needs
 
 returns-3 : tie.Need-returns-3
 returns-3 c =
-    let called = c .before .before .before .before .before .before .before .before .before .before .before .before in
+    let called = c .before .before .before .before .before .before .before .before .before .before .before .before .before in
     let tested = called .before .before .before .before .before .before .before .before .before .before .before in
     let sound = tested .before .before .before in
     allocate-cleared _ _ _ _ (sound .before .check .ensures) (sound .if1 .left) _ (called .before .before .before .before .before .before .before .before .before .clear-all .ensures)

@@ -103,7 +103,7 @@ same-length-12 c = search needs
 returns-3 : tie.Need-returns-3
 unfolding decoded
 returns-3 c =
-    let called = c .before .before .before .before .before .before .before .before .before .before .before .before in
+    let called = c .before .before .before .before .before .before .before .before .before .before .before .before .before in
     stepped-as _ _ 2 _ _ _ (omega arith) (called .before .before .before .before .before .before .before .match .keys3) (called .allocate .ensures .promise)
 
 same-length-13 : tie.Need-same-length-13
