@@ -1,6 +1,6 @@
 // The public calls for C, under the names of include/huwekapo.h: each slice is a pointer and a length, and each contract is the public
 // call's.
-ghost use Rattle.rules.specs.Heap.{memory};
+ghost use Rattle.rules.specs.Lent.{before, after};
 ghost use Rattle.rules.specs.Calls.{Call};
 ghost use Rattle.rules.specs.Promise.{Promise};
 ghost use Rattle.replay.specs.Replay.{Replayed};
@@ -19,10 +19,7 @@ pub extern "C" fn huwekapo_format(
     waiting: &mut [Ref],
 ) -> Reply
     ensures { λ reply.
-        ⌜ Promise blocks width Call.format
-        (memory (now (a .entry)) (now (b .entry)) (now (counts .entry)) (now (cells .entry)) (now (roots .entry)) (now (waiting .entry)))
-        reply
-        (memory (now (a .exit)) (now (b .exit)) (now (counts .exit)) (now (cells .exit)) (now (roots .exit)) (now (waiting .exit))) ⌝ }
+        ⌜ Promise blocks width Call.format (before a b counts cells roots waiting) reply (after a b counts cells roots waiting) ⌝ }
 {
     mutate::format(blocks, width, a, b, counts, cells, roots, waiting)
 }
@@ -41,10 +38,8 @@ pub extern "C" fn huwekapo_allocate(
     r: usize,
 ) -> Reply
     ensures { λ reply.
-        ⌜ Promise blocks width (Call.allocate n r)
-        (memory (now (a .entry)) (now (b .entry)) (now (counts .entry)) (now (cells .entry)) (now (roots .entry)) (now (waiting .entry)))
-        reply
-        (memory (now (a .exit)) (now (b .exit)) (now (counts .exit)) (now (cells .exit)) (now (roots .exit)) (now (waiting .exit))) ⌝ }
+        ⌜ Promise blocks width (Call.allocate n r) (before a b counts cells roots waiting) reply
+        (after a b counts cells roots waiting) ⌝ }
 {
     mutate::allocate(blocks, width, a, b, counts, cells, roots, waiting, n, r)
 }
@@ -63,10 +58,8 @@ pub extern "C" fn huwekapo_store_root(
     v: usize,
 ) -> Reply
     ensures { λ reply.
-        ⌜ Promise blocks width (Call.storeRoot r v)
-        (memory (now (a .entry)) (now (b .entry)) (now (counts .entry)) (now (cells .entry)) (now (roots .entry)) (now (waiting .entry)))
-        reply
-        (memory (now (a .exit)) (now (b .exit)) (now (counts .exit)) (now (cells .exit)) (now (roots .exit)) (now (waiting .exit))) ⌝ }
+        ⌜ Promise blocks width (Call.storeRoot r v) (before a b counts cells roots waiting) reply
+        (after a b counts cells roots waiting) ⌝ }
 {
     mutate::store_root(blocks, width, a, b, counts, cells, roots, waiting, r, v)
 }
@@ -86,10 +79,8 @@ pub extern "C" fn huwekapo_store_cell(
     v: usize,
 ) -> Reply
     ensures { λ reply.
-        ⌜ Promise blocks width (Call.storeCell at j v)
-        (memory (now (a .entry)) (now (b .entry)) (now (counts .entry)) (now (cells .entry)) (now (roots .entry)) (now (waiting .entry)))
-        reply
-        (memory (now (a .exit)) (now (b .exit)) (now (counts .exit)) (now (cells .exit)) (now (roots .entry)) (now (waiting .exit))) ⌝ }
+        ⌜ Promise blocks width (Call.storeCell at j v) (before a b counts cells roots waiting) reply
+        (after a b counts cells roots waiting) ⌝ }
 {
     mutate::store_cell(blocks, width, a, b, counts, cells, roots, waiting, at, j, v)
 }
@@ -107,10 +98,8 @@ pub extern "C" fn huwekapo_return_roots(
     chosen: u64,
 ) -> Reply
     ensures { λ reply.
-        ⌜ Promise blocks width (Call.returnRoots chosen)
-        (memory (now (a .entry)) (now (b .entry)) (now (counts .entry)) (now (cells .entry)) (now (roots .entry)) (now (waiting .entry)))
-        reply
-        (memory (now (a .exit)) (now (b .exit)) (now (counts .exit)) (now (cells .exit)) (now (roots .exit)) (now (waiting .exit))) ⌝ }
+        ⌜ Promise blocks width (Call.returnRoots chosen) (before a b counts cells roots waiting) reply
+        (after a b counts cells roots waiting) ⌝ }
 {
     mutate::return_roots(blocks, width, a, b, counts, cells, roots, waiting, chosen)
 }
@@ -127,10 +116,7 @@ pub extern "C" fn huwekapo_collect(
     waiting: &mut [Ref],
 ) -> Reply
     ensures { λ reply.
-        ⌜ Promise blocks width Call.collect
-        (memory (now (a .entry)) (now (b .entry)) (now (counts .entry)) (now (cells .entry)) (now (roots .entry)) (now (waiting .entry)))
-        reply
-        (memory (now (a .exit)) (now (b .exit)) (now (counts .exit)) (now (cells .exit)) (now (roots .entry)) (now (waiting .exit))) ⌝ }
+        ⌜ Promise blocks width Call.collect (before a b counts cells roots waiting) reply (after a b counts cells roots waiting) ⌝ }
 {
     mutate::collect(blocks, width, a, b, counts, cells, roots, waiting)
 }
@@ -147,10 +133,7 @@ pub extern "C" fn huwekapo_check(
     waiting: &[Ref],
 ) -> Reply
     ensures { λ reply.
-        ⌜ Promise blocks width Call.check
-        (memory (now (a .entry)) (now (b .entry)) (now (counts .entry)) (now (cells .entry)) (now (roots .entry)) (now (waiting .entry)))
-        reply
-        (memory (now (a .entry)) (now (b .entry)) (now (counts .entry)) (now (cells .entry)) (now (roots .entry)) (now (waiting .entry))) ⌝ }
+        ⌜ Promise blocks width Call.check (before a b counts cells roots waiting) reply (after a b counts cells roots waiting) ⌝ }
 {
     inspect::check(blocks, width, a, b, counts, cells, roots, waiting)
 }
@@ -167,10 +150,7 @@ pub extern "C" fn huwekapo_free_blocks(
     waiting: &[Ref],
 ) -> Reply
     ensures { λ reply.
-        ⌜ Promise blocks width Call.freeBlocks
-        (memory (now (a .entry)) (now (b .entry)) (now (counts .entry)) (now (cells .entry)) (now (roots .entry)) (now (waiting .entry)))
-        reply
-        (memory (now (a .entry)) (now (b .entry)) (now (counts .entry)) (now (cells .entry)) (now (roots .entry)) (now (waiting .entry))) ⌝ }
+        ⌜ Promise blocks width Call.freeBlocks (before a b counts cells roots waiting) reply (after a b counts cells roots waiting) ⌝ }
 {
     inspect::free_blocks(blocks, width, a, b, counts, cells, roots, waiting)
 }
@@ -188,10 +168,7 @@ pub extern "C" fn huwekapo_look(
     at: usize,
 ) -> Reply
     ensures { λ reply.
-        ⌜ Promise blocks width (Call.look at)
-        (memory (now (a .entry)) (now (b .entry)) (now (counts .entry)) (now (cells .entry)) (now (roots .entry)) (now (waiting .entry)))
-        reply
-        (memory (now (a .entry)) (now (b .entry)) (now (counts .entry)) (now (cells .entry)) (now (roots .entry)) (now (waiting .entry))) ⌝ }
+        ⌜ Promise blocks width (Call.look at) (before a b counts cells roots waiting) reply (after a b counts cells roots waiting) ⌝ }
 {
     inspect::look(blocks, width, a, b, counts, cells, roots, waiting, at)
 }
@@ -211,9 +188,9 @@ pub extern "C" fn huwekapo_replay(
 ) -> Reply
     ensures { λ reply.
         ⌜ Replayed blocks width
-        (memory (now (a .entry)) (now (b .entry)) (now (counts .entry)) (now (cells .entry)) (now (roots .entry)) (now (waiting .entry)))
+        (before a b counts cells roots waiting)
         (now (calls .entry)) (now (replies .entry)) reply
-        (memory (now (a .exit)) (now (b .exit)) (now (counts .exit)) (now (cells .exit)) (now (roots .exit)) (now (waiting .exit)))
+        (after a b counts cells roots waiting)
         (now (replies .exit)) ⌝ }
 {
     replay::replay(

@@ -4,7 +4,7 @@ pub mod mark;
 pub mod sweep;
 
 ghost use mathlib.Core.Path.{_≡_};
-ghost use Rattle.rules.specs.Heap.{memory};
+ghost use Rattle.rules.specs.Lent.{before, after, lent};
 ghost use Rattle.references.specs.Ready.{Ready};
 ghost use Rattle.collector.specs.Sweep.{collectBy, collectBlocks};
 use blocks::Ref;
@@ -20,14 +20,14 @@ pub fn collect(
     roots: &[Ref],
     waiting: &mut [Ref],
 ) -> usize
-    requires { ⌜ Ready blocks width (memory (now a) (now b) (now counts) (now cells) (now roots) (now waiting)) ⌝ }
+    requires { ⌜ Ready blocks width (lent a b counts cells roots waiting) ⌝ }
     ensures { λ freed.
-        ⌜ (memory (now (a .exit)) (now (b .exit)) (now (counts .exit)) (now (cells .exit)) (now (roots .entry)) (now (waiting .exit))
+        ⌜ (after a b counts cells roots waiting
         ≡ collectBy blocks width
-        (memory (now (a .entry)) (now (b .entry)) (now (counts .entry)) (now (cells .entry)) (now (roots .entry)) (now (waiting .entry))))
+        (before a b counts cells roots waiting))
         × (freed
         ≡ collectBlocks blocks width
-        (memory (now (a .entry)) (now (b .entry)) (now (counts .entry)) (now (cells .entry)) (now (roots .entry)) (now (waiting .entry)))) ⌝ }
+        (before a b counts cells roots waiting)) ⌝ }
 {
     mark::mark(blocks, width, b, counts, cells, roots, waiting);
     sweep::sweep(blocks, width, a, b, counts, cells)

@@ -1,7 +1,8 @@
 // Number 2: the first damage kind that applies.
 ghost use mathlib.Core.Path.{_≡_};
 ghost use mathlib.Core.Bool.{true};
-ghost use Rattle.rules.specs.Heap.{memory, shaped};
+ghost use Rattle.rules.specs.Heap.{shaped};
+ghost use Rattle.rules.specs.Lent.{before, lent};
 ghost use Rattle.rules.specs.Damage.{damage};
 use blocks::Ref;
 
@@ -16,11 +17,10 @@ pub fn damage_kind(
     roots: &[Ref],
     waiting: &[Ref],
 ) -> usize
-    requires { ⌜ shaped blocks width (memory (now a) (now b) (now counts) (now cells) (now roots) (now waiting)) ≡ true ⌝ }
+    requires { ⌜ shaped blocks width (lent a b counts cells roots waiting) ≡ true ⌝ }
     ensures { λ r.
         ⌜ r ≡ damage blocks width
-        (memory (now (a .entry)) (now (b .entry)) (now (counts .entry)) (now (cells .entry)) (now (roots .entry))
-        (now (waiting .entry))) ⌝ }
+        (before a b counts cells roots waiting) ⌝ }
 {
     if crate::maps::has_end_on_free(blocks, a, b) {
         return 1;

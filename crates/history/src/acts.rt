@@ -1,5 +1,5 @@
 // The calls of one record, on an undamaged heap with a cleared waiting list.
-ghost use Rattle.rules.specs.Heap.{memory};
+ghost use Rattle.rules.specs.Lent.{before, after, lent};
 ghost use Rattle.rules.specs.Calls.{Call};
 ghost use Rattle.inner.specs.Usable.{Usable};
 ghost use Rattle.records.specs.Records.{makes};
@@ -32,15 +32,10 @@ fn collect_and_allocate(
     n: usize,
     r: usize,
 ) -> Done
-    requires { ⌜ Usable blocks width (memory (now a) (now b) (now counts) (now cells) (now roots) (now waiting)) ⌝ }
+    requires { ⌜ Usable blocks width (lent a b counts cells roots waiting) ⌝ }
     ensures { λ done.
-        ⌜ Acted blocks
-        (memory (now (a .entry)) (now (b .entry)) (now (counts .entry)) (now (cells .entry)) (now (roots .entry)) (now (waiting .entry)))
-        (triedAgain blocks width
-        (memory (now (a .entry)) (now (b .entry)) (now (counts .entry)) (now (cells .entry)) (now (roots .entry)) (now (waiting .entry)))
-        (Call.allocate n r))
-        done
-        (memory (now (a .exit)) (now (b .exit)) (now (counts .exit)) (now (cells .exit)) (now (roots .exit)) (now (waiting .exit))) ⌝ }
+        ⌜ Acted blocks (before a b counts cells roots waiting)
+        (triedAgain blocks width (before a b counts cells roots waiting) (Call.allocate n r)) done (after a b counts cells roots waiting) ⌝ }
 {
     let forced = acts::collect(blocks, width, a, b, counts, cells, roots, waiting);
     let second = steps::allocate(blocks, width, a, b, counts, cells, roots, waiting, n, r);
@@ -74,15 +69,10 @@ fn allocate(
     n: usize,
     r: usize,
 ) -> Done
-    requires { ⌜ Usable blocks width (memory (now a) (now b) (now counts) (now cells) (now roots) (now waiting)) ⌝ }
+    requires { ⌜ Usable blocks width (lent a b counts cells roots waiting) ⌝ }
     ensures { λ done.
-        ⌜ Acted blocks
-        (memory (now (a .entry)) (now (b .entry)) (now (counts .entry)) (now (cells .entry)) (now (roots .entry)) (now (waiting .entry)))
-        (turnOf blocks width
-        (memory (now (a .entry)) (now (b .entry)) (now (counts .entry)) (now (cells .entry)) (now (roots .entry)) (now (waiting .entry)))
-        (makes (Call.allocate n r)))
-        done
-        (memory (now (a .exit)) (now (b .exit)) (now (counts .exit)) (now (cells .exit)) (now (roots .exit)) (now (waiting .exit))) ⌝ }
+        ⌜ Acted blocks (before a b counts cells roots waiting)
+        (turnOf blocks width (before a b counts cells roots waiting) (makes (Call.allocate n r))) done (after a b counts cells roots waiting) ⌝ }
 {
     let first = steps::allocate(blocks, width, a, b, counts, cells, roots, waiting, n, r);
     let number = first.reply.number;
@@ -117,15 +107,10 @@ pub(crate) fn act(
     waiting: &mut [Ref],
     plan: Plan,
 ) -> Done
-    requires { ⌜ Usable blocks width (memory (now a) (now b) (now counts) (now cells) (now roots) (now waiting)) ⌝ }
+    requires { ⌜ Usable blocks width (lent a b counts cells roots waiting) ⌝ }
     ensures { λ done.
-        ⌜ Acted blocks
-        (memory (now (a .entry)) (now (b .entry)) (now (counts .entry)) (now (cells .entry)) (now (roots .entry)) (now (waiting .entry)))
-        (turnOf blocks width
-        (memory (now (a .entry)) (now (b .entry)) (now (counts .entry)) (now (cells .entry)) (now (roots .entry)) (now (waiting .entry)))
-        (meaning plan))
-        done
-        (memory (now (a .exit)) (now (b .exit)) (now (counts .exit)) (now (cells .exit)) (now (roots .exit)) (now (waiting .exit))) ⌝ }
+        ⌜ Acted blocks (before a b counts cells roots waiting)
+        (turnOf blocks width (before a b counts cells roots waiting) (meaning plan)) done (after a b counts cells roots waiting) ⌝ }
 {
     match plan {
         Plan::Stop(number) => Done {

@@ -1,7 +1,7 @@
 // Recorded histories: the records of a piece of a file, run on a lent heap from where the run stands. The heap is checked once a piece;
 // calls keep a heap undamaged, so no record tests it.
 ghost use mathlib.Core.Path.{_≡_};
-ghost use Rattle.rules.specs.Heap.{memory};
+ghost use Rattle.rules.specs.Lent.{before, after};
 ghost use Rattle.history.specs.Promised.{refusal, Promised};
 use blocks::Ref;
 use blocks::extents;
@@ -59,10 +59,8 @@ pub fn run_records(
     bytes: &[u8],
 ) -> Ran
     ensures { λ r.
-        ⌜ Promised blocks width (now (bytes .entry))
-        (memory (now (a .entry)) (now (b .entry)) (now (counts .entry)) (now (cells .entry)) (now (roots .entry)) (now (waiting .entry)))
-        run r
-        (memory (now (a .exit)) (now (b .exit)) (now (counts .exit)) (now (cells .exit)) (now (roots .exit)) (now (waiting .exit))) ⌝ }
+        ⌜ Promised blocks width (now (bytes .entry)) (before a b counts cells roots waiting) run r
+        (after a b counts cells roots waiting) ⌝ }
 {
     let check_reply = inspect::check(blocks, width, a, b, counts, cells, roots, waiting);
     let number = check_reply.number;

@@ -3,7 +3,7 @@ ghost use mathlib.Core.Path.{_≡_};
 ghost use mathlib.Core.Bool.{true};
 ghost use Prim.Native.Nat.{_+_, _*_, _/_, _-_, _≤_, min};
 ghost use lib.ListN.{length};
-ghost use Rattle.rules.specs.Heap.{memory};
+ghost use Rattle.rules.specs.Lent.{before, after, lent};
 ghost use Rattle.inner.specs.Usable.{Usable};
 ghost use Rattle.records.specs.Records.{asked};
 ghost use Rattle.figures.specs.Figures.{mostRecords, inRange};
@@ -30,17 +30,12 @@ fn step(
     f: Fields,
     state: Running,
 ) -> Running
-    requires { ⌜ Usable blocks width (memory (now a) (now b) (now counts) (now cells) (now roots) (now waiting))
-        × Going blocks (memory (now a) (now b) (now counts) (now cells) (now roots) (now waiting)) 1 state ⌝ }
+    requires { ⌜ Usable blocks width (lent a b counts cells roots waiting)
+        × Going blocks (lent a b counts cells roots waiting) 1 state ⌝ }
     ensures { λ next.
         ⌜ Stepped blocks
-        (turnOf blocks width
-        (memory (now (a .entry)) (now (b .entry)) (now (counts .entry)) (now (cells .entry)) (now (roots .entry)) (now (waiting .entry)))
-        (asked blocks
-        (memory (now (a .entry)) (now (b .entry)) (now (counts .entry)) (now (cells .entry)) (now (roots .entry)) (now (waiting .entry)))
-        f))
-        state next
-        (memory (now (a .exit)) (now (b .exit)) (now (counts .exit)) (now (cells .exit)) (now (roots .exit)) (now (waiting .exit))) ⌝ }
+        (turnOf blocks width (before a b counts cells roots waiting) (asked blocks (before a b counts cells roots waiting) f))
+        state next (after a b counts cells roots waiting) ⌝ }
 {
     let plan = records::plan_of(blocks, b, cells, roots, f);
     let done = acts::act(blocks, width, a, b, counts, cells, roots, waiting, plan);
@@ -61,16 +56,12 @@ fn run_whole(
     n: usize,
     start: Running,
 ) -> Run
-    requires { ⌜ Usable blocks width (memory (now a) (now b) (now counts) (now cells) (now roots) (now waiting))
-        × Going blocks (memory (now a) (now b) (now counts) (now cells) (now roots) (now waiting)) n start
+    requires { ⌜ Usable blocks width (lent a b counts cells roots waiting)
+        × Going blocks (lent a b counts cells roots waiting) n start
         × (8 * n ≤ length (now bytes)) ⌝ }
     ensures { λ r.
-        ⌜ RunBy blocks width
-        (ranFrom n blocks width (now (bytes .entry)) 0
-        (memory (now (a .entry)) (now (b .entry)) (now (counts .entry)) (now (cells .entry)) (now (roots .entry)) (now (waiting .entry)))
-        (start .run))
-        r
-        (memory (now (a .exit)) (now (b .exit)) (now (counts .exit)) (now (cells .exit)) (now (roots .exit)) (now (waiting .exit))) ⌝ }
+        ⌜ RunBy blocks width (ranFrom n blocks width (now (bytes .entry)) 0 (before a b counts cells roots waiting) (start .run)) r
+        (after a b counts cells roots waiting) ⌝ }
 {
     let mut state = start;
     let mut i = 0;
@@ -132,15 +123,11 @@ pub(crate) fn run_piece(
     bytes: &[u8],
     run: Run,
 ) -> Run
-    requires { ⌜ Usable blocks width (memory (now a) (now b) (now counts) (now cells) (now roots) (now waiting))
+    requires { ⌜ Usable blocks width (lent a b counts cells roots waiting)
         × (inRange run ≡ true) ⌝ }
     ensures { λ r.
-        ⌜ RunBy blocks width
-        (ran blocks width (now (bytes .entry))
-        (memory (now (a .entry)) (now (b .entry)) (now (counts .entry)) (now (cells .entry)) (now (roots .entry)) (now (waiting .entry)))
-        run)
-        r
-        (memory (now (a .exit)) (now (b .exit)) (now (counts .exit)) (now (cells .exit)) (now (roots .exit)) (now (waiting .exit))) ⌝ }
+        ⌜ RunBy blocks width (ran blocks width (now (bytes .entry)) (before a b counts cells roots waiting) run) r
+        (after a b counts cells roots waiting) ⌝ }
 {
     let number = run.number;
     if number != 0 {

@@ -2,7 +2,7 @@
 // cleared.
 ghost use mathlib.Core.Path.{_≡_};
 ghost use lib.ListN.{length};
-ghost use Rattle.rules.specs.Heap.{memory};
+ghost use Rattle.rules.specs.Lent.{before, after, lent};
 ghost use Rattle.rules.specs.Calls.{Call, reply};
 ghost use Rattle.rules.specs.Promise.{Promise};
 ghost use Rattle.inner.specs.Allocating.{Allocating};
@@ -33,13 +33,10 @@ pub fn allocate(
     r: usize,
     at: usize,
 ) -> Allocated
-    requires { ⌜ Usable blocks width (memory (now a) (now b) (now counts) (now cells) (now roots) (now waiting))
+    requires { ⌜ Usable blocks width (lent a b counts cells roots waiting)
         × (allocateReply blocks (now a) (length (now roots)) n r ≡ reply 0 at 0) ⌝ }
     ensures { λ done.
-        ⌜ Allocating blocks width n r
-        (memory (now (a .entry)) (now (b .entry)) (now (counts .entry)) (now (cells .entry)) (now (roots .entry)) (now (waiting .entry)))
-        done
-        (memory (now (a .exit)) (now (b .exit)) (now (counts .exit)) (now (cells .exit)) (now (roots .exit)) (now (waiting .exit))) ⌝ }
+        ⌜ Allocating blocks width n r (before a b counts cells roots waiting) done (after a b counts cells roots waiting) ⌝ }
 {
     let freed = stores::place(blocks, width, a, b, counts, cells, roots, waiting, n, r, at);
     let reply = tests::acceptance(at);
@@ -62,13 +59,11 @@ pub fn store_root(
     r: usize,
     v: usize,
 ) -> Reply
-    requires { ⌜ Usable blocks width (memory (now a) (now b) (now counts) (now cells) (now roots) (now waiting))
-        × (storeRootTest blocks (memory (now a) (now b) (now counts) (now cells) (now roots) (now waiting)) r v .number ≡ 0) ⌝ }
+    requires { ⌜ Usable blocks width (lent a b counts cells roots waiting)
+        × (storeRootTest blocks (lent a b counts cells roots waiting) r v .number ≡ 0) ⌝ }
     ensures { λ reply.
-        ⌜ Promise blocks width (Call.storeRoot r v)
-        (memory (now (a .entry)) (now (b .entry)) (now (counts .entry)) (now (cells .entry)) (now (roots .entry)) (now (waiting .entry)))
-        reply
-        (memory (now (a .exit)) (now (b .exit)) (now (counts .exit)) (now (cells .exit)) (now (roots .exit)) (now (waiting .exit))) ⌝ }
+        ⌜ Promise blocks width (Call.storeRoot r v) (before a b counts cells roots waiting) reply
+        (after a b counts cells roots waiting) ⌝ }
 {
     let freed = stores::store_root(
         blocks,
@@ -99,13 +94,11 @@ pub fn store_cell(
     j: usize,
     v: usize,
 ) -> Reply
-    requires { ⌜ Usable blocks width (memory (now a) (now b) (now counts) (now cells) (now roots) (now waiting))
-        × (storeCellTest blocks (memory (now a) (now b) (now counts) (now cells) (now roots) (now waiting)) at j v .number ≡ 0) ⌝ }
+    requires { ⌜ Usable blocks width (lent a b counts cells roots waiting)
+        × (storeCellTest blocks (lent a b counts cells roots waiting) at j v .number ≡ 0) ⌝ }
     ensures { λ reply.
-        ⌜ Promise blocks width (Call.storeCell at j v)
-        (memory (now (a .entry)) (now (b .entry)) (now (counts .entry)) (now (cells .entry)) (now (roots .entry)) (now (waiting .entry)))
-        reply
-        (memory (now (a .exit)) (now (b .exit)) (now (counts .exit)) (now (cells .exit)) (now (roots .entry)) (now (waiting .exit))) ⌝ }
+        ⌜ Promise blocks width (Call.storeCell at j v) (before a b counts cells roots waiting) reply
+        (after a b counts cells roots waiting) ⌝ }
 {
     let freed = stores::store_cell(
         blocks,
@@ -133,12 +126,9 @@ pub fn collect(
     roots: &[Ref],
     waiting: &mut [Ref],
 ) -> Reply
-    requires { ⌜ Usable blocks width (memory (now a) (now b) (now counts) (now cells) (now roots) (now waiting)) ⌝ }
+    requires { ⌜ Usable blocks width (lent a b counts cells roots waiting) ⌝ }
     ensures { λ reply.
-        ⌜ Promise blocks width Call.collect
-        (memory (now (a .entry)) (now (b .entry)) (now (counts .entry)) (now (cells .entry)) (now (roots .entry)) (now (waiting .entry)))
-        reply
-        (memory (now (a .exit)) (now (b .exit)) (now (counts .exit)) (now (cells .exit)) (now (roots .entry)) (now (waiting .exit))) ⌝ }
+        ⌜ Promise blocks width Call.collect (before a b counts cells roots waiting) reply (after a b counts cells roots waiting) ⌝ }
 {
     let freed = collector::collect(blocks, width, a, b, counts, cells, roots, waiting);
     tests::acceptance(freed)

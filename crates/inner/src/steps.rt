@@ -1,5 +1,5 @@
 // The calls that write, on an undamaged heap with a cleared waiting list: their tests, and their work where these pass.
-ghost use Rattle.rules.specs.Heap.{memory};
+ghost use Rattle.rules.specs.Lent.{before, after, lent};
 ghost use Rattle.rules.specs.Calls.{Call};
 ghost use Rattle.rules.specs.Promise.{Promise};
 ghost use Rattle.inner.specs.Allocating.{Allocating};
@@ -23,12 +23,9 @@ pub fn allocate(
     n: usize,
     r: usize,
 ) -> Allocated
-    requires { ⌜ Usable blocks width (memory (now a) (now b) (now counts) (now cells) (now roots) (now waiting)) ⌝ }
+    requires { ⌜ Usable blocks width (lent a b counts cells roots waiting) ⌝ }
     ensures { λ done.
-        ⌜ Allocating blocks width n r
-        (memory (now (a .entry)) (now (b .entry)) (now (counts .entry)) (now (cells .entry)) (now (roots .entry)) (now (waiting .entry)))
-        done
-        (memory (now (a .exit)) (now (b .exit)) (now (counts .exit)) (now (cells .exit)) (now (roots .exit)) (now (waiting .exit))) ⌝ }
+        ⌜ Allocating blocks width n r (before a b counts cells roots waiting) done (after a b counts cells roots waiting) ⌝ }
 {
     let test = tests::allocate_reply(blocks, a, roots.len(), n, r);
     let number = test.number;
@@ -55,12 +52,10 @@ pub fn store_root(
     r: usize,
     v: usize,
 ) -> Reply
-    requires { ⌜ Usable blocks width (memory (now a) (now b) (now counts) (now cells) (now roots) (now waiting)) ⌝ }
+    requires { ⌜ Usable blocks width (lent a b counts cells roots waiting) ⌝ }
     ensures { λ reply.
-        ⌜ Promise blocks width (Call.storeRoot r v)
-        (memory (now (a .entry)) (now (b .entry)) (now (counts .entry)) (now (cells .entry)) (now (roots .entry)) (now (waiting .entry)))
-        reply
-        (memory (now (a .exit)) (now (b .exit)) (now (counts .exit)) (now (cells .exit)) (now (roots .exit)) (now (waiting .exit))) ⌝ }
+        ⌜ Promise blocks width (Call.storeRoot r v) (before a b counts cells roots waiting) reply
+        (after a b counts cells roots waiting) ⌝ }
 {
     let test = tests::store_root_test(blocks, a, b, roots, r, v);
     let number = test.number;
@@ -84,12 +79,10 @@ pub fn store_cell(
     j: usize,
     v: usize,
 ) -> Reply
-    requires { ⌜ Usable blocks width (memory (now a) (now b) (now counts) (now cells) (now roots) (now waiting)) ⌝ }
+    requires { ⌜ Usable blocks width (lent a b counts cells roots waiting) ⌝ }
     ensures { λ reply.
-        ⌜ Promise blocks width (Call.storeCell at j v)
-        (memory (now (a .entry)) (now (b .entry)) (now (counts .entry)) (now (cells .entry)) (now (roots .entry)) (now (waiting .entry)))
-        reply
-        (memory (now (a .exit)) (now (b .exit)) (now (counts .exit)) (now (cells .exit)) (now (roots .entry)) (now (waiting .exit))) ⌝ }
+        ⌜ Promise blocks width (Call.storeCell at j v) (before a b counts cells roots waiting) reply
+        (after a b counts cells roots waiting) ⌝ }
 {
     let test = tests::store_cell_test(blocks, a, b, at, j, v);
     let number = test.number;

@@ -1,5 +1,5 @@
 // The public calls that only read: check, free blocks, look.
-ghost use Rattle.rules.specs.Heap.{memory};
+ghost use Rattle.rules.specs.Lent.{before, after};
 ghost use Rattle.rules.specs.Calls.{Call};
 ghost use Rattle.rules.specs.Promise.{Promise};
 use blocks::Ref;
@@ -20,10 +20,7 @@ pub fn check(
     waiting: &[Ref],
 ) -> Reply
     ensures { λ reply.
-        ⌜ Promise blocks width Call.check
-        (memory (now (a .entry)) (now (b .entry)) (now (counts .entry)) (now (cells .entry)) (now (roots .entry)) (now (waiting .entry)))
-        reply
-        (memory (now (a .entry)) (now (b .entry)) (now (counts .entry)) (now (cells .entry)) (now (roots .entry)) (now (waiting .entry))) ⌝ }
+        ⌜ Promise blocks width Call.check (before a b counts cells roots waiting) reply (after a b counts cells roots waiting) ⌝ }
 {
     if !shape::is_shaped(
         blocks,
@@ -60,10 +57,7 @@ pub fn free_blocks(
     waiting: &[Ref],
 ) -> Reply
     ensures { λ reply.
-        ⌜ Promise blocks width Call.freeBlocks
-        (memory (now (a .entry)) (now (b .entry)) (now (counts .entry)) (now (cells .entry)) (now (roots .entry)) (now (waiting .entry)))
-        reply
-        (memory (now (a .entry)) (now (b .entry)) (now (counts .entry)) (now (cells .entry)) (now (roots .entry)) (now (waiting .entry))) ⌝ }
+        ⌜ Promise blocks width Call.freeBlocks (before a b counts cells roots waiting) reply (after a b counts cells roots waiting) ⌝ }
 {
     let check_reply = check(blocks, width, a, b, counts, cells, roots, waiting);
     let number = check_reply.number;
@@ -86,10 +80,7 @@ pub fn look(
     at: usize,
 ) -> Reply
     ensures { λ reply.
-        ⌜ Promise blocks width (Call.look at)
-        (memory (now (a .entry)) (now (b .entry)) (now (counts .entry)) (now (cells .entry)) (now (roots .entry)) (now (waiting .entry)))
-        reply
-        (memory (now (a .entry)) (now (b .entry)) (now (counts .entry)) (now (cells .entry)) (now (roots .entry)) (now (waiting .entry))) ⌝ }
+        ⌜ Promise blocks width (Call.look at) (before a b counts cells roots waiting) reply (after a b counts cells roots waiting) ⌝ }
 {
     let checked = check(blocks, width, a, b, counts, cells, roots, waiting);
     let number = checked.number;

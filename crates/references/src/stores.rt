@@ -2,7 +2,7 @@
 ghost use mathlib.Core.Path.{_≡_};
 ghost use Prim.Native.Nat.{_+_, _*_, _≤_, _<_};
 ghost use lib.ListN.{length};
-ghost use Rattle.rules.specs.Heap.{memory};
+ghost use Rattle.rules.specs.Lent.{before, after, lent};
 ghost use Rattle.rules.specs.Store.{putRoot, storeRootIn, storeCellIn, allocateIn};
 ghost use Rattle.references.specs.Ready.{Ready};
 ghost use Rattle.references.specs.Blocks.{putRootBlocks, storeRootBlocks, storeCellBlocks, allocateBlocks};
@@ -21,16 +21,16 @@ fn put_root(
     r: usize,
     v: Ref,
 ) -> usize
-    requires { ⌜ Ready blocks width (memory (now a) (now b) (now counts) (now cells) (now roots) (now waiting))
+    requires { ⌜ Ready blocks width (lent a b counts cells roots waiting)
         × (r < length (now roots)) × (v ≤ blocks) ⌝ }
     ensures { λ freed.
-        ⌜ (memory (now (a .exit)) (now (b .exit)) (now (counts .exit)) (now (cells .exit)) (now (roots .exit)) (now (waiting .exit))
+        ⌜ (after a b counts cells roots waiting
         ≡ putRoot blocks width
-        (memory (now (a .entry)) (now (b .entry)) (now (counts .entry)) (now (cells .entry)) (now (roots .entry)) (now (waiting .entry)))
+        (before a b counts cells roots waiting)
         r v)
         × (freed
         ≡ putRootBlocks blocks width
-        (memory (now (a .entry)) (now (b .entry)) (now (counts .entry)) (now (cells .entry)) (now (roots .entry)) (now (waiting .entry)))
+        (before a b counts cells roots waiting)
         r v) ⌝ }
 {
     let old = roots[r];
@@ -51,16 +51,16 @@ pub fn store_root(
     r: usize,
     v: Ref,
 ) -> usize
-    requires { ⌜ Ready blocks width (memory (now a) (now b) (now counts) (now cells) (now roots) (now waiting))
+    requires { ⌜ Ready blocks width (lent a b counts cells roots waiting)
         × (r < length (now roots)) × (v ≤ blocks) ⌝ }
     ensures { λ freed.
-        ⌜ (memory (now (a .exit)) (now (b .exit)) (now (counts .exit)) (now (cells .exit)) (now (roots .exit)) (now (waiting .exit))
+        ⌜ (after a b counts cells roots waiting
         ≡ storeRootIn blocks width
-        (memory (now (a .entry)) (now (b .entry)) (now (counts .entry)) (now (cells .entry)) (now (roots .entry)) (now (waiting .entry)))
+        (before a b counts cells roots waiting)
         r v)
         × (freed
         ≡ storeRootBlocks blocks width
-        (memory (now (a .entry)) (now (b .entry)) (now (counts .entry)) (now (cells .entry)) (now (roots .entry)) (now (waiting .entry)))
+        (before a b counts cells roots waiting)
         r v) ⌝ }
 {
     if roots[r] == v {
@@ -83,16 +83,16 @@ pub fn store_cell(
     c: usize,
     v: Ref,
 ) -> usize
-    requires { ⌜ Ready blocks width (memory (now a) (now b) (now counts) (now cells) (now roots) (now waiting))
+    requires { ⌜ Ready blocks width (lent a b counts cells roots waiting)
         × (c < 4 * blocks) × (v ≤ blocks) ⌝ }
     ensures { λ freed.
-        ⌜ (memory (now (a .exit)) (now (b .exit)) (now (counts .exit)) (now (cells .exit)) (now (roots .entry)) (now (waiting .exit))
+        ⌜ (after a b counts cells roots waiting
         ≡ storeCellIn blocks width
-        (memory (now (a .entry)) (now (b .entry)) (now (counts .entry)) (now (cells .entry)) (now (roots .entry)) (now (waiting .entry)))
+        (before a b counts cells roots waiting)
         c v)
         × (freed
         ≡ storeCellBlocks blocks width
-        (memory (now (a .entry)) (now (b .entry)) (now (counts .entry)) (now (cells .entry)) (now (roots .entry)) (now (waiting .entry)))
+        (before a b counts cells roots waiting)
         c v) ⌝ }
 {
     let old = cells[c];
@@ -118,16 +118,16 @@ pub fn place(
     r: usize,
     i: usize,
 ) -> usize
-    requires { ⌜ Ready blocks width (memory (now a) (now b) (now counts) (now cells) (now roots) (now waiting))
+    requires { ⌜ Ready blocks width (lent a b counts cells roots waiting)
         × (1 ≤ n) × (i + n ≤ blocks) × (r < length (now roots)) ⌝ }
     ensures { λ freed.
-        ⌜ (memory (now (a .exit)) (now (b .exit)) (now (counts .exit)) (now (cells .exit)) (now (roots .exit)) (now (waiting .exit))
+        ⌜ (after a b counts cells roots waiting
         ≡ allocateIn blocks width
-        (memory (now (a .entry)) (now (b .entry)) (now (counts .entry)) (now (cells .entry)) (now (roots .entry)) (now (waiting .entry)))
+        (before a b counts cells roots waiting)
         n r i)
         × (freed
         ≡ allocateBlocks blocks width
-        (memory (now (a .entry)) (now (b .entry)) (now (counts .entry)) (now (cells .entry)) (now (roots .entry)) (now (waiting .entry)))
+        (before a b counts cells roots waiting)
         n r i) ⌝ }
 {
     blocks::extents::mark_extent(a, b, i, n);

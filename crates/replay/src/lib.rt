@@ -1,6 +1,6 @@
 // A whole list of calls in one lent slice, run from a formatted heap: demand 3 as the contract of one function. The heap is formatted
 // here, so it is undamaged, and calls keep it so: no call of the list tests it.
-ghost use Rattle.rules.specs.Heap.{memory};
+ghost use Rattle.rules.specs.Lent.{before, after};
 ghost use Rattle.replay.specs.Replay.{Replayed};
 use blocks::Ref;
 use rules::Reply;
@@ -25,9 +25,9 @@ pub fn replay(
 ) -> Reply
     ensures { λ reply.
         ⌜ Replayed blocks width
-        (memory (now (a .entry)) (now (b .entry)) (now (counts .entry)) (now (cells .entry)) (now (roots .entry)) (now (waiting .entry)))
+        (before a b counts cells roots waiting)
         (now (calls .entry)) (now (replies .entry)) reply
-        (memory (now (a .exit)) (now (b .exit)) (now (counts .exit)) (now (cells .exit)) (now (roots .exit)) (now (waiting .exit)))
+        (after a b counts cells roots waiting)
         (now (replies .exit)) ⌝ }
 {
     let test = tests::replay_reply(

@@ -3,7 +3,7 @@ ghost use mathlib.Core.Path.{_≡_};
 ghost use mathlib.Core.Bool.{true};
 ghost use Prim.Native.Nat.{_+_, _*_, _/_, _≤_, _<_};
 ghost use lib.ListN.{length};
-ghost use Rattle.rules.specs.Heap.{memory};
+ghost use Rattle.rules.specs.Lent.{before, after, lent};
 ghost use Rattle.inner.specs.Usable.{Usable};
 ghost use Rattle.replay.specs.Encoding.{isCallAt, areCalls};
 ghost use Rattle.replay.specs.Steps.{Turned, AsRun};
@@ -24,13 +24,13 @@ fn run_one(
     replies: &mut [u64],
     i: usize,
 )
-    requires { ⌜ Usable blocks width (memory (now a) (now b) (now counts) (now cells) (now roots) (now waiting))
+    requires { ⌜ Usable blocks width (lent a b counts cells roots waiting)
         × (isCallAt (now calls) i ≡ true) × (4 * i + 3 < length (now calls)) × (3 * i + 2 < length (now replies)) ⌝ }
     ensures { λ _.
         ⌜ Turned blocks width
-        (memory (now (a .entry)) (now (b .entry)) (now (counts .entry)) (now (cells .entry)) (now (roots .entry)) (now (waiting .entry)))
+        (before a b counts cells roots waiting)
         (now (calls .entry)) (now (replies .entry)) i
-        (memory (now (a .exit)) (now (b .exit)) (now (counts .exit)) (now (cells .exit)) (now (roots .exit)) (now (waiting .exit)))
+        (after a b counts cells roots waiting)
         (now (replies .exit)) ⌝ }
 {
     let at = 4 * i;
@@ -67,13 +67,13 @@ pub(crate) fn run_all(
     calls: &[u64],
     replies: &mut [u64],
 )
-    requires { ⌜ Usable blocks width (memory (now a) (now b) (now counts) (now cells) (now roots) (now waiting))
+    requires { ⌜ Usable blocks width (lent a b counts cells roots waiting)
         × (areCalls (now calls) (length (now calls) / 4) ≡ true) × (3 * (length (now calls) / 4) ≤ length (now replies)) ⌝ }
     ensures { λ _.
         ⌜ AsRun blocks width
-        (memory (now (a .entry)) (now (b .entry)) (now (counts .entry)) (now (cells .entry)) (now (roots .entry)) (now (waiting .entry)))
+        (before a b counts cells roots waiting)
         (now (calls .entry)) (now (replies .entry))
-        (memory (now (a .exit)) (now (b .exit)) (now (counts .exit)) (now (cells .exit)) (now (roots .exit)) (now (waiting .exit)))
+        (after a b counts cells roots waiting)
         (now (replies .exit)) ⌝ }
 {
     let n = calls.len() / 4;

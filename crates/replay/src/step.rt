@@ -1,5 +1,5 @@
 // One call of the list, on an undamaged heap.
-ghost use Rattle.rules.specs.Heap.{memory};
+ghost use Rattle.rules.specs.Lent.{before, after, lent};
 ghost use Rattle.inner.specs.Usable.{Usable};
 ghost use Rattle.replay.specs.Steps.{Stepped};
 use blocks::Ref;
@@ -23,12 +23,9 @@ pub(crate) fn step(
     y: u64,
     z: u64,
 ) -> Reply
-    requires { ⌜ Usable blocks width (memory (now a) (now b) (now counts) (now cells) (now roots) (now waiting)) ⌝ }
+    requires { ⌜ Usable blocks width (lent a b counts cells roots waiting) ⌝ }
     ensures { λ reply.
-        ⌜ Stepped blocks width code x y z
-        (memory (now (a .entry)) (now (b .entry)) (now (counts .entry)) (now (cells .entry)) (now (roots .entry)) (now (waiting .entry)))
-        reply
-        (memory (now (a .exit)) (now (b .exit)) (now (counts .exit)) (now (cells .exit)) (now (roots .exit)) (now (waiting .exit))) ⌝ }
+        ⌜ Stepped blocks width code x y z (before a b counts cells roots waiting) reply (after a b counts cells roots waiting) ⌝ }
 {
     match code {
         0 => mutate::format(blocks, width, a, b, counts, cells, roots, waiting),

@@ -3,7 +3,7 @@
 ghost use mathlib.Core.Path.{_≡_};
 ghost use Prim.Native.Nat.{_≤_, _<_};
 ghost use lib.ListN.{length};
-ghost use Rattle.rules.specs.Heap.{memory};
+ghost use Rattle.rules.specs.Lent.{before, after, lent};
 ghost use Rattle.rules.specs.Calls.{Call};
 ghost use Rattle.rules.specs.Promise.{Promise};
 ghost use Rattle.inner.specs.Usable.{Usable};
@@ -41,13 +41,13 @@ fn clear_chosen(
     chosen: u64,
     r: usize,
 ) -> usize
-    requires { ⌜ Usable blocks width (memory (now a) (now b) (now counts) (now cells) (now roots) (now waiting))
+    requires { ⌜ Usable blocks width (lent a b counts cells roots waiting)
         × (r < length (now roots)) ⌝ }
     ensures { λ freed.
         ⌜ Turn blocks width
-        (memory (now (a .entry)) (now (b .entry)) (now (counts .entry)) (now (cells .entry)) (now (roots .entry)) (now (waiting .entry)))
+        (before a b counts cells roots waiting)
         chosen r
-        (memory (now (a .exit)) (now (b .exit)) (now (counts .exit)) (now (cells .exit)) (now (roots .exit)) (now (waiting .exit)))
+        (after a b counts cells roots waiting)
         freed ⌝ }
 {
     if (chosen >> r) % 2 != 1 {
@@ -69,13 +69,11 @@ pub fn clear_roots(
     waiting: &mut [Ref],
     chosen: u64,
 ) -> Reply
-    requires { ⌜ Usable blocks width (memory (now a) (now b) (now counts) (now cells) (now roots) (now waiting))
+    requires { ⌜ Usable blocks width (lent a b counts cells roots waiting)
         × (returnTest (length (now roots)) chosen .number ≡ 0) ⌝ }
     ensures { λ reply.
-        ⌜ Promise blocks width (Call.returnRoots chosen)
-        (memory (now (a .entry)) (now (b .entry)) (now (counts .entry)) (now (cells .entry)) (now (roots .entry)) (now (waiting .entry)))
-        reply
-        (memory (now (a .exit)) (now (b .exit)) (now (counts .exit)) (now (cells .exit)) (now (roots .exit)) (now (waiting .exit))) ⌝ }
+        ⌜ Promise blocks width (Call.returnRoots chosen) (before a b counts cells roots waiting) reply
+        (after a b counts cells roots waiting) ⌝ }
 {
     let mut freed: usize = 0;
     let mut r = 0;
@@ -110,12 +108,10 @@ pub fn return_roots(
     waiting: &mut [Ref],
     chosen: u64,
 ) -> Reply
-    requires { ⌜ Usable blocks width (memory (now a) (now b) (now counts) (now cells) (now roots) (now waiting)) ⌝ }
+    requires { ⌜ Usable blocks width (lent a b counts cells roots waiting) ⌝ }
     ensures { λ reply.
-        ⌜ Promise blocks width (Call.returnRoots chosen)
-        (memory (now (a .entry)) (now (b .entry)) (now (counts .entry)) (now (cells .entry)) (now (roots .entry)) (now (waiting .entry)))
-        reply
-        (memory (now (a .exit)) (now (b .exit)) (now (counts .exit)) (now (cells .exit)) (now (roots .exit)) (now (waiting .exit))) ⌝ }
+        ⌜ Promise blocks width (Call.returnRoots chosen) (before a b counts cells roots waiting) reply
+        (after a b counts cells roots waiting) ⌝ }
 {
     let test = return_test(roots.len(), chosen);
     let number = test.number;

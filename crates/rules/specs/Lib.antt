@@ -1,4 +1,5 @@
 pub mod Heap
+pub mod Lent
 pub mod Damage
 pub mod Store
 pub mod Collection

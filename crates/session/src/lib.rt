@@ -1,6 +1,6 @@
 // Public calls made one after another on the same buffers, with demand 3's claim as the contract: an example for callers of what the promises
 // of single calls come to.
-ghost use Rattle.rules.specs.Heap.{memory};
+ghost use Rattle.rules.specs.Lent.{before, after};
 ghost use Rattle.session.specs.Session.{Lived};
 use blocks::Ref;
 use rules::Reply;
@@ -18,10 +18,7 @@ pub fn one_life(
     waiting: &mut [Ref],
 ) -> Reply
     ensures { λ reply.
-        ⌜ Lived blocks width
-        (memory (now (a .entry)) (now (b .entry)) (now (counts .entry)) (now (cells .entry)) (now (roots .entry)) (now (waiting .entry)))
-        reply
-        (memory (now (a .exit)) (now (b .exit)) (now (counts .exit)) (now (cells .exit)) (now (roots .exit)) (now (waiting .exit))) ⌝ }
+        ⌜ Lived blocks width (before a b counts cells roots waiting) reply (after a b counts cells roots waiting) ⌝ }
 {
     let formatting = mutate::format(blocks, width, a, b, counts, cells, roots, waiting);
     let number = formatting.number;
