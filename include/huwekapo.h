@@ -13,11 +13,12 @@
  * least) of byte i / 8 of a map.
  *
  * Every call may be made with any arguments and any content of the buffers: what is wrong is refused by a number, and a
- * refusal changes no buffer. Arguments are whole words, and nothing of them is cut off: a v of 65,537 is refused 8. Format, allocate, both stores, the return, collect and replay leave `waiting` all 0 when
- * accepted; check, look and free blocks write nothing.
+ * refusal changes no buffer. Arguments are whole words, and nothing of them is cut off: a v of 65,537 is refused 8. Format,
+ * allocate, both stores, the return, collect, replay and runs of records leave `waiting` all 0 when accepted; check, look and
+ * free blocks write nothing.
  *
- * The buffers, and the two lists of replay, must not overlap, and each pointer must be good for its length, and not null
- * even where that is 0.
+ * The buffers, the two lists of replay and the bytes of a run must not overlap, and each pointer must be good for its length,
+ * and not null even where that is 0.
  *
  * Link libcapi.a.
  */
@@ -51,9 +52,12 @@ enum huwekapo_number {
     HUWEKAPO_NO_OBJECT = 6,     /* `at` is not a first block (or not below blocks) */
     HUWEKAPO_BAD_CELL = 7,      /* j is not below 4 times the object's size */
     HUWEKAPO_BAD_REFERENCE = 8, /* v is neither 0 nor 1 + a first block */
-    HUWEKAPO_NO_CALL = 9,       /* an entry is no call: its code is above 8 */
-    HUWEKAPO_CUT_OFF = 10,      /* the list ends inside a call */
-    HUWEKAPO_SHORT_REPLIES = 18 /* `replies` is too short for the replies of all calls */
+    HUWEKAPO_NO_CALL = 9,       /* an entry is no call: its code is above 8. A record is none: its operation is unknown, or a
+                                   field that the operation does not name is not 0 */
+    HUWEKAPO_CUT_OFF = 10,      /* the list ends inside a call. A history ends inside a record, or goes on past
+                                   4,294,967,295 records */
+    HUWEKAPO_SHORT_REPLIES = 18, /* `replies` is too short for the replies of all calls */
+    HUWEKAPO_BAD_RUN = 19       /* the run handed in is out of range */
 };
 
 enum huwekapo_damage {
@@ -182,6 +186,67 @@ struct huwekapo_reply huwekapo_replay(size_t blocks, size_t width,
                                       uint16_t *waiting, size_t waiting_length,
                                       const uint64_t *calls, size_t calls_length,
                                       uint64_t *replies, size_t replies_length);
+
+/* The figures of a run, in the order of the printed line. */
+struct huwekapo_tally {
+    uint64_t allocations; /* accepted allocations */
+    uint64_t blocks;      /* blocks allocated in all */
+    uint64_t largest;     /* largest accepted size */
+    uint64_t collections; /* full collections, forced or recorded */
+    uint64_t peak;        /* most blocks in use after any record */
+};
+
+/* Where a run of records stands. A new run is all 0. */
+struct huwekapo_run {
+    size_t number;  /* 0 while it goes on, else the number that stopped it: 3, 4, 5, 6, 7, 9 or 10 */
+    size_t records; /* the records run, which is also the number of the one that stopped it, counting from 0 */
+    struct huwekapo_tally tally;
+};
+
+/* The reply of a run of records, and where the run stands then. */
+struct huwekapo_ran {
+    struct huwekapo_reply reply;
+    struct huwekapo_run run;
+};
+
+/* Runs the records of a history, or of a piece of it, from where `run` stands. For a whole history that is a new run, on a
+ * formatted heap; in pieces, what the piece before it answered and left. A piece has any length, but only the last may end
+ * inside a record, since that stops the run. A record is eight bytes, c and the size with the low byte first:
+ *
+ *   byte 0        the operation
+ *   byte 1        root d
+ *   byte 2        root s
+ *   byte 3        0
+ *   bytes 4, 5    cell number c
+ *   bytes 6, 7    size
+ *
+ *   1             allocates the size into d; where no chunk is free the run collects and tries once more
+ *   2             copies root s to d
+ *   3             writes root s into cell c of the object in d
+ *   4             reads cell c of the object in s into d
+ *   5             clears d
+ *   6             collects
+ *
+ * Fields that an operation does not name are 0. The first record that is refused stops the run, with the first that applies
+ * of 9, 3 (operation 1), 4, 5 (operation 1, after the second try), 6 (an empty root where an object is needed), 7; and so does
+ * 10, behind the last whole record. This is no refusal of the call: the number is in `run`, and the reply's is 0.
+ *
+ * Accepted, the value is 0, and `run` is where the run stands after the bytes. The buffers are those that the calls of the
+ * records run leave; the record that stopped the run has changed nothing, save by a collection that it forced. `waiting` is all
+ * 0. A run handed in stopped is handed back as it is, and only `waiting` is written.
+ *
+ * Refusals, which change no buffer and answer a run of all 0: 1, 2, then 19 for a `run` of more than 4,294,967,295 records, of
+ * more allocations than records, of more blocks than 8,192 for each record, or of more collections than records (one more
+ * where its number is not 0). */
+struct huwekapo_ran huwekapo_run_records(size_t blocks, size_t width,
+                                         uint8_t *a, size_t a_length,
+                                         uint8_t *b, size_t b_length,
+                                         uint8_t *counts, size_t counts_length,
+                                         uint16_t *cells, size_t cells_length,
+                                         uint16_t *roots, size_t roots_length,
+                                         uint16_t *waiting, size_t waiting_length,
+                                         struct huwekapo_run run,
+                                         const uint8_t *bytes, size_t bytes_length);
 
 #ifdef __cplusplus
 }

@@ -7,6 +7,8 @@ ghost use Rattle.replay.specs.Replay.{Replayed};
 use blocks::Ref;
 use rules::Reply;
 
+mod runs;
+
 #[no_mangle]
 pub extern "C" fn huwekapo_format(
     blocks: usize,

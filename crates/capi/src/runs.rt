@@ -1,0 +1,37 @@
+// Runs of records for C, under the name of include/huwekapo.h. The run so far goes in and out by value.
+ghost use Rattle.rules.specs.Lent.{before, after};
+ghost use Rattle.history.specs.Promised.{Promised};
+use blocks::Ref;
+use figures::tally::Run;
+use history::Ran;
+
+#[no_mangle]
+pub extern "C" fn huwekapo_run_records(
+    blocks: usize,
+    width: usize,
+    a: &mut [u8],
+    b: &mut [u8],
+    counts: &mut [u8],
+    cells: &mut [Ref],
+    roots: &mut [Ref],
+    waiting: &mut [Ref],
+    run: Run,
+    bytes: &[u8],
+) -> Ran
+    ensures { λ r.
+        ⌜ Promised blocks width (now (bytes .entry)) (before a b counts cells roots waiting) run r
+        (after a b counts cells roots waiting) ⌝ }
+{
+    history::run_records(
+        blocks,
+        width,
+        a,
+        b,
+        counts,
+        cells,
+        roots,
+        waiting,
+        run,
+        bytes,
+    )
+}
