@@ -41,3 +41,7 @@ refusalLine number records = refusedText ++ item number recordText ++ item recor
 
 unfoldable pub line : Run → List ℕ
 line r = elim (eqb (r .number) 0) [ true ↦ figuresLine (r .tally) | false ↦ refusalLine (r .number) (r .records) ]
+
+-- no line is longer: five numbers of 20 digits, each with a byte behind it
+abbrev pub longestLine : ℕ
+longestLine = 105

@@ -4,7 +4,7 @@ ghost use mathlib.Core.List.{_++_};
 ghost use Prim.Native.Nat.{_+_, _≤_};
 ghost use lib.ListN.{length, drop};
 ghost use Rattle.text.specs.Text.{Put};
-ghost use Rattle.figures.specs.Line.{item, figuresLine, refusalLine, line};
+ghost use Rattle.figures.specs.Line.{item, figuresLine, refusalLine, line, longestLine};
 use crate::tally::Run;
 use crate::tally::Tally;
 
@@ -23,8 +23,8 @@ fn put_item(out: &mut [u8], at: usize, n: u64, behind: &[u8]) -> usize
 
 // Writes the five figures.
 fn put_figures(out: &mut [u8], t: Tally) -> usize
-    requires { ⌜ 105 ≤ length (now out) ⌝ }
-    ensures { λ r. ⌜ Put (now (out .entry)) 0 (figuresLine t) (now (out .exit)) r ⌝ }
+    requires { ⌜ longestLine ≤ length (now out) ⌝ }
+    ensures { λ r. ⌜ Put (now (out .entry)) 0 (figuresLine t) (now (out .exit)) r × (r ≤ longestLine) ⌝ }
 {
     let to = put_item(out, 0, t.allocations, b" ");
     let to = put_item(out, to, t.blocks, b" ");
@@ -35,8 +35,8 @@ fn put_figures(out: &mut [u8], t: Tally) -> usize
 
 // Writes the line of a run that was stopped.
 fn put_refusal(out: &mut [u8], number: usize, records: usize) -> usize
-    requires { ⌜ 105 ≤ length (now out) ⌝ }
-    ensures { λ r. ⌜ Put (now (out .entry)) 0 (refusalLine number records) (now (out .exit)) r ⌝ }
+    requires { ⌜ longestLine ≤ length (now out) ⌝ }
+    ensures { λ r. ⌜ Put (now (out .entry)) 0 (refusalLine number records) (now (out .exit)) r × (r ≤ longestLine) ⌝ }
 {
     let to = text::put_text(out, 0, b"refused ");
     let to = put_item(out, to, number as u64, b" at record ");
@@ -45,7 +45,7 @@ fn put_refusal(out: &mut [u8], number: usize, records: usize) -> usize
 
 // Writes the line of a run to the start of `out`. Its length.
 pub fn write_line(run: Run, out: &mut [u8; MAX_LINE]) -> usize
-    ensures { λ r. ⌜ (r ≡ length (line run)) × (now (out .exit) ≡ line run ++ drop r (now (out .entry))) ⌝ }
+    ensures { λ r. ⌜ (r ≡ length (line run)) × (now (out .exit) ≡ line run ++ drop r (now (out .entry))) × (r ≤ longestLine) ⌝ }
 {
     let number = run.number;
     if number == 0 {

@@ -46,8 +46,11 @@ returns c =
     let two = c .before .before .before .before .before .before .before .before .before .before .before .before .before .before .before .before .before .put-item2 .ensures in
     let three = c .before .before .before .before .before .before .before .before .before .before .before .before .put-item3 .ensures in
     let four = c .before .before .before .before .before .before .before .put-item4 .ensures in
-    put-next (put-next (put-next (put-next (one .0) (omega arith) (two .0)) (omega arith) (three .0)) (omega arith) (four .0)) (omega arith)
-    (c .before .before .put-item5 .ensures .0)
+    let five = c .before .before .put-item5 .ensures in (
+      put-next (put-next (put-next (put-next (one .0) (omega arith) (two .0)) (omega arith) (three .0)) (omega arith) (four .0))
+          (omega arith) (five .0),
+      omega (arith, one .1, two .1, three .1, four .1, five .1),
+    )
 
 pub put-figures-spec : {M : Type 1} → statement M
 put-figures-spec =

@@ -32,7 +32,10 @@ unfolding refusalLine
 returns c =
     let one = c .before .before .before .before .before .before .before .before .before .before .before .before .put-text .ensures in
     let two = c .before .before .before .before .before .before .before .put-item .ensures in
-    put-next (put-next one (omega (arith, one .end-is)) (two .0)) (omega (arith, one .end-is)) (c .before .before .put-item2 .ensures .0)
+    let three = c .before .before .put-item2 .ensures in (
+      put-next (put-next one (omega (arith, one .end-is)) (two .0)) (omega (arith, one .end-is)) (three .0),
+      omega (arith, one .end-is, two .1, three .1),
+    )
 
 pub put-refusal-spec : {M : Type 1} → statement M
 put-refusal-spec =
