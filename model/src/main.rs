@@ -1,10 +1,11 @@
 //! The commands. See README.md.
 
-use model::expect::expect;
-use model::families::{generate, FAMILIES};
 use model::history::vectors::{histories, History};
 use model::history::{driver, report, text};
-use model::{show, trace, vectors};
+use model::lists::families::{generate, FAMILIES};
+use model::lists::vectors;
+use model::texts::expect::expect;
+use model::texts::{show, trace};
 use std::io::{Read, Write};
 use std::process::exit;
 
@@ -105,7 +106,8 @@ fn check_program(program: &[&str]) {
 
 #[cfg(feature = "library")]
 fn fuzz(seconds: u64, seed: u64) {
-    let (met, difference) = model::fuzz::fuzz(seconds, seed, model::library::LIBRARY);
+    let (met, difference) =
+        model::product::fuzz::fuzz(seconds, seed, model::product::library::LIBRARY);
     print(met.lines().as_bytes());
     if let Some(report) = difference {
         print(report.as_bytes());
@@ -121,7 +123,7 @@ fn fuzz(seconds: u64, seed: u64) {
 
 #[cfg(feature = "library")]
 fn bench() {
-    print(model::bench::bench().as_bytes());
+    print(model::product::bench::bench().as_bytes());
 }
 
 #[cfg(not(feature = "library"))]

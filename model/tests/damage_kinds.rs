@@ -2,10 +2,11 @@
 
 mod common;
 use common::{fresh, say};
-use model::claims::unsound;
-use model::damage::{damage, kind_1, kind_2};
-use model::heap::*;
-use model::{apply, trace, Call, Memory};
+use model::rules::claims::unsound;
+use model::rules::damage::{damage, kind_1, kind_2};
+use model::rules::heap::*;
+use model::texts::trace;
+use model::{apply, Call, Memory};
 use std::sync::atomic::{AtomicUsize, Ordering};
 
 /// X of two blocks at 0 in roots 0 and 1, naming Y of one block at 2 in its cell 7. w = 2.

@@ -2,11 +2,13 @@
 
 mod common;
 use common::say;
-use model::expect::expect;
-use model::file::{bytes, LENGTH, LOAD, NEW};
-use model::paper::cases;
-use model::vectors::{paper_file, vectors};
-use model::{families, trace, Call};
+use model::lists::families;
+use model::lists::file::{bytes, LENGTH, LOAD, NEW};
+use model::lists::paper::cases;
+use model::lists::vectors::{paper_file, vectors};
+use model::texts::expect::expect;
+use model::texts::trace;
+use model::Call;
 
 const EMPTY_8_2_4: &str = "0\n0\n0 0\n0 0 0 0 0 0 0 0 0 0 0 0 0 0 0 0 0 0 0 0 0 0 0 0 0 0 0 0 0 0 0 0\n0 0 0 0\n0 0 0 0 0 0 0 0\n";
 

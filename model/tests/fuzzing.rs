@@ -2,10 +2,10 @@
 
 mod common;
 use common::say;
-use model::compare::Library;
-use model::fuzz::fuzz;
-use model::met::{Met, CALLS};
-use model::replay::replay;
+use model::product::compare::Library;
+use model::product::fuzz::fuzz;
+use model::product::met::{Met, CALLS};
+use model::rules::replay::replay;
 use model::{apply, Call, Memory, Reply};
 
 /// A run of no seconds: the pairs of maps and the lists that are always the same.

@@ -8,7 +8,7 @@ use model::history::record::short::{allocate, clear, copy, read, write, COLLECT}
 use model::history::run::{new_heap, run_as_report, MOST_RECORDS};
 use model::history::vectors::all_but_the_longest;
 use model::history::{report, Record, Run};
-use model::random::Random;
+use model::lists::random::Random;
 use model::{apply, Call};
 
 #[test]

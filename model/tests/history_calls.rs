@@ -3,12 +3,12 @@
 
 mod common;
 use common::{fresh, say};
-use model::claims::{broken_claim, objects};
-use model::heap::{is_allocated, Memory};
 use model::history::run::run;
 use model::history::{Operation, Record, Run};
-use model::list_claims::{before_letting_go, unduly_stuck, Step};
-use model::random::Random;
+use model::lists::random::Random;
+use model::rules::claims::{broken_claim, objects};
+use model::rules::heap::{is_allocated, Memory};
+use model::rules::list_claims::{before_letting_go, unduly_stuck, Step};
 use model::{apply, Call};
 
 /// A small heap, the calls made on it by runs one after another, and where the present run began.

@@ -3,12 +3,12 @@
 
 mod common;
 use common::say;
-use model::calls::{apply_undamaged, Call};
-use model::chunks::least_power_of_two;
-use model::heap::{free_count, size, Memory};
 use model::history::run::{new_heap, BLOCKS, WIDTH};
 use model::history::vectors::{all_but_the_longest, histories, History};
 use model::history::{report, Record};
+use model::rules::calls::{apply_undamaged, Call};
+use model::rules::chunks::least_power_of_two;
+use model::rules::heap::{free_count, size, Memory};
 use std::collections::BTreeSet;
 
 #[test]
@@ -210,7 +210,7 @@ impl Reading {
         let in_use = BLOCKS - free_count(BLOCKS, &self.memory);
         let in_use = match self.wrong {
             Wrong::MostByTheChunk => {
-                let firsts = model::heap::first_blocks(BLOCKS, &self.memory).into_iter();
+                let firsts = model::rules::heap::first_blocks(BLOCKS, &self.memory).into_iter();
                 let sizes = firsts.map(|first| size(BLOCKS, &self.memory, first));
                 sizes.map(least_power_of_two).sum()
             }

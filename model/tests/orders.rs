@@ -4,13 +4,13 @@
 
 mod common;
 use common::{each_call, say};
-use model::calls::apply_in_order;
-use model::counting::{count_up, erase, longest_waiting, Order};
-use model::families::FAMILIES;
-use model::file::Bench;
-use model::generate::Desk;
-use model::heap::*;
-use model::random::Random;
+use model::lists::families::FAMILIES;
+use model::lists::file::Bench;
+use model::lists::generate::Desk;
+use model::lists::random::Random;
+use model::rules::calls::apply_in_order;
+use model::rules::counting::{count_up, erase, longest_waiting, Order};
+use model::rules::heap::*;
 use model::{apply, Call, Memory, Reply};
 
 /// Carries out a call in an order.

@@ -2,8 +2,8 @@
 
 mod common;
 use common::{call_and_claims, say};
-use model::paper::{cases, Step, BLOCKS, ROOTS};
-use model::replay::replay;
+use model::lists::paper::{cases, Step, BLOCKS, ROOTS};
+use model::rules::replay::replay;
 use model::{apply, Call, Memory};
 
 #[test]

@@ -3,10 +3,10 @@
 
 mod common;
 use common::say;
-use model::expect::expect;
-use model::paper::{cases, Step};
-use model::show::paper;
-use model::vectors::paper_file;
+use model::lists::paper::{cases, Step};
+use model::lists::vectors::paper_file;
+use model::texts::expect::expect;
+use model::texts::show::paper;
 
 /// What the program must print for the paper cases.
 fn printed() -> Vec<String> {

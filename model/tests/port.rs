@@ -1,10 +1,10 @@
 //! The port that the benchmark uses does what the model does, so that the two sides of the benchmark do the
 //! same work.
 
-use model::generate::Desk;
-use model::port::{self, lend, Searched};
-use model::random::Random;
-use model::replay::replay;
+use model::lists::generate::Desk;
+use model::lists::random::Random;
+use model::product::port::{self, lend, Searched};
+use model::rules::replay::replay;
 use model::{Call, Memory};
 
 #[test]

@@ -2,7 +2,7 @@
 
 mod common;
 use common::{call_and_claims, fresh};
-use model::calls::short::{allocate, cell, root};
+use model::rules::calls::short::{allocate, cell, root};
 
 /// The waiting list is left all 0; a refused store keeps it.
 #[test]

@@ -2,17 +2,17 @@
 
 mod common;
 use common::{call_and_claims, fresh, say};
-use model::families::{generate, FAMILIES};
-use model::file::{Bench, Entry};
-use model::generate::Desk;
-use model::random::Random;
+use model::lists::families::{generate, FAMILIES};
+use model::lists::file::{Bench, Entry};
+use model::lists::generate::Desk;
+use model::lists::random::Random;
 use model::{apply, Call};
 
 #[test]
 fn claims_in_every_family() {
     for (family, _) in FAMILIES
         .into_iter()
-        .chain([("mixed", model::families::random as _)])
+        .chain([("mixed", model::lists::families::random as _)])
     {
         let (mut calls, mut numbers, mut kinds, mut freed) = (0, [0; 9], [0; 6], 0);
         let lists = if family == "random" { 200 } else { 60 };

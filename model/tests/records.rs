@@ -5,7 +5,7 @@ use common::say;
 use model::history::record::short::{allocate, clear, copy, read, write, COLLECT};
 use model::history::text::{assemble, words};
 use model::history::{report, Operation, Record};
-use model::random::Random;
+use model::lists::random::Random;
 use std::collections::BTreeSet;
 use std::fs;
 use std::path::PathBuf;

@@ -2,7 +2,7 @@
 
 mod common;
 use common::{fresh, say};
-use model::replay::replay;
+use model::rules::replay::replay;
 use model::{Call, Memory};
 
 /// The words of calls, one after another.

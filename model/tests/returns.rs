@@ -3,12 +3,12 @@
 
 mod common;
 use common::{call_and_claims, each_call, fresh, say};
-use model::calls::is_chosen;
-use model::calls::short::{allocate, cell, root};
-use model::families::FAMILIES;
-use model::file::Bench;
-use model::generate::Desk;
-use model::random::Random;
+use model::lists::families::FAMILIES;
+use model::lists::file::Bench;
+use model::lists::generate::Desk;
+use model::lists::random::Random;
+use model::rules::calls::is_chosen;
+use model::rules::calls::short::{allocate, cell, root};
 use model::{apply, Call, Memory, Reply};
 
 /// Makes a return: the model's, or a wrong one.

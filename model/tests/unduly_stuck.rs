@@ -3,13 +3,13 @@
 
 mod common;
 use common::{fresh, say};
-use model::calls::short::{allocate, cell, root};
-use model::claims::objects;
-use model::counting::{count_up, longest_waiting, release};
-use model::families::{generate, FAMILIES};
-use model::file::Entry;
-use model::heap::*;
-use model::list_claims::{before_letting_go, unduly_stuck, Step};
+use model::lists::families::{generate, FAMILIES};
+use model::lists::file::Entry;
+use model::rules::calls::short::{allocate, cell, root};
+use model::rules::claims::objects;
+use model::rules::counting::{count_up, longest_waiting, release};
+use model::rules::heap::*;
+use model::rules::list_claims::{before_letting_go, unduly_stuck, Step};
 use model::{apply, Call, Memory, Reply};
 
 /// What a heap does otherwise than the rules, if anything.
@@ -212,7 +212,7 @@ fn the_claim_is_false_counted_after_the_call() {
     let last = steps.last().unwrap();
     assert_eq!((last.reply.number, last.reply.value), (0, 1));
     assert_eq!(count(8, 2, &last.after, 1), 3);
-    assert_eq!(model::counting::references(&last.after, 1), 2);
+    assert_eq!(model::rules::counting::references(&last.after, 1), 2);
     assert_eq!(unduly_stuck(8, 2, &steps, before_letting_go), None);
     let after = |step: &Step| step.after.clone();
     assert!(unduly_stuck(8, 2, &steps, after).is_some());

@@ -2,7 +2,7 @@
 
 mod common;
 use common::{call_and_claims, fresh, say};
-use model::calls::short::{allocate, cell, root};
+use model::rules::calls::short::{allocate, cell, root};
 use model::{apply, Call, Memory, Reply};
 
 /// 0, good names and bad ones, and the same with higher bits set.

@@ -3,12 +3,12 @@
 
 mod common;
 use common::{call_and_claims, fresh, say};
-use model::calls::short::{allocate, cell, root};
-use model::claims::{broken_claim, unsound};
-use model::collection::reached;
-use model::counting::{count_up, erase, references};
-use model::damage::damage;
-use model::heap::*;
+use model::rules::calls::short::{allocate, cell, root};
+use model::rules::claims::{broken_claim, unsound};
+use model::rules::collection::reached;
+use model::rules::counting::{count_up, erase, references};
+use model::rules::damage::damage;
+use model::rules::heap::*;
 use model::{Call, Memory, Reply};
 
 const N: usize = 8;

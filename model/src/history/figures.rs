@@ -1,7 +1,7 @@
 //! The five figures of a run.
 
-use crate::calls::Call;
-use crate::rules::Reply;
+use crate::rules::answers::Reply;
+use crate::rules::calls::Call;
 
 /// "The report is one line of five figures: accepted allocations, blocks allocated in all, largest accepted size, full
 /// collections forced or recorded, most blocks in use after any record"

@@ -1,8 +1,8 @@
 //! What an operation comes to on a heap: a call of document 01, or a number that stops the run.
 
 use super::record::Operation;
-use crate::calls::Call;
-use crate::heap::{named, size, Memory};
+use crate::rules::calls::Call;
+use crate::rules::heap::{named, size, Memory};
 
 /// "A root out of range gives 4, in operation 1 only after 3. Then an empty root gives 6 where an object is needed, which
 /// is d in 3 and s in 4; elsewhere an empty root is copied or written as 0. Then comes 7, in 4 as in 3."

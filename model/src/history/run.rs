@@ -3,10 +3,10 @@
 use super::figures::Figures;
 use super::record::Record;
 use super::request::request;
-use crate::calls::{apply, apply_undamaged, Call};
-use crate::expect::numbers;
-use crate::heap::{free_count, Memory};
-use crate::rules::Reply;
+use crate::rules::answers::Reply;
+use crate::rules::calls::{apply, apply_undamaged, Call};
+use crate::rules::heap::{free_count, Memory};
+use crate::texts::expect::numbers;
 
 /// The program's heap: "a new heap of 8,192 blocks, w = 3, 64 roots."
 pub const BLOCKS: usize = 8192;

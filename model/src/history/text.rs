@@ -74,6 +74,6 @@ fn line(bytes: &[u8]) -> String {
         Some(Operation::Read { c, s, d }) => format!("read cell {c} of {s} into {d}"),
         Some(Operation::Clear { d }) => format!("clear {d}"),
         Some(Operation::Collect) => "collect".to_string(),
-        None => format!("bytes {}", crate::expect::numbers(bytes)),
+        None => format!("bytes {}", crate::texts::expect::numbers(bytes)),
     }
 }

@@ -1,9 +1,10 @@
 //! What several test files use.
 #![allow(dead_code)]
 
-use model::families::generate;
-use model::file::{Bench, Entry};
-use model::{apply, claims, Call, Memory, Reply};
+use model::lists::families::generate;
+use model::lists::file::{Bench, Entry};
+use model::rules::claims;
+use model::{apply, Call, Memory, Reply};
 use std::io::Write;
 
 /// Says what a test ran. Written past the test harness, which would keep it back.

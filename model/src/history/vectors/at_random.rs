@@ -1,11 +1,11 @@
 //! Histories at random, each record chosen to fit the heap; some end with a record that doesn't.
 
 use super::Shelf;
-use crate::heap::{size, Memory};
 use crate::history::record::short::{allocate, clear, copy, read, write, COLLECT};
 use crate::history::record::{Operation, Record};
 use crate::history::run::{new_heap, run_as_report, Run, BLOCKS, ROOTS};
-use crate::random::Random;
+use crate::lists::random::Random;
+use crate::rules::heap::{size, Memory};
 
 /// What the records of a history are like.
 #[derive(Clone, Copy)]

@@ -1,9 +1,9 @@
 //! The product: the calls of its C library on the model's memories.
 
-use crate::calls::Call;
-use crate::compare::Library;
-use crate::heap::Memory;
-use crate::rules::Reply;
+use crate::product::compare::Library;
+use crate::rules::answers::Reply;
+use crate::rules::calls::Call;
+use crate::rules::heap::Memory;
 use huwekapo::lent::{self, Shared, Unique};
 
 /// What the fuzz compares the model with.

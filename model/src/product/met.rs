@@ -1,7 +1,7 @@
 //! What a run of the fuzz met, counted, and what it could have met and didn't.
 
-use crate::calls::Call;
-use crate::rules::Reply;
+use crate::rules::answers::Reply;
+use crate::rules::calls::Call;
 
 /// More blocks than a heap can have: "16,384 refused 1".
 pub const TOO_MANY_BLOCKS: usize = 16_384;

@@ -1,10 +1,10 @@
 //! Claims about a whole list of calls, checked by brute force on every memory on the way. Like claims.rs they ask
 //! what was done, not what should be done.
 
-use crate::calls::Call;
-use crate::claims::{all_references, objects, written_in, Object};
-use crate::heap::{capacity, count, Memory};
-use crate::rules::Reply;
+use crate::rules::answers::Reply;
+use crate::rules::calls::Call;
+use crate::rules::claims::{all_references, objects, written_in, Object};
+use crate::rules::heap::{capacity, count, Memory};
 use std::collections::BTreeMap;
 
 /// A call of a list, as it was carried out.

@@ -1,8 +1,8 @@
 //! The lists of the large file that belong to requests of document 02.
 
-use crate::calls::short::{allocate, cell, chosen, look, root};
-use crate::calls::Call;
-use crate::generate::Desk;
+use crate::lists::generate::Desk;
+use crate::rules::calls::short::{allocate, cell, chosen, look, root};
+use crate::rules::calls::Call;
 
 /// Values stored over themselves (U2), each case on a new heap.
 pub fn present_values(desk: &mut Desk) {

@@ -1,14 +1,14 @@
 //! The model and the product's library side by side: the first difference, as text.
 
-use crate::calls::apply;
-use crate::expect::{buffer_lines, numbers};
-use crate::file::{Apply, Bench, Entry};
-use crate::heap::Memory;
-use crate::met::Met;
-use crate::replay::replay;
-use crate::rules::Reply;
-use crate::show::{buffer_name, entry_in_words};
-use crate::spoiling::{Lent, Replay};
+use crate::lists::file::{Apply, Bench, Entry};
+use crate::lists::spoiling::{Lent, Replay};
+use crate::product::met::Met;
+use crate::rules::answers::Reply;
+use crate::rules::calls::apply;
+use crate::rules::heap::Memory;
+use crate::rules::replay::replay;
+use crate::texts::expect::{buffer_lines, numbers};
+use crate::texts::show::{buffer_name, entry_in_words};
 use std::fmt::Write;
 
 /// The library, or in a test another heap in its place.

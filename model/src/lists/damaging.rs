@@ -1,9 +1,9 @@
 //! Damage to a sound heap, as a list of numbers to write into its buffers: one way of each kind 1 to 5, and
 //! changes that may or may not be damage.
 
-use crate::file::Bench;
-use crate::heap::{capacity, count, first_blocks, is_allocated, size, Memory};
-use crate::random::Random;
+use crate::lists::file::Bench;
+use crate::lists::random::Random;
+use crate::rules::heap::{capacity, count, first_blocks, is_allocated, size, Memory};
 
 /// A load: buffer (0 a, 1 b, 2 counts, 3 cells, 4 roots, 5 waiting), index, value.
 pub type Load = (u64, usize, u64);

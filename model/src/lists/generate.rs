@@ -1,11 +1,11 @@
 //! The desk at which lists are written: it carries out each entry on the model as it writes it, so that the
 //! next one can be chosen to fit the heap. Most calls are chosen to be accepted; some are chosen not to be.
 
-use crate::calls::{apply, Call};
-use crate::file::{bytes, Bench, Entry, LENGTH, LOAD, NEW};
-use crate::heap::{first_blocks, misshapen, size};
-use crate::random::Random;
-use crate::rules::Reply;
+use crate::lists::file::{bytes, Bench, Entry, LENGTH, LOAD, NEW};
+use crate::lists::random::Random;
+use crate::rules::answers::Reply;
+use crate::rules::calls::{apply, Call};
+use crate::rules::heap::{first_blocks, misshapen, size};
 
 pub struct Desk {
     pub random: Random,

@@ -1,6 +1,6 @@
 //! Counting up, counting down, and what a count-down to 0 frees.
 
-use crate::heap::{capacity, cell_places, count, named, set_bit, set_count, size, Memory};
+use crate::rules::heap::{capacity, cell_places, count, named, set_bit, set_count, size, Memory};
 
 /// "the number of all cells and roots naming the object"
 pub fn references(memory: &Memory, first: usize) -> usize {

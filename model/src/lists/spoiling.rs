@@ -1,10 +1,10 @@
 //! Replays to be made of a list of calls, and ways to spoil them.
 
-use crate::families::{wrong_length, BAD_SHAPES};
-use crate::file::{Bench, Entry};
-use crate::heap::Memory;
-use crate::random::Random;
-use crate::rules::Reply;
+use crate::lists::families::{wrong_length, BAD_SHAPES};
+use crate::lists::file::{Bench, Entry};
+use crate::lists::random::Random;
+use crate::rules::answers::Reply;
+use crate::rules::heap::Memory;
 
 /// What a replay is lent: a heap, the words of the list, and a list for the replies.
 #[derive(Clone, Debug)]

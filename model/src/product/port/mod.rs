@@ -7,7 +7,7 @@ mod references;
 mod replay;
 mod two_passes;
 
-use crate::heap::Memory;
+use crate::rules::heap::Memory;
 
 pub use blocks::{lowest_chunk, Searched};
 pub use damage::check;

@@ -1,11 +1,11 @@
 //! The families of lists. Each one writes at least so many entries at a desk, beginning with a format.
 
-use crate::calls::Call;
-use crate::chunks::least_power_of_two;
-use crate::damaging::{some_damage, AIMS};
-use crate::generate::Desk;
-use crate::heap::free_count;
-use crate::random::Random;
+use crate::lists::damaging::{some_damage, AIMS};
+use crate::lists::generate::Desk;
+use crate::lists::random::Random;
+use crate::rules::calls::Call;
+use crate::rules::chunks::least_power_of_two;
+use crate::rules::heap::free_count;
 
 /// Writes at least so many entries of one family at a desk.
 pub type Writer = fn(&mut Desk, usize);

@@ -1,8 +1,8 @@
 //! The file form of a list of calls, and the bench that it runs on. README.md states the form.
 
-use crate::calls::{apply, Call};
-use crate::heap::Memory;
-use crate::rules::Reply;
+use crate::rules::answers::Reply;
+use crate::rules::calls::{apply, Call};
+use crate::rules::heap::Memory;
 
 /// The largest numbers that a header (or an entry "new") may ask for: one more than is good where that
 /// makes refusal 1 reachable.

@@ -5,9 +5,9 @@
 //!
 //! "The waiting list may hold anything on entry."
 
-use crate::chunks::least_power_of_two;
-use crate::counting::references;
-use crate::heap::{
+use crate::rules::chunks::least_power_of_two;
+use crate::rules::counting::references;
+use crate::rules::heap::{
     bit, capacity, count, first_blocks, is_allocated, is_first_block, named, size, Memory,
 };
 

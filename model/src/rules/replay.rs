@@ -1,10 +1,10 @@
 //! "A list of calls in one slice, run from a formatted heap." Document 01 has no such call: the rules quoted here
 //! are those of docs/DECISIONS.md.
 
-use crate::calls::{apply, Call};
-use crate::file::Entry;
-use crate::heap::{misshapen, Memory};
-use crate::rules::{accepted, format, refused, Reply};
+use crate::lists::file::Entry;
+use crate::rules::answers::{accepted, format, refused, Reply};
+use crate::rules::calls::{apply, Call};
+use crate::rules::heap::{misshapen, Memory};
 
 /// Formats, then carries out the calls, four words each, and writes their replies, three words each. The value
 /// is the number of calls.

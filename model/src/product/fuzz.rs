@@ -2,15 +2,15 @@
 //! then the calls of the list as one replay, as they are and spoilt. First come the check of every pair of maps of
 //! eight blocks and lists that are always the same, which meet all that can be met; then fresh ones.
 
-use crate::compare::{call_by_call, replayed, Library};
-use crate::damaging::{some_damage, AIMS};
-use crate::families::{random as random_calls, some_shape, FAMILIES};
-use crate::file::Entry;
-use crate::generate::Desk;
-use crate::met::{Met, PAIRS_OF_MAPS, TOO_MANY_BLOCKS};
-use crate::random::Random;
-use crate::shrink::shrink;
-use crate::spoiling::some_replay;
+use crate::lists::damaging::{some_damage, AIMS};
+use crate::lists::families::{random as random_calls, some_shape, FAMILIES};
+use crate::lists::file::Entry;
+use crate::lists::generate::Desk;
+use crate::lists::random::Random;
+use crate::lists::spoiling::some_replay;
+use crate::product::compare::{call_by_call, replayed, Library};
+use crate::product::met::{Met, PAIRS_OF_MAPS, TOO_MANY_BLOCKS};
+use crate::product::shrink::shrink;
 use crate::Call;
 use std::time::{Duration, Instant};
 

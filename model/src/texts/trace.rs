@@ -1,12 +1,12 @@
 //! Lists, damaged memories and single calls as plain text. README.md states the three forms.
 
-use crate::calls::Call;
-use crate::damage::damage;
-use crate::damaging::{some_damage, AIMS};
-use crate::expect::buffer_lines;
-use crate::generate::Desk;
-use crate::heap::Memory;
-use crate::random::Random;
+use crate::lists::damaging::{some_damage, AIMS};
+use crate::lists::generate::Desk;
+use crate::lists::random::Random;
+use crate::rules::calls::Call;
+use crate::rules::damage::damage;
+use crate::rules::heap::Memory;
+use crate::texts::expect::buffer_lines;
 use std::fmt::Write;
 
 /// A random list, one call a line, with its reply and the six buffers after it.

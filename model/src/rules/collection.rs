@@ -1,7 +1,7 @@
 //! The full collection: what is reached, what is freed, what the counts become.
 
-use crate::counting::erase;
-use crate::heap::{capacity, cell_places, first_blocks, named, set_count, Memory};
+use crate::rules::counting::erase;
+use crate::rules::heap::{capacity, cell_places, first_blocks, named, set_count, Memory};
 use std::collections::BTreeSet;
 
 /// "An object is reached if a root names it or a cell of a reached object does."

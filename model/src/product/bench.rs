@@ -1,9 +1,9 @@
 //! Times of the product's library against the port in plain safe Rust: one run, same input, buffers warm.
 
-use crate::heap::{first_blocks, free_count, size, Memory};
-use crate::library::{shared, unique};
-use crate::port::{self, lend};
-use crate::random::Random;
+use crate::lists::random::Random;
+use crate::product::library::{shared, unique};
+use crate::product::port::{self, lend};
+use crate::rules::heap::{first_blocks, free_count, size, Memory};
 use huwekapo::lent;
 use std::fmt::Write;
 use std::hint::black_box;

@@ -1,14 +1,14 @@
 //! The claims of demand 3, checked by brute force on the memory before and after one call.
 //!
-//! They are written from "The words of demand 3" and apart from rules.rs: nothing here asks what a call
+//! They are written from "The words of demand 3" and apart from answers.rs: nothing here asks what a call
 //! should do, only whether what it did keeps the claims. From the model's own files only the reading of
 //! bits, counts, first blocks and sizes (heap.rs) is used.
 
-use crate::calls::{is_chosen, Call};
-use crate::heap::{
+use crate::rules::answers::Reply;
+use crate::rules::calls::{is_chosen, Call};
+use crate::rules::heap::{
     bit, capacity, count, first_blocks, free_count, is_allocated, is_first_block, size, Memory,
 };
-use crate::rules::Reply;
 use std::collections::BTreeSet;
 
 /// An object: its first block and its size.

@@ -1,6 +1,6 @@
 //! Chunks: where an allocation may go.
 
-use crate::heap::{is_allocated, Memory};
+use crate::rules::heap::{is_allocated, Memory};
 
 /// "Let s be the least power of two that is n or more."
 pub fn least_power_of_two(n: usize) -> usize {

@@ -1,8 +1,8 @@
 //! The calls as data, and their four words in a file.
 
-use crate::counting::{longest_waiting, Order};
-use crate::heap::Memory;
-use crate::rules::{self, Reply};
+use crate::rules::answers::{self, Reply};
+use crate::rules::counting::{longest_waiting, Order};
+use crate::rules::heap::Memory;
 
 /// One call with its own arguments.
 #[derive(Clone, Copy, Debug, PartialEq, Eq, Hash)]
@@ -99,7 +99,7 @@ pub fn apply_in_order(
     call: Call,
     order: Order,
 ) -> Reply {
-    match rules::refused_first(blocks, width, memory, call) {
+    match answers::refused_first(blocks, width, memory, call) {
         Some(reply) => reply,
         None => carry_out(blocks, width, memory, call, order),
     }
@@ -113,14 +113,14 @@ pub fn apply_undamaged(blocks: usize, width: usize, memory: &mut Memory, call: C
 
 fn carry_out(blocks: usize, width: usize, memory: &mut Memory, call: Call, order: Order) -> Reply {
     match call {
-        Call::Format => rules::format(memory),
-        Call::Check => rules::check(),
-        Call::Allocate { n, r } => rules::allocate(blocks, width, memory, n, r, order),
-        Call::StoreRoot { r, v } => rules::store_root(blocks, width, memory, r, v, order),
-        Call::StoreCell { a, j, v } => rules::store_cell(blocks, width, memory, a, j, v, order),
-        Call::Collect => rules::collect(blocks, width, memory),
-        Call::Look { a } => rules::look(blocks, width, memory, a),
-        Call::FreeBlocks => rules::free_blocks(blocks, memory),
-        Call::ReturnRoots { chosen } => rules::return_roots(blocks, width, memory, chosen, order),
+        Call::Format => answers::format(memory),
+        Call::Check => answers::check(),
+        Call::Allocate { n, r } => answers::allocate(blocks, width, memory, n, r, order),
+        Call::StoreRoot { r, v } => answers::store_root(blocks, width, memory, r, v, order),
+        Call::StoreCell { a, j, v } => answers::store_cell(blocks, width, memory, a, j, v, order),
+        Call::Collect => answers::collect(blocks, width, memory),
+        Call::Look { a } => answers::look(blocks, width, memory, a),
+        Call::FreeBlocks => answers::free_blocks(blocks, memory),
+        Call::ReturnRoots { chosen } => answers::return_roots(blocks, width, memory, chosen, order),
     }
 }

@@ -1,7 +1,7 @@
 //! What the program `calls` must print for a file. README.md states the rules; they are followed in order.
 
-use crate::file::{Bench, Entry};
-use crate::heap::Memory;
+use crate::lists::file::{Bench, Entry};
+use crate::rules::heap::Memory;
 use std::fmt::{Display, Write};
 
 /// Numbers met on the way.

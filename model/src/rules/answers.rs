@@ -6,12 +6,14 @@
 //! The numbers 1 and 2 stand first in every list: `refused_first`. The calls are for heaps that these don't apply to.
 //! Those that let go of a reference take the order in which objects that wait are freed (counting.rs).
 
-use crate::calls::{is_chosen, Call};
-use crate::chunks::{least_power_of_two, lowest_free_chunk};
-use crate::collection::sweep_and_recount;
-use crate::counting::{count_up, release, Order};
-use crate::damage::damage;
-use crate::heap::{count, free_count, is_first_block, misshapen, set_bit, set_count, size, Memory};
+use crate::rules::calls::{is_chosen, Call};
+use crate::rules::chunks::{least_power_of_two, lowest_free_chunk};
+use crate::rules::collection::sweep_and_recount;
+use crate::rules::counting::{count_up, release, Order};
+use crate::rules::damage::damage;
+use crate::rules::heap::{
+    count, free_count, is_first_block, misshapen, set_bit, set_count, size, Memory,
+};
 
 /// "A reply is a number and a value (two values for the look). Number 0 is acceptance."
 #[derive(Clone, Copy, Debug, PartialEq, Eq, Hash)]

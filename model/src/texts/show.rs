@@ -1,8 +1,8 @@
 //! Entries and replies in words, and the paper cases beside what the program `calls` printed for them.
 
-use crate::calls::{is_chosen, Call};
-use crate::file::Entry;
-use crate::paper::{cases, Case, Part, Step, BLOCKS, ROOTS};
+use crate::lists::file::Entry;
+use crate::lists::paper::{cases, Case, Part, Step, BLOCKS, ROOTS};
+use crate::rules::calls::{is_chosen, Call};
 use std::fmt::Write;
 use std::str::Lines;
 

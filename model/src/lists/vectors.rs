@@ -1,14 +1,14 @@
 //! The one large file of lists that the program `calls` is tested with: the paper cases, all families on
 //! many small heaps, a few large heaps, and every complaint that a file can meet.
 
-use crate::calls::short::{allocate, cell, root};
-use crate::calls::Call;
-use crate::families::{some_shape, FAMILIES};
-use crate::file::{LENGTH, LOAD, NEW};
-use crate::generate::Desk;
-use crate::paper::{self, Step};
-use crate::random::Random;
-use crate::request_vectors::{present_values, returns};
+use crate::lists::families::{some_shape, FAMILIES};
+use crate::lists::file::{LENGTH, LOAD, NEW};
+use crate::lists::generate::Desk;
+use crate::lists::paper::{self, Step};
+use crate::lists::random::Random;
+use crate::lists::request_vectors::{present_values, returns};
+use crate::rules::calls::short::{allocate, cell, root};
+use crate::rules::calls::Call;
 
 /// The paper cases as a list, each part of a case on a new heap.
 pub fn paper_cases(desk: &mut Desk) {
@@ -283,7 +283,7 @@ fn large_heaps(desk: &mut Desk) {
     desk.call(Call::FreeBlocks);
 
     desk.new_heap([512, 3, 3]);
-    crate::families::deep_chains(desk, 700);
+    crate::lists::families::deep_chains(desk, 700);
 
     for (width, roots) in [(4, 64), (1, 5)] {
         desk.new_heap([8192, width, roots]);
@@ -311,7 +311,7 @@ fn large_heaps(desk: &mut Desk) {
             desk.call(Call::Allocate { n, r: 1 });
             desk.call(Call::StoreRoot { r: 2, v: 4097 });
         }
-        crate::families::random(desk, 120);
-        crate::families::damage(desk, 60);
+        crate::lists::families::random(desk, 120);
+        crate::lists::families::damage(desk, 60);
     }
 }

@@ -2,7 +2,7 @@
 //!
 //! "N is 8, w is 2 and there are 4 roots unless said; bytes in decimal."
 
-use crate::calls::Call;
+use crate::rules::calls::Call;
 
 /// One line of a case.
 #[derive(Clone, Copy, Debug, PartialEq, Eq)]

@@ -1,0 +1,13 @@
+//! Lists of calls, written: by hand (paper, request_vectors) and at random. `file` has the form in which they are kept,
+//! `generate` the desk at which they are written, `families` what is written there; `damaging` and `spoiling` make
+//! something wrong; `vectors` is the one large file.
+
+pub mod damaging;
+pub mod families;
+pub mod file;
+pub mod generate;
+pub mod paper;
+pub mod random;
+pub mod request_vectors;
+pub mod spoiling;
+pub mod vectors;

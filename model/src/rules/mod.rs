@@ -1,0 +1,15 @@
+//! The rules of document 01, and what must hold of them.
+//!
+//! Read in this order: heap, chunks, counting, collection, damage, answers; then calls and replay. Then the claims, which
+//! are checked on what was done: claims (demand 3) and list_claims (U2).
+
+pub mod answers;
+pub mod calls;
+pub mod chunks;
+pub mod claims;
+pub mod collection;
+pub mod counting;
+pub mod damage;
+pub mod heap;
+pub mod list_claims;
+pub mod replay;

@@ -1,0 +1,6 @@
+//! Lists and their outcomes as texts: what the program `calls` must print (expect), the same in words (show), and the
+//! forms for other tools (trace).
+
+pub mod expect;
+pub mod show;
+pub mod trace;
