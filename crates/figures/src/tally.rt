@@ -1,7 +1,7 @@
 // Where a run stands: its figures go by value, and each record hands them back.
 ghost use mathlib.Core.Path.{_≡_};
 ghost use Prim.Native.Nat.{_+_, _<_, _^_};
-ghost use Rattle.figures.specs.Figures.{inRange, allocated as Figures·allocated, collected as Figures·collected, used as Figures·used};
+ghost use Rattle.figures.specs.Figures.{newRun, inRange, allocated as Figures·allocated, collected as Figures·collected, used as Figures·used};
 use blocks::MAX_BLOCKS;
 
 // The most records of a history.
@@ -57,6 +57,24 @@ impl Tally {
             self.peak = n;
         }
         self
+    }
+}
+
+// A run before its first record.
+pub fn new_run() -> Run
+    ensures { λ r. ⌜ r ≡ newRun ⌝ }
+{
+    let none = Tally {
+        allocations: 0,
+        blocks: 0,
+        largest: 0,
+        collections: 0,
+        peak: 0,
+    };
+    Run {
+        number: 0,
+        records: 0,
+        tally: none,
     }
 }
 

@@ -1,0 +1,46 @@
+// The report of a recorded history: reads it from standard input, runs it on a new heap, and prints its line to standard output.
+mod heap;
+mod input;
+mod output;
+mod run;
+
+use crate::heap::BLOCKS;
+use crate::heap::CELLS;
+use crate::heap::COUNT_BYTES;
+use crate::heap::MAP_BYTES;
+use crate::heap::ROOTS;
+use crate::heap::WIDTH;
+use crate::run::Outcome;
+use blocks::Ref;
+
+fn main() {
+    let mut a = [0u8; MAP_BYTES];
+    let mut b = [0u8; MAP_BYTES];
+    let mut counts = [0u8; COUNT_BYTES];
+    let mut cells = [0 as Ref; CELLS];
+    let mut roots = [0 as Ref; ROOTS];
+    let mut waiting = [0 as Ref; BLOCKS];
+    mutate::format(
+        BLOCKS,
+        WIDTH,
+        &mut a,
+        &mut b,
+        &mut counts,
+        &mut cells,
+        &mut roots,
+        &mut waiting,
+    );
+    let outcome = run::run_pieces(
+        &mut a,
+        &mut b,
+        &mut counts,
+        &mut cells,
+        &mut roots,
+        &mut waiting,
+    );
+    match outcome {
+        Outcome::Ran(run) => output::print_line(run),
+        Outcome::ReadFailed => output::complain(b"report: a read of standard input failed\n"),
+        Outcome::HeapRefused => output::complain(b"report: the heap was refused\n"),
+    }
+}

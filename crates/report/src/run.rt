@@ -1,0 +1,92 @@
+// The run over the whole input, piece by piece.
+ghost use Rattle.report.specs.Turns.{Further};
+use crate::heap::BLOCKS;
+use crate::heap::CELLS;
+use crate::heap::COUNT_BYTES;
+use crate::heap::MAP_BYTES;
+use crate::heap::ROOTS;
+use crate::heap::WIDTH;
+use crate::input;
+use crate::input::PIECE;
+use blocks::Ref;
+use figures::tally;
+use figures::tally::Run;
+
+// What came of the input: the run at its end; a read that failed; a heap that was refused, which a formatted one never is.
+pub enum Outcome {
+    Ran(Run),
+    ReadFailed,
+    HeapRefused,
+}
+
+// What came of a piece: a run that goes on, or an outcome.
+pub enum Turn {
+    GoesOn(Run),
+    Ends(Outcome),
+}
+
+// Reads a piece, and runs its records. A piece that is not full is the last.
+fn run_piece(
+    run: Run,
+    a: &mut [u8; MAP_BYTES],
+    b: &mut [u8; MAP_BYTES],
+    counts: &mut [u8; COUNT_BYTES],
+    cells: &mut [Ref; CELLS],
+    roots: &mut [Ref; ROOTS],
+    waiting: &mut [Ref; BLOCKS],
+) -> Turn
+    ensures { λ turn. ⌜ Further run turn ⌝ }
+{
+    let mut buffer = [0u8; PIECE];
+    let piece = input::read_piece(&mut buffer);
+    if piece.failed {
+        return Turn::Ends(Outcome::ReadFailed);
+    }
+    let n = piece.length;
+    let ran = history::run_records(
+        BLOCKS,
+        WIDTH,
+        a,
+        b,
+        counts,
+        cells,
+        roots,
+        waiting,
+        run,
+        &buffer[..n],
+    );
+    if ran.reply.number != 0 {
+        return Turn::Ends(Outcome::HeapRefused);
+    }
+    let next = ran.run;
+    if next.number != 0 {
+        return Turn::Ends(Outcome::Ran(next));
+    }
+    if n < PIECE {
+        return Turn::Ends(Outcome::Ran(next));
+    }
+    Turn::GoesOn(next)
+}
+
+// Runs the pieces until the input ends or the run is stopped, which the limit of its records makes sure of.
+pub fn run_pieces(
+    a: &mut [u8; MAP_BYTES],
+    b: &mut [u8; MAP_BYTES],
+    counts: &mut [u8; COUNT_BYTES],
+    cells: &mut [Ref; CELLS],
+    roots: &mut [Ref; ROOTS],
+    waiting: &mut [Ref; BLOCKS],
+) -> Outcome {
+    let mut run = tally::new_run();
+    loop {
+        let turn = run_piece(run, a, b, counts, cells, roots, waiting);
+        match turn {
+            Turn::GoesOn(next) => {
+                run = next;
+            }
+            Turn::Ends(outcome) => {
+                return outcome;
+            }
+        }
+    }
+}
