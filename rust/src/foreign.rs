@@ -1,7 +1,7 @@
 //! The functions of libcapi.a, as include/huwekapo.h declares them. A slice is a pointer and a length.
 
-use crate::lent::Reply;
-use crate::Ref;
+use crate::lent::{Ran, Reply};
+use crate::{Ref, SoFar};
 
 extern "C" {
     pub fn huwekapo_format(
@@ -186,4 +186,24 @@ extern "C" {
         replies: *mut u64,
         replies_length: usize,
     ) -> Reply;
+
+    pub fn huwekapo_run_records(
+        blocks: usize,
+        width: usize,
+        a: *mut u8,
+        a_length: usize,
+        b: *mut u8,
+        b_length: usize,
+        counts: *mut u8,
+        counts_length: usize,
+        cells: *mut Ref,
+        cells_length: usize,
+        roots: *mut Ref,
+        roots_length: usize,
+        waiting: *mut Ref,
+        waiting_length: usize,
+        run: SoFar,
+        bytes: *const u8,
+        bytes_length: usize,
+    ) -> Ran;
 }

@@ -1,22 +1,54 @@
 //! A heap that owns its buffers.
 
 use crate::lent::{self, Reply, Shared, Unique};
-use crate::{Ref, Refusal};
+use crate::{Ref, Refusal, SoFar};
 
-/// The six buffers of a heap, as [`lent`](crate::lent) has them.
-#[derive(Clone, Debug, Default, PartialEq, Eq)]
+/// The six buffers of a heap, as [`lent`](crate::lent) has them. Two are equal where all but the waiting lists are: that
+/// list is working space.
+#[derive(Clone, Debug, Default)]
 pub struct Buffers {
+    /// The A-map.
     pub a: Vec<u8>,
+    /// The B-map.
     pub b: Vec<u8>,
+    /// The count maps.
     pub counts: Vec<u8>,
+    /// The cells.
     pub cells: Vec<Ref>,
+    /// The roots.
     pub roots: Vec<Ref>,
+    /// The waiting list.
     pub waiting: Vec<Ref>,
 }
 
-/// A heap of some number of blocks, with counts of some width. Format, allocate, both stores, the return and collect
-/// leave `waiting` all 0 when accepted; check, look and free blocks write nothing.
+impl PartialEq for Buffers {
+    fn eq(&self, other: &Buffers) -> bool {
+        let Buffers {
+            a,
+            b,
+            counts,
+            cells,
+            roots,
+            waiting: _,
+        } = self;
+        (a, b, counts, cells, roots)
+            == (
+                &other.a,
+                &other.b,
+                &other.counts,
+                &other.cells,
+                &other.roots,
+            )
+    }
+}
+
+impl Eq for Buffers {}
+
+/// A heap of some number of blocks, with counts of some width. Format, allocate, both stores, the return, collect, replay
+/// and runs of records leave `waiting` all 0 when accepted; check, look and free blocks write nothing. Two heaps are equal
+/// where blocks, width and all buffers but the waiting lists are.
 #[derive(Clone, Debug, PartialEq, Eq)]
+#[must_use = "a heap does nothing by itself"]
 pub struct Heap {
     blocks: usize,
     width: usize,
@@ -24,9 +56,11 @@ pub struct Heap {
 }
 
 /// What a look at an object finds.
-#[derive(Clone, Copy, Debug, PartialEq, Eq)]
+#[derive(Clone, Copy, Debug, PartialEq, Eq, Hash)]
 pub struct Look {
+    /// The object's size in blocks.
     pub size: usize,
+    /// Its count.
     pub count: usize,
 }
 
@@ -58,12 +92,32 @@ impl Heap {
         }
     }
 
+    /// The number of blocks.
+    #[must_use]
+    pub fn blocks(&self) -> usize {
+        self.blocks
+    }
+
+    /// The count width, in bits.
+    #[must_use]
+    pub fn width(&self) -> usize {
+        self.width
+    }
+
+    /// The roots, each 0 or 1 + the first block of an object.
+    #[must_use]
+    pub fn roots(&self) -> &[Ref] {
+        &self.buffers.roots
+    }
+
     /// The buffers as they are.
+    #[must_use]
     pub fn buffers(&self) -> &Buffers {
         &self.buffers
     }
 
     /// The buffers, given back.
+    #[must_use]
     pub fn into_buffers(self) -> Buffers {
         self.buffers
     }
@@ -120,6 +174,19 @@ impl Heap {
     /// Counts the free blocks. The value is their number. Refusals: 1, 2.
     pub fn free_blocks(&self) -> Result<usize, Refusal> {
         value(lent::free_blocks(self.shared()))
+    }
+
+    /// Formats the heap and runs a list of calls, in the form that [`lent::replay`] states; their replies go to `replies`,
+    /// three words each. The value is the number of calls. Refusals, which write nothing: 1, 10, 9, 18.
+    pub fn replay(&mut self, calls: &[u64], replies: &mut [u64]) -> Result<usize, Refusal> {
+        value(lent::replay(self.unique(), calls, replies))
+    }
+
+    /// Runs the records of a history, or of a piece of it, from where `run` stands, and answers where it stands then:
+    /// [`lent::run_records`] states how. [`Run`](crate::Run) does this for a whole history. Refusals: 1, 2, 19.
+    pub fn run_records(&mut self, run: SoFar, bytes: &[u8]) -> Result<SoFar, Refusal> {
+        let ran = lent::run_records(self.unique(), run, bytes);
+        value(ran.reply).map(|_| ran.run)
     }
 
     fn shared(&self) -> Shared<'_> {

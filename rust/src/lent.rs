@@ -14,46 +14,78 @@
 //!
 //! Every call may be made with any arguments and any content of the buffers: what is wrong is refused by a number,
 //! and a refusal changes no buffer. Arguments are whole words, and nothing of them is cut off: a v of 65,537 is
-//! refused 8. Format, allocate, both stores, the return, collect and replay leave `waiting`
-//! all 0 when accepted; check, look and free blocks write nothing.
+//! refused 8. Format, allocate, both stores, the return, collect, replay and runs of records leave
+//! `waiting` all 0 when accepted; check, look and free blocks write nothing.
 
-use crate::{foreign, Ref};
+use crate::{foreign, Ref, SoFar};
 
 /// A number and its values. `number` is 0 where the call was accepted, else the first that applies of the refusals
 /// that the call names, in the order in which it names them. A refusal carries value 0, or the damage kind for
 /// number 2. `second` is 0 but for an accepted look.
 ///
-/// [`Refusal`](crate::Refusal) has the words of numbers 1 to 8, [`replay`] those of its own.
+/// [`Refusal`](crate::Refusal) has the words of the numbers.
 #[repr(C)]
-#[derive(Clone, Copy, Debug, PartialEq, Eq)]
+#[derive(Clone, Copy, Debug, PartialEq, Eq, Hash)]
+#[must_use = "the call may have been refused"]
 pub struct Reply {
+    /// 0, or the number of the refusal.
     pub number: usize,
+    /// What the call names as its value; of a refusal 0, or the damage kind.
     pub value: usize,
+    /// The count that a look finds.
     pub second: usize,
 }
 
+/// The reply of a run of records, and where the run stands then.
+#[repr(C)]
+#[derive(Clone, Copy, Debug, PartialEq, Eq, Hash)]
+#[must_use = "the run may have been refused, or have stopped"]
+pub struct Ran {
+    /// The reply.
+    pub reply: Reply,
+    /// Where the run stands; all 0 in a refusal.
+    pub run: SoFar,
+}
+
 /// The six buffers, to be read.
-#[derive(Clone, Copy)]
+#[derive(Clone, Copy, Debug)]
 pub struct Shared<'a> {
+    /// The number of blocks.
     pub blocks: usize,
+    /// The count width, in bits.
     pub width: usize,
+    /// The A-map.
     pub a: &'a [u8],
+    /// The B-map.
     pub b: &'a [u8],
+    /// The count maps.
     pub counts: &'a [u8],
+    /// The cells.
     pub cells: &'a [Ref],
+    /// The roots.
     pub roots: &'a [Ref],
+    /// The waiting list.
     pub waiting: &'a [Ref],
 }
 
 /// The six buffers, to be written.
+#[derive(Debug)]
 pub struct Unique<'a> {
+    /// The number of blocks.
     pub blocks: usize,
+    /// The count width, in bits.
     pub width: usize,
+    /// The A-map.
     pub a: &'a mut [u8],
+    /// The B-map.
     pub b: &'a mut [u8],
+    /// The count maps.
     pub counts: &'a mut [u8],
+    /// The cells.
     pub cells: &'a mut [Ref],
+    /// The roots.
     pub roots: &'a mut [Ref],
+    /// The waiting list.
     pub waiting: &'a mut [Ref],
 }
 
@@ -166,5 +198,49 @@ pub fn replay(heap: Unique, calls: &[u64], replies: &mut [u64]) -> Reply {
         calls.len(),
         replies_at,
         replies.len()
+    )
+}
+
+/// Runs the records of a history, or of a piece of it, from where `run` stands. For a whole history that is a new run, on a
+/// formatted heap; in pieces, what the piece before it answered and left. A piece has any length, but only the last may end
+/// inside a record, since that stops the run. A record is eight bytes, c and the size with the low byte first:
+///
+/// ```text
+/// byte 0        the operation
+/// byte 1        root d
+/// byte 2        root s
+/// byte 3        0
+/// bytes 4, 5    cell number c
+/// bytes 6, 7    size
+///
+/// 1             allocates the size into d; where no chunk is free the run collects and tries once more
+/// 2             copies root s to d
+/// 3             writes root s into cell c of the object in d
+/// 4             reads cell c of the object in s into d
+/// 5             clears d
+/// 6             collects
+/// ```
+///
+/// Fields that an operation does not name are 0. The first record that is refused stops the run, with the first that applies
+/// of 9, 3 (operation 1), 4, 5 (operation 1, after the second try), 6 (an empty root where an object is needed), 7; and so
+/// does 10, behind the last whole record. This is no refusal of the call: the number is in the run, and the reply's is 0.
+///
+/// Accepted, the value is 0, and the run answered is where it stands after the bytes. The record that stopped a run has
+/// changed nothing, save by a collection that it forced. A run handed in stopped is handed back as it is, and only `waiting`
+/// is written.
+///
+/// Refusals, which change no buffer and answer a run of all 0: 1, 2, 19.
+///
+/// - 19: the run has more than 4,294,967,295 records, more allocations than records, more blocks than 8,192 for each
+///   record, or more collections than records (one more where its number is not 0)
+pub fn run_records(heap: Unique, run: SoFar, bytes: &[u8]) -> Ran {
+    lend!(
+        huwekapo_run_records,
+        heap,
+        as_mut_ptr,
+        as_mut_ptr,
+        run,
+        bytes.as_ptr(),
+        bytes.len()
     )
 }

@@ -1,8 +1,8 @@
 //! A heap of 16-byte blocks in bitmaps, with limited reference counts. The work is done by a proved library;
 //! this crate lends it buffers and gives its refusals names.
 //!
-//! [`Heap`] owns its buffers. [`lent`] has the same calls on buffers of the caller's, and [`lent::replay`], which
-//! runs a list of them.
+//! [`Heap`] owns its buffers. [`Run`] runs a recorded history on one, from anything that can be read. [`lent`] has the
+//! same calls on buffers of the caller's.
 //!
 //! ```
 //! use huwekapo::{Heap, Look, Refusal};
@@ -28,13 +28,19 @@
 //! # Ok::<(), Refusal>(())
 //! ```
 
+#![warn(missing_docs)]
+
 mod foreign;
 mod heap;
+mod history;
 pub mod lent;
 mod refusal;
+mod run;
 
 pub use heap::{Buffers, Heap, Look};
+pub use history::{SoFar, Stopped, Tally};
 pub use refusal::{Damage, Refusal};
+pub use run::{Run, RunError};
 
 /// A cell or root: 0, or 1 + the first block of an object.
 pub type Ref = u16;

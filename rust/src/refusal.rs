@@ -4,26 +4,50 @@ use crate::lent::Reply;
 use std::fmt;
 
 /// Why a call was refused: the first that applies of the refusals that the call names, in the order in which it
-/// names them. A refusal changes no buffer.
+/// names them. A refusal changes no buffer. Its text is its number and the words that the rules give it.
 #[derive(Clone, Copy, Debug, PartialEq, Eq, Hash)]
+#[non_exhaustive]
 pub enum Refusal {
+    /// 1: blocks, width, the number of roots or any buffer's length is not as it must be.
     Misshapen,
+    /// 2: the heap is damaged.
     Damaged(Damage),
+    /// 3: n is 0 or above blocks.
     BadSize,
+    /// 4: r is not below the number of roots, or a bit of `chosen` is at or past it.
     BadRoot,
+    /// 5: no chunk is free.
     NoChunk,
+    /// 6: `at` is not a first block.
     NoObject,
+    /// 7: j is not below 4 times the object's size.
     BadCell,
+    /// 8: v is neither 0 nor 1 + a first block.
     BadReference,
+    /// 9: an entry of a replay's list is no call.
+    NoCall,
+    /// 10: a replay's list ends inside a call.
+    CutOff,
+    /// 18: a replay's `replies` is too short.
+    ShortReplies,
+    /// 19: a run of records is out of range.
+    BadRun,
 }
 
 /// What a damaged heap has, the first kind that applies. Number 6 is not used.
 #[derive(Clone, Copy, Debug, PartialEq, Eq, Hash)]
+#[non_exhaustive]
 pub enum Damage {
+    /// 1: a 0 in the B-map on a free block.
     EndOnFree,
+    /// 2: an allocated block with B bit 1 whose next block is free or past the end.
     OpenEnd,
+    /// 3: an object whose first block is not a multiple of the least power of two that is its size or more.
     Unaligned,
+    /// 4: a cell of a free block that isn't 0, or a cell or root that is neither 0 nor 1 + a first block.
     DanglingReference,
+    /// 5: a count other than 0 where no object starts; an object with count 0; a count below capacity that differs from
+    /// the number of all cells and roots naming the object.
     WrongCount,
 }
 
@@ -40,11 +64,16 @@ impl Refusal {
             6 => Some(Refusal::NoObject),
             7 => Some(Refusal::BadCell),
             8 => Some(Refusal::BadReference),
+            9 => Some(Refusal::NoCall),
+            10 => Some(Refusal::CutOff),
+            18 => Some(Refusal::ShortReplies),
+            19 => Some(Refusal::BadRun),
             number => unreachable!("the library has no refusal {number}"),
         }
     }
 
     /// The refusal's number.
+    #[must_use]
     pub fn number(self) -> usize {
         match self {
             Refusal::Misshapen => 1,
@@ -55,6 +84,10 @@ impl Refusal {
             Refusal::NoObject => 6,
             Refusal::BadCell => 7,
             Refusal::BadReference => 8,
+            Refusal::NoCall => 9,
+            Refusal::CutOff => 10,
+            Refusal::ShortReplies => 18,
+            Refusal::BadRun => 19,
         }
     }
 }
@@ -72,6 +105,7 @@ impl Damage {
     }
 
     /// The number of the kind.
+    #[must_use]
     pub fn kind(self) -> usize {
         match self {
             Damage::EndOnFree => 1,
@@ -101,6 +135,13 @@ impl fmt::Display for Refusal {
             Refusal::NoObject => "`at` is not a first block (or not below blocks)",
             Refusal::BadCell => "j is not below 4 times the object's size",
             Refusal::BadReference => "v is neither 0 nor 1 + a first block",
+            Refusal::NoCall => "an entry is no call: its code is above 8",
+            Refusal::CutOff => "the list ends inside a call",
+            Refusal::ShortReplies => "`replies` is too short for the replies of all calls",
+            Refusal::BadRun => {
+                "the run has more records than there can be, or more allocations, blocks or collections than its \
+                 records can have made"
+            }
         };
         write!(f, "{}: {words}", self.number())
     }

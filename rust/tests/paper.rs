@@ -1,6 +1,6 @@
 //! The paper cases through the Rust interface: 8 blocks, width 2 and 4 roots unless said.
 
-use huwekapo::{Damage, Heap, Look, Refusal};
+use huwekapo::{Buffers, Damage, Heap, Look, Refusal};
 
 fn fresh(width: usize) -> Heap {
     Heap::new(8, width, 4).expect("a good shape")
@@ -130,6 +130,7 @@ fn values_are_whole_words() {
         assert_eq!(heap.store_cell(1, 0, v), Err(Refusal::NoObject));
         assert_eq!(heap.store_cell(0, 8, v), Err(Refusal::BadCell));
     }
+    assert_eq!(heap.buffers().waiting, [99; 8]);
     assert_eq!(heap.into_buffers(), buffers);
 }
 
@@ -167,6 +168,43 @@ fn shapes() {
     }
 }
 
+/// "Where two heaps or two outcomes are compared, the waiting list is left out." Every other list is looked at.
+#[test]
+fn equality_leaves_out_the_waiting_list() {
+    let heap = fresh(2);
+    let with = |change: fn(&mut Buffers)| {
+        let mut buffers = heap.clone().into_buffers();
+        change(&mut buffers);
+        Heap::from_buffers(8, 2, buffers)
+    };
+    let rubbish = with(|buffers| buffers.waiting.fill(99));
+    assert_ne!(rubbish.buffers().waiting, heap.buffers().waiting);
+    assert_eq!(rubbish, heap);
+    assert_eq!(rubbish.buffers(), heap.buffers());
+    let others: [fn(&mut Buffers); 5] = [
+        |buffers| buffers.a[0] = 1,
+        |buffers| buffers.b[0] = 1,
+        |buffers| buffers.counts[0] = 1,
+        |buffers| buffers.cells[0] = 1,
+        |buffers| buffers.roots[0] = 1,
+    ];
+    for other in others.map(with) {
+        assert_ne!(other, heap);
+        assert_ne!(other.buffers(), heap.buffers());
+    }
+    assert_ne!(Heap::from_buffers(16, 2, heap.clone().into_buffers()), heap);
+    assert_ne!(Heap::from_buffers(8, 1, heap.clone().into_buffers()), heap);
+}
+
+#[test]
+fn getters() {
+    let mut heap = fresh(2);
+    assert_eq!((heap.blocks(), heap.width()), (8, 2));
+    assert_eq!(heap.allocate(2, 1), Ok(0));
+    assert_eq!(heap.allocate(1, 3), Ok(2));
+    assert_eq!(heap.roots(), [0, 1, 0, 3]);
+}
+
 #[test]
 fn words() {
     assert_eq!(
@@ -176,5 +214,9 @@ fn words() {
     assert_eq!(
         Refusal::BadRoot.to_string(),
         "4: r is not below the number of roots, or a bit of `chosen` is at or past it"
+    );
+    assert_eq!(
+        Refusal::CutOff.to_string(),
+        "10: the list ends inside a call"
     );
 }

@@ -1,7 +1,7 @@
 //! The replay of a list of calls: P1, and each refusal, with what is behind the replies kept.
 
 use huwekapo::lent::{replay, Reply, Unique};
-use huwekapo::{Buffers, Heap};
+use huwekapo::{Buffers, Heap, Look, Refusal};
 
 /// P1: allocate 2, 1 and 3, and look at 4. Words that a call does not name hold anything.
 const P1: [u64; 16] = [2, 2, 0, 9, 2, 1, 1, 9, 2, 3, 2, 9, 6, 4, 9, 9];
@@ -47,6 +47,7 @@ fn refusal(blocks: usize, calls: &[u64], room: usize) -> usize {
     assert_ne!(refused.number, 0);
     assert_eq!(refused, reply(refused.number, 0));
     assert_eq!(buffers, used());
+    assert_eq!(buffers.waiting, used().waiting);
     assert_eq!(replies, vec![7; room]);
     refused.number
 }
@@ -64,7 +65,27 @@ fn p1() {
         heap.allocate(n, r).expect("a free chunk");
     }
     assert_eq!(&buffers, heap.buffers());
+    assert_eq!(buffers.waiting, [0; 8]);
     assert_eq!((buffers.a[0], buffers.b[0]), (119, 185));
+}
+
+/// The same on a heap that owns its buffers, with the refusals by name.
+#[test]
+fn on_a_heap() {
+    let mut heap = Heap::from_buffers(8, 2, used());
+    let mut replies = [7; 14];
+    for (calls, room, refusal) in [
+        (&P1[..15], 12, Refusal::CutOff),
+        (&[9, 0, 0, 0][..], 3, Refusal::NoCall),
+        (&P1[..], 11, Refusal::ShortReplies),
+    ] {
+        assert_eq!(heap.replay(calls, &mut replies[..room]), Err(refusal));
+    }
+    assert_eq!(heap.buffers(), &used());
+    assert_eq!(replies, [7; 14]);
+    assert_eq!(heap.replay(&P1, &mut replies), Ok(4));
+    assert_eq!(replies, [0, 0, 0, 0, 2, 0, 0, 4, 0, 0, 3, 1, 7, 7]);
+    assert_eq!(heap.look(4), Ok(Look { size: 3, count: 1 }));
 }
 
 /// P1, then roots 0 and 2 returned, with anything in the words that a return does not name, and root 1 by a set
@@ -97,7 +118,7 @@ fn a_wide_value_in_a_list() {
         assert_eq!(replies[15..], [8, 0, 0, 8, 0, 0, 0, 2, 1, 7]);
 
         let mut alone = used();
-        replay(lend(8, &mut alone), &P1, &mut replies);
+        assert_eq!(replay(lend(8, &mut alone), &P1, &mut replies), reply(0, 4));
         assert_eq!(buffers, alone);
     }
 }

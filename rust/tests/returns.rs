@@ -34,11 +34,11 @@ fn empty_roots() {
 #[test]
 fn a_bit_past_the_roots() {
     let mut heap = with_rubbish(shared_by(0));
-    let before = heap.clone();
     for chosen in [16, 17, 1 << 63, u64::MAX] {
         assert_eq!(heap.return_roots(chosen), Err(Refusal::BadRoot));
     }
-    assert_eq!(heap, before);
+    assert_eq!(heap, shared_by(0));
+    assert_eq!(heap.buffers().waiting, [99; 8]);
 }
 
 #[test]
@@ -46,6 +46,7 @@ fn the_waiting_list_is_left_0() {
     let mut heap = with_rubbish(shared_by(0));
     assert_eq!(heap.return_roots(0), Ok(0));
     assert_eq!(heap, shared_by(0));
+    assert_eq!(heap.buffers().waiting, [0; 8]);
 }
 
 #[test]
