@@ -1,0 +1,165 @@
+/* Runs of recorded histories through the C interface, on the heap of the program `report`: 8,192 blocks, width 3 and 64
+ * roots.
+ *
+ * "Allocating 2, 1, 3 into roots 0, 1, 2 prints `3 6 3 0 6`". */
+#include "huwekapo.h"
+
+#include <stdio.h>
+
+enum { BLOCKS = 8192, WIDTH = 3, ROOTS = 64 };
+
+static uint8_t a[BLOCKS / 8], b[BLOCKS / 8], counts[WIDTH * BLOCKS / 8];
+static uint16_t cells[4 * BLOCKS], roots[ROOTS], waiting[BLOCKS];
+
+/* The six lent buffers. */
+#define HEAP \
+    BLOCKS, WIDTH, a, sizeof a, b, sizeof b, counts, sizeof counts, cells, 4 * BLOCKS, roots, ROOTS, waiting, BLOCKS
+
+/* The most records of a history. */
+#define MOST_RECORDS ((size_t)4294967295u)
+
+/* Document 02's example, then an allocation of nothing, which is refused 3, and one that is never run. */
+static const uint8_t history[] = {
+    1, 0, 0, 0, 0, 0, 2, 0, 1, 1, 0, 0, 0, 0, 1, 0, 1, 2, 0, 0, 0, 0, 3, 0,
+    1, 3, 0, 0, 0, 0, 0, 0, 1, 4, 0, 0, 0, 0, 1, 0,
+};
+enum { EXAMPLE = 24 };
+
+/* Half of the heap in root 0, one block of the other half in root 1, a quarter in root 2; another half is refused 5, after a
+ * forced collection. */
+static const uint8_t no_room[] = {
+    1, 0, 0, 0, 0, 0, 0, 16, 1, 1, 0, 0, 0, 0, 1, 0, 1, 2, 0, 0, 0, 0, 0, 8, 1, 3, 0, 0, 0, 0, 0, 16,
+};
+
+/* A new run: all 0, as statics are. */
+static struct huwekapo_run new_run;
+
+static int failures = 0;
+
+/* Ends a line with whether what it shows is what is due. */
+static void verdict(int same) {
+    puts(same ? "ok" : "DIFFERENT");
+    failures += !same;
+}
+
+static struct huwekapo_run run_of(size_t number, size_t records, uint64_t allocations, uint64_t blocks, uint64_t largest,
+                                  uint64_t collections, uint64_t peak) {
+    struct huwekapo_run run = new_run;
+    run.number = number;
+    run.records = records;
+    run.tally.allocations = allocations;
+    run.tally.blocks = blocks;
+    run.tally.largest = largest;
+    run.tally.collections = collections;
+    run.tally.peak = peak;
+    return run;
+}
+
+static int same_run(struct huwekapo_run x, struct huwekapo_run y) {
+    return x.number == y.number && x.records == y.records && x.tally.allocations == y.tally.allocations &&
+           x.tally.blocks == y.tally.blocks && x.tally.largest == y.tally.largest &&
+           x.tally.collections == y.tally.collections && x.tally.peak == y.tally.peak;
+}
+
+/* A reply and a run, and those that are due. */
+static void expect(const char *what, struct huwekapo_ran ran, size_t number, struct huwekapo_run run) {
+    const struct huwekapo_tally *t = &ran.run.tally;
+    printf("%-38s %2zu | ", what, ran.reply.number);
+    if (ran.run.number == 0)
+        printf("%d %d %d %d %d", (int)t->allocations, (int)t->blocks, (int)t->largest, (int)t->collections, (int)t->peak);
+    else
+        printf("refused %zu at record %zu", ran.run.number, ran.run.records);
+    printf("  ");
+    verdict(ran.reply.number == number && ran.reply.value == 0 && ran.reply.second == 0 && same_run(ran.run, run));
+}
+
+/* How many blocks are free. */
+static void expect_free(size_t free_blocks) {
+    struct huwekapo_reply reply = huwekapo_free_blocks(HEAP);
+    printf("%-38s %2zu | %zu  ", "free blocks", reply.number, reply.value);
+    verdict(reply.number == HUWEKAPO_ACCEPTED && reply.value == free_blocks);
+}
+
+/* A history and what it comes to; in two pieces of whole records it comes to the same. */
+static void whole_and_pieces(const char *what, const uint8_t *bytes, size_t length, struct huwekapo_run end,
+                             size_t free_blocks) {
+    (void)huwekapo_format(HEAP);
+    expect(what, huwekapo_run_records(HEAP, new_run, bytes, length), HUWEKAPO_ACCEPTED, end);
+    expect_free(free_blocks);
+    for (size_t cut = 0; cut <= length; cut += 8) {
+        (void)huwekapo_format(HEAP);
+        struct huwekapo_ran first = huwekapo_run_records(HEAP, new_run, bytes, cut);
+        struct huwekapo_ran second = huwekapo_run_records(HEAP, first.run, bytes + cut, length - cut);
+        struct huwekapo_reply left = huwekapo_free_blocks(HEAP);
+        if (first.reply.number != 0 || second.reply.number != 0 || !same_run(second.run, end) || left.value != free_blocks) {
+            printf("%s, in pieces of %zu and %zu bytes  ", what, cut, length - cut);
+            verdict(0);
+        }
+    }
+}
+
+/* A run that was stopped is handed back as it is, and only the waiting list is written. */
+static void stopped(void) {
+    struct huwekapo_run end = run_of(3, 3, 3, 6, 3, 0, 6);
+    whole_and_pieces("stopped by a size of 0", history, sizeof history, end, BLOCKS - 6);
+    waiting[0] = 99;
+    expect("handed in again", huwekapo_run_records(HEAP, end, history, EXAMPLE), HUWEKAPO_ACCEPTED, end);
+    expect_free(BLOCKS - 6);
+    printf("waiting[0] = %d  ", waiting[0]);
+    verdict(waiting[0] == 0);
+}
+
+/* The last record that a run may have, and what stands behind it. */
+static void limit(void) {
+    struct huwekapo_run near = run_of(0, MOST_RECORDS - 1, 0, 0, 0, 0, 0);
+    struct huwekapo_run last = run_of(0, MOST_RECORDS, 1, 2, 2, 0, 2);
+    struct huwekapo_run past = run_of(10, MOST_RECORDS, 1, 2, 2, 0, 2);
+    (void)huwekapo_format(HEAP);
+    expect("record 4294967294", huwekapo_run_records(HEAP, near, history, 8), HUWEKAPO_ACCEPTED, last);
+    expect("nothing behind it", huwekapo_run_records(HEAP, last, history, 0), HUWEKAPO_ACCEPTED, last);
+    expect("a byte behind it", huwekapo_run_records(HEAP, last, history, 1), HUWEKAPO_ACCEPTED, past);
+    (void)huwekapo_format(HEAP);
+    expect("a record too many", huwekapo_run_records(HEAP, near, history, 16), HUWEKAPO_ACCEPTED, past);
+    expect_free(BLOCKS - 2);
+}
+
+/* Refused 19: the run answered is all 0, and nothing is written. */
+static void out_of_range(void) {
+    (void)huwekapo_format(HEAP);
+    waiting[0] = 99;
+    struct huwekapo_run wrong[] = {
+        run_of(0, MOST_RECORDS + 1, 0, 0, 0, 0, 0), run_of(0, 3, 4, 6, 3, 0, 6),  run_of(0, 1, 1, 8193, 8192, 0, 8192),
+        run_of(0, 3, 3, 6, 3, 4, 6),                run_of(5, 3, 3, 6, 3, 5, 6),
+    };
+    const char *const names[] = {
+        "out of range by its records", "by its allocations",          "by its blocks",
+        "by its collections",          "by its collections, stopped",
+    };
+    for (size_t i = 0; i < 5; i++)
+        expect(names[i], huwekapo_run_records(HEAP, wrong[i], history, EXAMPLE), HUWEKAPO_BAD_RUN, new_run);
+    expect_free(BLOCKS);
+    printf("waiting[0] = %d  ", waiting[0]);
+    verdict(waiting[0] == 99);
+    /* One collection more than records, where a record that stopped the run forced it. */
+    struct huwekapo_run forced = run_of(5, 3, 3, 6145, 4096, 4, 6145);
+    expect("in range", huwekapo_run_records(HEAP, forced, history, EXAMPLE), HUWEKAPO_ACCEPTED, forced);
+}
+
+int main(void) {
+    (void)huwekapo_format(HEAP);
+    expect("no records", huwekapo_run_records(HEAP, new_run, history, 0), HUWEKAPO_ACCEPTED, new_run);
+    whole_and_pieces("the example", history, EXAMPLE, run_of(0, 3, 3, 6, 3, 0, 6), BLOCKS - 6);
+    whole_and_pieces("cut off", history, EXAMPLE + 5, run_of(10, 3, 3, 6, 3, 0, 6), BLOCKS - 6);
+    whole_and_pieces("no room", no_room, sizeof no_room, run_of(5, 3, 3, 6145, 4096, 1, 6145), BLOCKS - 6145);
+    stopped();
+    limit();
+    out_of_range();
+    /* Damage comes before 19. */
+    b[0] = 254;
+    struct huwekapo_ran damaged = huwekapo_run_records(HEAP, run_of(0, 0, 1, 0, 0, 0, 0), history, EXAMPLE);
+    printf("%-38s %2zu | %zu  ", "damaged", damaged.reply.number, damaged.reply.value);
+    verdict(damaged.reply.number == HUWEKAPO_DAMAGED && damaged.reply.value == HUWEKAPO_END_ON_FREE &&
+            same_run(damaged.run, new_run));
+    puts(failures == 0 ? "runs: ok" : "runs: DIFFERENT");
+    return failures != 0;
+}
