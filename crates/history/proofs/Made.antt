@@ -11,11 +11,10 @@ use lib.ListN.{length}
 use borrow.Author.Tests.{eq-eqb, ne-eqb}
 use Rattle.rules.specs.Heap.{Memory}
 use Rattle.rules.specs.Calls.{Call, format, check, collect, freeBlocks, allocate, storeRoot, storeCell, look, returnRoots, answer, lastMemory}
-use Rattle.rules.specs.Promise.{Promise}
 use Rattle.rules.proofs.Shape.{shape-facts}
 use Rattle.rules.proofs.Tests.{test-cases}
 use Rattle.theory.specs.Words.{Made, leftBy}
-use Rattle.theory.specs.Demand.{Chain, Finds}
+use Rattle.theory.specs.Demand.{Chain}
 use Rattle.theory.specs.Statements.{Undamaged}
 use Rattle.theory.specs.Balance.{allocates, allocatedBy, blocksAllocated}
 use Rattle.theory.proofs.Theorems.{theory}
@@ -23,9 +22,10 @@ use Rattle.records.specs.Records.{Asked, makes, stops, asked, fieldsAt, recordL
 use Rattle.figures.specs.declared.tally.Tally.{Tally}
 use Rattle.figures.specs.declared.tally.Run.{Run}
 use Rattle.figures.specs.Figures.{countedIn, noted, notedAll, run}
-use Rattle.history.specs.Runs.{madeOn, Turn, turn, triesAgain, triedAgain, turnOf, afterTurn, Came, came, recordAt, ranFrom, wholeRecords, ended, ran}
+use Rattle.turns.specs.Turns.{madeOn, Turn, triesAgain, triedAgain, turnOf, afterTurn}
+use Rattle.turns.proofs.Turns.{turn-once, turn-again}
+use Rattle.history.specs.Runs.{Came, came, recordAt, ranFrom, wholeRecords, ended, ran}
 use Rattle.history.specs.Claims.{withPeak, RunsAreCalls}
-use Rattle.history.proofs.Turns.{turn-once, turn-again}
 
 -- ---- lists of calls, one behind the other
 

@@ -2,7 +2,7 @@
 use mathlib.Core.Path.{_≡_, refl, sym, ap, _∙_, subst}
 use mathlib.Core.Bool.{true, false}
 use mathlib.Core.List.{List}
-use Prim.Native.Nat.{ℕ, _+_, _-_, _*_, _/_, _≤_, min}
+use Prim.Native.Nat.{ℕ, _-_, _*_, _≤_}
 use native.Mathlib.Omega.{arith}
 use lib.ListN.{length, replicate}
 use borrow.Author.Tests.{eq-eqb, ne-eqb}
@@ -16,12 +16,12 @@ use Rattle.inner.specs.Usable.{Usable}
 use Rattle.inner.proofs.Idle.{settled-usable}
 use Rattle.inspect.proofs.Checked.{checked-shaped, checked-undamaged}
 use Rattle.figures.specs.declared.tally.Run.{Run}
-use Rattle.figures.specs.Figures.{mostRecords, newRun, inRange}
+use Rattle.figures.specs.Figures.{inRange}
 use Rattle.figures.proofs.Ranges.{in-range-within}
+use Rattle.turns.specs.Steps.{running, Going}
 use Rattle.history.specs.declared.Ran.{Ran}
-use Rattle.history.specs.declared.noting.Running.{Running}
 use Rattle.history.specs.Runs.{wholeRecords, ended, ranFrom, ran}
-use Rattle.history.specs.Steps.{running, Going, RunBy}
+use Rattle.history.specs.RunBy.{RunBy}
 use Rattle.history.specs.Promised.{runReply, refusal, Promised}
 use Rattle.history.proofs.Made.{runs-are-calls}
 

@@ -1,48 +1,21 @@
 -- The run over whole records, turn by turn: what is left of it after some records is the run over those that are left, from where it stands.
 use mathlib.Core.Path.{_≡_, refl, sym, ap, _∙_, subst}
-use mathlib.Core.Logic.{inl, inr}
 use mathlib.Core.List.{List}
 use Prim.Native.Nat.{ℕ, suc, _+_, _-_, _*_, _≤_, _<_}
-use native.Mathlib.Decide.{ℕ-discrete}
 use native.Mathlib.Omega.{arith}
 use lib.ListN.{length}
 use borrow.Author.Tests.{eq-eqb, ne-eqb}
 use Rattle.rules.specs.Heap.{Memory}
-use Rattle.rules.specs.Calls.{Call, collect, answer}
-use Rattle.rules.proofs.Tests.{test-cases}
 use Rattle.inner.specs.Usable.{Usable}
-use Rattle.inner.proofs.Kept.{usable-kept}
-use Rattle.records.specs.Records.{recordLength, fieldsAt, Asked, makes, stops, asked}
+use Rattle.records.specs.Records.{recordLength, fieldsAt, asked}
 use Rattle.records.specs.declared.Fields.{Fields}
 use Rattle.figures.specs.declared.tally.Run.{Run}
-use Rattle.history.specs.declared.noting.Running.{Running}
-use Rattle.history.specs.Runs.{Turn, triesAgain, triedAgain, turnOf, afterTurn, Came, recordAt, ranFrom}
-use Rattle.history.specs.Steps.{Going, Stepped, RunBy}
-use Rattle.history.proofs.Turns.{turn-once, turn-again}
-
--- ---- one turn
-
-call-usable : (N w : ℕ) (h : Memory) → Usable N w h → (c : Call) → Usable N w (answer N w h c .1)
-call-usable N w h usable c = usable-kept N w h usable c (answer N w h c .0) (answer N w h c .1) (record { reply-is = refl; after-is = refl })
-
-turn-usable : (N w : ℕ) (h : Memory) → Usable N w h → (x : Asked) → Usable N w (turnOf N w h x .after)
-unfolding turnOf triedAgain
-turn-usable N w h usable (stops number) = usable
-turn-usable N w h usable (makes c) =
-    let first = call-usable N w h usable c in
-    let second = call-usable N w _ (call-usable N w _ first collect) c in
-    elim (test-cases (triesAgain c (answer N w h c .0))) [
-      | inl e ↦ subst (λ (x : Turn). Usable N w (x .after)) (sym (turn-again N w h c e)) second
-      | inr e ↦ subst (λ (x : Turn). Usable N w (x .after)) (sym (turn-once N w h c e)) first
-    ]
-
--- the run after a turn has the turn's number
-pub after-number : (N : ℕ) (x : Turn) (r : Run) → afterTurn N x r .number ≡ x .number
-unfolding afterTurn
-after-number N x r = elim (ℕ-discrete (x .number) 0) [
-  | yes e ↦ rw (eq-eqb (x .number) 0 e, afterTurn) (sym e)
-  | no e ↦ rw (ne-eqb (x .number) 0 e, afterTurn)
-]
+use Rattle.turns.specs.declared.noting.Running.{Running}
+use Rattle.turns.specs.Turns.{Turn, turnOf, afterTurn}
+use Rattle.turns.specs.Steps.{Going, Stepped}
+use Rattle.turns.proofs.Kept.{turn-usable, after-number}
+use Rattle.history.specs.Runs.{recordAt, ranFrom}
+use Rattle.history.specs.RunBy.{RunBy}
 
 -- ---- the records left
 

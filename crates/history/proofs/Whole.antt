@@ -1,9 +1,9 @@
 -- A history in pieces of whole records comes to what the whole comes to.
-use mathlib.Core.Path.{_≡_, refl, sym, ap, _∙_, subst}
+use mathlib.Core.Path.{_≡_, refl, sym, ap, _∙_}
 use mathlib.Core.Logic.{_≢_}
-use mathlib.Core.Bool.{Bool, true, false, not, _&&_}
-use mathlib.Core.List.{List, [], _∷_, _++_, append-assoc, append-nil}
-use Prim.Native.Nat.{ℕ, zero, suc, _+_, _-_, _*_, _/_, _%_, _≤_, _<_, min}
+use mathlib.Core.Bool.{true, false}
+use mathlib.Core.List.{List, [], _++_, append-assoc, append-nil}
+use Prim.Native.Nat.{ℕ, zero, suc, _+_, _-_, _*_, _/_, _≤_, _<_, min}
 use native.Mathlib.Decide.{ℕ-discrete, decLt}
 use native.Mathlib.Omega.{arith}
 use lib.Dec.{eqb}
@@ -16,9 +16,10 @@ use Rattle.records.specs.declared.Fields.{Fields}
 use Rattle.records.specs.Records.{recordLength, fieldsAt, asked}
 use Rattle.figures.specs.declared.tally.Run.{Run}
 use Rattle.figures.specs.Figures.{run, mostRecords}
-use Rattle.history.specs.Runs.{Turn, turnOf, afterTurn, Came, came, recordAt, ranFrom, wholeRecords, ended, ran}
+use Rattle.turns.specs.Turns.{Turn, turnOf, afterTurn}
+use Rattle.turns.proofs.Kept.{after-number}
+use Rattle.history.specs.Runs.{Came, came, recordAt, ranFrom, wholeRecords, ended, ran}
 use Rattle.history.specs.Claims.{PiecesAreWhole}
-use Rattle.history.proofs.Progress.{after-number}
 
 -- ---- records of two pieces
 

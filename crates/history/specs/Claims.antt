@@ -1,7 +1,6 @@
 -- What is proved of every run of records, over the rules' own words.
 use Prim.Native.Nat.{ℕ, _+_, _%_}
 use mathlib.Core.Path.{_≡_}
-use mathlib.Core.Bool.{true}
 use mathlib.Core.List.{List, _++_}
 use lib.ListN.{length}
 use Rattle.rules.specs.Heap.{Memory}
@@ -12,7 +11,7 @@ use Rattle.theory.specs.Balance.{inUse, blocksAllocated, blocksFreed}
 use Rattle.records.specs.Records.{recordLength}
 use Rattle.figures.specs.declared.tally.Tally.{Tally}
 use Rattle.figures.specs.declared.tally.Run.{Run}
-use Rattle.figures.specs.Figures.{tally, notedAll, inRange}
+use Rattle.figures.specs.Figures.{tally, notedAll}
 use Rattle.history.specs.Runs.{Came, came, ran}
 
 -- figures with another peak

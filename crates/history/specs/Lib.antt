@@ -1,4 +1,4 @@
 pub mod Runs
 pub mod Claims
-pub mod Steps
+pub mod RunBy
 pub mod Promised

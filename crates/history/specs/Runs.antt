@@ -1,74 +1,17 @@
 -- Request U1: the run over the records of a history, from any heap and from where a run stands, so that one definition serves a whole file
 -- and a piece of it.
 use Prim.Native.Nat.{ℕ, zero, suc, _+_, _-_, _*_, _/_, min}
-use mathlib.Core.Bool.{Bool, true, false, not, _&&_}
-use mathlib.Core.List.{List, [], _∷_, _++_}
+use mathlib.Core.Bool.{true, false, not, _&&_}
+use mathlib.Core.List.{List, [], _++_}
 use lib.ListN.{length}
 use lib.Dec.{eqb}
 use Rattle.rules.specs.Heap.{Memory}
 use Rattle.rules.specs.Store.{formatted}
-use Rattle.rules.specs.Calls.{Call, format, check, collect, freeBlocks, allocate, storeRoot, storeCell, look, returnRoots, answer}
-use Rattle.rules.specs.declared.Reply.{Reply}
 use Rattle.theory.specs.Words.{Made}
-use Rattle.theory.specs.Balance.{inUse}
-use Rattle.records.specs.Records.{recordLength, fieldsAt, Asked, makes, stops, asked}
+use Rattle.records.specs.Records.{recordLength, fieldsAt, asked}
 use Rattle.figures.specs.declared.tally.Run.{Run}
-use Rattle.figures.specs.Figures.{used, notedAll, run, newRun, mostRecords}
-
--- ---- one record
-
--- a call as the rules answer it on memory h
-abbrev pub madeOn : ℕ → ℕ → Memory → Call → Made
-madeOn N w h c = record { call = c; before = h; reply = answer N w h c .0; after = answer N w h c .1 }
-
--- a record as it was run: the number that stops the run there, or 0; the calls it made; the memory after them
-pub record Turn : Type 0 where
-  pub number : ℕ
-  pub made : List Made
-  pub after : Memory
-
-abbrev pub turn : ℕ → List Made → Memory → Turn
-turn number made after = record { number = number; made = made; after = after }
-
--- "When allocation gives 5 ..
-unfoldable pub triesAgain : Call → Reply → Bool
-triesAgain (allocate n r) x = eqb (x .number) 5
-triesAgain format x = false
-triesAgain check x = false
-triesAgain collect x = false
-triesAgain freeBlocks x = false
-triesAgain (storeRoot r v) x = false
-triesAgain (storeCell a j v) x = false
-triesAgain (look a) x = false
-triesAgain (returnRoots chosen) x = false
-
--- .. the run collects and tries once more."
-unfoldable pub triedAgain : ℕ → ℕ → Memory → Call → Turn
-triedAgain N w h c =
-    let forced = madeOn N w h collect in
-    let second = madeOn N w (forced .after) c in
-    turn (second .reply .number) (forced ∷ second ∷ []) (second .after)
-
-unfoldable pub turnOf : ℕ → ℕ → Memory → Asked → Turn
-turnOf N w h (stops number) = turn number [] h
-turnOf N w h (makes c) =
-    let first = madeOn N w h c in
-    let again = triedAgain N w (first .after) c in
-    elim (triesAgain c (first .reply)) [
-      | true ↦ turn (again .number) (first ∷ again .made) (again .after)
-      | false ↦ turn (first .reply .number) (first ∷ []) (first .after)
-    ]
-
--- the run after a record: the calls it made are noted and, where it was accepted, the record is counted and the blocks in use are noted
-unfoldable pub afterTurn : ℕ → Turn → Run → Run
-afterTurn N x r =
-    let figures = notedAll (x .made) (r .tally) in
-    elim (eqb (x .number) 0) [
-      | true ↦ run 0 (r .records + 1) (used (inUse N (x .after)) figures)
-      | false ↦ run (x .number) (r .records) figures
-    ]
-
--- ---- many records
+use Rattle.figures.specs.Figures.{run, newRun, mostRecords}
+use Rattle.turns.specs.Turns.{Turn, turnOf, afterTurn}
 
 -- what comes of records: where the run stands, the memory, and the calls that were made on the way
 pub record Came : Type 0 where

@@ -11,8 +11,6 @@ use figures::tally::Tally;
 use inner::tests;
 use rules::Reply;
 
-mod acts;
-mod noting;
 mod run;
 
 // The reply of a run of records, and where the run stands. Laid out as in C.

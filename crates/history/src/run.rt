@@ -5,42 +5,14 @@ ghost use Prim.Native.Nat.{_+_, _*_, _/_, _-_, _≤_, min};
 ghost use lib.ListN.{length};
 ghost use Rattle.rules.specs.Lent.{before, after, lent};
 ghost use Rattle.inner.specs.Usable.{Usable};
-ghost use Rattle.records.specs.Records.{asked};
 ghost use Rattle.figures.specs.Figures.{mostRecords, inRange};
-ghost use Rattle.history.specs.Runs.{turnOf, ranFrom, ended, ran};
-ghost use Rattle.history.specs.Steps.{Going, Stepped, RunBy};
-use crate::acts;
-use crate::noting;
-use crate::noting::Running;
+ghost use Rattle.turns.specs.Steps.{Going};
+ghost use Rattle.history.specs.Runs.{ranFrom, ended, ran};
+ghost use Rattle.history.specs.RunBy.{RunBy};
 use blocks::Ref;
 use figures::tally::MAX_RECORDS;
 use figures::tally::Run;
-use records::Fields;
-
-// Runs one record.
-fn step(
-    blocks: usize,
-    width: usize,
-    a: &mut [u8],
-    b: &mut [u8],
-    counts: &mut [u8],
-    cells: &mut [Ref],
-    roots: &mut [Ref],
-    waiting: &mut [Ref],
-    f: Fields,
-    state: Running,
-) -> Running
-    requires { ⌜ Usable blocks width (lent a b counts cells roots waiting)
-        × Going blocks (lent a b counts cells roots waiting) 1 state ⌝ }
-    ensures { λ next.
-        ⌜ Stepped blocks
-        (turnOf blocks width (before a b counts cells roots waiting) (asked blocks (before a b counts cells roots waiting) f))
-        state next (after a b counts cells roots waiting) ⌝ }
-{
-    let plan = records::plan_of(blocks, b, cells, roots, f);
-    let done = acts::act(blocks, width, a, b, counts, cells, roots, waiting, plan);
-    noting::noted(state, done)
-}
+use turns::noting::Running;
 
 // Runs n records, from the start of the bytes, until one is refused.
 fn run_whole(
@@ -67,7 +39,7 @@ fn run_whole(
     let mut i = 0;
     while i < n {
         let f = records::fields_at(bytes, 8 * i);
-        state = step(blocks, width, a, b, counts, cells, roots, waiting, f, state);
+        state = turns::step(blocks, width, a, b, counts, cells, roots, waiting, f, state);
         let number = state.run.number;
         if number != 0 {
             return state.run;

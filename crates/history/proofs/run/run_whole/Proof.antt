@@ -8,10 +8,6 @@ use Rattle.inner.proofs.Idle.{usable-healthy}
 use Rattle.history.proofs.Progress.{Progress, progress-start, step-going, next-usable, progress-next, progress-stop, progress-done}
 use Rattle.history.proofs.run.run_whole.Statement.{statement}
 use Rattle.history.proofs.run.run_whole.Tie as tie
-use Rattle.history.proofs.run.run_whole.Reads as reads
-use Rattle.history.proofs.run.run_whole.Lts as lts
-use Rattle.history.proofs.run.step.Reads as step-reads
-use Rattle.records.proofs.fields_at.Reads as fields-at-reads
 
 abbrev Inv-loop : tie.InvT-loop
 Inv-loop blocks width a₀ b₀ counts₀ cells₀ roots₀ waiting₀ bytes n state₀ i₀ a b counts cells roots waiting state i =

@@ -1,22 +1,19 @@
 -- A usable heap can be read by the plan of a record, which looks at three of its buffers alone.
-use mathlib.Core.Path.{_≡_, subst, _∙_}
-use mathlib.Core.Logic.{_⊎_, inl, inr}
-use mathlib.Core.List.{List, []}
-use Prim.Native.Nat.{ℕ, _*_, _≤_}
+use mathlib.Core.Path.{_≡_, subst}
+use mathlib.Core.List.{[]}
+use Prim.Native.Nat.{ℕ}
 use native.Mathlib.Omega.{arith}
-use lib.ListN.{length, getD}
 use Rattle.rules.specs.Heap.{Memory, memory}
-use Rattle.references.specs.Ready.{Ready}
 use Rattle.inner.specs.Usable.{Usable}
 use Rattle.inner.proofs.Idle.{usable-healthy, usable-ready}
 use Rattle.records.specs.declared.Fields.{Fields}
 use Rattle.records.specs.declared.Plan.{Plan}
 use Rattle.records.specs.Meaning.{meaning}
 use Rattle.records.specs.Readable.{Readable}
-use Rattle.records.specs.Records.{Asked, unless, onRoots, copying, writing, reading, clearing, operation, asked}
-use Rattle.history.specs.declared.acts.Done.{Done}
-use Rattle.history.specs.Runs.{turnOf}
-use Rattle.history.specs.Steps.{Acted}
+use Rattle.records.specs.Records.{Asked, onRoots, copying, writing, reading, clearing, operation, asked}
+use Rattle.turns.specs.declared.acts.Done.{Done}
+use Rattle.turns.specs.Turns.{turnOf}
+use Rattle.turns.specs.Steps.{Acted}
 
 pub usable-readable : (N w : ℕ) (h : Memory) → Usable N w h → Readable N (h .b) (h .cells) (h .roots)
 usable-readable N w h usable =

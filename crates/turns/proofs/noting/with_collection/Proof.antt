@@ -1,8 +1,8 @@
 -- `noting::with_collection` meets its contract.
-use Rattle.history.specs.Steps.{withCollection}
+use Rattle.turns.specs.Steps.{withCollection}
 use borrow.Author.Needs.{needs}
-use Rattle.history.proofs.noting.with_collection.Statement.{statement}
-use Rattle.history.proofs.noting.with_collection.Tie as tie
+use Rattle.turns.proofs.noting.with_collection.Statement.{statement}
+use Rattle.turns.proofs.noting.with_collection.Tie as tie
 
 collected-requires : tie.Need-collected-requires
 collected-requires c κs = search needs

@@ -1,11 +1,11 @@
 -- What came of a record, from what its calls promise.
 use mathlib.Core.Path.{_≡_, refl, sym, ap, _∙_, subst}
 use mathlib.Core.Bool.{Bool, true, false, _&&_}
-use mathlib.Core.List.{List, [], _∷_}
+use mathlib.Core.List.{[], _∷_}
 use Prim.Native.Nat.{ℕ, _+_, _≤_}
 use native.Mathlib.Decide.{ℕ-discrete}
 use native.Mathlib.Omega.{arith}
-use lib.Dec.{eqb, leb, ltb}
+use lib.Dec.{leb, ltb}
 use lib.ListN.{length}
 use borrow.Author.Tests.{eq-eqb, ne-eqb, leb-true}
 use Rattle.rules.specs.Heap.{Memory, exponent, lowestFree}
@@ -29,10 +29,10 @@ use Rattle.records.specs.Meaning.{meaning}
 use Rattle.records.specs.Records.{makes, stops}
 use Rattle.figures.specs.declared.tally.Tally.{Tally}
 use Rattle.figures.specs.Figures.{allocated, collected, countedIn, noted, notedAll}
-use Rattle.history.specs.declared.acts.Done.{Done}
-use Rattle.history.specs.Runs.{madeOn, Turn, turn, triesAgain, triedAgain, turnOf}
-use Rattle.history.specs.Steps.{withCollection, withAllocation, Acted}
-use Rattle.history.proofs.Refusals.{Keeps, store-root-keeps, store-cell-keeps}
+use Rattle.turns.specs.declared.acts.Done.{Done}
+use Rattle.turns.specs.Turns.{madeOn, Turn, turn, triesAgain, triedAgain, turnOf}
+use Rattle.turns.specs.Steps.{withCollection, withAllocation, Acted}
+use Rattle.turns.proofs.Refusals.{Keeps, store-root-keeps, store-cell-keeps}
 
 abbrev pub done : (number allocated : ℕ) → Bool → (freed : ℕ) → Done
 done number allocated collected freed = record { number = number; allocated = allocated; collected = collected; freed = freed }

@@ -1,17 +1,16 @@
--- What the steps of a run give, for contracts of inner functions.
+-- What the steps of a record give, for contracts of inner functions.
 use Prim.Native.Nat.{ℕ, _+_, _-_, _^_, _≤_, _<_}
 use mathlib.Core.Path.{_≡_}
 use mathlib.Core.Bool.{true, false}
 use lib.Dec.{eqb}
 use Rattle.rules.specs.Heap.{Memory}
 use Rattle.theory.specs.Balance.{inUse}
-use Rattle.inner.specs.Usable.{Usable}
 use Rattle.figures.specs.declared.tally.Tally.{Tally}
 use Rattle.figures.specs.declared.tally.Run.{Run}
 use Rattle.figures.specs.Figures.{allocated, collected, used, notedAll, run, mostRecords, inRange}
-use Rattle.history.specs.declared.acts.Done.{Done}
-use Rattle.history.specs.declared.noting.Running.{Running}
-use Rattle.history.specs.Runs.{Turn, afterTurn, Came}
+use Rattle.turns.specs.declared.acts.Done.{Done}
+use Rattle.turns.specs.declared.noting.Running.{Running}
+use Rattle.turns.specs.Turns.{Turn, afterTurn}
 
 abbrev pub running : Run → (used : ℕ) → Running
 running r used = record { run = r; used = used }
@@ -65,9 +64,3 @@ pub record Stepped (N : ℕ) (x : Turn) (was is : Running) (g : Memory) : Type 0
   pub after-is : g ≡ x .after
   pub in-range : inRange (is .run) ≡ true
   pub used-is : is .used ≡ inUse N g
-
--- records were run: the run and the memory are what came of them, and the heap can be used again
-pub record RunBy (N w : ℕ) (x : Came) (r : Run) (g : Memory) : Type 0 where
-  pub run-is : r ≡ x .run
-  pub memory-is : g ≡ x .memory
-  pub usable : Usable N w g

@@ -1,9 +1,9 @@
 -- `acts::allocate` meets its contract: one try, or a second one where no chunk was free.
 use Rattle.inner.proofs.Kept.{usable-kept}
-use Rattle.history.proofs.Turns.{acted-again, acted-refused, acted-allocated}
+use Rattle.turns.proofs.Turns.{acted-again, acted-refused, acted-allocated}
 use borrow.Author.Needs.{needs}
-use Rattle.history.proofs.acts.allocate.Statement.{statement}
-use Rattle.history.proofs.acts.allocate.Tie as tie
+use Rattle.turns.proofs.acts.allocate.Statement.{statement}
+use Rattle.turns.proofs.acts.allocate.Tie as tie
 
 allocate-requires : tie.Need-allocate-requires
 allocate-requires c κs = search needs

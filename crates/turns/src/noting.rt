@@ -1,7 +1,7 @@
 // What a record adds to the run: its figures, which come and go by value, and the blocks in use.
 ghost use mathlib.Core.Path.{_≡_};
-ghost use Prim.Native.Nat.{_+_, _≤_, _<_, _^_};
-ghost use Rattle.history.specs.Steps.{withCollection, withAllocation, CanNote, notedBy};
+ghost use Prim.Native.Nat.{_+_, _<_, _^_};
+ghost use Rattle.turns.specs.Steps.{withCollection, withAllocation, CanNote, notedBy};
 use crate::acts::Done;
 use figures::tally::Run;
 use figures::tally::Tally;

@@ -2,10 +2,10 @@
 use native.Mathlib.Omega.{arith}
 use Rattle.inner.proofs.Idle.{usable-healthy}
 use Rattle.inner.proofs.Kept.{usable-kept}
-use Rattle.history.proofs.Turns.{freed-few, again-refused, again-allocated}
+use Rattle.turns.proofs.Turns.{freed-few, again-refused, again-allocated}
 use borrow.Author.Needs.{needs}
-use Rattle.history.proofs.acts.collect_and_allocate.Statement.{statement}
-use Rattle.history.proofs.acts.collect_and_allocate.Tie as tie
+use Rattle.turns.proofs.acts.collect_and_allocate.Statement.{statement}
+use Rattle.turns.proofs.acts.collect_and_allocate.Tie as tie
 
 collect-requires : tie.Need-collect-requires
 collect-requires c κs = search needs

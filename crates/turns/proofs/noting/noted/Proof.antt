@@ -1,15 +1,15 @@
 -- `noting::noted` meets its contract.
-use mathlib.Core.Path.{_≡_, sym, ap, _∙_}
+use mathlib.Core.Path.{_≡_, ap, _∙_}
 use Prim.Native.Nat.{ℕ, _+_, _-_}
 use native.Mathlib.Omega.{arith}
 use borrow.Author.Tests.{eq-eqb, ne-eqb}
 use Rattle.figures.specs.declared.tally.Tally.{Tally}
 use Rattle.figures.specs.Figures.{run, used}
-use Rattle.history.specs.Steps.{running, withCollection, withAllocation, notedBy}
-use Rattle.history.proofs.Notes.{collection-grows}
+use Rattle.turns.specs.Steps.{running, withCollection, withAllocation, notedBy}
+use Rattle.turns.proofs.Notes.{collection-grows}
 use borrow.Author.Needs.{needs}
-use Rattle.history.proofs.noting.noted.Statement.{statement}
-use Rattle.history.proofs.noting.noted.Tie as tie
+use Rattle.turns.proofs.noting.noted.Statement.{statement}
+use Rattle.turns.proofs.noting.noted.Tie as tie
 
 -- the figures with what came of the record
 figures : (c : tie.After-with-allocation) →

@@ -1,8 +1,8 @@
 -- `acts::act` meets its contract: each plan's call is the one made.
-use Rattle.history.proofs.Turns.{acted-plan, acted-stop, acted-root, acted-cell, acted-collect}
+use Rattle.turns.proofs.Turns.{acted-plan, acted-stop, acted-root, acted-cell, acted-collect}
 use borrow.Author.Needs.{needs}
-use Rattle.history.proofs.acts.act.Statement.{statement}
-use Rattle.history.proofs.acts.act.Tie as tie
+use Rattle.turns.proofs.acts.act.Statement.{statement}
+use Rattle.turns.proofs.acts.act.Tie as tie
 
 enum-known-plan : tie.Need-enum-known-plan
 enum-known-plan c = search needs

@@ -1,21 +1,20 @@
 -- What came of a record, noted: nothing wraps, the run is the one after the turn, and it is in range.
 use mathlib.Core.Path.{_≡_, refl, sym, ap, _∙_, subst}
 use mathlib.Core.Bool.{Bool, true, false}
-use Prim.Native.Nat.{ℕ, _+_, _-_, _*_, _^_, _≤_, _<_}
+use Prim.Native.Nat.{ℕ, _+_, _-_, _≤_}
 use native.Mathlib.Decide.{ℕ-discrete}
 use native.Mathlib.Omega.{arith}
-use lib.Dec.{eqb}
 use borrow.Author.Tests.{eq-eqb, ne-eqb}
 use Rattle.rules.specs.Heap.{Memory, maxBlocks}
 use Rattle.theory.specs.Balance.{inUse}
 use Rattle.figures.specs.declared.tally.Tally.{Tally}
 use Rattle.figures.specs.declared.tally.Run.{Run}
-use Rattle.figures.specs.Figures.{collected, used, notedAll, run, mostRecords, inRange}
+use Rattle.figures.specs.Figures.{collected, used, run}
 use Rattle.figures.proofs.Ranges.{Within, in-range-within, within-in-range, going-collections, stopped-collections}
-use Rattle.history.specs.declared.acts.Done.{Done}
-use Rattle.history.specs.declared.noting.Running.{Running}
-use Rattle.history.specs.Runs.{Turn, afterTurn}
-use Rattle.history.specs.Steps.{running, withCollection, withAllocation, Acted, Going, CanNote, notedBy, Stepped}
+use Rattle.turns.specs.declared.acts.Done.{Done}
+use Rattle.turns.specs.declared.noting.Running.{Running}
+use Rattle.turns.specs.Turns.{Turn, afterTurn}
+use Rattle.turns.specs.Steps.{running, withCollection, withAllocation, Acted, Going, CanNote, notedBy, Stepped}
 
 -- ---- figures grow by little
 

@@ -1,12 +1,10 @@
--- `run::step` meets its contract: the plan, its calls, and what came of them noted.
-use mathlib.Core.Path.{_≡_, sym, ap, _∙_}
-use native.Mathlib.Omega.{arith}
+-- `step` meets its contract: the plan, its calls, and what came of them noted.
 use Rattle.inner.proofs.Idle.{usable-healthy}
-use Rattle.history.proofs.Notes.{can-note, noted-stepped}
-use Rattle.history.proofs.Readable.{usable-readable, planned}
+use Rattle.turns.proofs.Notes.{can-note, noted-stepped}
+use Rattle.turns.proofs.Readable.{usable-readable, planned}
 use borrow.Author.Needs.{needs}
-use Rattle.history.proofs.run.step.Statement.{statement}
-use Rattle.history.proofs.run.step.Tie as tie
+use Rattle.turns.proofs.step.Statement.{statement}
+use Rattle.turns.proofs.step.Tie as tie
 
 plan-of-requires : tie.Need-plan-of-requires
 plan-of-requires c κs = usable-readable _ _ _ (c .before .before .before .before .before .before .before .before .before .pre .0)

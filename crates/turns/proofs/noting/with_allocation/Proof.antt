@@ -1,10 +1,9 @@
 -- `noting::with_allocation` meets its contract.
-use mathlib.Core.Path.{sym, _∙_}
 use borrow.Author.Tests.{eq-eqb, ne-eqb}
-use Rattle.history.specs.Steps.{withAllocation}
+use Rattle.turns.specs.Steps.{withAllocation}
 use borrow.Author.Needs.{needs}
-use Rattle.history.proofs.noting.with_allocation.Statement.{statement}
-use Rattle.history.proofs.noting.with_allocation.Tie as tie
+use Rattle.turns.proofs.noting.with_allocation.Statement.{statement}
+use Rattle.turns.proofs.noting.with_allocation.Tie as tie
 
 returns : tie.Need-returns
 unfolding withAllocation

@@ -1,0 +1,5 @@
+pub mod Refusals
+pub mod Turns
+pub mod Kept
+pub mod Notes
+pub mod Readable

@@ -1,0 +1,37 @@
+// One record of a history, on an undamaged heap with a cleared waiting list: the calls it asks for, and what they add to the run.
+ghost use Rattle.rules.specs.Lent.{before, after, lent};
+ghost use Rattle.inner.specs.Usable.{Usable};
+ghost use Rattle.records.specs.Records.{asked};
+ghost use Rattle.turns.specs.Turns.{turnOf};
+ghost use Rattle.turns.specs.Steps.{Going, Stepped};
+use crate::noting::Running;
+use blocks::Ref;
+use records::Fields;
+
+mod acts;
+pub mod noting;
+
+// Runs one record.
+pub fn step(
+    blocks: usize,
+    width: usize,
+    a: &mut [u8],
+    b: &mut [u8],
+    counts: &mut [u8],
+    cells: &mut [Ref],
+    roots: &mut [Ref],
+    waiting: &mut [Ref],
+    f: Fields,
+    state: Running,
+) -> Running
+    requires { ⌜ Usable blocks width (lent a b counts cells roots waiting)
+        × Going blocks (lent a b counts cells roots waiting) 1 state ⌝ }
+    ensures { λ next.
+        ⌜ Stepped blocks
+        (turnOf blocks width (before a b counts cells roots waiting) (asked blocks (before a b counts cells roots waiting) f))
+        state next (after a b counts cells roots waiting) ⌝ }
+{
+    let plan = records::plan_of(blocks, b, cells, roots, f);
+    let done = acts::act(blocks, width, a, b, counts, cells, roots, waiting, plan);
+    noting::noted(state, done)
+}
