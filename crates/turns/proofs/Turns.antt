@@ -2,7 +2,7 @@
 use mathlib.Core.Path.{_≡_, refl, sym, ap, _∙_, subst}
 use mathlib.Core.Bool.{Bool, true, false, _&&_}
 use mathlib.Core.List.{[], _∷_}
-use Prim.Native.Nat.{ℕ, _+_, _≤_}
+use Prim.Native.Nat.{ℕ, _+_, _^_, _≤_, _<_}
 use native.Mathlib.Decide.{ℕ-discrete}
 use native.Mathlib.Omega.{arith}
 use lib.Dec.{leb, ltb}
@@ -31,11 +31,8 @@ use Rattle.figures.specs.declared.tally.Tally.{Tally}
 use Rattle.figures.specs.Figures.{allocated, collected, countedIn, noted, notedAll}
 use Rattle.turns.specs.declared.acts.Done.{Done}
 use Rattle.turns.specs.Turns.{madeOn, Turn, turn, triesAgain, triedAgain, turnOf}
-use Rattle.turns.specs.Steps.{withCollection, withAllocation, Acted}
+use Rattle.turns.specs.Steps.{done, doneAfter, withCollection, withAllocation, Acted}
 use Rattle.turns.proofs.Refusals.{Keeps, store-root-keeps, store-cell-keeps}
-
-abbrev pub done : (number allocated : ℕ) → Bool → (freed : ℕ) → Done
-done number allocated collected freed = record { number = number; allocated = allocated; collected = collected; freed = freed }
 
 -- ---- blocks allocated
 
@@ -267,9 +264,9 @@ module _ (N w : ℕ) (h : Memory) (usable : Usable N w h) (n r : ℕ) where
     unfolding triesAgain
     once other = ne-eqb (answer N w h (allocate n r) .0 .number) 5 (λ e. other (sym reply-number ∙ e))
 
-    pub acted-refused :
+    acted-refused :
         (done′ .reply .number ≡ 0 → ⊥) → (done′ .reply .number ≡ 5 → ⊥)
-        → Acted N h (turnOf N w h (makes (allocate n r))) (done (done′ .reply .number) 0 false (done′ .freed)) g
+        → Acted N h (turnOf N w h (makes (allocate n r))) (done (done′ .reply .number) 0 false (0 + done′ .freed)) g
     unfolding notedAll withCollection withAllocation
     acted-refused refused other =
         acted-as (turn-once N w h (allocate n r) (once other))
@@ -282,22 +279,31 @@ module _ (N w : ℕ) (h : Memory) (usable : Usable N w h) (n r : ℕ) where
           refused-none = λ _. refl;
         }
 
-    pub acted-allocated :
-        done′ .reply .number ≡ 0 → Acted N h (turnOf N w h (makes (allocate n r))) (done 0 n false (done′ .freed)) g
+    acted-allocated :
+        done′ .reply .number ≡ 0 → Acted N h (turnOf N w h (makes (allocate n r))) (done 0 n false (0 + done′ .freed)) g
     unfolding notedAll withCollection
     acted-allocated accepted =
         acted-as (turn-once N w h (allocate n r) (once (λ e. omega arith)))
         record {
           number-is = sym (reply-number ∙ accepted);
           after-is = tried .promise .after-is;
-          figures-are = λ t. with-allocated n false 0 (done′ .freed) t (size-fits accepted .0) ∙ sym (accepted-noted accepted t);
-          balance = accepted-balance accepted;
+          figures-are = λ t. with-allocated n false 0 (0 + done′ .freed) t (size-fits accepted .0) ∙ sym (accepted-noted accepted t);
+          balance = omega (arith, accepted-balance accepted);
           allocated-few = size-fits accepted .1;
           refused-none = λ some. absurd (some refl);
         }
 
+    -- it was tried once
+    pub acted-once :
+        (done′ .reply .number ≡ 5 → ⊥) → Acted N h (turnOf N w h (makes (allocate n r))) (doneAfter done′ n false 0) g
+    unfolding doneAfter
+    acted-once other = elim (ℕ-discrete (done′ .reply .number) 0) [
+      | yes accepted ↦ rw (eq-eqb (done′ .reply .number) 0 accepted, doneAfter) (acted-allocated accepted)
+      | no refused ↦ rw (ne-eqb (done′ .reply .number) 0 refused, doneAfter) (acted-refused refused other)
+    ]
+
     -- no chunk was free: what came of the second try came of the record
-    pub acted-again :
+    acted-again :
         done′ .reply .number ≡ 5 → {d : Done} {k : Memory} → Acted N g (triedAgain N w g (allocate n r)) d k
         → Acted N h (turnOf N w h (makes (allocate n r))) d k
     unfolding notedAll triesAgain
@@ -322,7 +328,7 @@ module _ (N w : ℕ) (h : Memory) (usable : Usable N w h) (n r : ℕ) where
 
 module _ (N w : ℕ) (h : Memory) (usable : Usable N w h) (n r : ℕ) (y : Reply) (k : Memory) (forced : Promise N w collect h y k)
     (second : Allocated) (g : Memory) (tried : Allocating N w n r k second g) where
-  pub forced-usable : Usable N w k
+  forced-usable : Usable N w k
   forced-usable = usable-kept N w h usable collect y k forced
 
   abbrev again : Turn
@@ -345,7 +351,7 @@ module _ (N w : ℕ) (h : Memory) (usable : Usable N w h) (n r : ℕ) (y : Reply
   both-noted t = ap (noted (madeOn N w k (allocate n r))) (collect-noted N w h usable t)
 
   -- together they free no more blocks than two heaps have
-  pub freed-few : y .value + second .freed ≤ N + N
+  freed-few : y .value + second .freed ≤ N + N
   freed-few = elim (ℕ-discrete (second .reply .number) 0) [
     | yes e ↦
         omega (
@@ -357,7 +363,7 @@ module _ (N w : ℕ) (h : Memory) (usable : Usable N w h) (n r : ℕ) (y : Reply
     | no e ↦ omega (arith, collect-balance N w h usable forced, refused-balance N w k forced-usable n r second g tried e)
   ]
 
-  pub again-refused :
+  again-refused :
       (second .reply .number ≡ 0 → ⊥)
       → Acted N h (triedAgain N w h (allocate n r)) (done (second .reply .number) 0 true (y .value + second .freed)) g
   unfolding withCollection withAllocation
@@ -373,7 +379,7 @@ module _ (N w : ℕ) (h : Memory) (usable : Usable N w h) (n r : ℕ) (y : Reply
         refused-none = λ _. refl;
       }
 
-  pub again-allocated :
+  again-allocated :
       second .reply .number ≡ 0 → Acted N h (triedAgain N w h (allocate n r)) (done 0 n true (y .value + second .freed)) g
   unfolding withCollection
   again-allocated accepted =
@@ -390,3 +396,25 @@ module _ (N w : ℕ) (h : Memory) (usable : Usable N w h) (n r : ℕ) (y : Reply
         allocated-few = size .1;
         refused-none = λ some. absurd (some refl);
       }
+
+  again-acted : Acted N h (triedAgain N w h (allocate n r)) (doneAfter second n true (y .value)) g
+  unfolding doneAfter
+  again-acted = elim (ℕ-discrete (second .reply .number) 0) [
+    | yes accepted ↦ rw (eq-eqb (second .reply .number) 0 accepted, doneAfter) (again-allocated accepted)
+    | no refused ↦ rw (ne-eqb (second .reply .number) 0 refused, doneAfter) (again-refused refused)
+  ]
+
+-- ---- an allocation that was tried twice: the first try left k, the collection l
+
+module _ (N w : ℕ) (h : Memory) (usable : Usable N w h) (n r : ℕ) (first : Allocated) (k : Memory) (tried : Allocating N w n r h first k)
+    (y : Reply) (l : Memory) (forced : Promise N w collect k y l) (second : Allocated) (g : Memory) (retried : Allocating N w n r l second g) where
+  tried-usable : Usable N w k
+  tried-usable = usable-kept N w h usable (allocate n r) (first .reply) k (tried .promise)
+
+  pub freed-fits : y .value + second .freed < 2 ^ 64
+  freed-fits =
+      omega (arith, freed-few N w k tried-usable n r y l forced second g retried, usable-healthy N w h usable .shape .blocks-max)
+
+  pub acted-twice : first .reply .number ≡ 5 → Acted N h (turnOf N w h (makes (allocate n r))) (doneAfter second n true (y .value)) g
+  acted-twice none-free =
+      acted-again N w h usable n r first k tried none-free (again-acted N w k tried-usable n r y l forced second g retried)

@@ -1,10 +1,11 @@
 -- What the steps of a record give, for contracts of inner functions.
 use Prim.Native.Nat.{ℕ, _+_, _-_, _^_, _≤_, _<_}
 use mathlib.Core.Path.{_≡_}
-use mathlib.Core.Bool.{true, false}
+use mathlib.Core.Bool.{Bool, true, false}
 use lib.Dec.{eqb}
 use Rattle.rules.specs.Heap.{Memory}
 use Rattle.theory.specs.Balance.{inUse}
+use Rattle.inner.specs.declared.acts.Allocated.{Allocated}
 use Rattle.figures.specs.declared.tally.Tally.{Tally}
 use Rattle.figures.specs.declared.tally.Run.{Run}
 use Rattle.figures.specs.Figures.{allocated, collected, used, notedAll, run, mostRecords, inRange}
@@ -14,6 +15,17 @@ use Rattle.turns.specs.Turns.{Turn, afterTurn}
 
 abbrev pub running : Run → (used : ℕ) → Running
 running r used = record { run = r; used = used }
+
+abbrev pub done : (number allocated : ℕ) → Bool → (freed : ℕ) → Done
+done number allocated collected freed = record { number = number; allocated = allocated; collected = collected; freed = freed }
+
+-- what came of an allocation of n blocks: of its last try, and of the collection before that, where one was made, which freed so many blocks
+unfoldable pub doneAfter : Allocated → (n : ℕ) → (collected : Bool) → (freed : ℕ) → Done
+doneAfter last n collected freed =
+    elim (eqb (last .reply .number) 0) [
+      | true ↦ done 0 n collected (freed + last .freed)
+      | false ↦ done (last .reply .number) 0 collected (freed + last .freed)
+    ]
 
 -- figures with a collection more, where one was made; with an allocation of n blocks more, where n is not 0
 unfoldable pub withCollection : Done → Tally → Tally

@@ -1,13 +1,16 @@
 // The calls of one record, on an undamaged heap with a cleared waiting list.
+ghost use mathlib.Core.Path.{_≡_};
+ghost use Prim.Native.Nat.{_+_, _<_, _^_};
 ghost use Rattle.rules.specs.Lent.{before, after, lent};
 ghost use Rattle.rules.specs.Calls.{Call};
 ghost use Rattle.inner.specs.Usable.{Usable};
 ghost use Rattle.records.specs.Records.{makes};
 ghost use Rattle.records.specs.Meaning.{meaning};
-ghost use Rattle.turns.specs.Turns.{triedAgain, turnOf};
-ghost use Rattle.turns.specs.Steps.{Acted};
+ghost use Rattle.turns.specs.Turns.{turnOf};
+ghost use Rattle.turns.specs.Steps.{doneAfter, Acted};
 use blocks::Ref;
 use inner::acts;
+use inner::acts::Allocated;
 use inner::steps;
 use records::Plan;
 
@@ -19,40 +22,26 @@ pub struct Done {
     pub freed: usize,
 }
 
-// Collects, and tries once more to allocate n blocks into root r.
-fn collect_and_allocate(
-    blocks: usize,
-    width: usize,
-    a: &mut [u8],
-    b: &mut [u8],
-    counts: &mut [u8],
-    cells: &mut [Ref],
-    roots: &mut [Ref],
-    waiting: &mut [Ref],
-    n: usize,
-    r: usize,
-) -> Done
-    requires { ⌜ Usable blocks width (lent a b counts cells roots waiting) ⌝ }
-    ensures { λ done.
-        ⌜ Acted blocks (before a b counts cells roots waiting)
-        (triedAgain blocks width (before a b counts cells roots waiting) (Call.allocate n r)) done (after a b counts cells roots waiting) ⌝ }
+// What came of an allocation of n blocks: of its last try, and of the collection before that, where one was made, which freed so many blocks.
+fn done_after(last: Allocated, n: usize, collected: bool, freed: usize) -> Done
+    requires { ⌜ freed + last .freed < 2 ^ 64 ⌝ }
+    ensures { λ done. ⌜ done ≡ doneAfter last n collected freed ⌝ }
 {
-    let forced = acts::collect(blocks, width, a, b, counts, cells, roots, waiting);
-    let second = steps::allocate(blocks, width, a, b, counts, cells, roots, waiting, n, r);
-    let number = second.reply.number;
+    let number = last.reply.number;
+    let freed = freed + last.freed;
     if number != 0 {
         return Done {
             number: number,
             allocated: 0,
-            collected: true,
-            freed: forced.value + second.freed,
+            collected: collected,
+            freed: freed,
         };
     }
     Done {
         number: 0,
         allocated: n,
-        collected: true,
-        freed: forced.value + second.freed,
+        collected: collected,
+        freed: freed,
     }
 }
 
@@ -76,23 +65,12 @@ fn allocate(
 {
     let first = steps::allocate(blocks, width, a, b, counts, cells, roots, waiting, n, r);
     let number = first.reply.number;
-    if number == 5 {
-        return collect_and_allocate(blocks, width, a, b, counts, cells, roots, waiting, n, r);
+    if number != 5 {
+        return done_after(first, n, false, 0);
     }
-    if number != 0 {
-        return Done {
-            number: number,
-            allocated: 0,
-            collected: false,
-            freed: first.freed,
-        };
-    }
-    Done {
-        number: 0,
-        allocated: n,
-        collected: false,
-        freed: first.freed,
-    }
+    let forced = acts::collect(blocks, width, a, b, counts, cells, roots, waiting);
+    let second = steps::allocate(blocks, width, a, b, counts, cells, roots, waiting, n, r);
+    done_after(second, n, true, forced.value)
 }
 
 // The calls that a plan asks for.
