@@ -15,7 +15,8 @@ use Rattle.planes.proofs.Counts.{count-all-zero}
 use Rattle.rules.specs.Heap.{Memory, capacity, sizeAt}
 use Rattle.rules.specs.Store.{Work, work, countUp}
 use Rattle.collector.specs.Mark.{visit, visitEach, scan, markCounts}
-use Rattle.theory.proofs.Maps.Extents.{sizesOf, length-tabulate, getD-tabulate, length-sizes-of, extent}
+use Rattle.rules.proofs.Tabulate.{length-tabulate, getD-tabulate}
+use Rattle.theory.proofs.Maps.Extents.{sizesOf, length-sizes-of, extent}
 use Rattle.theory.proofs.Graphs.Occurrences.{equals-same, occurrences-cons}
 use Rattle.theory.proofs.Graphs.Stretch.{stretch}
 use Rattle.theory.proofs.Graphs.Graph as graph

@@ -1,8 +1,10 @@
 pub mod Cases
 pub mod WrongAnswers
 pub mod Tests
+pub mod Tabulate
 pub mod Shape
 pub mod Objects
 pub mod Chunks
+pub mod Sections
 pub mod Replies
 pub mod Counting

@@ -3,6 +3,7 @@ pub mod Lent
 pub mod Damage
 pub mod Store
 pub mod Collection
+pub mod Sections
 pub mod Calls
 pub mod Promise
 pub mod Cases

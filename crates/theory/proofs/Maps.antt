@@ -2,6 +2,7 @@
 pub mod Extents
 pub mod Parse
 pub mod LowestChunk
+pub mod Sections
 pub mod Moves
 pub mod Totals
 pub mod Undamaged

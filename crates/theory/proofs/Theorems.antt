@@ -31,6 +31,8 @@ use Rattle.theory.specs.Balance.{BlocksBalance}
 use Rattle.theory.specs.Returns.{ReturnInAnyOrder, ReturnRefusedExactly}
 use Rattle.theory.specs.Theory.{Theory}
 use Rattle.theory.proofs.Maps.Extents.{Represents, sizesOf, inner, represents-delimited}
+use Rattle.rules.proofs.Sections.{sections-find-lowest}
+use Rattle.theory.proofs.Maps.Sections.{figures-are-largest}
 use Rattle.theory.proofs.Maps.LowestChunk.{lowest-some, room, refused-none-free, none-free-refused}
 use Rattle.theory.proofs.Maps.Parse.{parse}
 use Rattle.theory.proofs.Maps.Totals.{objects-ends}
@@ -228,4 +230,6 @@ theory =
       blocks-add-up = blocks-add-up;
       return-in-any-order = return-in-any-order;
       return-refused-exactly = return-refused-exactly;
+      sections-find-lowest = sections-find-lowest;
+      figures-are-largest = figures-are-largest;
     }

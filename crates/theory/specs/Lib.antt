@@ -5,4 +5,5 @@ pub mod Statements
 pub mod Orders
 pub mod Balance
 pub mod Returns
+pub mod Sections
 pub mod Theory

@@ -6,6 +6,7 @@ use Rattle.theory.specs.Statements.{NStepsSuffice, ObjectsAreEnds}
 use Rattle.theory.specs.Orders.{OrderUnseen}
 use Rattle.theory.specs.Balance.{BlocksBalance, BlocksAddUp}
 use Rattle.theory.specs.Returns.{ReturnInAnyOrder, ReturnRefusedExactly}
+use Rattle.theory.specs.Sections.{SectionsFindLowest, FiguresAreLargest}
 
 pub record Theory : Type 0 where
   -- demand 3, and what makes it usable
@@ -34,3 +35,5 @@ pub record Theory : Type 0 where
   pub blocks-add-up : BlocksAddUp
   pub return-in-any-order : ReturnInAnyOrder
   pub return-refused-exactly : ReturnRefusedExactly
+  pub sections-find-lowest : SectionsFindLowest
+  pub figures-are-largest : FiguresAreLargest

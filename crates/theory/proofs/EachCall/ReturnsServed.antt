@@ -15,7 +15,8 @@ use Rattle.rules.specs.Calls.{returnRoots, settled, freeing}
 use Rattle.rules.proofs.Objects.{first-facts}
 use Rattle.theory.specs.Words.{Object, rootsWithout, written, stored}
 use Rattle.theory.specs.Demand.{Collects}
-use Rattle.theory.proofs.Maps.Extents.{sizesOf, length-tabulate, getD-tabulate}
+use Rattle.rules.proofs.Tabulate.{length-tabulate, getD-tabulate}
+use Rattle.theory.proofs.Maps.Extents.{sizesOf}
 use Rattle.theory.proofs.Graphs.Graph.{size, slot}
 use Rattle.theory.proofs.Graphs.Keep.{Reach}
 use Rattle.theory.proofs.Graphs.Order.{runs-leave}

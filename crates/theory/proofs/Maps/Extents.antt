@@ -13,6 +13,7 @@ use Rattle.bitmap.specs.Bit.{bitAt, Bytes}
 use Rattle.bitmap.proofs.Maps.{bit-all-zero, bit-all-one, map-ext}
 use Rattle.rules.specs.Heap.{firstIn, sizeFrom}
 use Rattle.rules.specs.Collection.{tabulate}
+use Rattle.rules.proofs.Tabulate.{length-tabulate, getD-tabulate}
 use Rattle.rules.proofs.Tests.{test-cases}
 use Rattle.rules.proofs.Objects.{bit-cases, Starts, first-facts, first-test, size-is}
 
@@ -36,17 +37,6 @@ pub record Delimited (N : ℕ) (a b : List ℕ) : Type 0 where
   pub goes-on : (i : ℕ) → i < N → bitAt a i ≡ 1 → bitAt b i ≡ 1 → (i + 1 < N) × (bitAt a (i + 1) ≡ 1)
 
 -- ---- the sizes that two maps have
-
-pub length-tabulate : {A : Type 0} (n : ℕ) (f : ℕ → A) → length (tabulate n f) ≡ n
-unfolding tabulate
-length-tabulate zero f = refl
-length-tabulate (suc n) f = ap suc (length-tabulate n (λ i. f (suc i)))
-
-pub getD-tabulate : {A : Type 0} (d : A) (n : ℕ) (f : ℕ → A) (i : ℕ) → i < n → getD (tabulate n f) i d ≡ f i
-unfolding tabulate
-getD-tabulate d zero f i l = absurd (omega arith)
-getD-tabulate d (suc n) f zero l = refl
-getD-tabulate d (suc n) f (suc i) l = getD-tabulate d n (λ k. f (suc k)) i (omega arith)
 
 -- the size where an object starts, else 0
 sizeOrNone : ℕ → List ℕ → List ℕ → ℕ → ℕ

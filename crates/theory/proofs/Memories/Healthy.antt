@@ -17,7 +17,8 @@ use Rattle.rules.specs.Damage.{damage}
 use Rattle.rules.proofs.Tests.{test-cases}
 use Rattle.rules.proofs.Shape.{Shaped, shape-facts, shape-test}
 use Rattle.rules.proofs.Objects.{bit-cases, first-facts, ref-test}
-use Rattle.theory.proofs.Maps.Extents.{Represents, sizesOf, length-tabulate, getD-tabulate, length-sizes-of, size-not-first, sized-first, first-size, extent, represents-delimited}
+use Rattle.rules.proofs.Tabulate.{length-tabulate, getD-tabulate}
+use Rattle.theory.proofs.Maps.Extents.{Represents, sizesOf, length-sizes-of, size-not-first, sized-first, first-size, extent, represents-delimited}
 use Rattle.theory.proofs.Maps.Undamaged.{DamageFree, undamaged-represents, damage-facts, damage-test}
 use Rattle.theory.proofs.Graphs.Occurrences.{equals-none, occurrences, occurrences-nil, occurrences-find, nonzero-inside}
 use Rattle.theory.proofs.Graphs.Graph.{size, count, slot, Owns}

@@ -18,7 +18,7 @@ use Rattle.rules.specs.Collection.{isCellOf, cellOfChosen, referencesFrom, mark
 use Rattle.theory.specs.Words.{Leads, root, cell}
 use Rattle.rules.proofs.Tests.{test-cases, and-true, true-and, and-false, some-true, true-some, some-false}
 use Rattle.rules.proofs.Objects.{first-facts, size-le}
-use Rattle.theory.proofs.Maps.Extents.{length-tabulate, getD-tabulate}
+use Rattle.rules.proofs.Tabulate.{length-tabulate, getD-tabulate}
 use Rattle.rules.proofs.Counting.{count-found, found-count, count-grows, count-all, then-true, true-then}
 
 -- ---- a list of marks

@@ -16,7 +16,8 @@ use Rattle.rules.specs.Heap.{Memory, capacity, countOf, isFirst, holding}
 use Rattle.rules.specs.Collection.{cellOfChosen, referencesFrom, marked, reached, swept, collected, tabulate}
 use Rattle.rules.proofs.Tests.{test-cases, true-and}
 use Rattle.rules.proofs.Counting.{then-all, then-none}
-use Rattle.theory.proofs.Maps.Extents.{length-tabulate, getD-tabulate, length-sizes-of, size-first, size-not-first, sized-first, represents-is}
+use Rattle.rules.proofs.Tabulate.{length-tabulate, getD-tabulate}
+use Rattle.theory.proofs.Maps.Extents.{length-sizes-of, size-first, size-not-first, sized-first, represents-is}
 use Rattle.theory.proofs.Graphs.Occurrences.{occurrences}
 use Rattle.theory.proofs.Graphs.Graph.{Graph, count, slot}
 use Rattle.theory.proofs.Graphs.Balance.{named-object}

@@ -16,7 +16,7 @@ use Rattle.rules.specs.Heap.{capacity}
 use Rattle.rules.specs.Collection.{tabulate}
 use Rattle.rules.specs.Store.{Work, work, countUp, countDown, countDownEach, clearCells}
 use Rattle.theory.proofs.Graphs.Stretch.{stretch, clear}
-use Rattle.theory.proofs.Maps.Extents.{length-tabulate, getD-tabulate}
+use Rattle.rules.proofs.Tabulate.{length-tabulate, getD-tabulate}
 use Rattle.theory.proofs.Graphs.Graph as graph
 use Rattle.theory.proofs.Graphs.Graph.{lowered, lowered-stuck, lowered-other, pushLast}
 

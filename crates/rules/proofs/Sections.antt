@@ -1,0 +1,391 @@
+-- Figures of sections (request U4): what a figure says of its section, and that a search by sections finds the lowest free chunk.
+use mathlib.Core.Path.{_≡_, refl, sym, ap, ap₂, _∙_}
+use mathlib.Core.Logic.{_≢_, _⊎_, inl, inr}
+use mathlib.Core.Bool.{Bool, true, false, _||_, true≢false}
+use mathlib.Core.List.{List}
+use mathlib.Core.Option.{Option, none, some}
+use Prim.Native.Nat.{ℕ, zero, suc, _+_, _*_, _/_, _^_, _≤_, _<_, _-_, min, max}
+use native.Mathlib.Nat.{zero-add, suc-add, zero-mul, suc-mul, mul-assoc, pow-suc, div-self, div-eq-of-eq-mul-left}
+use native.Mathlib.Decide.{decLe, decLt}
+use native.Mathlib.Omega.{arith}
+use lib.Dec.{leb}
+use lib.ListN.{getD}
+use lib.Pow.{pow-mono, pow-lt, pow-add, pow-pos}
+use borrow.Author.Tests.{leb-true, le-leb, lt-leb}
+use Rattle.rules.specs.Heap.{exponent, chunkFree, lowestFrom, lowestFree, isBlocks}
+use Rattle.rules.specs.Sections.{sectionLength, sectionCount, largestFree, figure, figures, sufficesFrom, lowestInSection, lowestBySections}
+use Rattle.rules.proofs.Tests.{test-cases}
+use Rattle.rules.proofs.Tabulate.{getD-tabulate}
+use Rattle.rules.proofs.Shape.{blocks-facts, blocks-power}
+use Rattle.rules.proofs.Chunks.{exponent-covers, exponent-least}
+
+-- ---- a chunk and its halves
+
+pub figure-free : (k : ℕ) (a : List ℕ) (i : ℕ) → chunkFree k a i ≡ true → largestFree k a i ≡ 2 ^ k
+unfolding largestFree
+figure-free zero a i e = rw (e, largestFree)
+figure-free (suc k) a i e = rw (e, largestFree)
+
+pub figure-halves : (k : ℕ) (a : List ℕ) (i : ℕ) → chunkFree (suc k) a i ≡ false
+    → largestFree (suc k) a i ≡ max (largestFree k a i) (largestFree k a (i + 2 ^ k))
+unfolding largestFree
+figure-halves k a i e = rw (e, largestFree)
+
+figure-none : (a : List ℕ) (i : ℕ) → chunkFree 0 a i ≡ false → largestFree 0 a i ≡ 0
+unfolding largestFree
+figure-none a i e = rw (e, largestFree)
+
+-- a figure is at most the chunk's size, and less where the chunk is not free
+pub figure-le : (k : ℕ) (a : List ℕ) (i : ℕ) → (largestFree k a i ≤ 2 ^ k) × (chunkFree k a i ≡ false → largestFree k a i < 2 ^ k)
+figure-le zero a i = elim (test-cases (chunkFree 0 a i)) [
+  | inl e ↦ (omega (arith, figure-free 0 a i e), λ f. absurd (true≢false (sym e ∙ f)))
+  | inr e ↦ (omega (arith, figure-none a i e), λ f. omega (arith, figure-none a i e))
+]
+figure-le (suc k) a i =
+    let l = figure-le k a i .0 in
+    let u = figure-le k a (i + 2 ^ k) .0 in
+    let p = pow-pos k in
+    elim (test-cases (chunkFree (suc k) a i)) [
+      | inl e ↦ (omega (arith, figure-free (suc k) a i e), λ f. absurd (true≢false (sym e ∙ f)))
+      | inr e ↦ let q = figure-halves k a i e in (omega (arith, pow-suc 2 k), λ f. omega (arith, pow-suc 2 k))
+    ]
+
+-- both halves of a free chunk are free, and a chunk whose halves are is free
+pub halves-free : (k : ℕ) (a : List ℕ) (i : ℕ) → chunkFree (suc k) a i ≡ true → (chunkFree k a i ≡ true) × (chunkFree k a (i + 2 ^ k) ≡ true)
+unfolding chunkFree
+halves-free k a i e = go (chunkFree k a i) refl e
+  where
+    go : (t : Bool) → chunkFree k a i ≡ t → elim t as (λ _. Bool) [ true ↦ chunkFree k a (i + 2 ^ k) | false ↦ false ] ≡ true
+        → (chunkFree k a i ≡ true) × (chunkFree k a (i + 2 ^ k) ≡ true)
+    go true p f = (p, f)
+    go false p f = absurd (true≢false (sym f))
+
+pub free-halves : (k : ℕ) (a : List ℕ) (i : ℕ) → chunkFree k a i ≡ true → chunkFree k a (i + 2 ^ k) ≡ true → chunkFree (suc k) a i ≡ true
+unfolding chunkFree
+free-halves k a i e f = rw (e, chunkFree) f
+
+-- a chunk whose figure is its size is free
+pub figure-whole : (k : ℕ) (a : List ℕ) (i : ℕ) → largestFree k a i ≡ 2 ^ k → chunkFree k a i ≡ true
+figure-whole k a i e = elim (test-cases (chunkFree k a i)) [ inl f ↦ f | inr f ↦ absurd (omega (arith, figure-le k a i .1 f)) ]
+
+-- as a recursion on the halves: x and y are their figures
+pub figure-of-halves : (k : ℕ) (a : List ℕ) (i : ℕ)
+    → let x = largestFree k a i in
+    let y = largestFree k a (i + 2 ^ k) in
+    ((x ≡ 2 ^ k) × (y ≡ 2 ^ k) → largestFree (suc k) a i ≡ 2 ^ suc k) × (((x ≡ 2 ^ k) × (y ≡ 2 ^ k) → ⊥) → largestFree (suc k) a i ≡ max x y)
+figure-of-halves k a i = (
+  λ e. figure-free (suc k) a i (free-halves k a i (figure-whole k a i (e .0)) (figure-whole k a (i + 2 ^ k) (e .1))),
+  λ n. elim (test-cases (chunkFree (suc k) a i)) [
+    | inr f ↦ figure-halves k a i f
+    | inl f ↦
+        let halves = halves-free k a i f in
+        absurd (n (figure-free k a i (halves .0), figure-free k a (i + 2 ^ k) (halves .1)))
+  ],
+)
+
+-- ---- a search in two parts
+
+orElse : Option ℕ → Option ℕ → Option ℕ
+orElse none y = y
+orElse (some x) y = some x
+
+lowest-append : (m n k : ℕ) (a : List ℕ) (i : ℕ) → lowestFrom (m + n) k a i ≡ orElse (lowestFrom m k a i) (lowestFrom n k a (i + m * 2 ^ k))
+unfolding lowestFrom orElse
+lowest-append zero n k a i = ap (λ (m : ℕ). lowestFrom m k a i) (zero-add n) ∙ ap (lowestFrom n k a) (omega arith)
+lowest-append (suc m) n k a i =
+    ap (λ (x : ℕ). lowestFrom x k a i) (suc-add m n)
+    ∙ go (chunkFree k a i)
+    (lowest-append m n k a (i + 2 ^ k)
+    ∙ ap (λ (x : ℕ). orElse (lowestFrom m k a (i + 2 ^ k)) (lowestFrom n k a x)) (omega arith))
+  where
+    go : (t : Bool) → lowestFrom (m + n) k a (i + 2 ^ k) ≡ orElse (lowestFrom m k a (i + 2 ^ k)) (lowestFrom n k a (i + suc m * 2 ^ k))
+        → elim t as (λ _. Option ℕ) [ true ↦ some i | false ↦ lowestFrom (m + n) k a (i + 2 ^ k) ]
+        ≡ orElse (elim t [ true ↦ some i | false ↦ lowestFrom m k a (i + 2 ^ k) ]) (lowestFrom n k a (i + suc m * 2 ^ k))
+    go true e = refl
+    go false e = e
+
+isSome : Option ℕ → Bool
+isSome none = false
+isSome (some x) = true
+
+found-or : (x y : Option ℕ) → isSome (orElse x y) ≡ (isSome x || isSome y)
+unfolding orElse isSome
+found-or none y = refl
+found-or (some x) y = refl
+
+none-or : (x y : Option ℕ) → isSome x ≡ false → orElse x y ≡ y
+unfolding orElse isSome
+none-or none y e = refl
+none-or (some x) y e = absurd (true≢false e)
+
+some-or : (x y : Option ℕ) → isSome x ≡ true → orElse x y ≡ x
+unfolding orElse isSome
+some-or none y e = absurd (true≢false (sym e))
+some-or (some x) y e = refl
+
+-- ---- a figure suffices exactly where the search of its blocks finds a chunk
+
+leb-max : (m x y : ℕ) → (leb m x || leb m y) ≡ leb m (max x y)
+leb-max m x y =
+    elim (decLe m x) [
+      | yes l ↦ ap (λ (t : Bool). t || leb m y) (le-leb m x l) ∙ sym (le-leb m (max x y) (omega arith))
+      | no l ↦
+          ap (λ (t : Bool). t || leb m y) (lt-leb m x (omega arith))
+          ∙ elim (decLe m y) [
+            | yes u ↦ le-leb m y u ∙ sym (le-leb m (max x y) (omega arith))
+            | no u ↦ lt-leb m y (omega arith) ∙ sym (lt-leb m (max x y) (omega arith))
+          ]
+    ]
+
+one-chunk : (k : ℕ) (a : List ℕ) (i : ℕ) → isSome (lowestFrom 1 k a i) ≡ chunkFree k a i
+unfolding lowestFrom isSome
+one-chunk k a i = elim (test-cases (chunkFree k a i)) [ inl e ↦ rw (e, lowestFrom) | inr e ↦ rw (e, lowestFrom) ]
+
+suffices-free : (k : ℕ) (a : List ℕ) (i : ℕ) → leb (2 ^ k) (largestFree k a i) ≡ chunkFree k a i
+suffices-free k a i = elim (test-cases (chunkFree k a i)) [
+  | inl e ↦ le-leb (2 ^ k) (largestFree k a i) (omega (arith, figure-free k a i e)) ∙ sym e
+  | inr e ↦ lt-leb (2 ^ k) (largestFree k a i) (figure-le k a i .1 e) ∙ sym e
+]
+
+-- the search among the 2 ^ t chunks of 2 ^ k blocks from block i on
+figure-found : (t k : ℕ) (a : List ℕ) (i : ℕ) → isSome (lowestFrom (2 ^ t) k a i) ≡ leb (2 ^ k) (largestFree (t + k) a i)
+figure-found zero k a i =
+    one-chunk k a i ∙ sym (suffices-free k a i) ∙ ap (λ (e : ℕ). leb (2 ^ k) (largestFree e a i)) (sym (zero-add k))
+figure-found (suc t) k a i =
+    ap isSome halves
+    ∙ found-or (lowestFrom (2 ^ t) k a i) (lowestFrom (2 ^ t) k a (i + 2 ^ (t + k)))
+    ∙ ap₂ (λ (x y : Bool). x || y) (figure-found t k a i) (figure-found t k a (i + 2 ^ (t + k)))
+    ∙ both (test-cases (chunkFree (suc (t + k)) a i))
+    ∙ ap (λ (e : ℕ). leb (2 ^ k) (largestFree e a i)) (sym (suc-add t k))
+  where
+    halves : lowestFrom (2 ^ suc t) k a i ≡ orElse (lowestFrom (2 ^ t) k a i) (lowestFrom (2 ^ t) k a (i + 2 ^ (t + k)))
+    halves =
+        ap (λ (n : ℕ). lowestFrom n k a i) (omega (arith, pow-suc 2 t))
+        ∙ lowest-append (2 ^ t) (2 ^ t) k a i
+        ∙ ap (λ (x : ℕ). orElse (lowestFrom (2 ^ t) k a i) (lowestFrom (2 ^ t) k a (i + x))) (sym (pow-add 2 t k))
+
+    l : ℕ
+    l = largestFree (t + k) a i
+
+    u : ℕ
+    u = largestFree (t + k) a (i + 2 ^ (t + k))
+
+    both : (chunkFree (suc (t + k)) a i ≡ true) ⊎ (chunkFree (suc (t + k)) a i ≡ false)
+        → (leb (2 ^ k) l || leb (2 ^ k) u) ≡ leb (2 ^ k) (largestFree (suc (t + k)) a i)
+    both (inl e) =
+        let all = figure-free (t + k) a i (halves-free (t + k) a i e .0) in
+        let most = pow-mono {i = k} {j = t + k} (omega arith) in
+        let more = pow-suc 2 (t + k) in
+        ap (λ (x : Bool). x || leb (2 ^ k) u) (le-leb (2 ^ k) l (omega arith))
+        ∙ sym (le-leb (2 ^ k) (largestFree (suc (t + k)) a i) (omega (arith, figure-free (suc (t + k)) a i e)))
+    both (inr e) = leb-max (2 ^ k) l u ∙ ap (leb (2 ^ k)) (sym (figure-halves (t + k) a i e))
+
+-- ---- the search by sections: n sections of 2 ^ (t + k) blocks from number s on, whose figures are true
+
+module _ (t k : ℕ) (a sections : List ℕ) where
+  -- the search of one section
+  within : Option ℕ → Option ℕ
+  within none = none
+  within (some s) = lowestFrom (2 ^ t) k a (s * 2 ^ (t + k))
+
+  by-sections : (n s : ℕ) → ((j : ℕ) → s ≤ j → j < s + n → getD sections j 0 ≡ largestFree (t + k) a (j * 2 ^ (t + k)))
+      → within (sufficesFrom n sections (2 ^ k) s) ≡ lowestFrom (n * 2 ^ t) k a (s * 2 ^ (t + k))
+  unfolding within sufficesFrom lowestFrom
+  by-sections zero s true-list = ap (λ (m : ℕ). lowestFrom m k a (s * 2 ^ (t + k))) (sym (zero-mul (2 ^ t)))
+  by-sections (suc n) s true-list =
+      go (test-cases (leb (2 ^ k) (getD sections s 0))) (by-sections n (s + 1) (λ j l u. true-list j (omega arith) (omega arith)))
+      ∙ sym (lowest-append (2 ^ t) (n * 2 ^ t) k a from)
+      ∙ ap (λ (m : ℕ). lowestFrom m k a from) chunks
+    where
+      chunks : 2 ^ t + n * 2 ^ t ≡ suc n * 2 ^ t
+      chunks = omega (arith, suc-mul n (2 ^ t))
+
+      from : ℕ
+      from = s * 2 ^ (t + k)
+
+      here : Option ℕ
+      here = lowestFrom (2 ^ t) k a from
+
+      rest : Option ℕ
+      rest = lowestFrom (n * 2 ^ t) k a (from + 2 ^ t * 2 ^ k)
+
+      found : isSome here ≡ leb (2 ^ k) (getD sections s 0)
+      found = figure-found t k a from ∙ ap (leb (2 ^ k)) (sym (true-list s (omega arith) (omega arith)))
+
+      next : (s + 1) * 2 ^ (t + k) ≡ from + 2 ^ t * 2 ^ k
+      next = omega (arith, pow-add 2 t k)
+
+      go : (leb (2 ^ k) (getD sections s 0) ≡ true) ⊎ (leb (2 ^ k) (getD sections s 0) ≡ false)
+          → within (sufficesFrom n sections (2 ^ k) (s + 1)) ≡ lowestFrom (n * 2 ^ t) k a ((s + 1) * 2 ^ (t + k))
+          → within (sufficesFrom (suc n) sections (2 ^ k) s) ≡ orElse here rest
+      go (inl e) later = rw (e, sufficesFrom) (sym (some-or here rest (found ∙ e)))
+      go (inr e) later =
+          rw (e, sufficesFrom)
+          (later
+          ∙ ap (λ (i : ℕ). lowestFrom (n * 2 ^ t) k a i) next
+          ∙ sym (none-or here rest (found ∙ e)))
+
+-- ---- the sections of a heap
+
+-- a heap's sections have 2 ^ exponent blocks, and they are the whole heap
+pub record Divided (N : ℕ) : Type 0 where
+  pub exponent-is : 2 ^ exponent (sectionLength N) ≡ sectionLength N
+  pub whole : sectionCount N * sectionLength N ≡ N
+
+exponent-power : (k : ℕ) → 2 ^ exponent (2 ^ k) ≡ 2 ^ k
+exponent-power k =
+    let least = pow-mono {i = exponent (2 ^ k)} {j = k} (exponent-least (2 ^ k) k (omega arith)) in
+    omega (arith, exponent-covers (2 ^ k))
+
+pub divided : (N : ℕ) → isBlocks N ≡ true → Divided N
+divided N e = elim (decLe N 256) [
+  | yes l ↦
+      let power = blocks-power N e in
+      let same : sectionLength N ≡ N = omega arith in
+      record {
+        exponent-is = ap (λ (x : ℕ). 2 ^ exponent x) (same ∙ power .1) ∙ exponent-power (power .0) ∙ sym (power .1) ∙ sym same;
+        whole = rw same (ap (λ (x : ℕ). x * N) (div-self {n = N} (omega (arith, pow-pos (power .0), power .1))) ∙ omega arith);
+      }
+  | no l ↦
+      let facts = blocks-facts N e in
+      let j : ℕ = facts .0 in
+      let same : sectionLength N ≡ 256 = omega arith in
+      let above : 5 < j = elim (decLe j 5) [ yes m ↦ absurd (omega (arith, facts .2, pow-mono {i = j} {j = 5} m)) | no m ↦ omega arith ] in
+      let split : j ≡ 5 + (j - 5) = omega arith in
+      let times : N ≡ 2 ^ (j - 5) * 256 = omega (arith, facts .2, ap (λ (x : ℕ). 2 ^ x) split, pow-add 2 5 (j - 5)) in
+      record {
+        exponent-is = ap (λ (x : ℕ). 2 ^ exponent x) same ∙ exponent-power 8 ∙ sym same;
+        whole = rw same (ap (λ (x : ℕ). x * 256) (div-eq-of-eq-mul-left {n = 256} {m = N} {k = 2 ^ (j - 5)} (omega arith) times) ∙ sym times);
+      }
+]
+
+-- a chunk of at most a section's length: its exponent is at most the section's
+pub exponents : (N k : ℕ) → Divided N → 2 ^ k ≤ sectionLength N → k ≤ exponent (sectionLength N)
+exponents N k d l = elim (decLe k (exponent (sectionLength N))) [
+  | yes m ↦ m
+  | no m ↦ absurd (omega (arith, d .exponent-is, pow-lt {i = exponent (sectionLength N)} {j = k} (omega arith)))
+]
+
+-- "For every heap the address, or the lack of one, must be that of document 01"
+pub sections-find-lowest : (N k : ℕ) (a : List ℕ) → isBlocks N ≡ true → 2 ^ k ≤ sectionLength N → lowestBySections N k a ≡ lowestFree N k a
+unfolding lowestBySections lowestInSection lowestFree figures figure within
+sections-find-lowest N k a blocks short =
+    searched (sufficesFrom (sectionCount N) (figures N a) (2 ^ k) 0)
+    ∙ by-sections t k a (figures N a) (sectionCount N) 0 true-list
+    ∙ ap₂ (λ (n i : ℕ). lowestFrom n k a i) chunks (zero-mul (2 ^ (t + k)))
+  where
+    d : Divided N
+    d = divided N blocks
+
+    m : ℕ
+    m = exponent (sectionLength N)
+
+    t : ℕ
+    t = m - k
+
+    sum : t + k ≡ m
+    sum = omega (arith, exponents N k d short)
+
+    length-is : 2 ^ (t + k) ≡ sectionLength N
+    length-is = ap (λ (x : ℕ). 2 ^ x) sum ∙ d .exponent-is
+
+    in-section : sectionLength N / 2 ^ k ≡ 2 ^ t
+    in-section = div-eq-of-eq-mul-left {n = 2 ^ k} {m = sectionLength N} {k = 2 ^ t} (pow-pos k) (sym length-is ∙ pow-add 2 t k)
+
+    searched : (s : Option ℕ) → lowestInSection N k a s ≡ within t k a (figures N a) s
+    searched none = refl
+    searched (some s) = ap₂ (λ (n i : ℕ). lowestFrom n k a i) in-section (ap (λ (x : ℕ). s * x) (sym length-is))
+
+    true-list : (j : ℕ) → 0 ≤ j → j < 0 + sectionCount N → getD (figures N a) j 0 ≡ largestFree (t + k) a (j * 2 ^ (t + k))
+    true-list j l u =
+        getD-tabulate 0 (sectionCount N) (figure N a) j (omega arith)
+        ∙ ap₂ (λ (e i : ℕ). largestFree e a i) (sym sum) (ap (λ (x : ℕ). j * x) (sym length-is))
+
+    chunks : sectionCount N * 2 ^ t ≡ N / 2 ^ k
+    chunks =
+        sym
+        (div-eq-of-eq-mul-left {n = 2 ^ k} {m = N} {k = sectionCount N * 2 ^ t} (pow-pos k)
+        (sym (d .whole) ∙ ap (λ (x : ℕ). sectionCount N * x) (sym length-is ∙ pow-add 2 t k) ∙ sym (mul-assoc (sectionCount N) (2 ^ t) (2 ^ k))))
+
+-- ---- a figure is the largest
+
+-- a free chunk of 2 ^ k blocks among the 2 ^ t from number u on is at most the figure
+pub none-larger : (t k : ℕ) (a : List ℕ) (u c : ℕ) → u ≤ c → c < u + 2 ^ t → chunkFree k a (c * 2 ^ k) ≡ true
+    → 2 ^ k ≤ largestFree (t + k) a (u * 2 ^ k)
+none-larger zero k a u c l m free =
+    let here : c ≡ u = omega arith in
+    rw (zero-add k) (let e = figure-free k a (u * 2 ^ k) (ap (λ (x : ℕ). chunkFree k a (x * 2 ^ k)) (sym here) ∙ free) in omega arith)
+none-larger (suc t) k a u c l m free =
+    rw (suc-add t k) (elim (test-cases (chunkFree (suc (t + k)) a i)) [
+      | inl e ↦ omega (arith, figure-free (suc (t + k)) a i e, pow-suc 2 (t + k), pow-mono {i = k} {j = t + k} (omega arith))
+      | inr e ↦
+          let both = figure-halves (t + k) a i e in
+          elim (decLt c (u + 2 ^ t)) [
+            | yes v ↦ omega (arith, none-larger t k a u c l v free)
+            | no v ↦
+                let upper = none-larger t k a (u + 2 ^ t) c (omega arith) (omega (arith, pow-suc 2 t)) free in
+                omega (arith, ap (largestFree (t + k) a) half, upper)
+          ]
+    ])
+  where
+    i : ℕ
+    i = u * 2 ^ k
+
+    half : i + 2 ^ (t + k) ≡ (u + 2 ^ t) * 2 ^ k
+    half = omega (arith, pow-add 2 t k)
+
+-- a figure that is not 0 is the size of a free chunk of these blocks
+pub record FreeAmong (e : ℕ) (a : List ℕ) (i : ℕ) : Type 0 where
+  pub smaller : ℕ
+  pub exponent : ℕ
+  pub number : ℕ
+  pub sum : smaller + exponent ≡ e
+  pub within : number < 2 ^ smaller
+  pub figure-is : largestFree e a i ≡ 2 ^ exponent
+  pub free : chunkFree exponent a (i + number * 2 ^ exponent) ≡ true
+
+whole : (e : ℕ) (a : List ℕ) (i : ℕ) → chunkFree e a i ≡ true → FreeAmong e a i
+whole e a i f = record {
+  smaller = 0;
+  exponent = e;
+  number = 0;
+  sum = zero-add e;
+  within = omega arith;
+  figure-is = figure-free e a i f;
+  free = ap (chunkFree e a) (omega arith) ∙ f;
+}
+
+pub there-is : (e : ℕ) (a : List ℕ) (i : ℕ) → largestFree e a i ≢ 0 → FreeAmong e a i
+there-is zero a i n = elim (test-cases (chunkFree 0 a i)) [ inl f ↦ whole 0 a i f | inr f ↦ absurd (n (figure-none a i f)) ]
+there-is (suc e) a i n = elim (test-cases (chunkFree (suc e) a i)) [
+  | inl f ↦ whole (suc e) a i f
+  | inr f ↦
+      let both = figure-halves e a i f in
+      elim (decLe (largestFree e a (i + 2 ^ e)) (largestFree e a i)) [
+        | yes l ↦
+            let lower = there-is e a i (λ z. n (omega arith)) in
+            record {
+              smaller = suc (lower .smaller);
+              exponent = lower .exponent;
+              number = lower .number;
+              sum = omega (arith, lower .sum);
+              within = omega (arith, lower .within, pow-suc 2 (lower .smaller));
+              figure-is = omega (arith, lower .figure-is);
+              free = lower .free;
+            }
+        | no l ↦
+            let upper = there-is e a (i + 2 ^ e) (λ z. n (omega arith)) in
+            let k : ℕ = upper .exponent in
+            let half : 2 ^ e ≡ 2 ^ (upper .smaller) * 2 ^ k = ap (λ (x : ℕ). 2 ^ x) (sym (upper .sum)) ∙ pow-add 2 (upper .smaller) k in
+            let at : i + (2 ^ (upper .smaller) + upper .number) * 2 ^ k ≡ i + 2 ^ e + upper .number * 2 ^ k = omega arith in
+            record {
+              smaller = suc (upper .smaller);
+              exponent = k;
+              number = 2 ^ (upper .smaller) + upper .number;
+              sum = omega (arith, upper .sum);
+              within = omega (arith, upper .within, pow-suc 2 (upper .smaller));
+              figure-is = omega (arith, upper .figure-is);
+              free = ap (chunkFree k a) at ∙ upper .free;
+            }
+      ]
+]
