@@ -1,0 +1,65 @@
+// Sections of the heap (request U4): the size of the largest free chunk of each, read off the A-map.
+ghost use mathlib.Core.Path.{_≡_};
+ghost use mathlib.Core.Bool.{true};
+ghost use Prim.Native.Nat.{ℕ, _+_, _*_, _%_, _^_, _<_, _≤_};
+ghost use lib.ListN.{length};
+ghost use Rattle.rules.specs.Heap.{isBlocks};
+ghost use Rattle.rules.specs.Sections.{sectionLength, sectionCount, largestFree, figure, figures, staleFigures};
+ghost use Rattle.sections.specs.Figures.{byteFigure, Spoilt};
+use blocks::Ref;
+
+// The longest section, in blocks.
+const MAX_SECTION: usize = 256;
+
+// A figure that no section has: it has to be found anew.
+pub const UNKNOWN: Ref = 65535;
+
+// The largest free chunk of four blocks, by their bits.
+const FOUR_BLOCKS: [u8; 16] = [4, 2, 2, 2, 2, 1, 1, 1, 2, 1, 1, 1, 2, 1, 1, 0];
+
+// The length of a section, in blocks.
+pub fn section_length(blocks: usize) -> usize
+    ensures { λ r. ⌜ r ≡ sectionLength blocks ⌝ }
+{
+    if blocks < MAX_SECTION {
+        return blocks;
+    }
+    MAX_SECTION
+}
+
+// The largest free chunk of the eight blocks of a byte.
+fn byte_figure(byte: u8) -> usize
+    ensures { λ r. ⌜ r ≡ byteFigure byte ⌝ }
+{
+    if byte == 0 {
+        return 8;
+    }
+    let lower = FOUR_BLOCKS[(byte % 16) as usize];
+    let upper = FOUR_BLOCKS[(byte / 16) as usize];
+    if lower < upper {
+        return upper as usize;
+    }
+    lower as usize
+}
+
+// The largest free chunk of the `size` blocks from block `at` on: all of them where both halves are free, else the larger of what their
+// halves have. Eight blocks are a byte.
+fn largest_free(a: &[u8], at: usize, size: usize) -> usize
+    requires { ⌜ ((k : ℕ) × (size ≡ 2 ^ k)) ⌝ }
+    requires { ⌜ (8 ≤ size) × (at % 8 ≡ 0) × (at + size ≤ 8 * length (now a)) × (at + size < 2 ^ 64) ⌝ }
+    ensures { λ r. ⌜ ((k : ℕ) → size ≡ 2 ^ k → r ≡ largestFree k (now (a .entry)) at) ⌝ }
+{
+    if size == 8 {
+        return byte_figure(a[at / 8]);
+    }
+    let half = size / 2;
+    let lower = largest_free(a, at, half);
+    let upper = largest_free(a, at + half, half);
+    if lower < upper {
+        return upper;
+    }
+    if upper == half {
+        return size;
+    }
+    lower
+}
