@@ -1,6 +1,7 @@
 pub mod Cases
 pub mod WrongAnswers
 pub mod Tests
+pub mod Searches
 pub mod Tabulate
 pub mod Shape
 pub mod Objects

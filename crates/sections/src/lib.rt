@@ -63,3 +63,42 @@ fn largest_free(a: &[u8], at: usize, size: usize) -> usize
     }
     lower
 }
+
+// The figure of section number s.
+fn section_figure(blocks: usize, a: &[u8], s: usize) -> usize
+    requires { ⌜ (isBlocks blocks ≡ true) × (blocks ≤ 8 * length (now a)) × (s < sectionCount blocks) ⌝ }
+    ensures { λ r. ⌜ (r ≡ figure blocks (now (a .entry)) s) × (r ≤ 256) ⌝ }
+{
+    let size = section_length(blocks);
+    largest_free(a, s * size, size)
+}
+
+// Whether the list of figures differs from what the A-map says.
+pub fn is_stale(blocks: usize, a: &[u8], sections: &[Ref]) -> bool
+    requires { ⌜ (isBlocks blocks ≡ true) × (blocks ≤ 8 * length (now a)) × (length (now sections) ≡ sectionCount blocks) ⌝ }
+    ensures { λ r. ⌜ r ≡ staleFigures blocks (now (a .entry)) (now (sections .entry)) ⌝ }
+{
+    let mut s = 0;
+    while s < sections.len() {
+        if sections[s] as usize != section_figure(blocks, a, s) {
+            return true;
+        }
+        s += 1;
+    }
+    false
+}
+
+// Finds the unknown figures anew.
+pub fn renew(blocks: usize, a: &[u8], sections: &mut [Ref])
+    requires { ⌜ (isBlocks blocks ≡ true) × (blocks ≤ 8 * length (now a)) × (length (now sections) ≡ sectionCount blocks)
+        × Spoilt blocks (now a) (now sections) ⌝ }
+    ensures { λ _. ⌜ now (sections .exit) ≡ figures blocks (now (a .entry)) ⌝ }
+{
+    let mut s = 0;
+    while s < sections.len() {
+        if sections[s] == UNKNOWN {
+            sections[s] = section_figure(blocks, a, s) as Ref;
+        }
+        s += 1;
+    }
+}

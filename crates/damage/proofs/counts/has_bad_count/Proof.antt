@@ -10,7 +10,7 @@ use lib.Pow.{pow-pos}
 use Rattle.bitmap.proofs.Bits.{shift-exact}
 use Rattle.rules.specs.Heap.{Memory, memory, maxBlocks, references}
 use Rattle.rules.specs.Damage.{badCount}
-use Rattle.damage.proofs.Searches.{Searched, searched-start, searched-next, searched-all, searched-hit}
+use Rattle.rules.proofs.Searches.{Searched, searched-start, searched-next, searched-all, searched-hit}
 use Rattle.damage.proofs.Tally.{holding-le, bad-count-read}
 use Rattle.damage.proofs.counts.has_bad_count.Statement.{statement}
 use Rattle.damage.proofs.counts.has_bad_count.Tie as tie

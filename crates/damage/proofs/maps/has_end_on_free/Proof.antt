@@ -9,7 +9,7 @@ use borrow.Author.Tests.{eq-eqb, ne-eqb}
 use Rattle.bitmap.specs.Bit.{bitAt}
 use Rattle.rules.specs.Heap.{memory}
 use Rattle.rules.specs.Damage.{endOnFree}
-use Rattle.damage.proofs.Searches.{Searched, searched-start, searched-next, searched-all, searched-hit}
+use Rattle.rules.proofs.Searches.{Searched, searched-start, searched-next, searched-all, searched-hit}
 use Rattle.damage.proofs.maps.has_end_on_free.Statement.{statement}
 use Rattle.damage.proofs.maps.has_end_on_free.Tie as tie
 

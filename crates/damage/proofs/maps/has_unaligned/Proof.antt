@@ -9,7 +9,7 @@ use borrow.Author.Tests.{eq-eqb, ne-eqb}
 use lib.Pow.{pow-pos}
 use Rattle.rules.specs.Heap.{memory, exponent, firstIn, sizeFrom}
 use Rattle.rules.specs.Damage.{unaligned}
-use Rattle.damage.proofs.Searches.{Searched, searched-start, searched-next, searched-all, searched-hit}
+use Rattle.rules.proofs.Searches.{Searched, searched-start, searched-next, searched-all, searched-hit}
 use Rattle.damage.proofs.maps.has_unaligned.Statement.{statement}
 use Rattle.damage.proofs.maps.has_unaligned.Tie as tie
 

@@ -10,7 +10,7 @@ use borrow.Author.Tests.{eq-eqb, ne-eqb}
 use Rattle.bitmap.specs.Bit.{bitAt}
 use Rattle.rules.specs.Heap.{memory, refIn}
 use Rattle.rules.specs.Damage.{badCell}
-use Rattle.damage.proofs.Searches.{Searched, searched-start, searched-next, searched-all, searched-hit}
+use Rattle.rules.proofs.Searches.{Searched, searched-start, searched-next, searched-all, searched-hit}
 use Rattle.damage.proofs.refs.has_bad_cell.Statement.{statement}
 use Rattle.damage.proofs.refs.has_bad_cell.Tie as tie
 

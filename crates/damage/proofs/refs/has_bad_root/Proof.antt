@@ -7,7 +7,7 @@ use native.Mathlib.Omega.{arith}
 use lib.ListN.{length}
 use Rattle.rules.specs.Heap.{memory}
 use Rattle.rules.specs.Damage.{badRoot}
-use Rattle.damage.proofs.Searches.{Searched, searched-start, searched-next, searched-all, searched-hit}
+use Rattle.rules.proofs.Searches.{Searched, searched-start, searched-next, searched-all, searched-hit}
 use Rattle.damage.proofs.refs.has_bad_root.Statement.{statement}
 use Rattle.damage.proofs.refs.has_bad_root.Tie as tie
 
