@@ -307,6 +307,44 @@ sections-find-lowest N k a blocks short =
         (div-eq-of-eq-mul-left {n = 2 ^ k} {m = N} {k = sectionCount N * 2 ^ t} (pow-pos k)
         (sym (d .whole) ∙ ap (λ (x : ℕ). sectionCount N * x) (sym length-is ∙ pow-add 2 t k) ∙ sym (mul-assoc (sectionCount N) (2 ^ t) (2 ^ k))))
 
+-- a section that suffices is one of them, and has a chunk
+pub suffices-facts : (n : ℕ) (sections : List ℕ) (size from s : ℕ) → sufficesFrom n sections size from ≡ some s
+    → (s < from + n) × (leb size (getD sections s 0) ≡ true)
+unfolding sufficesFrom
+suffices-facts zero sections size from s e = let z : _≡_ {A = ℕ} 0 1 = cc in absurd (omega arith)
+suffices-facts (suc n) sections size from s e = elim (test-cases (leb size (getD sections from 0))) [
+  | inl f ↦
+      let same : _≡_ {A = Option ℕ} (some from) (some s) = rw (f, sufficesFrom) at e in
+      let here : from ≡ s = cc in
+      (omega arith, ap (λ (x : ℕ). leb size (getD sections x 0)) (sym here) ∙ f)
+  | inr f ↦ let later = suffices-facts n sections size (from + 1) s (rw (f, sufficesFrom) at e) in (omega (arith, later .0), later .1)
+]
+
+is-some : (x : Option ℕ) → isSome x ≡ true → (i : ℕ) × (x ≡ some i)
+unfolding isSome
+is-some none e = absurd (true≢false (sym e))
+is-some (some i) e = (i, refl)
+
+pub section-has : (N k : ℕ) (a : List ℕ) (s : ℕ) → isBlocks N ≡ true → 2 ^ k ≤ sectionLength N
+    → sufficesFrom (sectionCount N) (figures N a) (2 ^ k) 0 ≡ some s
+    → (s < sectionCount N) × ((i : ℕ) × (lowestInSection N k a (some s) ≡ some i))
+unfolding lowestInSection figures figure
+section-has N k a s blocks short e =
+    let facts = suffices-facts (sectionCount N) (figures N a) (2 ^ k) 0 s e in
+    let below : s < sectionCount N = omega (arith, facts .0) in
+    let d = divided N blocks in
+    let m : ℕ = exponent (sectionLength N) in
+    let t : ℕ = m - k in
+    let sum : t + k ≡ m = omega (arith, exponents N k d short) in
+    let chunks : sectionLength N / 2 ^ k ≡ 2 ^ t =
+    div-eq-of-eq-mul-left {n = 2 ^ k} {m = sectionLength N} {k = 2 ^ t} (pow-pos k) (sym (d .exponent-is) ∙ ap (λ (x : ℕ). 2 ^ x) (sym sum) ∙ pow-add 2 t k) in
+    let true-figure : getD (figures N a) s 0 ≡ largestFree (t + k) a (s * sectionLength N) =
+    getD-tabulate 0 (sectionCount N) (figure N a) s below ∙ ap (λ (x : ℕ). largestFree x a (s * sectionLength N)) (sym sum) in
+    let there : isSome (lowestFrom (2 ^ t) k a (s * sectionLength N)) ≡ true =
+    figure-found t k a (s * sectionLength N) ∙ ap (leb (2 ^ k)) (sym true-figure) ∙ facts .1 in
+    let found = is-some (lowestFrom (2 ^ t) k a (s * sectionLength N)) there in
+    (below, (found .0, ap (λ (n : ℕ). lowestFrom n k a (s * sectionLength N)) chunks ∙ found .1))
+
 -- ---- a figure is the largest
 
 -- a free chunk of 2 ^ k blocks among the 2 ^ t from number u on is at most the figure

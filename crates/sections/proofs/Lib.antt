@@ -1,3 +1,4 @@
 pub mod Figures
 pub mod Places
 pub mod Lists
+pub mod BySections

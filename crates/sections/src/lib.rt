@@ -8,6 +8,8 @@ ghost use Rattle.rules.specs.Sections.{sectionLength, sectionCount, largestFree
 ghost use Rattle.sections.specs.Figures.{byteFigure, Spoilt};
 use blocks::Ref;
 
+pub mod search;
+
 // The longest section, in blocks.
 const MAX_SECTION: usize = 256;
 
