@@ -1,10 +1,29 @@
 -- `mutate::format` meets its contract: refused for its shape, or every buffer filled.
 use mathlib.Core.Path.{sym, _∙_}
+use borrow.Author.Needs.{needs}
 use borrow.Author.Tests.{not-true, not-false}
 use Rattle.mutate.proofs.Formatted.{format-refused, format-done}
-use borrow.Author.Needs.{needs}
 use Rattle.mutate.proofs.format.Statement.{statement}
 use Rattle.mutate.proofs.format.Tie as tie
+
+-- the places, from the end back to the test: each buffer filled
+abbrev waiting : tie.After-acceptance → tie.After-clear-all3
+waiting c = c .before .before .before
+
+abbrev roots : tie.After-acceptance → tie.After-clear-all2
+roots c = waiting c .before .before .before .before
+
+abbrev cells : tie.After-acceptance → tie.After-clear-all
+cells c = roots c .before .before .before .before
+
+abbrev counts : tie.After-acceptance → tie.After-fill-bytes3
+counts c = cells c .before .before .before .before
+
+abbrev b : tie.After-acceptance → tie.After-fill-bytes2
+b c = counts c .before .before .before .before
+
+abbrev a : tie.After-acceptance → tie.After-fill-bytes
+a c = b c .before .before .before .before
 
 is-shaped-requires : tie.Need-is-shaped-requires
 is-shaped-requires c κs = search needs
@@ -38,34 +57,16 @@ clear-all-requires-3 c κs = search needs
 acceptance-requires : tie.Need-acceptance-requires
 acceptance-requires c κs = search needs
 
-same-length : tie.Need-same-length
-same-length c = search needs
-
-same-length-2 : tie.Need-same-length-2
-same-length-2 c = search needs
-
-same-length-3 : tie.Need-same-length-3
-same-length-3 c = search needs
-
-same-length-4 : tie.Need-same-length-4
-same-length-4 c = search needs
-
-same-length-5 : tie.Need-same-length-5
-same-length-5 c = search needs
-
-same-length-6 : tie.Need-same-length-6
-same-length-6 c = search needs
-
 returns-2 : tie.Need-returns-2
 returns-2 c =
-    let shaped = c .before .before .before .before .before .before .before .before .before .before .before .before .before .before .before .before .before .before .before .before .before .before .before .before .before in
-    format-done _ _ _ (sym (shaped .before .is-shaped .ensures) ∙ not-false _ (shaped .if1 .left)) _ (c .acceptance .ensures) _ _ _ _ _ _
-    (c .before .before .before .before .before .before .before .before .before .before .before .before .before .before .before .before .before .before .before .before .before .before .before .fill-bytes .ensures)
-    (c .before .before .before .before .before .before .before .before .before .before .before .before .before .before .before .before .before .before .before .fill-bytes2 .ensures)
-    (c .before .before .before .before .before .before .before .before .before .before .before .before .before .before .before .fill-bytes3 .ensures)
-    (c .before .before .before .before .before .before .before .before .before .before .before .clear-all .ensures)
-    (c .before .before .before .before .before .before .before .clear-all2 .ensures)
-    (c .before .before .before .clear-all3 .ensures)
+    let tested = a c .before .before in
+    format-done _ _ _ (sym (tested .before .is-shaped .ensures) ∙ not-false _ (tested .if1 .left)) _ (c .acceptance .ensures) _ _ _ _ _ _
+    (a c .fill-bytes .ensures)
+    (b c .fill-bytes2 .ensures)
+    (counts c .fill-bytes3 .ensures)
+    (cells c .clear-all .ensures)
+    (roots c .clear-all2 .ensures)
+    (waiting c .clear-all3 .ensures)
 
 pub format-spec : {M : Type 1} → statement M
 format-spec =
@@ -81,10 +82,10 @@ format-spec =
     clear-all-requires-2
     clear-all-requires-3
     acceptance-requires
-    same-length
-    same-length-2
-    same-length-3
-    same-length-4
-    same-length-5
-    same-length-6
+    (λ c. a c .fill-bytes .kept .0)
+    (λ c. b c .fill-bytes2 .kept .0)
+    (λ c. counts c .fill-bytes3 .kept .0)
+    (λ c. cells c .clear-all .kept .0)
+    (λ c. roots c .clear-all2 .kept .0)
+    (λ c. waiting c .clear-all3 .kept .0)
     returns-2)

@@ -1,0 +1,31 @@
+-- `gates::allocate` meets its contract: the check, and then the call's own test.
+use mathlib.Core.Path.{refl}
+use native.Mathlib.Omega.{arith}
+use borrow.Author.Needs.{needs}
+use Rattle.rules.specs.Calls.{allocate, answer}
+use Rattle.inner.proofs.Idle.{healthy-blocks}
+use Rattle.inner.proofs.Allocated.{allocate-refused}
+use Rattle.gates.proofs.Checked.{checked-healthy, gate-shut, gate-open}
+use Rattle.gates.proofs.allocate.Statement.{statement}
+use Rattle.gates.proofs.allocate.Tie as tie
+
+check-requires : tie.Need-check-requires
+check-requires c κs = search needs
+
+returns : tie.Need-returns
+unfolding answer
+returns c = gate-shut _ _ _ _ (c .before .check .ensures) (c .if1 .taken) (allocate _ _) _ refl _
+
+allocate-reply-requires : tie.Need-allocate-reply-requires
+allocate-reply-requires c κs =
+    let healthy = checked-healthy _ _ _ _ (c .before .check .ensures) (c .if1 .left) in
+    (healthy-blocks _ _ _ healthy, omega (arith, healthy .shape .length-a, healthy .shape .whole-bytes))
+
+returns-2 : tie.Need-returns-2
+returns-2 c =
+    let passed = c .before in
+    gate-open _ _ _ _ (passed .before .check .ensures) (passed .if1 .left) _ _ _ (c .allocate-reply .ensures)
+    (λ healthy. allocate-refused _ _ _ _ _ healthy _ (c .allocate-reply .ensures))
+
+pub allocate-spec : {M : Type 1} → statement M
+allocate-spec = tie.close (tie.spec check-requires returns allocate-reply-requires returns-2)

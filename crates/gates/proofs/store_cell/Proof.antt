@@ -1,0 +1,30 @@
+-- `gates::store_cell` meets its contract: the check, and then the call's own test.
+use mathlib.Core.Path.{refl}
+use native.Mathlib.Omega.{arith}
+use borrow.Author.Needs.{needs}
+use Rattle.rules.specs.Calls.{storeCell, answer}
+use Rattle.inner.proofs.Passed.{cell-refused}
+use Rattle.gates.proofs.Checked.{checked-healthy, gate-shut, gate-open}
+use Rattle.gates.proofs.store_cell.Statement.{statement}
+use Rattle.gates.proofs.store_cell.Tie as tie
+
+check-requires : tie.Need-check-requires
+check-requires c κs = search needs
+
+returns : tie.Need-returns
+unfolding answer
+returns c = gate-shut _ _ _ _ (c .before .check .ensures) (c .if1 .taken) (storeCell _ _ _) _ refl _
+
+store-cell-test-requires : tie.Need-store-cell-test-requires
+store-cell-test-requires c κs =
+    let shape = checked-healthy _ _ _ _ (c .before .check .ensures) (c .if1 .left) .shape in
+    (omega (arith, shape .length-a, shape .whole-bytes), omega (arith, shape .length-b, shape .whole-bytes), shape .blocks-max)
+
+returns-2 : tie.Need-returns-2
+returns-2 c =
+    let passed = c .before in
+    gate-open _ _ _ _ (passed .before .check .ensures) (passed .if1 .left) _ _ _ (c .store-cell-test .ensures)
+    (cell-refused _ _ _ _ _ _ (c .store-cell-test .ensures) _)
+
+pub store-cell-spec : {M : Type 1} → statement M
+store-cell-spec = tie.close (tie.spec check-requires returns store-cell-test-requires returns-2)

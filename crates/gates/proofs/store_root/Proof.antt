@@ -1,0 +1,30 @@
+-- `gates::store_root` meets its contract: the check, and then the call's own test.
+use mathlib.Core.Path.{refl}
+use native.Mathlib.Omega.{arith}
+use borrow.Author.Needs.{needs}
+use Rattle.rules.specs.Calls.{storeRoot, answer}
+use Rattle.inner.proofs.Passed.{root-refused}
+use Rattle.gates.proofs.Checked.{checked-healthy, gate-shut, gate-open}
+use Rattle.gates.proofs.store_root.Statement.{statement}
+use Rattle.gates.proofs.store_root.Tie as tie
+
+check-requires : tie.Need-check-requires
+check-requires c κs = search needs
+
+returns : tie.Need-returns
+unfolding answer
+returns c = gate-shut _ _ _ _ (c .before .check .ensures) (c .if1 .taken) (storeRoot _ _) _ refl _
+
+store-root-test-requires : tie.Need-store-root-test-requires
+store-root-test-requires c κs =
+    let shape = checked-healthy _ _ _ _ (c .before .check .ensures) (c .if1 .left) .shape in
+    (omega (arith, shape .length-a, shape .whole-bytes), omega (arith, shape .length-b, shape .whole-bytes))
+
+returns-2 : tie.Need-returns-2
+returns-2 c =
+    let passed = c .before in
+    gate-open _ _ _ _ (passed .before .check .ensures) (passed .if1 .left) _ _ _ (c .store-root-test .ensures)
+    (root-refused _ _ _ _ _ (c .store-root-test .ensures) _)
+
+pub store-root-spec : {M : Type 1} → statement M
+store-root-spec = tie.close (tie.spec check-requires returns store-root-test-requires returns-2)

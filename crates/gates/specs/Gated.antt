@@ -1,0 +1,14 @@
+-- What the gate of a call answers: for contracts of inner functions.
+use Prim.Native.Nat.{ℕ}
+use mathlib.Core.Path.{_≡_}
+use Rattle.rules.specs.Heap.{Memory}
+use Rattle.rules.specs.Calls.{Call}
+use Rattle.rules.specs.Promise.{Promise}
+use Rattle.rules.specs.declared.Reply.{Reply}
+use Rattle.theory.specs.Statements.{Undamaged}
+
+-- A refusal is the call's own, with nothing written. Else the heap is undamaged, and `test`, the call's test of its own arguments, is passed.
+pub record Gated (N w : ℕ) (call : Call) (h : Memory) (reply test : Reply) : Type 0 where
+  pub refused : (reply .number ≡ 0 → ⊥) → Promise N w call h reply h
+  pub fit : reply .number ≡ 0 → Undamaged N w h
+  pub tested : reply .number ≡ 0 → reply ≡ test

@@ -1,0 +1,113 @@
+// The gates of the calls that write: all tests of a call, those of the heap and those of its own arguments, on shared slices. A gate can't
+// write, and a call that is refused has done nothing but pass its gate.
+ghost use mathlib.Core.List.{[]};
+ghost use lib.ListN.{length};
+ghost use Rattle.rules.specs.Heap.{memory};
+ghost use Rattle.rules.specs.Lent.{before};
+ghost use Rattle.rules.specs.Calls.{Call};
+ghost use Rattle.inner.specs.Replies.{storeRootTest, storeCellTest, allocateReply};
+ghost use Rattle.returns.specs.Returns.{returnTest};
+ghost use Rattle.gates.specs.Gated.{Gated};
+use blocks::Ref;
+use inner::tests;
+use rules::Reply;
+
+// The tests of an allocation of n blocks into root r. The value is the block where the object can start.
+pub fn allocate(
+    blocks: usize,
+    width: usize,
+    a: &[u8],
+    b: &[u8],
+    counts: &[u8],
+    cells: &[Ref],
+    roots: &[Ref],
+    waiting: &[Ref],
+    n: usize,
+    r: usize,
+) -> Reply
+    ensures { λ reply.
+        ⌜ Gated blocks width (Call.allocate n r) (before a b counts cells roots waiting) reply
+        (allocateReply blocks (now (a .entry)) (length (now (roots .entry))) n r) ⌝ }
+{
+    let checked = inspect::check(blocks, width, a, b, counts, cells, roots, waiting);
+    let number = checked.number;
+    if number != 0 {
+        return checked;
+    }
+    tests::allocate_reply(blocks, a, roots.len(), n, r)
+}
+
+// The tests of a store in root r.
+pub fn store_root(
+    blocks: usize,
+    width: usize,
+    a: &[u8],
+    b: &[u8],
+    counts: &[u8],
+    cells: &[Ref],
+    roots: &[Ref],
+    waiting: &[Ref],
+    r: usize,
+    v: usize,
+) -> Reply
+    ensures { λ reply.
+        ⌜ Gated blocks width (Call.storeRoot r v) (before a b counts cells roots waiting) reply
+        (storeRootTest blocks (memory (now (a .entry)) (now (b .entry)) [] [] (now (roots .entry)) []) r v) ⌝ }
+{
+    let checked = inspect::check(blocks, width, a, b, counts, cells, roots, waiting);
+    let number = checked.number;
+    if number != 0 {
+        return checked;
+    }
+    tests::store_root_test(blocks, a, b, roots, r, v)
+}
+
+// The tests of a store in cell j of the object at block `at`.
+pub fn store_cell(
+    blocks: usize,
+    width: usize,
+    a: &[u8],
+    b: &[u8],
+    counts: &[u8],
+    cells: &[Ref],
+    roots: &[Ref],
+    waiting: &[Ref],
+    at: usize,
+    j: usize,
+    v: usize,
+) -> Reply
+    ensures { λ reply.
+        ⌜ Gated blocks width (Call.storeCell at j v) (before a b counts cells roots waiting) reply
+        (storeCellTest blocks (memory (now (a .entry)) (now (b .entry)) [] [] [] []) at j v) ⌝ }
+{
+    let checked = inspect::check(blocks, width, a, b, counts, cells, roots, waiting);
+    let number = checked.number;
+    if number != 0 {
+        return checked;
+    }
+    tests::store_cell_test(blocks, a, b, at, j, v)
+}
+
+// The tests of a return of the roots of a set.
+pub fn return_roots(
+    blocks: usize,
+    width: usize,
+    a: &[u8],
+    b: &[u8],
+    counts: &[u8],
+    cells: &[Ref],
+    roots: &[Ref],
+    waiting: &[Ref],
+    chosen: u64,
+) -> Reply
+    ensures { λ reply.
+        ⌜ Gated blocks width (Call.returnRoots chosen) (before a b counts cells roots waiting) reply
+        (returnTest (length (now (roots .entry))) chosen) ⌝ }
+{
+    let checked = inspect::check(blocks, width, a, b, counts, cells, roots, waiting);
+    let number = checked.number;
+    if number != 0 {
+        return checked;
+    }
+    returns::return_test(roots.len(), chosen)
+}
