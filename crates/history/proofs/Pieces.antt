@@ -1,20 +1,24 @@
 -- A run over a piece, from what its whole records come to; and the answer of a run of records.
 use mathlib.Core.Path.{_≡_, refl, sym, ap, _∙_, subst}
+use mathlib.Core.Logic.{inl, inr}
 use mathlib.Core.Bool.{true, false}
 use mathlib.Core.List.{List}
 use Prim.Native.Nat.{ℕ, _-_, _*_, _≤_}
+use native.Mathlib.Decide.{ℕ-discrete}
 use native.Mathlib.Omega.{arith}
 use lib.ListN.{length, replicate}
 use borrow.Author.Tests.{eq-eqb, ne-eqb}
-use Rattle.rules.specs.Heap.{Memory, withWaiting}
-use Rattle.rules.specs.Calls.{check, reply, settled, answer}
+use Rattle.rules.specs.Heap.{Memory, withWaiting, shaped}
+use Rattle.rules.specs.Damage.{damage}
+use Rattle.rules.specs.Calls.{check, reply, accepted as Calls·accepted, settled, answer}
 use Rattle.rules.specs.Promise.{Promise}
 use Rattle.rules.specs.declared.Reply.{Reply}
 use Rattle.rules.proofs.Shape.{shape-facts}
+use Rattle.rules.proofs.Tests.{test-cases}
+use Rattle.rules.proofs.Replies.{on-undamaged-shaped, on-undamaged-no-damage}
 use Rattle.theory.specs.Balance.{inUse}
 use Rattle.inner.specs.Usable.{Usable}
 use Rattle.inner.proofs.Idle.{settled-usable}
-use Rattle.inspect.proofs.Checked.{checked-shaped, checked-undamaged}
 use Rattle.figures.specs.declared.tally.Run.{Run}
 use Rattle.figures.specs.Figures.{inRange}
 use Rattle.figures.proofs.Ranges.{in-range-within}
@@ -62,71 +66,101 @@ module _ (N w : ℕ) (bytes : List ℕ) (h : Memory) (r : Run) where
         usable = by .usable;
       }
 
--- ---- the heap that passed the check, with its waiting list cleared
+-- ---- the reply
 
-module _ (N w : ℕ) (h : Memory) (y : Reply) (checked : Promise N w check h y h) (accepts : y .number ≡ 0) (waiting : List ℕ)
-    (clear : waiting ≡ replicate (length (h .waiting)) 0) where
-  is-settled : settled N h ≡ withWaiting waiting h
-  is-settled =
-      ap (λ (l : List ℕ). withWaiting l h)
-      (ap (λ (n : ℕ). replicate n 0) (sym (shape-facts N w h (checked-shaped N w h y checked accepts) .length-waiting)) ∙ sym clear)
+module _ (N w : ℕ) (h : Memory) (r : Run) where
+  -- the check refuses
+  pub reply-unsound : (y : Reply) → Promise N w check h y h → (y .number ≡ 0 → ⊥) → y ≡ runReply N w h r
+  unfolding runReply
+  reply-unsound y checked refused =
+      checked .reply-is
+      ∙ sym (rw (ne-eqb (answer N w h check .0 .number) 0 (λ z. refused (ap (λ (v : Reply). v .number) (checked .reply-is) ∙ z)), runReply))
 
-  pub cleared-usable : Usable N w (withWaiting waiting h)
-  cleared-usable =
-      subst (λ (k : Memory). Usable N w k) is-settled
-      (settled-usable N w h (checked-shaped N w h y checked accepts) (checked-undamaged N w h y checked accepts))
+  module _ (passed : answer N w h check .0 .number ≡ 0) where
+    -- a run out of range
+    pub reply-range : inRange r ≡ false → (x : Reply) → x ≡ reply 19 0 0 → x ≡ runReply N w h r
+    unfolding runReply
+    reply-range out x e = e ∙ sym (rw (eq-eqb (answer N w h check .0 .number) 0 passed, out, runReply))
+
+    -- all is right
+    pub reply-passed : inRange r ≡ true → (x : Reply) → x ≡ reply 0 0 0 → x ≡ runReply N w h r
+    unfolding runReply
+    reply-passed range x e = e ∙ sym (rw (eq-eqb (answer N w h check .0 .number) 0 passed, range, runReply))
+
+  -- what an accepted run of records starts from
+  pub record Accepted : Type 0 where
+    pub reply-is : runReply N w h r ≡ reply 0 0 0
+    pub shape-is : shaped N w h ≡ true
+    pub undamaged : damage N w h ≡ 0
+    pub range : inRange r ≡ true
+
+  pub accepted : runReply N w h r .number ≡ 0 → Accepted
+  unfolding runReply answer
+  accepted e = elim (ℕ-discrete (answer N w h check .0 .number) 0) [
+    | no refused ↦ absurd (refused (rw (ne-eqb (answer N w h check .0 .number) 0 refused, runReply) at e))
+    | yes passed ↦ elim (test-cases (inRange r)) [
+      | inl range ↦
+          record {
+            reply-is = sym (reply-passed passed range (reply 0 0 0) refl);
+            shape-is = on-undamaged-shaped N w h (Calls·accepted h 0) passed;
+            undamaged = on-undamaged-no-damage N w h (Calls·accepted h 0) passed;
+            range = range;
+          }
+      | inr out ↦ absurd (nineteen (ap (λ (v : Reply). v .number) (reply-range passed out (reply 19 0 0) refl) ∙ e))
+    ]
+  ]
+    where
+      nineteen : _≡_ {A = ℕ} 19 0 → ⊥
+      nineteen e = omega arith
+
+-- ---- the heap that an accepted run starts from, with its waiting list cleared
+
+module _ (N w : ℕ) (h : Memory) (r : Run) (x : Reply) (is : x ≡ runReply N w h r) (accepts : x .number ≡ 0) where
+  from : Accepted N w h r
+  from = accepted N w h r (ap (λ (v : Reply). v .number) (sym is) ∙ accepts)
+
+  pub run-range : inRange r ≡ true
+  run-range = from .range
+
+  ready : Usable N w (settled N h)
+  ready = settled-usable N w h (from .shape-is) (from .undamaged)
+
+  module _ (waiting : List ℕ) (clear : waiting ≡ replicate (length (h .waiting)) 0) where
+    is-settled : settled N h ≡ withWaiting waiting h
+    is-settled =
+        ap (λ (l : List ℕ). withWaiting l h)
+        (ap (λ (n : ℕ). replicate n 0) (sym (shape-facts N w h (from .shape-is) .length-waiting)) ∙ sym clear)
+
+    pub cleared-usable : Usable N w (withWaiting waiting h)
+    cleared-usable = subst (λ (k : Memory). Usable N w k) is-settled ready
 
 -- ---- the answer
 
-module _ (N w : ℕ) (bytes : List ℕ) (h : Memory) (r : Run) where
-  refused-promised : (x : Reply) (y : Ran) → y ≡ refusal x → x ≡ runReply N w h r → (x .number ≡ 0 → ⊥) → Promised N w bytes h r y h
-  refused-promised x y is e refused =
-      let stops = ne-eqb (runReply N w h r .number) 0 (λ z. refused (ap (λ (v : Reply). v .number) e ∙ z)) in
+module _ (N w : ℕ) (bytes : List ℕ) (h : Memory) (r : Run) (x : Reply) (is : x ≡ runReply N w h r) where
+  pub refused-promised : (x .number ≡ 0 → ⊥) → (y : Ran) → y ≡ refusal x → Promised N w bytes h r y h
+  refused-promised refused y e =
+      let stops = ne-eqb (runReply N w h r .number) 0 (λ z. refused (ap (λ (v : Reply). v .number) is ∙ z)) in
+      let none : y .reply .number ≡ 0 → ⊥ = λ z. refused (ap (λ (v : Ran). v .reply .number) (sym e) ∙ z) in
       record {
-        reply-is = ap (λ (v : Ran). v .reply) is ∙ e;
-        run-is = ap (λ (v : Ran). v .run) is ∙ sym (rw stops);
+        reply-is = ap (λ (v : Ran). v .reply) e ∙ is;
+        run-is = ap (λ (v : Ran). v .run) e ∙ sym (rw stops);
         after-is = sym (rw stops);
-        idle = λ z. absurd (refused (ap (λ (v : Ran). v .reply .number) (sym is) ∙ z));
-        calls = λ z. absurd (refused (ap (λ (v : Ran). v .reply .number) (sym is) ∙ z));
+        idle = λ z. absurd (none z);
+        calls = λ z. absurd (none z);
       }
 
-  module _ (y : Reply) (checked : Promise N w check h y h) where
-    -- the check refuses
-    pub unsound-promised : (y .number ≡ 0 → ⊥) → (x : Ran) → x ≡ refusal y → Promised N w bytes h r x h
-    unfolding runReply
-    unsound-promised refused x is =
-        refused-promised y x is
-        (checked .reply-is
-        ∙ sym (rw (ne-eqb (answer N w h check .0 .number) 0 (λ z. refused (ap (λ (v : Reply). v .number) (checked .reply-is) ∙ z)), runReply)))
-        refused
-
-    module _ (accepts : y .number ≡ 0) where
-      passed : answer N w h check .0 .number ≡ 0
-      passed = ap (λ (v : Reply). v .number) (sym (checked .reply-is)) ∙ accepts
-
-      -- a run out of range
-      pub range-promised : inRange r ≡ false → (z : Reply) → z ≡ reply 19 0 0 → (x : Ran) → x ≡ refusal z → Promised N w bytes h r x h
-      unfolding runReply
-      range-promised out z e x is =
-          refused-promised z x is (e ∙ sym (rw (eq-eqb (answer N w h check .0 .number) 0 passed, out, runReply)))
-          (λ none. omega (arith, ap (λ (v : Reply). v .number) e))
-
-      -- the run went on
-      pub run-promised :
-          (waiting : List ℕ) → waiting ≡ replicate (length (h .waiting)) 0 → inRange r ≡ true → (z : Reply) → z ≡ reply 0 0 0
-          → (after : Run) (g : Memory) → RunBy N w (ran N w bytes (withWaiting waiting h) r) after g
-          → Promised N w bytes h r (record { reply = z; run = after }) g
-      unfolding runReply
-      run-promised waiting clear range z e after g by =
-          let accepted : runReply N w h r ≡ reply 0 0 0 =
-          rw (eq-eqb (answer N w h check .0 .number) 0 passed, range, runReply) in
-          let ready = settled-usable N w h (checked-shaped N w h y checked accepts) (checked-undamaged N w h y checked accepts) in
-          let from =
-          subst (λ (k : Memory). RunBy N w (ran N w bytes k r) after g) (sym (is-settled N w h y checked accepts waiting clear)) by in
-          record {
-            reply-is = e ∙ sym accepted;
-            run-is = from .run-is ∙ sym (rw accepted);
-            after-is = from .memory-is ∙ sym (rw accepted);
-            idle = λ _. from .usable .idle;
-            calls = λ _. runs-are-calls N w bytes (settled N h) r (record { right-shape = ready .shape-is; no-damage = ready .undamaged });
-          }
+  -- the run went on
+  pub run-promised :
+      (accepts : x .number ≡ 0) (waiting : List ℕ) → waiting ≡ replicate (length (h .waiting)) 0 → (after : Run) (g : Memory)
+      → RunBy N w (ran N w bytes (withWaiting waiting h) r) after g → Promised N w bytes h r (record { reply = x; run = after }) g
+  run-promised accepts waiting clear after g by =
+      let zero : runReply N w h r ≡ reply 0 0 0 = from N w h r x is accepts .reply-is in
+      let usable = ready N w h r x is accepts in
+      let ran-by = subst (λ (k : Memory). RunBy N w (ran N w bytes k r) after g) (sym (is-settled N w h r x is accepts waiting clear)) by in
+      record {
+        reply-is = is;
+        run-is = ran-by .run-is ∙ sym (rw zero);
+        after-is = ran-by .memory-is ∙ sym (rw zero);
+        idle = λ _. ran-by .usable .idle;
+        calls = λ _. runs-are-calls N w bytes (settled N h) r (record { right-shape = usable .shape-is; no-damage = usable .undamaged });
+      }

@@ -2,7 +2,7 @@
 // calls keep a heap undamaged, so no record tests it.
 ghost use mathlib.Core.Path.{_≡_};
 ghost use Rattle.rules.specs.Lent.{before, after};
-ghost use Rattle.history.specs.Promised.{refusal, Promised};
+ghost use Rattle.history.specs.Promised.{runReply, refusal, Promised};
 use blocks::Ref;
 use blocks::extents;
 use figures::tally;
@@ -42,6 +42,32 @@ fn refused(reply: Reply) -> Ran
     }
 }
 
+// The reply of a run of records, which depends on the heap and on the run handed in alone: that of the check, then 19 for a run that no run
+// leaves.
+fn run_reply(
+    blocks: usize,
+    width: usize,
+    a: &[u8],
+    b: &[u8],
+    counts: &[u8],
+    cells: &[Ref],
+    roots: &[Ref],
+    waiting: &[Ref],
+    run: Run,
+) -> Reply
+    ensures { λ reply. ⌜ reply ≡ runReply blocks width (before a b counts cells roots waiting) run ⌝ }
+{
+    let checked = inspect::check(blocks, width, a, b, counts, cells, roots, waiting);
+    let number = checked.number;
+    if number != 0 {
+        return checked;
+    }
+    if !tally::in_range(run) {
+        return tests::refusal(19);
+    }
+    tests::acceptance(0)
+}
+
 // Runs the records of a piece of a history, from where the run stands, and answers where it stands then. Only the last piece may end inside
 // a record.
 pub fn run_records(
@@ -60,13 +86,10 @@ pub fn run_records(
         ⌜ Promised blocks width (now (bytes .entry)) (before a b counts cells roots waiting) run r
         (after a b counts cells roots waiting) ⌝ }
 {
-    let check_reply = inspect::check(blocks, width, a, b, counts, cells, roots, waiting);
-    let number = check_reply.number;
+    let reply = run_reply(blocks, width, a, b, counts, cells, roots, waiting, run);
+    let number = reply.number;
     if number != 0 {
-        return refused(check_reply);
-    }
-    if !tally::in_range(run) {
-        return refused(tests::refusal(19));
+        return refused(reply);
     }
     extents::clear_all(waiting);
     let after = run::run_piece(
@@ -81,7 +104,6 @@ pub fn run_records(
         bytes,
         run,
     );
-    let reply = tests::acceptance(0);
     Ran {
         reply: reply,
         run: after,

@@ -1,13 +1,12 @@
--- `run_records` meets its contract: the check, the run's range, and then the run on the cleared heap.
-use mathlib.Core.Path.{refl, sym, _∙_}
-use borrow.Author.Tests.{not-true, not-false}
-use Rattle.history.proofs.Pieces.{unsound-promised, range-promised, cleared-usable, run-promised}
+-- `run_records` meets its contract: all tests first, and then the run on the cleared heap.
+use mathlib.Core.Path.{refl, _∙_}
+use Rattle.history.proofs.Pieces.{refused-promised, run-range, cleared-usable, run-promised}
 use borrow.Author.Needs.{needs}
 use Rattle.history.proofs.run_records.Statement.{statement}
 use Rattle.history.proofs.run_records.Tie as tie
 
-check-requires : tie.Need-check-requires
-check-requires c κs = search needs
+run-reply-requires : tie.Need-run-reply-requires
+run-reply-requires c κs = search needs
 
 refused-requires : tie.Need-refused-requires
 refused-requires c κs = search needs
@@ -31,80 +30,47 @@ same-length-6 : tie.Need-same-length-6
 same-length-6 c = refl
 
 returns : tie.Need-returns
-returns c = unsound-promised _ _ _ _ _ _ (c .before .before .check .ensures) (c .before .if1 .taken) _ (c .refused .ensures)
-
-in-range-requires : tie.Need-in-range-requires
-in-range-requires c κs = search needs
-
-refusal-requires : tie.Need-refusal-requires
-refusal-requires c κs = search needs
-
-refused-requires-2 : tie.Need-refused-requires-2
-refused-requires-2 c κs = search needs
-
-same-length-7 : tie.Need-same-length-7
-same-length-7 c = refl
-
-same-length-8 : tie.Need-same-length-8
-same-length-8 c = refl
-
-same-length-9 : tie.Need-same-length-9
-same-length-9 c = refl
-
-same-length-10 : tie.Need-same-length-10
-same-length-10 c = refl
-
-same-length-11 : tie.Need-same-length-11
-same-length-11 c = refl
-
-same-length-12 : tie.Need-same-length-12
-same-length-12 c = refl
-
-returns-2 : tie.Need-returns-2
-returns-2 c =
-    range-promised _ _ _ _ _ _ (c .before .before .before .before .before .check .ensures) (c .before .before .before .before .if1 .left) (sym (c .before .before .before .in-range .ensures) ∙ not-true _ (c .before .before .if2 .taken))
-    _ (c .before .refusal .ensures) _ (c .refused2 .ensures)
+returns c = refused-promised _ _ _ _ _ _ (c .before .before .run-reply .ensures) (c .before .if1 .taken) _ (c .refused .ensures)
 
 clear-all-requires : tie.Need-clear-all-requires
 clear-all-requires c κs = search needs
 
 run-piece-requires : tie.Need-run-piece-requires
-run-piece-requires c κs = (
-  cleared-usable _ _ _ _ (c .before .before .before .before .before .before .before .before .before .before .before .before .before .check .ensures) (c .before .before .before .before .before .before .before .before .before .before .before .before .if1 .left) _ (c .before .before .before .before .before .before .before .before .clear-all .ensures),
-  sym (c .before .before .before .before .before .before .before .before .before .before .before .in-range .ensures) ∙ not-false _ (c .before .before .before .before .before .before .before .before .before .before .if2 .left),
-)
+run-piece-requires c κs =
+    let replied = c .before .before .before .before .before .before .before .before .before .before .before .run-reply .ensures in
+    let accepts = c .before .before .before .before .before .before .before .before .before .before .if1 .left in (
+      cleared-usable _ _ _ _ _ replied accepts _ (c .before .before .before .before .before .before .before .before .clear-all .ensures),
+      run-range _ _ _ _ _ replied accepts,
+    )
 
-acceptance-requires : tie.Need-acceptance-requires
-acceptance-requires c κs = search needs
+same-length-7 : tie.Need-same-length-7
+same-length-7 c = c .before .before .before .before .before .before .before .before .before .before .before .before .run-piece .kept .1 .1 .0
 
-same-length-13 : tie.Need-same-length-13
-same-length-13 c = c .before .before .before .before .before .before .before .before .before .before .before .before .before .run-piece .kept .1 .1 .0
+same-length-8 : tie.Need-same-length-8
+same-length-8 c = c .before .before .before .before .before .before .before .before .before .before .before .before .run-piece .kept .1 .1 .1 .0
 
-same-length-14 : tie.Need-same-length-14
-same-length-14 c = c .before .before .before .before .before .before .before .before .before .before .before .before .before .run-piece .kept .1 .1 .1 .0
+same-length-9 : tie.Need-same-length-9
+same-length-9 c = c .before .before .before .before .before .before .before .before .before .before .before .before .run-piece .kept .1 .1 .1 .1 .0
 
-same-length-15 : tie.Need-same-length-15
-same-length-15 c = c .before .before .before .before .before .before .before .before .before .before .before .before .before .run-piece .kept .1 .1 .1 .1 .0
+same-length-10 : tie.Need-same-length-10
+same-length-10 c = c .before .before .before .before .before .before .before .before .before .before .before .before .run-piece .kept .1 .1 .1 .1 .1 .0
 
-same-length-16 : tie.Need-same-length-16
-same-length-16 c = c .before .before .before .before .before .before .before .before .before .before .before .before .before .run-piece .kept .1 .1 .1 .1 .1 .0
+same-length-11 : tie.Need-same-length-11
+same-length-11 c = c .before .before .before .before .before .before .before .before .before .before .before .before .run-piece .kept .1 .1 .1 .1 .1 .1 .0
 
-same-length-17 : tie.Need-same-length-17
-same-length-17 c = c .before .before .before .before .before .before .before .before .before .before .before .before .before .run-piece .kept .1 .1 .1 .1 .1 .1 .0
+same-length-12 : tie.Need-same-length-12
+same-length-12 c = c .before .before .before .before .before .before .before .before .before .before .before .before .run-piece .kept .1 .1 .1 .1 .1 .1 .1 .0 ∙ c .before .before .before .before .before .before .before .before .before .before .before .before .before .before .before .before .before .before .before .before .before .clear-all .kept .0
 
-same-length-18 : tie.Need-same-length-18
-same-length-18 c = c .before .before .before .before .before .before .before .before .before .before .before .before .before .run-piece .kept .1 .1 .1 .1 .1 .1 .1 .0 ∙ c .before .before .before .before .before .before .before .before .before .before .before .before .before .before .before .before .before .before .before .before .before .before .clear-all .kept .0
-
-returns-3 : tie.Need-returns-3
-returns-3 c =
-    run-promised _ _ _ _ _ _ (c .before .before .before .before .before .before .before .before .before .before .before .before .before .before .before .before .before .before .before .before .before .before .before .before .before .before .before .check .ensures) (c .before .before .before .before .before .before .before .before .before .before .before .before .before .before .before .before .before .before .before .before .before .before .before .before .before .before .if1 .left) _ (c .before .before .before .before .before .before .before .before .before .before .before .before .before .before .before .before .before .before .before .before .before .before .clear-all .ensures)
-    (sym (c .before .before .before .before .before .before .before .before .before .before .before .before .before .before .before .before .before .before .before .before .before .before .before .before .before .in-range .ensures) ∙ not-false _ (c .before .before .before .before .before .before .before .before .before .before .before .before .before .before .before .before .before .before .before .before .before .before .before .before .if2 .left)) _ (c .acceptance .ensures) _ _ (c .before .before .before .before .before .before .before .before .before .before .before .before .before .run-piece .ensures)
+returns-2 : tie.Need-returns-2
+returns-2 c =
+    run-promised _ _ _ _ _ _ (c .before .before .before .before .before .before .before .before .before .before .before .before .before .before .before .before .before .before .before .before .before .before .before .before .run-reply .ensures) (c .before .before .before .before .before .before .before .before .before .before .before .before .before .before .before .before .before .before .before .before .before .before .before .if1 .left)
+    _ (c .before .before .before .before .before .before .before .before .before .before .before .before .before .before .before .before .before .before .before .before .before .clear-all .ensures) _ _ (c .before .before .before .before .before .before .before .before .before .before .before .before .run-piece .ensures)
 
 pub run-records-spec : {M : Type 1} → statement M
 run-records-spec =
     tie.close
     (tie.spec
-    check-requires
+    run-reply-requires
     refused-requires
     same-length
     same-length-2
@@ -113,23 +79,12 @@ run-records-spec =
     same-length-5
     same-length-6
     returns
-    in-range-requires
-    refusal-requires
-    refused-requires-2
+    clear-all-requires
+    run-piece-requires
     same-length-7
     same-length-8
     same-length-9
     same-length-10
     same-length-11
     same-length-12
-    returns-2
-    clear-all-requires
-    run-piece-requires
-    acceptance-requires
-    same-length-13
-    same-length-14
-    same-length-15
-    same-length-16
-    same-length-17
-    same-length-18
-    returns-3)
+    returns-2)
