@@ -20,7 +20,18 @@
  * The buffers, the two lists of replay and the bytes of a run must not overlap, and each pointer must be good for its length,
  * and not null even where that is 0.
  *
- * Link libcapi.a.
+ * huwekapo_heap.h has the six buffers as one struct, and the same calls on it.
+ *
+ * Link libhuwekapo, which `bash install.sh PREFIX` makes (`pkg-config --cflags --libs huwekapo`), or libcapi.a, which it is made
+ * of. What a device has to bring:
+ *
+ *   - x86-64, and of a C library memset alone. Nothing is allocated, nothing is printed, and there is no global state: heaps in
+ *     different buffers may be used by different threads at once. Calls on one heap must not overlap in time.
+ *   - Stack: about 17,000 bytes in every call but format and replay, which take less than 2,000, whatever the size of the heap.
+ *     No call calls itself.
+ *   - Time: every call but format and replay tests the whole heap before it does anything, and a run of records tests it once for
+ *     each piece. Many calls at a time are therefore best made by replay, or by a run of records in long pieces.
+ *   - Alignment: the numbers of cells, roots and waiting are aligned as uint16_t is, those of replay's lists as uint64_t is.
  */
 #ifndef HUWEKAPO_H
 #define HUWEKAPO_H
@@ -28,9 +39,47 @@
 #include <stddef.h>
 #include <stdint.h>
 
+/* The version of this header, and of the library that it goes with. */
+#define HUWEKAPO_VERSION_MAJOR 0
+#define HUWEKAPO_VERSION_MINOR 2
+#define HUWEKAPO_VERSION_PATCH 0
+#define HUWEKAPO_VERSION "0.2.0"
+
+/* The limits. */
+#define HUWEKAPO_MIN_BLOCKS 8
+#define HUWEKAPO_MAX_BLOCKS 8192
+#define HUWEKAPO_MIN_WIDTH 1
+#define HUWEKAPO_MAX_WIDTH 4
+#define HUWEKAPO_MIN_ROOTS 1
+#define HUWEKAPO_MAX_ROOTS 64
+
+/* The length of each buffer, in elements. That of roots is the number of roots. */
+#define HUWEKAPO_A_LENGTH(blocks) ((blocks) / 8)
+#define HUWEKAPO_B_LENGTH(blocks) ((blocks) / 8)
+#define HUWEKAPO_COUNTS_LENGTH(blocks, width) ((width) * ((blocks) / 8))
+#define HUWEKAPO_CELLS_LENGTH(blocks) (4 * (blocks))
+#define HUWEKAPO_WAITING_LENGTH(blocks) (blocks)
+
+/* The lengths of replay's lists, for so many calls. */
+#define HUWEKAPO_CALLS_LENGTH(calls) (4 * (calls))
+#define HUWEKAPO_REPLIES_LENGTH(calls) (3 * (calls))
+
+/* The number of a cell or root that names the object at a block, and the block that such a number other than 0 names. */
+#define HUWEKAPO_REFERENCE(block) (1 + (block))
+#define HUWEKAPO_BLOCK(reference) ((reference) - 1)
+
+/* The place in cells of cell j of the object at a block. */
+#define HUWEKAPO_CELL(block, j) (4 * (block) + (j))
+
+/* The count at which an object is stuck. */
+#define HUWEKAPO_CAPACITY(width) ((1 << (width)) - 1)
+
 #ifdef __cplusplus
 extern "C" {
 #endif
+
+/* The version of the library that is linked, to be held against HUWEKAPO_VERSION. libhuwekapo has it, libcapi.a alone does not. */
+extern const char huwekapo_version[];
 
 /* A number and its values. `number` is 0 where the call was accepted, else the first that applies of the refusals that the
  * call names, in the order in which it names them. A refusal carries value 0, or the damage kind for number 2. `second` is 0
@@ -70,6 +119,29 @@ enum huwekapo_damage {
     HUWEKAPO_WRONG_COUNT = 5          /* a count other than 0 where no object starts; an object with count 0; a count below
                                          capacity that differs from the number of all cells and roots naming the object */
     /* 6 is not used: it was the number of objects against the 0 bits of the B-map, which kinds 1 and 2 imply */
+};
+
+/* The codes of replay's list. */
+enum huwekapo_code {
+    HUWEKAPO_CODE_FORMAT = 0,
+    HUWEKAPO_CODE_CHECK = 1,
+    HUWEKAPO_CODE_ALLOCATE = 2,
+    HUWEKAPO_CODE_STORE_ROOT = 3,
+    HUWEKAPO_CODE_STORE_CELL = 4,
+    HUWEKAPO_CODE_COLLECT = 5,
+    HUWEKAPO_CODE_LOOK = 6,
+    HUWEKAPO_CODE_FREE_BLOCKS = 7,
+    HUWEKAPO_CODE_RETURN_ROOTS = 8
+};
+
+/* The operations of a history's records. */
+enum huwekapo_operation {
+    HUWEKAPO_RECORD_ALLOCATE = 1,
+    HUWEKAPO_RECORD_COPY = 2,
+    HUWEKAPO_RECORD_WRITE = 3,
+    HUWEKAPO_RECORD_READ = 4,
+    HUWEKAPO_RECORD_CLEAR = 5,
+    HUWEKAPO_RECORD_COLLECT = 6
 };
 
 /* Makes an empty heap of whatever the buffers held: b is all ones, every other buffer all 0. The value is 0. Refusals: 1. */

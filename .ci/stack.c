@@ -1,0 +1,135 @@
+/* The stack that each call takes, measured on a heap of 8,192 blocks at width 4 that is in use: a thread's stack is painted, the
+ * call is made, and the paint that is left is counted. What include/huwekapo.h tells device makers is held to it. */
+#include "huwekapo_heap.h"
+
+#include <pthread.h>
+#include <stdio.h>
+#include <stdlib.h>
+#include <string.h>
+
+enum { BLOCKS = 8192, WIDTH = 4, ROOTS = 64, STACK = 1 << 18, PAINT = 0xA5, CALLS = 3003 };
+
+static uint16_t memory[HUWEKAPO_HEAP_LENGTH(BLOCKS, WIDTH, ROOTS)];
+static struct huwekapo_heap heap;
+static uint64_t calls[HUWEKAPO_CALLS_LENGTH(CALLS)], replies[HUWEKAPO_REPLIES_LENGTH(CALLS)];
+static uint8_t records[8 * CALLS];
+static const struct huwekapo_run new_run;
+
+static int failures = 0;
+
+/* Each call must be accepted: a refusal would take less stack. */
+static void made(struct huwekapo_reply reply) { failures += reply.number != HUWEKAPO_ACCEPTED; }
+
+static void nothing(void) {}
+static void format(void) { made(huwekapo_heap_format(&heap)); }
+static void check(void) { made(huwekapo_heap_check(&heap)); }
+static void allocate(void) { made(huwekapo_heap_allocate(&heap, 3, 5)); }
+static void store_root(void) { made(huwekapo_heap_store_root(&heap, 0, 0)); }
+static void store_cell(void) { made(huwekapo_heap_store_cell(&heap, HUWEKAPO_BLOCK(heap.roots[0]), 3, 0)); }
+static void return_roots(void) { made(huwekapo_heap_return_roots(&heap, ~UINT64_C(0))); }
+static void collect(void) { made(huwekapo_heap_collect(&heap)); }
+static void look(void) { made(huwekapo_heap_look(&heap, HUWEKAPO_BLOCK(heap.roots[2]))); }
+static void free_blocks(void) { made(huwekapo_heap_free_blocks(&heap)); }
+
+static void replay(void) {
+    made(huwekapo_heap_replay(&heap, calls, HUWEKAPO_CALLS_LENGTH(CALLS), replies, HUWEKAPO_REPLIES_LENGTH(CALLS)));
+}
+
+static void run_records(void) {
+    struct huwekapo_ran ran = huwekapo_heap_run_records(&heap, new_run, records, sizeof records);
+    made(ran.reply);
+    failures += ran.run.records != CALLS;
+}
+
+/* A list for replay and one of records: each makes a chain of objects in root 0, lets go of it at once, and collects. */
+static void write_lists(void) {
+    static const uint64_t call[3][4] = {
+        {HUWEKAPO_CODE_ALLOCATE, 2, 1, 0}, {HUWEKAPO_CODE_STORE_CELL, 0, 0, 0}, {HUWEKAPO_CODE_STORE_ROOT, 0, 0, 0}};
+    static const uint8_t record[3][8] = {
+        {HUWEKAPO_RECORD_ALLOCATE, 1, 0, 0, 0, 0, 2, 0}, {HUWEKAPO_RECORD_WRITE, 1, 0, 0, 0, 0, 0, 0}, {HUWEKAPO_RECORD_COPY, 0, 1, 0, 0, 0, 0, 0}};
+    for (size_t i = 0; i < CALLS - 3; i++) {
+        size_t block = 2 * (i / 3);
+        memcpy(calls + 4 * i, call[i % 3], sizeof *call);
+        memcpy(records + 8 * i, record[i % 3], sizeof *record);
+        if (i % 3 == 1) {
+            /* The object made last names the one before it. */
+            calls[4 * i + 1] = block;
+            calls[4 * i + 3] = block == 0 ? 0 : HUWEKAPO_REFERENCE(block - 2);
+        } else if (i % 3 == 2) {
+            calls[4 * i + 2] = HUWEKAPO_REFERENCE(block);
+        }
+    }
+    for (size_t i = CALLS - 3; i < CALLS - 1; i++) {
+        calls[4 * i] = HUWEKAPO_CODE_STORE_ROOT;
+        records[8 * i] = HUWEKAPO_RECORD_CLEAR;
+        calls[4 * i + 1] = records[8 * i + 1] = i == CALLS - 3;
+    }
+    calls[4 * (CALLS - 1)] = HUWEKAPO_CODE_COLLECT;
+    records[8 * (CALLS - 1)] = HUWEKAPO_RECORD_COLLECT;
+}
+
+/* A used heap: a chain of objects in root 0, and objects in the other roots. */
+static void use(void) {
+    static uint16_t used[sizeof memory / sizeof *memory];
+    if (heap.blocks == 0) {
+        heap = huwekapo_heap_in(memory, BLOCKS, WIDTH, ROOTS);
+        huwekapo_heap_replay(&heap, calls, HUWEKAPO_CALLS_LENGTH(CALLS - 3), replies, sizeof replies / sizeof *replies);
+        for (size_t root = 1; root < ROOTS; root++) {
+            huwekapo_heap_allocate(&heap, 1 + root % 5, root);
+        }
+        memcpy(used, memory, sizeof memory);
+    }
+    memcpy(memory, used, sizeof memory);
+}
+
+static void *in_thread(void *call) {
+    (*(void (**)(void))call)();
+    return NULL;
+}
+
+static size_t measure(void (*call)(void)) {
+    uint8_t *stack;
+    pthread_t thread;
+    pthread_attr_t attributes;
+    if (posix_memalign((void **)&stack, 4096, STACK) != 0) {
+        return 0;
+    }
+    memset(stack, PAINT, STACK);
+    pthread_attr_init(&attributes);
+    pthread_attr_setstack(&attributes, stack, STACK);
+    if (pthread_create(&thread, &attributes, in_thread, &call) != 0) {
+        return 0;
+    }
+    pthread_join(thread, NULL);
+    size_t left = 0;
+    while (left < STACK && stack[left] == PAINT) {
+        left++;
+    }
+    free(stack);
+    return STACK - left;
+}
+
+int main(void) {
+    static const struct {
+        const char *name;
+        void (*call)(void);
+        size_t most;
+    } each[] = {
+        {"format", format, 2000},          {"check", check, 17500},
+        {"allocate", allocate, 17500},     {"store_root", store_root, 17500},
+        {"store_cell", store_cell, 17500}, {"return_roots", return_roots, 17500},
+        {"collect", collect, 17500},       {"look", look, 17500},
+        {"free_blocks", free_blocks, 17500}, {"replay", replay, 2000},
+        {"run_records", run_records, 17500},
+    };
+    write_lists();
+    size_t thread = measure(nothing);
+    for (size_t i = 0; i < sizeof each / sizeof *each; i++) {
+        use();
+        size_t bytes = measure(each[i].call) - thread;
+        int same = bytes > 0 && bytes <= each[i].most;
+        printf("stack of %-12s %6zu bytes%s\n", each[i].name, bytes, same ? "" : "  MORE than the header says");
+        failures += !same;
+    }
+    return failures != 0;
+}

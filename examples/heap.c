@@ -1,0 +1,43 @@
+/* A list of three objects, through the struct of huwekapo_heap.h: built, walked, let go; and a pair that only a collection
+ * frees. */
+#include "huwekapo_heap.h"
+
+#include <stdio.h>
+
+enum { BLOCKS = 64, WIDTH = 2, ROOTS = 4 };
+enum { LIST, NODE }; /* roots */
+
+static uint16_t memory[HUWEKAPO_HEAP_LENGTH(BLOCKS, WIDTH, ROOTS)];
+
+/* The value of an accepted call. */
+static size_t value(const char *call, struct huwekapo_reply reply) {
+    if (reply.number != HUWEKAPO_ACCEPTED) {
+        printf("%s: refused %zu\n", call, reply.number);
+    }
+    return reply.value;
+}
+
+int main(void) {
+    struct huwekapo_heap heap = huwekapo_heap_in(memory, BLOCKS, WIDTH, ROOTS);
+    value("format", huwekapo_heap_format(&heap));
+    printf("huwekapo %s: %zu blocks, counts up to %d\n", huwekapo_version, heap.blocks, HUWEKAPO_CAPACITY(WIDTH));
+    for (size_t size = 1; size <= 3; size++) {
+        size_t node = value("allocate", huwekapo_heap_allocate(&heap, size, NODE));
+        value("store", huwekapo_heap_store_cell(&heap, node, 0, heap.roots[LIST]));
+        value("store", huwekapo_heap_store_root(&heap, LIST, HUWEKAPO_REFERENCE(node)));
+    }
+    value("store", huwekapo_heap_store_root(&heap, NODE, 0));
+    for (size_t v = heap.roots[LIST]; v != 0; v = heap.cells[HUWEKAPO_CELL(HUWEKAPO_BLOCK(v), 0)]) {
+        struct huwekapo_reply look = huwekapo_heap_look(&heap, HUWEKAPO_BLOCK(v));
+        printf("an object of %zu blocks at block %zu, count %zu\n", look.value, HUWEKAPO_BLOCK(v), look.second);
+    }
+    printf("clearing the root frees %zu blocks\n", value("store", huwekapo_heap_store_root(&heap, LIST, 0)));
+
+    size_t first = value("allocate", huwekapo_heap_allocate(&heap, 2, LIST));
+    size_t second = value("allocate", huwekapo_heap_allocate(&heap, 2, NODE));
+    value("store", huwekapo_heap_store_cell(&heap, first, 0, HUWEKAPO_REFERENCE(second)));
+    value("store", huwekapo_heap_store_cell(&heap, second, 0, HUWEKAPO_REFERENCE(first)));
+    printf("two that name each other: returning both roots frees %zu blocks,", value("return", huwekapo_heap_return_roots(&heap, 3)));
+    printf(" a collection %zu\n", value("collect", huwekapo_heap_collect(&heap)));
+    return 0;
+}
