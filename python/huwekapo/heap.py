@@ -1,0 +1,209 @@
+"""A heap that owns its buffers, with the library's calls as methods."""
+
+from __future__ import annotations
+
+import ctypes
+import operator
+import threading
+from typing import Any, Iterable, NamedTuple, Sequence, Union
+
+from . import library
+from .library import MAX_BLOCKS, MAX_ROOTS, MAX_WIDTH, REPORT_BLOCKS, REPORT_ROOTS, REPORT_WIDTH
+from .refused import Refused
+from .runs import Run
+
+#: What is readable as bytes.
+Bytes = Union[bytes, bytearray, memoryview]
+
+
+class Look(NamedTuple):
+    """What a look at an object finds."""
+
+    size: int
+    count: int
+
+
+class Reply(NamedTuple):
+    """A reply of a list of calls, as the library gave it: number 0 is acceptance."""
+
+    number: int
+    value: int
+    second: int
+
+
+class Heap:
+    """A formatted heap of so many blocks, with counts of so many bits and so many roots.
+
+    blocks is a power of two from 8 to 8,192, width 1 to 4, and there are 1 to 64 roots; else `Refused` 1 is raised. Each method is one
+    call of the library, and hands on what it answers: a refusal is raised as `Refused`, and has changed nothing. References are 0, or
+    1 + the first block of an object.
+
+    The buffers are readable as memoryviews: `a`, `b` and `counts` of bytes, `cells`, `roots` and `waiting` of 16-bit numbers. They show
+    the heap as it is, also after later calls. A heap may be used from several threads: its calls wait for each other.
+    """
+
+    def __init__(self, blocks: int = REPORT_BLOCKS, width: int = REPORT_WIDTH, roots: int = REPORT_ROOTS) -> None:
+        blocks, width, roots = _word(blocks), _word(width), _word(roots)
+        sizes = (min(blocks, MAX_BLOCKS), min(width, MAX_WIDTH), min(roots, MAX_ROOTS + 1))
+        self._lend(blocks, width, {buffer.name: buffer.length(*sizes) for buffer in library.BUFFERS})
+        self.format()
+
+    @classmethod
+    def from_buffers(cls, blocks: int, width: int, **buffers: Sequence[int]) -> Heap:
+        """A heap of copies of given buffers, which may hold anything: every call tests them. `waiting` may be left out."""
+        buffers.setdefault("waiting", bytes(min(_word(blocks), MAX_BLOCKS)))
+        names = [buffer.name for buffer in library.BUFFERS]
+        if sorted(names) != sorted(buffers):
+            raise TypeError(f"the buffers are {', '.join(names)}")
+        heap = cls.__new__(cls)
+        heap._lend(_word(blocks), _word(width), {name: len(numbers) for name, numbers in buffers.items()})
+        for name, array in heap._arrays.items():
+            numbers = list(map(operator.index, buffers[name]))
+            if any(not 0 <= number < 256 ** ctypes.sizeof(array._type_) for number in numbers):
+                raise OverflowError(f"a number of {name} is out of range")
+            array[:] = numbers
+        return heap
+
+    def _lend(self, blocks: int, width: int, lengths: dict[str, int]) -> None:
+        self._functions = library.load()
+        self._lock = threading.Lock()
+        self._blocks, self._width = blocks, width
+        self._arrays = {buffer.name: (buffer.number * lengths[buffer.name])() for buffer in library.BUFFERS}
+        self._heap: list[Any] = [blocks, width]
+        for array in self._arrays.values():
+            self._heap += [ctypes.addressof(array), len(array)]
+
+    def _call(self, name: str, *arguments: Any) -> Any:
+        with self._lock:
+            return self._functions[name](*self._heap, *arguments)
+
+    def _value(self, name: str, *arguments: int) -> int:
+        return _accepted(self._call(name, *map(_word, arguments))).value
+
+    def _view(self, name: str) -> memoryview:
+        view = memoryview(self._arrays[name]).cast("B").toreadonly()
+        return view.cast("H") if self._arrays[name]._type_ is ctypes.c_uint16 else view
+
+    @property
+    def blocks(self) -> int:
+        """The number of blocks."""
+        return self._blocks
+
+    @property
+    def width(self) -> int:
+        """The count width in bits."""
+        return self._width
+
+    @property
+    def capacity(self) -> int:
+        """The largest count, at which an object is stuck."""
+        return 2**self._width - 1
+
+    @property
+    def a(self) -> memoryview:
+        """The A-map: 1 is allocated, 0 is free. Block i is bit i % 8 (bit 0 is the least) of byte i // 8."""
+        return self._view("a")
+
+    @property
+    def b(self) -> memoryview:
+        """The B-map: 0 on the last block of each object, 1 everywhere else."""
+        return self._view("b")
+
+    @property
+    def counts(self) -> memoryview:
+        """The count maps, one after another, the least significant bit first."""
+        return self._view("counts")
+
+    @property
+    def cells(self) -> memoryview:
+        """Cells 4i to 4i + 3 are those of block i."""
+        return self._view("cells")
+
+    @property
+    def roots(self) -> memoryview:
+        """The roots."""
+        return self._view("roots")
+
+    @property
+    def waiting(self) -> memoryview:
+        """The working space. It is no part of what the heap holds."""
+        return self._view("waiting")
+
+    def format(self) -> None:
+        """Makes an empty heap of whatever the buffers held. Refusals: 1."""
+        self._value("format")
+
+    def check(self) -> None:
+        """Tests the whole heap. Refusals: 1, 2."""
+        self._value("check")
+
+    def allocate(self, n: int, r: int) -> int:
+        """Allocates n blocks into root r. The value is the first block. Refusals: 1, 2, 3, 4, 5."""
+        return self._value("allocate", n, r)
+
+    def store_root(self, r: int, v: int) -> int:
+        """Stores v in root r. The value is the number of blocks freed. Refusals: 1, 2, 4, 8."""
+        return self._value("store_root", r, v)
+
+    def store_cell(self, at: int, j: int, v: int) -> int:
+        """Stores v in cell j of the object at block `at`. The value is the number of blocks freed. Refusals: 1, 2, 6, 7, 8."""
+        return self._value("store_cell", at, j, v)
+
+    def return_roots(self, chosen: int) -> int:
+        """Clears the roots of a set, bit r of `chosen` for root r. The value is the number of blocks freed in all. Refusals: 1, 2, 4."""
+        return self._value("return_roots", chosen)
+
+    def collect(self) -> int:
+        """Frees the objects that no root reaches, and counts the references of the others anew. The value is the number of blocks
+        freed. Refusals: 1, 2."""
+        return self._value("collect")
+
+    def look(self, at: int) -> Look:
+        """Looks at the object at block `at`. Refusals: 1, 2, 6."""
+        reply = _accepted(self._call("look", _word(at)))
+        return Look(reply.value, reply.second)
+
+    def free_blocks(self) -> int:
+        """The number of free blocks. Refusals: 1, 2."""
+        return self._value("free_blocks")
+
+    def replay(self, calls: Iterable[Sequence[int]]) -> list[Reply]:
+        """Formats the heap and makes a list of calls, each a code and its arguments, as include/huwekapo.h has them: `(2, n, r)` is an
+        allocation. Answers a reply for each; a refused call of the list raises nothing. Refusals: 1, 9."""
+        words: list[int] = []
+        for call in calls:
+            if len(call) > 4:
+                raise ValueError(f"a call has at most four words: {call!r}")
+            words += [_word(word) for word in call] + (4 - len(call)) * [0]
+        entries = (ctypes.c_uint64 * len(words))(*words)
+        replies = (ctypes.c_uint64 * (len(words) // 4 * 3))()
+        # An empty array has an address too.
+        lists = [ctypes.addressof(entries), len(entries), ctypes.addressof(replies), len(replies)]
+        made = _accepted(self._call("replay", *lists)).value
+        return [Reply(*replies[3 * call : 3 * call + 3]) for call in range(made)]
+
+    def run_records(self, run: Run, piece: Bytes) -> Run:
+        """Runs a piece of a history from where `run` stands, and answers where it stands then. Only the last piece may end inside a
+        record, since that stops the run; a run that was stopped is answered as it is. Refusals: 1, 2, 19."""
+        array = (ctypes.c_uint8 * len(piece)).from_buffer_copy(piece)
+        return self._run(run, ctypes.addressof(array), len(array))
+
+    def _run(self, run: Run, address: int, length: int) -> Run:
+        """The same, of bytes at an address, which must be good for the length and held by the caller."""
+        ran = self._call("run_records", run._so_far(), address, length)
+        _accepted(ran.reply)
+        return Run._of(ran.run)
+
+
+def _word(number: int) -> int:
+    """A number that the library takes whole; ctypes alone would cut off what is beyond 64 bits, and take -1."""
+    number = operator.index(number)
+    if not 0 <= number < 2**64:
+        raise OverflowError(f"{number} is no 64-bit number")
+    return number
+
+
+def _accepted(reply: library.Reply) -> library.Reply:
+    if reply.number != 0:
+        raise Refused(reply.number, reply.value)
+    return reply

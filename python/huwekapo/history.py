@@ -1,0 +1,155 @@
+"""Recorded histories, and running them."""
+
+from __future__ import annotations
+
+import ctypes
+import os
+from contextlib import contextmanager
+from pathlib import Path
+from typing import BinaryIO, Callable, Iterator, Optional, Union
+
+from .heap import Heap
+from .library import REPORT_BLOCKS, REPORT_ROOTS, REPORT_WIDTH
+from .runs import Run
+
+#: The bytes of a record.
+RECORD = 8
+
+#: The bytes that are read at a time.
+PIECE = 1 << 20
+
+#: What a history may be given as.
+Source = Union[str, "os.PathLike[str]", BinaryIO, "History"]
+
+#: Is told how many bytes of the history have been run.
+Progress = Callable[[int], object]
+
+
+class History:
+    """A recorded history: a file of eight-byte records, by its path or as a binary file that is open.
+
+    It is read in pieces, so that one of any size takes little memory. One given by its path may be run again and again; so may an
+    open file that can seek, each time from where it stood. Any other, as a pipe, is run once.
+    """
+
+    def __init__(self, source: Union[str, os.PathLike[str], BinaryIO]) -> None:
+        self._path: Optional[Path] = None
+        self._file: Optional[BinaryIO] = None
+        if isinstance(source, (str, os.PathLike)):
+            self._path = Path(source)
+        else:
+            self._file = source
+        self._start = _position(self._file) if self._file else 0
+        self._was_read = False
+
+    @staticmethod
+    def of(source: Source) -> History:
+        """The history that was given, as itself or otherwise."""
+        return source if isinstance(source, History) else History(source)
+
+    @property
+    def name(self) -> str:
+        """The path, or the open file's name."""
+        return str(self._path or getattr(self._file, "name", "a file"))
+
+    def size(self) -> Optional[int]:
+        """The length in bytes, where it is known before it is read."""
+        try:
+            if self._path:
+                return self._path.stat().st_size if self._path.is_file() else None
+            assert self._file
+            end = self._file.seek(0, os.SEEK_END)
+            self._file.seek(self._start or 0)
+            return end - (self._start or 0)
+        except (OSError, AttributeError):
+            return None
+
+    @contextmanager
+    def _opened(self) -> Iterator[BinaryIO]:
+        if self._path:
+            with open(self._path, "rb", buffering=0) as file:
+                yield file
+            return
+        assert self._file
+        if self._was_read:
+            if self._start is None:
+                raise OSError(f"{self.name} can't be read a second time")
+            self._file.seek(self._start)
+        self._was_read = True
+        yield self._file
+
+    def runs(self, heap: Heap, step: Optional[int] = None) -> Iterator[Run]:
+        """Runs the history on a heap, in pieces, and gives where the run stands after each; the last is where it ends. A piece has
+        `step` records; without it, as many as come at a time."""
+        if step is not None and step < 1:
+            raise ValueError(f"a piece can't have {step} records")
+        buffer = bytearray(RECORD * step if step else PIECE)
+        # This pins the buffer, whose address the library is given.
+        array = (ctypes.c_uint8 * len(buffer)).from_buffer(buffer)
+        run = Run()
+        with self._opened() as file:
+            for length in _pieces(file, memoryview(buffer), fill=step is not None):
+                run = heap._run(run, ctypes.addressof(array), length)
+                yield run
+                if run.stopped:
+                    return
+
+    def run(self, heap: Heap, progress: Optional[Progress] = None) -> Run:
+        """Runs the history on a heap, and gives where the run ends."""
+        run = Run()
+        for run in self.runs(heap):
+            if progress:
+                progress(RECORD * run.records)
+        return run
+
+
+def run(
+    history: Source,
+    blocks: int = REPORT_BLOCKS,
+    width: int = REPORT_WIDTH,
+    roots: int = REPORT_ROOTS,
+    progress: Optional[Progress] = None,
+) -> Run:
+    """Runs a history on a new heap. The run has the figures, or the number that stopped it and the record where it did."""
+    return History.of(history).run(Heap(blocks, width, roots), progress)
+
+
+def _position(file: BinaryIO) -> Optional[int]:
+    """Where a file stands; None where it can't seek."""
+    try:
+        return file.tell() if file.seekable() else None
+    except (OSError, AttributeError):
+        return None
+
+
+def _pieces(file: BinaryIO, view: memoryview, fill: bool) -> Iterator[int]:
+    """The lengths of the pieces of a file, each read to the view's start; there is one at least. Only the last may end inside a
+    record. With `fill`, all but the last fill the view."""
+    held, none = 0, True
+    while True:
+        read = _read_into(file, view[held:])
+        held += read
+        if not read:
+            break
+        whole = len(view) if held == len(view) else 0 if fill else held - held % RECORD
+        if whole:
+            yield whole
+            none = False
+            held -= whole
+            view[:held] = bytes(view[whole : whole + held])
+    if held or none:
+        yield held
+
+
+def _read_into(file: BinaryIO, view: memoryview) -> int:
+    """Reads some bytes, as they come; 0 at the end."""
+    for name in ("readinto1", "readinto"):
+        read_into = getattr(file, name, None)
+        if read_into:
+            read = read_into(view)
+            if read is None:
+                raise BlockingIOError("the file doesn't wait for its bytes: set it to blocking")
+            return int(read)
+    piece = file.read(len(view))
+    view[: len(piece)] = piece
+    return len(piece)

@@ -1,0 +1,164 @@
+"""The library libhuwekapo.so: where it is found, and its functions as include/huwekapo.h declares them.
+
+What a later version of the library adds to the heap's buffers or to a run's figures is added to `BUFFERS` or `Figures` here, and
+to nothing else of the declarations.
+"""
+
+from __future__ import annotations
+
+import ctypes
+import ctypes.util
+import functools
+import os
+from pathlib import Path
+from typing import Any, Callable, Iterator, NamedTuple
+
+#: The version of the library that this package is for, and its own.
+VERSION = "0.2.0"
+
+#: The environment variable that names the library: its file, or the folder that it lies in.
+VARIABLE = "HUWEKAPO_LIBRARY"
+
+FILE = "libhuwekapo.so"
+
+WORD = ctypes.c_size_t
+
+#: The library's limits. What is beyond them is refused by it; no buffers of that size are made here.
+MAX_BLOCKS = 8192
+MAX_WIDTH = 4
+MAX_ROOTS = 64
+
+#: The heap of the program `report`.
+REPORT_BLOCKS = 8192
+REPORT_WIDTH = 3
+REPORT_ROOTS = 64
+
+
+class Buffer(NamedTuple):
+    """One of the heap's lent buffers: its name, the type of its numbers, and how many it has."""
+
+    name: str
+    number: Any
+    length: Callable[[int, int, int], int]
+
+
+#: The buffers in the order in which every call takes them. A length is a function of the blocks, the width and the roots.
+BUFFERS = (
+    Buffer("a", ctypes.c_uint8, lambda blocks, width, roots: blocks // 8),
+    Buffer("b", ctypes.c_uint8, lambda blocks, width, roots: blocks // 8),
+    Buffer("counts", ctypes.c_uint8, lambda blocks, width, roots: width * (blocks // 8)),
+    Buffer("cells", ctypes.c_uint16, lambda blocks, width, roots: 4 * blocks),
+    Buffer("roots", ctypes.c_uint16, lambda blocks, width, roots: roots),
+    Buffer("waiting", ctypes.c_uint16, lambda blocks, width, roots: blocks),
+)
+
+
+class Figures(NamedTuple):
+    """The figures of a run, in the order of the printed line."""
+
+    #: accepted allocations
+    allocations: int = 0
+    #: blocks allocated in all
+    blocks: int = 0
+    #: largest accepted size
+    largest: int = 0
+    #: full collections, forced or recorded
+    collections: int = 0
+    #: most blocks in use after any record
+    peak: int = 0
+
+
+class Reply(ctypes.Structure):
+    """struct huwekapo_reply."""
+
+    _fields_ = [("number", WORD), ("value", WORD), ("second", WORD)]
+
+
+class Tally(ctypes.Structure):
+    """struct huwekapo_tally."""
+
+    _fields_ = [(name, ctypes.c_uint64) for name in Figures._fields]
+
+
+class RunSoFar(ctypes.Structure):
+    """struct huwekapo_run."""
+
+    _fields_ = [("number", WORD), ("records", WORD), ("tally", Tally)]
+
+
+class Ran(ctypes.Structure):
+    """struct huwekapo_ran."""
+
+    _fields_ = [("reply", Reply), ("run", RunSoFar)]
+
+
+#: Each function: what it takes behind the heap's buffers, and what it answers.
+FUNCTIONS: dict[str, tuple[list[Any], Any]] = {
+    "format": ([], Reply),
+    "check": ([], Reply),
+    "allocate": ([WORD, WORD], Reply),
+    "store_root": ([WORD, WORD], Reply),
+    "store_cell": ([WORD, WORD, WORD], Reply),
+    "return_roots": ([ctypes.c_uint64], Reply),
+    "collect": ([], Reply),
+    "look": ([WORD], Reply),
+    "free_blocks": ([], Reply),
+    "replay": ([ctypes.c_void_p, WORD, ctypes.c_void_p, WORD], Reply),
+    "run_records": ([RunSoFar, ctypes.c_void_p, WORD], Ran),
+}
+
+
+class LibraryMissing(OSError):
+    """libhuwekapo.so was not found, or is of another version. The message says where it was looked for."""
+
+
+def places() -> Iterator[str]:
+    """Where the library is looked for, in order: the file that the environment variable names, and no other where it is set; beside
+    the package; in target/install of the clone that the package stands in, where `bash install.sh` puts it; in the system."""
+    named = os.environ.get(VARIABLE)
+    if named:
+        path = Path(named)
+        yield str(path / FILE if path.is_dir() else path)
+        return
+    package = Path(__file__).resolve().parent
+    yield str(package / FILE)
+    yield str(package.parent.parent / "target" / "install" / "lib" / FILE)
+    yield ctypes.util.find_library("huwekapo") or FILE
+
+
+@functools.lru_cache(maxsize=None)
+def load() -> dict[str, Any]:
+    """The library's functions, by their names without `huwekapo_`. It is loaded at the first call and stays so."""
+    tried = list(places())
+    for place in tried:
+        try:
+            library = ctypes.CDLL(place)
+        except OSError as error:
+            if os.path.exists(place):
+                raise LibraryMissing(f"{place}: {error}") from error
+            continue
+        _same_version(library, place)
+        return {name: _declared(library, name) for name in FUNCTIONS}
+    raise LibraryMissing(
+        f"{FILE} was not found: looked for {', '.join(tried)}. `bash install.sh` in Huwekapo's clone makes it; {VARIABLE} may name "
+        "the file or its folder."
+    )
+
+
+def _same_version(library: Any, place: str) -> None:
+    """Structs of another version have other fields."""
+    try:
+        version = ctypes.string_at(ctypes.addressof(ctypes.c_char.in_dll(library, "huwekapo_version"))).decode()
+    except ValueError as error:
+        raise LibraryMissing(f"{place} is no libhuwekapo: it has no version") from error
+    if version.split(".")[:2] != VERSION.split(".")[:2]:
+        raise LibraryMissing(f"{place} is version {version}; this package is for {VERSION}")
+
+
+def _declared(library: Any, name: str) -> Any:
+    function = getattr(library, f"huwekapo_{name}")
+    arguments, answer = FUNCTIONS[name]
+    # A buffer is a pointer and a length in numbers.
+    function.argtypes = [WORD, WORD] + len(BUFFERS) * [ctypes.c_void_p, WORD] + arguments
+    function.restype = answer
+    return function

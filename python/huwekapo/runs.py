@@ -1,0 +1,45 @@
+"""Where a run of records stands."""
+
+from __future__ import annotations
+
+from typing import NamedTuple
+
+from . import library
+from .library import Figures
+from .refused import stop_in_words
+
+
+class Run(NamedTuple):
+    """A run of records so far, or at its end. A new run is `Run()`."""
+
+    #: 0, or the number that stopped the run
+    number: int = 0
+    #: the records that were run; so the number, from 0, of the one that stopped it
+    records: int = 0
+    #: the figures of the records that were run
+    figures: Figures = Figures()
+
+    @property
+    def stopped(self) -> bool:
+        """Whether a record was refused, or the file was cut off."""
+        return self.number != 0
+
+    def line(self) -> str:
+        """The line that the program `report` prints, with its line end."""
+        if self.stopped:
+            return f"refused {self.number} at record {self.records}\n"
+        return " ".join(map(str, self.figures)) + "\n"
+
+    def stop_in_words(self) -> str:
+        """Why the run stopped; empty where it didn't."""
+        return stop_in_words(self.number) if self.stopped else ""
+
+    def _so_far(self) -> library.RunSoFar:
+        """For the library. A number beyond its field would be cut off."""
+        if not all(0 <= number < 2**64 for number in (self.number, self.records, *self.figures)):
+            raise OverflowError(f"a number of the run is out of range: {self}")
+        return library.RunSoFar(self.number, self.records, library.Tally(*self.figures))
+
+    @staticmethod
+    def _of(run: library.RunSoFar) -> Run:
+        return Run(run.number, run.records, Figures(*(getattr(run.tally, name) for name in Figures._fields)))

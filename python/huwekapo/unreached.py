@@ -1,0 +1,85 @@
+"""The objects of a heap that no root reaches, by what holds them. Read off the heap's buffers."""
+
+from __future__ import annotations
+
+from typing import Iterable, NamedTuple
+
+from .heap import Heap
+
+
+class Held(NamedTuple):
+    """Some objects, and the blocks that they have together."""
+
+    objects: int
+    blocks: int
+
+
+class Garbage(NamedTuple):
+    """The objects that no root reaches."""
+
+    #: those that are stuck, or that a stuck one of them leads to
+    stuck: Held
+    #: the others: each is named, directly or over others, by a cycle of them
+    cycles: Held
+
+
+def in_use(heap: Heap) -> int:
+    """The number of allocated blocks."""
+    return bin(_map(heap.a)).count("1")
+
+
+def objects(heap: Heap) -> dict[int, int]:
+    """The size of each object, by its first block, of a heap that is not damaged."""
+    a, b = _map(heap.a), _map(heap.b)
+    # A first block follows no allocated block whose B bit is 1; a last block has B bit 0.
+    firsts = _blocks(a & ~((a & b) << 1))
+    lasts = _blocks(a & ~b)
+    return {first: last + 1 - first for first, last in zip(firsts, lasts)}
+
+
+def stuck(heap: Heap) -> list[int]:
+    """The first blocks of the objects whose count is at its capacity."""
+    length = heap.blocks // 8
+    at_capacity = -1
+    for plane in range(heap.width):
+        at_capacity &= _map(heap.counts[plane * length : (plane + 1) * length])
+    return _blocks(at_capacity)
+
+
+def garbage(heap: Heap) -> Garbage:
+    """What no root reaches, of a heap that is not damaged."""
+    sizes = objects(heap)
+    cells = heap.cells.tolist()
+    reached = _led_to((v - 1 for v in heap.roots.tolist() if v), sizes, cells, set())
+    by_stuck = _led_to((first for first in stuck(heap) if first not in reached), sizes, cells, reached)
+    others = sizes.keys() - reached - by_stuck
+    return Garbage(*(Held(len(some), sum(sizes[first] for first in some)) for some in (by_stuck, others)))
+
+
+def _led_to(start: Iterable[int], sizes: dict[int, int], cells: list[int], left_out: set[int]) -> set[int]:
+    """The objects of `start` and those that they lead to, but for those that are left out."""
+    found: set[int] = set()
+    found.update(start)
+    to_follow = list(found)
+    while to_follow:
+        first = to_follow.pop()
+        for v in cells[4 * first : 4 * (first + sizes[first])]:
+            if v and v - 1 not in found and v - 1 not in left_out:
+                found.add(v - 1)
+                to_follow.append(v - 1)
+    return found
+
+
+def _map(view: memoryview) -> int:
+    """A map as one number, with bit i for block i."""
+    return int.from_bytes(view, "little")
+
+
+def _blocks(number: int) -> list[int]:
+    """The bits that are 1."""
+    digits = bin(number)[:1:-1]
+    blocks, at = [], digits.find("1")
+    while at >= 0:
+        blocks.append(at)
+        at = digits.find("1", at + 1)
+    return blocks

@@ -1,0 +1,239 @@
+"""The heap's calls, and that the package declares what include/huwekapo.h does."""
+
+from __future__ import annotations
+
+import doctest
+import os
+import pickle
+import re
+import subprocess
+import sys
+import threading
+import unittest
+from pathlib import Path
+
+import huwekapo
+from huwekapo import Damage, Heap, Look, Number, Refused, Reply, library
+
+PYTHON = Path(__file__).resolve().parent.parent
+HEADERS = PYTHON.parent / "include"
+
+
+class Calls(unittest.TestCase):
+    def refused(self, number: int, value: int, name: str):  # type: ignore[no-untyped-def]
+        case = self
+
+        class Context:
+            def __enter__(self) -> None:
+                pass
+
+            def __exit__(self, kind, error, trace) -> bool:  # type: ignore[no-untyped-def]
+                case.assertIsInstance(error, Refused)
+                case.assertEqual((error.number, error.value, error.name), (number, value, name))
+                return True
+
+        return Context()
+
+    def test_first_paper_cases(self) -> None:
+        heap = Heap(8, 2, 4)
+        self.assertEqual([heap.allocate(2, 0), heap.allocate(1, 1), heap.allocate(3, 2)], [0, 2, 4])
+        self.assertEqual((heap.a[0], heap.b[0]), (119, 185))
+        self.assertEqual(heap.look(4), Look(size=3, count=1))
+        with self.refused(5, 0, "NO_CHUNK"):
+            heap.allocate(2, 3)
+        self.assertEqual(heap.free_blocks(), 2)
+        self.assertEqual(heap.allocate(1, 3), 3)
+
+    def test_every_call(self) -> None:
+        heap = Heap(8, 2, 4)
+        heap.check()
+        heap.allocate(2, 0)
+        heap.allocate(1, 1)
+        self.assertEqual(heap.store_cell(0, 7, 3), 0)
+        self.assertEqual(heap.cells[7], 3)
+        self.assertEqual(heap.store_root(1, 0), 0)
+        self.assertEqual(heap.look(2), Look(1, 1))
+        self.assertEqual(heap.return_roots(1), 3)
+        heap.allocate(1, 0)
+        heap.store_cell(0, 0, 1)
+        self.assertEqual(heap.store_root(0, 0), 0)
+        self.assertEqual(heap.collect(), 1)
+        heap.allocate(8, 0)
+        heap.format()
+        self.assertEqual(heap.free_blocks(), 8)
+        self.assertEqual(list(heap.roots), [0, 0, 0, 0])
+
+    def test_replay(self) -> None:
+        heap = Heap(8, 2, 4)
+        replies = heap.replay([(2, 2, 0), (2, 1, 1), (2, 3, 2), (6, 4), (2, 9, 0), (8, 5)])
+        self.assertEqual(replies, [Reply(0, 0, 0), Reply(0, 2, 0), Reply(0, 4, 0), Reply(0, 3, 1), Reply(3, 0, 0), Reply(0, 5, 0)])
+        self.assertEqual(heap.replay([]), [])
+        with self.refused(9, 0, "NO_CALL"):
+            heap.replay([(9,)])
+        with self.assertRaises(ValueError):
+            heap.replay([(2, 2, 0, 0, 0)])
+
+    def test_refusals(self) -> None:
+        for shape in [(4, 2, 4), (12, 2, 4), (16384, 2, 4), (8, 0, 4), (8, 5, 4), (8, 2, 0), (8, 2, 65), (2**64 - 1, 2, 4)]:
+            with self.subTest(shape=shape), self.refused(1, 0, "MISSHAPEN"):
+                Heap(*shape)
+        heap = Heap(8, 2, 4)
+        heap.allocate(2, 0)
+        for number, name, call in [
+            (3, "BAD_SIZE", lambda: heap.allocate(9, 99)),
+            (4, "BAD_ROOT", lambda: heap.allocate(1, 4)),
+            (4, "BAD_ROOT", lambda: heap.return_roots(16)),
+            (6, "NO_OBJECT", lambda: heap.look(1)),
+            (7, "BAD_CELL", lambda: heap.store_cell(0, 8, 0)),
+            (8, "BAD_REFERENCE", lambda: heap.store_root(0, 65537)),
+        ]:
+            with self.subTest(name=name), self.refused(number, 0, name):
+                call()
+        self.assertIn("no chunk is free", str(Refused(5)))
+        self.assertEqual(pickle.loads(pickle.dumps(Refused(2, 3))).name, "UNALIGNED")
+
+    def test_damage(self) -> None:
+        fresh = {"counts": [0, 0], "cells": 32 * [0], "roots": 4 * [0]}
+        for a, b, kind in [(0, 254, "END_ON_FREE"), (1, 255, "OPEN_END"), (6, 251, "UNALIGNED")]:
+            heap = Heap.from_buffers(8, 2, a=[a], b=[b], **fresh)
+            with self.subTest(kind=kind), self.refused(2, Damage[kind], kind):
+                heap.check()
+        with self.refused(2, 4, "DANGLING_REFERENCE"):
+            Heap.from_buffers(8, 2, a=[0], b=[255], **{**fresh, "roots": [1, 0, 0, 0]}).check()
+        with self.refused(2, 5, "WRONG_COUNT"):
+            Heap.from_buffers(8, 2, a=[0], b=[255], **{**fresh, "counts": [1, 0]}).check()
+        Heap.from_buffers(8, 2, a=[0], b=[255], waiting=8 * [65535], **fresh).check()
+        with self.refused(1, 0, "MISSHAPEN"):
+            Heap.from_buffers(8, 2, a=[0, 0], b=[255], **fresh).check()
+        with self.assertRaises(OverflowError):
+            Heap.from_buffers(8, 2, a=[256], b=[255], **fresh)
+        with self.assertRaises(TypeError):
+            Heap.from_buffers(8, 2, a=[0], **fresh)
+
+    def test_numbers_are_never_cut_off(self) -> None:
+        heap = Heap(8, 2, 4)
+        for number in [-1, 2**64, 2**64 + 1]:
+            with self.subTest(number=number), self.assertRaises(OverflowError):
+                heap.allocate(number, 0)
+            with self.subTest(number=number), self.assertRaises(OverflowError):
+                Heap(8, 2, number)
+        with self.assertRaises(TypeError):
+            heap.allocate(1.5, 0)  # type: ignore[arg-type]
+        with self.refused(3, 0, "BAD_SIZE"):
+            heap.allocate(2**64 - 1, 0)
+
+    def test_views(self) -> None:
+        heap = Heap(16, 3, 5)
+        views = {name: getattr(heap, name) for name in ["a", "b", "counts", "cells", "roots", "waiting"]}
+        lengths = {name: len(view) for name, view in views.items()}
+        self.assertEqual(lengths, {"a": 2, "b": 2, "counts": 6, "cells": 64, "roots": 5, "waiting": 16})
+        with self.assertRaises(TypeError):
+            views["roots"][0] = 1
+        heap.allocate(1, 4)
+        self.assertEqual(list(views["roots"]), [0, 0, 0, 0, 1])
+
+    def test_threads(self) -> None:
+        heap = Heap(1024, 4, 8)
+
+        def work(root: int) -> None:
+            for size in range(1, 60):
+                heap.allocate(size, root)
+                heap.store_root(root, 0)
+
+        threads = [threading.Thread(target=work, args=(root,)) for root in range(8)]
+        for thread in threads:
+            thread.start()
+        for thread in threads:
+            thread.join()
+        heap.check()
+        self.assertEqual(heap.free_blocks(), 1024)
+
+    def test_documentation(self) -> None:
+        self.assertEqual(doctest.testmod(huwekapo).failed, 0)
+        for name in huwekapo.__all__:
+            self.assertTrue(getattr(huwekapo, name).__doc__, name)
+
+
+class Library(unittest.TestCase):
+    def start(self, **environment: str) -> subprocess.CompletedProcess[str]:
+        command = [sys.executable, "-c", "from huwekapo import Heap; print(Heap(8).free_blocks())"]
+        environment = {**os.environ, "PYTHONPATH": str(PYTHON), **environment}
+        return subprocess.run(command, env=environment, capture_output=True, text=True, check=False)
+
+    def test_named_by_the_variable(self) -> None:
+        maps = Path("/proc/self/maps").read_text()
+        path = next(word for word in maps.split() if "libhuwekapo.so" in word)
+        self.assertEqual(self.start(HUWEKAPO_LIBRARY=path).stdout, "8\n")
+        self.assertEqual(self.start(HUWEKAPO_LIBRARY=os.path.dirname(path)).stdout, "8\n")
+
+    def test_missing(self) -> None:
+        # No other place is tried where the variable is set.
+        done = self.start(HUWEKAPO_LIBRARY="/nowhere/libhuwekapo.so")
+        self.assertEqual(done.returncode, 1)
+        self.assertIn("LibraryMissing: libhuwekapo.so was not found: looked for /nowhere/libhuwekapo.so.", done.stderr)
+
+    def test_another_library(self) -> None:
+        maps = Path("/proc/self/maps").read_text()
+        path = next(word for word in maps.split() if "/libc.so" in word)
+        self.assertIn("is no libhuwekapo: it has no version", self.start(HUWEKAPO_LIBRARY=path).stderr)
+
+
+class Header(unittest.TestCase):
+    """What the header says, the package says."""
+
+    def setUp(self) -> None:
+        self.text = (HEADERS / "huwekapo.h").read_text()
+        # Without comments.
+        self.code = re.sub(r"/\*.*?\*/", " ", self.text, flags=re.DOTALL)
+
+    def body(self, kind: str, name: str) -> str:
+        found = re.search(rf"{kind} {name} {{(.*?)}};", self.code, flags=re.DOTALL)
+        assert found, name
+        return found.group(1)
+
+    def enum(self, name: str) -> dict[str, int]:
+        return {word: int(number) for word, number in re.findall(r"HUWEKAPO_(\w+) = (\d+)", self.body("enum", name))}
+
+    def fields(self, name: str) -> list[str]:
+        return re.findall(r"(\w+);", self.body("struct", name))
+
+    def test_version_and_limits(self) -> None:
+        macros = dict(re.findall(r"#define HUWEKAPO_(\w+) (\S+)", self.code))
+        self.assertEqual(macros["VERSION"], f'"{huwekapo.__version__}"')
+        parts = [macros[f"VERSION_{part}"] for part in ("MAJOR", "MINOR", "PATCH")]
+        self.assertEqual(".".join(parts), huwekapo.__version__)
+        limits = [library.MAX_BLOCKS, library.MAX_WIDTH, library.MAX_ROOTS]
+        self.assertEqual([int(macros[f"MAX_{name}"]) for name in ("BLOCKS", "WIDTH", "ROOTS")], limits)
+
+    def test_numbers(self) -> None:
+        self.assertEqual(self.enum("huwekapo_number"), {number.name: number.value for number in Number})
+        self.assertEqual(self.enum("huwekapo_damage"), {kind.name: kind.value for kind in Damage})
+
+    def test_structs(self) -> None:
+        for name, struct in [("reply", library.Reply), ("tally", library.Tally), ("run", library.RunSoFar), ("ran", library.Ran)]:
+            self.assertEqual(self.fields(f"huwekapo_{name}"), [field[0] for field in struct._fields_], name)
+
+    def test_functions(self) -> None:
+        kinds = {
+            "size_t": "WORD",
+            "uint64_t": "uint64",
+            "struct huwekapo_run": "run",
+            **{f"{const}{number} *": "pointer" for const in ("", "const ") for number in ("uint8_t", "uint16_t", "uint64_t")},
+        }
+        declared = {library.WORD: "WORD", library.ctypes.c_uint64: "uint64", library.RunSoFar: "run", library.ctypes.c_void_p: "pointer"}
+        # On x86-64 both are the same type of ctypes.
+        if library.WORD is library.ctypes.c_uint64:
+            kinds["uint64_t"] = declared[library.WORD] = "WORD"
+        found = re.findall(r"struct huwekapo_(\w+) huwekapo_(\w+)\((.*?)\);", self.code, flags=re.DOTALL)
+        self.assertEqual({name for _, name, _ in found}, set(library.FUNCTIONS))
+        for answer, name, arguments in found:
+            words = [re.fullmatch(r"\s*(.*?)(\w+)\s*", argument).groups() for argument in arguments.split(",")]  # type: ignore[union-attr]
+            lent = [word for _, word in words[2 : 2 + 2 * len(library.BUFFERS) : 2]]
+            self.assertEqual(lent, [buffer.name for buffer in library.BUFFERS], name)
+            rest = [kinds[kind.strip()] for kind, _ in words[2 + 2 * len(library.BUFFERS) :]]
+            self.assertEqual(rest, [declared[kind] for kind in library.FUNCTIONS[name][0]], name)
+            self.assertEqual(answer, {library.Reply: "reply", library.Ran: "ran"}[library.FUNCTIONS[name][1]], name)
+
+
+if __name__ == "__main__":
+    unittest.main()

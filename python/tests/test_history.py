@@ -1,0 +1,216 @@
+"""Runs of histories: lines, pieces, every kind of file."""
+
+from __future__ import annotations
+
+import gzip
+import io
+import os
+import random
+import tempfile
+import threading
+import unittest
+from pathlib import Path
+
+import huwekapo
+from huwekapo import Figures, Heap, History, Refused, Run, examples
+
+from .records import COLLECT, allocate, clear, copy, read, record, write
+
+THREE = allocate(2, 0) + allocate(1, 1) + allocate(3, 2)
+
+
+def line(history: bytes) -> str:
+    return huwekapo.run(io.BytesIO(history)).line()
+
+
+class Lines(unittest.TestCase):
+    def test_document_02(self) -> None:
+        rest = len(Figures._fields) - 5
+        self.assertEqual(line(b""), " ".join((5 + rest) * ["0"]) + "\n")
+        self.assertEqual(line(THREE), " ".join(["3", "6", "3", "0", "6"] + rest * ["0"]) + "\n")
+
+    def test_figures(self) -> None:
+        cycle = allocate(2, 0) + write(0, 0, 0) + clear(0) + COLLECT + allocate(4, 0)
+        run = huwekapo.run(io.BytesIO(cycle))
+        self.assertEqual((run.number, run.records, run.stopped), (0, 5, False))
+        figures = run.figures
+        found = (figures.allocations, figures.blocks, figures.largest, figures.collections, figures.peak)
+        self.assertEqual(found, (2, 6, 4, 1, 4))
+
+    def test_stops(self) -> None:
+        for number, history in [
+            (3, allocate(0, 99)),
+            (3, allocate(8193, 0)),
+            (4, copy(64, 0)),
+            (4, write(0, 0, 64)),
+            (6, read(0, 1, 2)),
+            (6, write(0, 0, 1)),
+            (7, write(0, 8, 0)),
+            (9, record(7)),
+            (9, record(5, unused=1)),
+            (10, b"\x05"),
+        ]:
+            with self.subTest(number=number, history=history.hex()):
+                run = huwekapo.run(io.BytesIO(allocate(2, 0) + history + THREE * (number != 10)))
+                self.assertEqual((run.number, run.records, run.line()), (number, 1, f"refused {number} at record 1\n"))
+                self.assertTrue(run.stopped and run.stop_in_words())
+                self.assertEqual(run.figures.allocations, 1)
+
+    def test_forced_collection(self) -> None:
+        full = allocate(4096, 0) + write(0, 0, 0) + allocate(4096, 1)
+        run = huwekapo.run(io.BytesIO(full + clear(0) + allocate(4096, 2)))
+        self.assertEqual((run.number, run.figures.collections), (0, 1))
+        run = huwekapo.run(io.BytesIO(full + allocate(1, 2)))
+        self.assertEqual((run.number, run.records, run.figures.collections), (5, 3, 1))
+
+    def test_other_heaps(self) -> None:
+        self.assertEqual(huwekapo.run(io.BytesIO(THREE), 8, 2, 3).figures.peak, 6)
+        self.assertEqual(huwekapo.run(io.BytesIO(THREE), 8, 2, 2).line(), "refused 4 at record 2\n")
+        with self.assertRaises(Refused):
+            huwekapo.run(io.BytesIO(THREE), 9)
+
+
+class Runs(unittest.TestCase):
+    """The call itself."""
+
+    def test_limit(self) -> None:
+        heap = Heap(8, 2, 4)
+        run = heap.run_records(Run(records=4_294_967_294), clear(0))
+        self.assertEqual((run.number, run.records), (0, 4_294_967_295))
+        self.assertEqual(heap.run_records(run, b""), run)
+        after = heap.run_records(run, clear(0))
+        self.assertEqual((after.number, after.records), (10, 4_294_967_295))
+
+    def test_stopped_run(self) -> None:
+        heap = Heap(8, 2, 4)
+        run = heap.run_records(Run(), record(7))
+        self.assertEqual(heap.run_records(run, THREE), run)
+        self.assertEqual(heap.free_blocks(), 8)
+
+    def test_out_of_range(self) -> None:
+        heap = Heap(8, 2, 4)
+        for run in [Run(records=4_294_967_296), Run(figures=Figures(allocations=1))]:
+            with self.subTest(run=run), self.assertRaises(Refused) as caught:
+                heap.run_records(run, b"")
+            self.assertEqual((caught.exception.number, caught.exception.name), (19, "BAD_RUN"))
+        with self.assertRaises(OverflowError):
+            heap.run_records(Run(records=2**64), b"")
+
+    def test_pieces(self) -> None:
+        history = examples.example("caches", 3000, 7) + b"\x01\x02\x03"
+        whole = Heap(1024, 2, 64)
+        expected = whole.run_records(Run(), history)
+        self.assertEqual(expected.number, 10)
+        pieces = Heap(1024, 2, 64)
+        dice, run, at = random.Random(1), Run(), 0
+        while at < len(history):
+            length = 8 * dice.randrange(200)
+            run = pieces.run_records(run, history[at : at + length])
+            at += length
+        self.assertEqual(run, expected)
+        self.assertEqual(list(pieces.cells), list(whole.cells))
+
+
+class Slow(io.RawIOBase):
+    """A file that gives so many bytes at a time."""
+
+    def __init__(self, content: bytes, length: int) -> None:
+        self._file, self._length = io.BytesIO(content), length
+
+    def readable(self) -> bool:
+        return True
+
+    def readinto(self, buffer) -> int:  # type: ignore[no-untyped-def,override]
+        piece = self._file.read(min(self._length, len(buffer)))
+        buffer[: len(piece)] = piece
+        return len(piece)
+
+
+class OnlyRead:
+    """A file that has no more than `read`."""
+
+    def __init__(self, content: bytes) -> None:
+        self._file = io.BytesIO(content)
+
+    def read(self, length: int) -> bytes:
+        return self._file.read(min(length, 1001))
+
+
+class Files(unittest.TestCase):
+    def setUp(self) -> None:
+        self.history = examples.example("lists", 300_000, 3)
+        self.line = line(self.history)
+        self.folder = tempfile.TemporaryDirectory()
+        self.addCleanup(self.folder.cleanup)
+        self.path = Path(self.folder.name) / "some.history"
+        self.path.write_bytes(self.history)
+
+    def test_kinds_of_files(self) -> None:
+        self.assertGreater(len(self.history), 2 << 20)
+        with gzip.open(self.path.with_suffix(".gz"), "wb") as file:
+            file.write(self.history)
+        with open(self.path, "rb") as open_file, gzip.open(self.path.with_suffix(".gz")) as packed:
+            for source in [self.path, str(self.path), open_file, packed, Slow(self.history, 65535), OnlyRead(self.history)]:
+                with self.subTest(source=source):
+                    self.assertEqual(huwekapo.run(source).line(), self.line)  # type: ignore[arg-type]
+
+    def test_small_pieces(self) -> None:
+        history = self.history[: 8 * 500]
+        for cut, end in [(0, b""), (1, b"\x00"), (7, b"1234567")]:
+            expected = line(history + end)
+            for length in [1, 3, 7, 8, 9]:
+                with self.subTest(cut=cut, length=length):
+                    self.assertEqual(huwekapo.run(Slow(history + end, length)).line(), expected)  # type: ignore[arg-type]
+
+    def test_pipe(self) -> None:
+        reading, writing = os.pipe()
+
+        def fill() -> None:
+            with open(writing, "wb", buffering=0) as file:
+                file.write(self.history)
+
+        writer = threading.Thread(target=fill)
+        writer.start()
+        with open(reading, "rb") as file:
+            history = History(file)
+            self.assertIsNone(history.size())
+            self.assertEqual(huwekapo.run(history).line(), self.line)
+            with self.assertRaises(OSError):
+                huwekapo.run(history)
+        writer.join()
+
+    def test_run_again(self) -> None:
+        by_path, by_file = History(self.path), History(io.BytesIO(self.history))
+        for history in [by_path, by_file]:
+            self.assertEqual(history.size(), len(self.history))
+            self.assertEqual([huwekapo.run(history).line() for _ in range(2)], 2 * [self.line])
+        # From where the file stood.
+        file = io.BytesIO(b"12345678" + THREE)
+        file.seek(8)
+        history = History(file)
+        self.assertEqual(history.size(), len(THREE))
+        self.assertEqual([huwekapo.run(history).figures.peak for _ in range(2)], [6, 6])
+
+    def test_steps(self) -> None:
+        heap = Heap()
+        runs = list(History(io.BytesIO(self.history[: 8 * 1000] + b"\x01")).runs(heap, step=300))
+        self.assertEqual([run.records for run in runs], [300, 600, 900, 1000])
+        self.assertEqual([run.number for run in runs], [0, 0, 0, 10])
+        self.assertEqual([run.records for run in History(io.BytesIO(b"")).runs(heap, step=300)], [0])
+        with self.assertRaises(ValueError):
+            list(History(io.BytesIO(b"")).runs(heap, step=0))
+
+    def test_progress(self) -> None:
+        told: list[int] = []
+        huwekapo.run(self.path, progress=told.append)
+        self.assertEqual(told[-1], len(self.history))
+        self.assertEqual(told, sorted(told))
+        self.assertGreater(len(told), 1)
+
+    def test_missing_file(self) -> None:
+        with self.assertRaises(FileNotFoundError):
+            huwekapo.run(self.path.with_name("nowhere"))
+
+
+if __name__ == "__main__":
+    unittest.main()
