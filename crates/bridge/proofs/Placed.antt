@@ -9,7 +9,8 @@ use lib.ListN.{length, getD, set}
 use Rattle.bitmap.specs.Bit.{setBit, fillBits, zeros}
 use Rattle.rules.specs.Heap.{Memory, exponent, lowestFree}
 use Rattle.rules.specs.Store.{letGo, putRoot, placed, allocateIn}
-use Rattle.references.specs.Blocks.{letGoBlocks, putRootBlocks, allocateBlocks}
+use Rattle.references.specs.Blocks.{letGoBlocks}
+use Rattle.stores.specs.Blocks.{putRootBlocks, allocateBlocks}
 use Rattle.theory.proofs.Maps.Extents.{sizesOf, length-sizes-of}
 use Rattle.theory.proofs.Maps.LowestChunk.{Room, room}
 use Rattle.theory.proofs.Maps.Totals.{sum, sum-set, free-and-sizes}

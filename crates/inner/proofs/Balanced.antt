@@ -10,7 +10,7 @@ use Rattle.rules.specs.Store.{allocateIn}
 use Rattle.rules.specs.Calls.{allocate, reply, Answer, answer}
 use Rattle.rules.specs.Promise.{Promise}
 use Rattle.rules.specs.declared.Reply.{Reply}
-use Rattle.references.specs.Blocks.{allocateBlocks}
+use Rattle.stores.specs.Blocks.{allocateBlocks}
 use Rattle.theory.specs.Balance.{freedBlocks, inUse, allocates, allocatedBy}
 use Rattle.theory.proofs.Maps.Totals.{free-and-sizes}
 use Rattle.theory.proofs.Memories.Healthy.{Healthy}

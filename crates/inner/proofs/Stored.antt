@@ -11,7 +11,7 @@ use Rattle.rules.specs.Calls.{Call, storeRoot, storeCell, reply, freeing, settl
 use Rattle.rules.specs.Promise.{Promise}
 use Rattle.rules.specs.declared.Reply.{Reply}
 use Rattle.rules.proofs.Tests.{require-true}
-use Rattle.references.specs.Blocks.{storeRootBlocks, storeCellBlocks}
+use Rattle.stores.specs.Blocks.{storeRootBlocks, storeCellBlocks}
 use Rattle.theory.proofs.Memories.Healthy.{Healthy}
 use Rattle.theory.proofs.EachCall.Served.{on-undamaged}
 use Rattle.theory.proofs.Memories.WaitingUnread.{store-root-waiting, store-cell-waiting}

@@ -10,7 +10,6 @@ ghost use Rattle.inner.specs.Usable.{Usable};
 ghost use Rattle.inner.specs.Replies.{storeRootTest, storeCellTest, allocateReply};
 use crate::tests;
 use blocks::Ref;
-use references::stores;
 use rules::Reply;
 
 // The reply of an allocation, and the number of blocks that it freed.

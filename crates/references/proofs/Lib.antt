@@ -4,4 +4,3 @@ pub mod Stack
 pub mod Down
 pub mod Freeing
 pub mod Elsewhere
-pub mod Storing

@@ -1,5 +1,4 @@
-// References: counting up and down, the release of what no reference holds, the two stores and the placing of a new object. They ask
-// for `Ready` lists (lengths, ranges, a cleared waiting list) and leave the waiting list cleared.
+// References: counting up and down, and the release of what no reference holds. They ask for lists of right lengths and ranges and, as `Ready`
+// has it, a cleared waiting list, which they leave cleared.
 pub mod counting;
 pub mod release;
-pub mod stores;

@@ -1,11 +1,11 @@
--- `references::stores::put_root` meets its contract: letting go is the same beside the roots, of which one is written.
+-- `stores::put_root` meets its contract: letting go is the same beside the roots, of which one is written.
 use native.Mathlib.Omega.{arith}
 use borrow.Author.Needs.{needs}
 use Rattle.rules.specs.Store.{putRoot}
-use Rattle.references.specs.Blocks.{putRootBlocks}
+use Rattle.stores.specs.Blocks.{putRootBlocks}
 use Rattle.references.proofs.Elsewhere.{let-go-roots, let-go-blocks-roots}
-use Rattle.references.proofs.stores.put_root.Statement.{statement}
-use Rattle.references.proofs.stores.put_root.Tie as tie
+use Rattle.stores.proofs.put_root.Statement.{statement}
+use Rattle.stores.proofs.put_root.Tie as tie
 
 mul-old : tie.Need-mul-old
 mul-old c = search needs

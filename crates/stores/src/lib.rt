@@ -1,11 +1,12 @@
-// The two stores and the placing of a new object, each with the number of blocks that it frees.
+// The two stores and the placing of a new object, each with the number of blocks that it frees. They ask for `Ready` lists (lengths, ranges,
+// a cleared waiting list) and leave the waiting list cleared.
 ghost use mathlib.Core.Path.{_≡_};
 ghost use Prim.Native.Nat.{_+_, _*_, _≤_, _<_};
 ghost use lib.ListN.{length};
 ghost use Rattle.rules.specs.Lent.{before, after, lent};
 ghost use Rattle.rules.specs.Store.{putRoot, storeRootIn, storeCellIn, allocateIn};
 ghost use Rattle.references.specs.Ready.{Ready};
-ghost use Rattle.references.specs.Blocks.{putRootBlocks, storeRootBlocks, storeCellBlocks, allocateBlocks};
+ghost use Rattle.stores.specs.Blocks.{putRootBlocks, storeRootBlocks, storeCellBlocks, allocateBlocks};
 use blocks::Ref;
 
 // Writes v, which is counted already, to root r, and lets go of what stood there.
@@ -35,7 +36,7 @@ fn put_root(
 {
     let old = roots[r];
     roots[r] = v;
-    crate::release::let_go(blocks, width, a, b, counts, cells, waiting, old)
+    references::release::let_go(blocks, width, a, b, counts, cells, waiting, old)
 }
 
 // Stores v in root r.
@@ -66,7 +67,7 @@ pub fn store_root(
     if roots[r] == v {
         return 0; // nothing is let go
     }
-    crate::counting::count_up(blocks, width, counts, v);
+    references::counting::count_up(blocks, width, counts, v);
     put_root(blocks, width, a, b, counts, cells, roots, waiting, r, v)
 }
 
@@ -99,9 +100,9 @@ pub fn store_cell(
     if old == v {
         return 0;
     }
-    crate::counting::count_up(blocks, width, counts, v);
+    references::counting::count_up(blocks, width, counts, v);
     cells[c] = v;
-    crate::release::let_go(blocks, width, a, b, counts, cells, waiting, old)
+    references::release::let_go(blocks, width, a, b, counts, cells, waiting, old)
 }
 
 // Makes an object of count 1 of the n blocks from block i on, and puts its reference into root r.

@@ -11,10 +11,11 @@ use Rattle.planes.specs.Plane.{setCount}
 use Rattle.planes.proofs.Counts.{length-set-count}
 use Rattle.rules.specs.Heap.{Memory, memory}
 use Rattle.rules.specs.Store.{countUp, clearCells, letGo, putRoot, putCell, changeRoot, changeCell, storeRootIn, storeCellIn, placed, allocateIn}
 use Rattle.references.specs.Ready.{Ready}
-use Rattle.references.specs.Blocks.{letGoBlocks, putRootBlocks, putCellBlocks, changeRootBlocks, changeCellBlocks, storeRootBlocks, storeCellBlocks, allocateBlocks}
+use Rattle.references.specs.Blocks.{letGoBlocks}
+use Rattle.stores.specs.Blocks.{putRootBlocks, putCellBlocks, changeRootBlocks, changeCellBlocks, storeRootBlocks, storeCellBlocks, allocateBlocks}
 use Rattle.references.proofs.Shapes.{planes-same, extents-written}
 use Rattle.references.proofs.Elsewhere.{let-go-roots, let-go-blocks-roots}
 
 -- ---- what a store does where the value is present, and where it is not
 

@@ -1,9 +1,9 @@
--- `references::stores::place` meets its contract: the buffers that are handed on are those of `placed`.
+-- `stores::place` meets its contract: the buffers that are handed on are those of `placed`.
 use native.Mathlib.Omega.{arith}
 use borrow.Author.Needs.{needs}
-use Rattle.references.proofs.Storing.{ready-placed, place-done, place-blocks}
-use Rattle.references.proofs.stores.place.Statement.{statement}
-use Rattle.references.proofs.stores.place.Tie as tie
+use Rattle.stores.proofs.Storing.{ready-placed, place-done, place-blocks}
+use Rattle.stores.proofs.place.Statement.{statement}
+use Rattle.stores.proofs.place.Tie as tie
 
 mark-extent-requires : tie.Need-mark-extent-requires
 mark-extent-requires c κs = search needs

@@ -1,63 +1,47 @@
--- `references::stores::store_root` meets its contract: the counts that are handed on are those counted up; where the value is present nothing
+-- `stores::store_root` meets its contract: the counts that are handed on are those counted up; where the value is present nothing
 -- is done.
 use mathlib.Core.Path.{_∙_}
 use native.Mathlib.Omega.{arith}
-use Rattle.references.proofs.Storing.{ready-counts, root-present, root-changed, store-root-done, store-root-blocks}
+use Rattle.stores.proofs.Storing.{ready-counts, root-present, root-changed, store-root-done, store-root-blocks}
 use borrow.Author.Needs.{needs}
-use Rattle.references.proofs.stores.store_root.Statement.{statement}
-use Rattle.references.proofs.stores.store_root.Tie as tie
-use Rattle.references.proofs.stores.store_root.Reads as reads
-use Rattle.references.proofs.stores.store_root.Lts as lts
-use Rattle.references.proofs.counting.count_up.Reads as count-up-reads
-use Rattle.references.proofs.stores.put_root.Reads as put-root-reads
+use Rattle.stores.proofs.store_root.Statement.{statement}
+use Rattle.stores.proofs.store_root.Tie as tie
 
--- src/stores.rt:66:8
 mul-if1 : tie.Need-mul-if1
 mul-if1 c = search needs
 
--- src/stores.rt:66:8
 slice-read-if1 : tie.Need-slice-read-if1
 slice-read-if1 c = search needs
 
--- src/stores.rt:67:9
 returns : tie.Need-returns
 returns c = root-present _ _ _ _ _ (c .if1 .taken)
 
--- src/stores.rt:69:5
 count-up-requires : tie.Need-count-up-requires
 count-up-requires c κs = search needs
 
--- src/stores.rt:70:5
 put-root-requires : tie.Need-put-root-requires
 put-root-requires c κs =
     let pre = c .before .before .before .before .before .before .before .before .before .before .before .before .before .before .before .before .before .before .pre in
     (ready-counts _ _ _ _ _ _ _ _ _ (omega arith) (pre .0), pre .1, pre .2)
 
--- src/stores.rt:42:1
 same-length : tie.Need-same-length
 same-length c = search needs
 
--- src/stores.rt:42:1
 same-length-2 : tie.Need-same-length-2
 same-length-2 c = search needs
 
--- src/stores.rt:42:1
 same-length-3 : tie.Need-same-length-3
 same-length-3 c = search needs
 
--- src/stores.rt:42:1
 same-length-4 : tie.Need-same-length-4
 same-length-4 c = search needs
 
--- src/stores.rt:42:1
 same-length-5 : tie.Need-same-length-5
 same-length-5 c = search needs
 
--- src/stores.rt:42:1
 same-length-6 : tie.Need-same-length-6
 same-length-6 c = search needs
 
--- src/stores.rt:42:1
 returns-2 : tie.Need-returns-2
 returns-2 c =
     let put = c .before .before .before .before .before .before .before .before .before .before .before .before in
