@@ -14,7 +14,8 @@ use Rattle.rules.specs.declared.Reply.{Reply}
 use Rattle.figures.specs.declared.tally.Run.{Run}
 use Rattle.figures.specs.Figures.{mostRecords}
 use Rattle.history.specs.declared.Ran.{Ran}
-use Rattle.history.specs.Runs.{afterTurn, recordAt, ranFrom, wholeRecords, ended, ran}
+use Rattle.turns.specs.Turns.{afterTurn}
+use Rattle.history.specs.Runs.{recordAt, ranFrom, wholeRecords, ended, ran}
 use Rattle.history.specs.Promised.{Promised, runReply}
 use Rattle.report.specs.declared.run.Turn.{Turn}
 use Rattle.report.specs.declared.run.Turn.the-variants.{GoesOn}
