@@ -1,9 +1,10 @@
 //! The commands. See README.md.
 
-use model::history::vectors::{histories, History};
+use model::history::vectors::{histories, mixed, History};
 use model::history::{driver, report, text};
 use model::lists::families::{generate, FAMILIES};
 use model::lists::vectors;
+use model::product::{history_bench, port};
 use model::texts::expect::expect;
 use model::texts::{show, trace};
 use std::io::{Read, Write};
@@ -24,6 +25,9 @@ const USAGE: &str = "usage:
   model history run < FILE           the line that the program `report` must print for it
   model history vectors FOLDER       some 300 histories, NAME.history and NAME.line each
   model history check PROGRAM ..     runs a program on all of these, by file and through a pipe
+  model history mixed SEED COUNT     a mixed history of COUNT records, each accepted
+  model history port < FILE          the line once more, by the product's algorithms in plain Rust
+  model history bench FILE PROGRAM ..  times of a program on a history against these; its memory
 with the product's library, `--features library`:
   model fuzz SECONDS SEED            all pairs of maps of 8 blocks, random lists, damaged memories and replays,
                                      model against library
@@ -90,6 +94,17 @@ fn history(words: &[&str]) {
             }
         }
         ["check", program @ ..] if !program.is_empty() => check_program(program),
+        ["mixed", seed, count] => print(&mixed(number(seed), number(count) as usize)),
+        ["port"] => match port::report(std::io::stdin().lock()) {
+            Ok(line) => print(line.as_bytes()),
+            Err(error) => stop(&format!("standard input: {error}\n")),
+        },
+        ["bench", file, program @ ..] if !program.is_empty() => {
+            match history_bench::bench(file, program) {
+                Ok(text) => print(text.as_bytes()),
+                Err(error) => stop(&format!("{file}, {}: {error}\n", program[0])),
+            }
+        }
         _ => stop(USAGE),
     }
 }

@@ -1,9 +1,11 @@
 //! The port that the benchmark uses does what the model does, so that the two sides of the benchmark do the
 //! same work.
 
+use model::history::report;
+use model::history::vectors::all_but_the_longest;
 use model::lists::generate::Desk;
 use model::lists::random::Random;
-use model::product::port::{self, lend, Searched};
+use model::product::port::{self, lend, Searched, SoFar};
 use model::rules::replay::replay;
 use model::{Call, Memory};
 
@@ -33,6 +35,38 @@ fn port_is_the_model_on_random_lists() {
         let [memory, _] = &mut memories;
         assert_eq!(port::check(blocks, width, &lend(memory)).number, 0);
     }
+}
+
+#[test]
+fn port_is_the_model_on_histories() {
+    for history in all_but_the_longest() {
+        let line = port::report(&history.bytes[..]).expect("a slice can be read");
+        assert_eq!(line, report(&history.bytes), "{}", history.name);
+    }
+}
+
+/// Pieces of whole records, runs that are stopped and runs that no run leaves: what the port does where a run is handed
+/// in.
+#[test]
+fn port_hands_runs_in_and_out() {
+    let history = [1, 0, 0, 0, 0, 0, 2, 0, 1, 0, 0, 0, 0, 0, 9, 0];
+    let mut memory = Memory::zeros(8, 2, 4);
+    memory.b.fill(255);
+    let mut lent = lend(&mut memory);
+    let mut run = |so_far, bytes: &[u8]| port::run_records(8, 2, &mut lent, so_far, bytes);
+    let first = run(SoFar::default(), &history[..8]).expect("accepted");
+    assert_eq!(first.to_string(), "1 2 2 0 2\n");
+    let stopped = run(first, &history[8..]).expect("accepted");
+    assert_eq!(stopped.to_string(), "refused 3 at record 1\n");
+    assert_eq!(run(stopped, &history), Ok(stopped));
+    let wrong = SoFar {
+        records: 4_294_967_296,
+        ..first
+    };
+    assert_eq!(
+        run(wrong, &history).map_err(|answer| answer.number),
+        Err(19)
+    );
 }
 
 /// The A-map's blocks from `from` up to `to`, searched chunk by chunk and block by block, with nothing remembered.

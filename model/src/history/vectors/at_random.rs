@@ -71,20 +71,29 @@ pub fn histories(shelf: &mut Shelf) {
     }
 }
 
+/// A bit of everything.
+const MIXED: Kind = Kind {
+    name: "mixed",
+    roots: 64,
+    sizes: 120,
+    clears: 8,
+    records: 200_000,
+};
+
 /// 200,000 records, and one that is refused behind them.
 pub fn longest(shelf: &mut Shelf) {
-    let mixed = Kind {
-        name: "long",
-        roots: 64,
-        sizes: 120,
-        clears: 8,
-        records: 200_000,
-    };
-    let mut writer = Writer::new(0, mixed);
-    writer.records(mixed.records);
+    let mut writer = Writer::new(0, MIXED);
+    writer.records(MIXED.records);
     shelf.add("random-200000-records", writer.bytes.clone());
     writer.wrong_record();
     shelf.add("random-200001-records", writer.bytes);
+}
+
+/// So many mixed records, each accepted.
+pub fn mixed(seed: u64, count: usize) -> Vec<u8> {
+    let mut writer = Writer::new(seed, MIXED);
+    writer.records(count);
+    writer.bytes
 }
 
 /// A history as it is written, with the heap that it has come to.

@@ -9,6 +9,8 @@ mod by_record;
 
 use super::record::{bytes, Operation};
 
+pub use at_random::mixed;
+
 #[derive(Clone, Debug)]
 pub struct History {
     pub name: String,

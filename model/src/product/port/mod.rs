@@ -3,6 +3,7 @@
 
 mod blocks;
 mod damage;
+mod history;
 mod references;
 mod replay;
 mod two_passes;
@@ -11,6 +12,7 @@ use crate::rules::heap::Memory;
 
 pub use blocks::{lowest_chunk, Searched};
 pub use damage::check;
+pub use history::{report, run_records, SoFar, Tally};
 pub use references::collect;
 pub use replay::{replay, replay_by, step};
 pub use two_passes::search_in_two_passes;

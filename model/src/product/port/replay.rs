@@ -7,7 +7,7 @@ use super::damage::is_shaped;
 use super::references::{collect, place, return_roots, store_cell, store_root};
 use super::{acceptance, refusal, Answer, Lent};
 
-fn format(m: &mut Lent) {
+pub fn format(m: &mut Lent) {
     m.a.fill(0);
     m.b.fill(255);
     m.counts.fill(0);
@@ -21,33 +21,34 @@ pub trait Search: Fn(&[u8], usize, usize) -> usize {}
 
 impl<F: Fn(&[u8], usize, usize) -> usize> Search for F {}
 
-fn search(a: &[u8], blocks: usize, size: usize) -> usize {
+pub fn search(a: &[u8], blocks: usize, size: usize) -> usize {
     lowest_chunk(a, 0, blocks, size).at
 }
 
-fn allocate(
+/// The answer, and the number of blocks freed.
+pub fn allocate(
     find: &impl Search,
     blocks: usize,
     width: usize,
     m: &mut Lent,
     n: usize,
     r: usize,
-) -> Answer {
+) -> (Answer, usize) {
     if n == 0 || blocks < n {
-        return refusal(3);
+        return (refusal(3), 0);
     }
     if m.roots.len() <= r {
-        return refusal(4);
+        return (refusal(4), 0);
     }
     let at = find(m.a, blocks, chunk_size(n));
     if at == blocks {
-        return refusal(5);
+        return (refusal(5), 0);
     }
-    place(blocks, width, m, n, r, at);
-    acceptance(at)
+    let freed = place(blocks, width, m, n, r, at);
+    (acceptance(at), freed)
 }
 
-fn put_in_root(blocks: usize, width: usize, m: &mut Lent, r: usize, v: usize) -> Answer {
+pub fn put_in_root(blocks: usize, width: usize, m: &mut Lent, r: usize, v: usize) -> Answer {
     if m.roots.len() <= r {
         return refusal(4);
     }
@@ -57,7 +58,14 @@ fn put_in_root(blocks: usize, width: usize, m: &mut Lent, r: usize, v: usize) ->
     acceptance(store_root(blocks, width, m, r, v as u16))
 }
 
-fn put_in_cell(blocks: usize, width: usize, m: &mut Lent, at: usize, j: usize, v: usize) -> Answer {
+pub fn put_in_cell(
+    blocks: usize,
+    width: usize,
+    m: &mut Lent,
+    at: usize,
+    j: usize,
+    v: usize,
+) -> Answer {
     if !is_first(blocks, m.a, m.b, at) {
         return refusal(6);
     }
@@ -101,7 +109,7 @@ fn step_by(find: &impl Search, blocks: usize, width: usize, m: &mut Lent, call: 
             format(m);
             acceptance(0)
         }
-        2 => allocate(find, blocks, width, m, x, y),
+        2 => allocate(find, blocks, width, m, x, y).0,
         3 => put_in_root(blocks, width, m, x, y),
         4 => put_in_cell(blocks, width, m, x, y, call[3] as usize),
         5 => acceptance(collect(blocks, width, m)),

@@ -1,0 +1,265 @@
+//! Runs of recorded histories: each record is planned, carried out and noted.
+
+use super::blocks::{count_zeros, object_size};
+use super::damage::check;
+use super::references::collect;
+use super::replay::{allocate, format, put_in_cell, put_in_root, search};
+use super::{lend, refusal, Answer, Lent};
+use crate::rules::heap::Memory;
+use std::fmt;
+use std::io::{self, Read};
+
+const MAX_RECORDS: usize = 4_294_967_295;
+const MAX_BLOCKS: u64 = 8192;
+
+/// The figures of a run.
+#[derive(Clone, Copy, Debug, Default, PartialEq, Eq)]
+pub struct Tally {
+    pub allocations: u64,
+    pub blocks: u64,
+    pub largest: u64,
+    pub collections: u64,
+    pub peak: u64,
+}
+
+/// Where a run stands.
+#[derive(Clone, Copy, Debug, Default, PartialEq, Eq)]
+pub struct SoFar {
+    pub number: usize,
+    pub records: usize,
+    pub tally: Tally,
+}
+
+struct Fields {
+    operation: usize,
+    d: usize,
+    s: usize,
+    unused: usize,
+    c: usize,
+    size: usize,
+}
+
+enum Plan {
+    Stop(usize),
+    Allocate { n: usize, r: usize },
+    StoreRoot { r: usize, v: usize },
+    StoreCell { at: usize, j: usize, v: usize },
+    Collect,
+}
+
+/// What came of a record's calls.
+struct Done {
+    number: usize,
+    allocated: usize,
+    collected: bool,
+    freed: usize,
+}
+
+fn fields_at(bytes: &[u8], at: usize) -> Fields {
+    let byte = |k: usize| bytes[at + k] as usize;
+    Fields {
+        operation: byte(0),
+        d: byte(1),
+        s: byte(2),
+        unused: byte(3),
+        c: byte(4) + 256 * byte(5),
+        size: byte(6) + 256 * byte(7),
+    }
+}
+
+fn unnamed_are_zero(f: &Fields) -> bool {
+    let zero = |fields: &[usize]| fields.iter().all(|field| *field == 0);
+    f.unused == 0
+        && match f.operation {
+            1 => zero(&[f.s, f.c]),
+            2 => zero(&[f.c, f.size]),
+            3 | 4 => f.size == 0,
+            5 => zero(&[f.s, f.c, f.size]),
+            6 => zero(&[f.d, f.s, f.c, f.size]),
+            _ => true,
+        }
+}
+
+fn plan_of(blocks: usize, m: &Lent, f: &Fields) -> Plan {
+    if !unnamed_are_zero(f) {
+        return Plan::Stop(9);
+    }
+    match f.operation {
+        1 => Plan::Allocate { n: f.size, r: f.d },
+        2..=4 if m.roots.len() <= f.d || m.roots.len() <= f.s => Plan::Stop(4),
+        2 => Plan::StoreRoot {
+            r: f.d,
+            v: m.roots[f.s] as usize,
+        },
+        3 => match m.roots[f.d] as usize {
+            0 => Plan::Stop(6),
+            owner => Plan::StoreCell {
+                at: owner - 1,
+                j: f.c,
+                v: m.roots[f.s] as usize,
+            },
+        },
+        4 => match m.roots[f.s] as usize {
+            0 => Plan::Stop(6),
+            owner if 4 * object_size(blocks, m.b, owner - 1) <= f.c => Plan::Stop(7),
+            owner => Plan::StoreRoot {
+                r: f.d,
+                v: m.cells[4 * (owner - 1) + f.c] as usize,
+            },
+        },
+        5 if m.roots.len() <= f.d => Plan::Stop(4),
+        5 => Plan::StoreRoot { r: f.d, v: 0 },
+        6 => Plan::Collect,
+        _ => Plan::Stop(9),
+    }
+}
+
+fn done(number: usize, freed: usize) -> Done {
+    Done {
+        number,
+        allocated: 0,
+        collected: false,
+        freed,
+    }
+}
+
+fn allocate_or_collect(blocks: usize, width: usize, m: &mut Lent, n: usize, r: usize) -> Done {
+    let (mut answer, mut freed) = allocate(&search, blocks, width, m, n, r);
+    let collected = answer.number == 5;
+    if collected {
+        let by_collection = collect(blocks, width, m);
+        (answer, freed) = allocate(&search, blocks, width, m, n, r);
+        freed += by_collection;
+    }
+    Done {
+        number: answer.number,
+        allocated: if answer.number == 0 { n } else { 0 },
+        collected,
+        freed,
+    }
+}
+
+fn act(blocks: usize, width: usize, m: &mut Lent, plan: Plan) -> Done {
+    match plan {
+        Plan::Stop(number) => done(number, 0),
+        Plan::Allocate { n, r } => allocate_or_collect(blocks, width, m, n, r),
+        Plan::StoreRoot { r, v } => {
+            let answer = put_in_root(blocks, width, m, r, v);
+            done(answer.number, answer.value)
+        }
+        Plan::StoreCell { at, j, v } => {
+            let answer = put_in_cell(blocks, width, m, at, j, v);
+            done(answer.number, answer.value)
+        }
+        Plan::Collect => Done {
+            collected: true,
+            ..done(0, collect(blocks, width, m))
+        },
+    }
+}
+
+fn note(run: &mut SoFar, used: &mut usize, done: &Done) {
+    let tally = &mut run.tally;
+    if done.collected {
+        tally.collections += 1;
+    }
+    if done.allocated != 0 {
+        let n = done.allocated as u64;
+        tally.allocations += 1;
+        tally.blocks += n;
+        tally.largest = tally.largest.max(n);
+    }
+    *used = *used + done.allocated - done.freed;
+    run.number = done.number;
+    if done.number == 0 {
+        run.records += 1;
+        tally.peak = tally.peak.max(*used as u64);
+    }
+}
+
+fn in_range(run: &SoFar) -> bool {
+    let records = run.records as u64;
+    let forced = u64::from(run.number != 0);
+    run.records <= MAX_RECORDS
+        && run.tally.allocations <= records
+        && run.tally.blocks <= MAX_BLOCKS * records
+        && run.tally.collections <= records + forced
+}
+
+/// Runs the records of a piece. The heap is checked once; an error is a refusal.
+pub fn run_records(
+    blocks: usize,
+    width: usize,
+    m: &mut Lent,
+    mut run: SoFar,
+    bytes: &[u8],
+) -> Result<SoFar, Answer> {
+    let checked = check(blocks, width, m);
+    if checked.number != 0 {
+        return Err(checked);
+    }
+    if !in_range(&run) {
+        return Err(refusal(19));
+    }
+    m.waiting.fill(0);
+    if run.number != 0 {
+        return Ok(run);
+    }
+    let n = (bytes.len() / 8).min(MAX_RECORDS - run.records);
+    let mut used = blocks - count_zeros(m.a);
+    for i in 0..n {
+        let fields = fields_at(bytes, 8 * i);
+        let plan = plan_of(blocks, m, &fields);
+        let done = act(blocks, width, m, plan);
+        note(&mut run, &mut used, &done);
+        if run.number != 0 {
+            return Ok(run);
+        }
+    }
+    if bytes.len() != 8 * n {
+        run.number = 10;
+    }
+    Ok(run)
+}
+
+impl fmt::Display for SoFar {
+    fn fmt(&self, to: &mut fmt::Formatter) -> fmt::Result {
+        let Tally {
+            allocations,
+            blocks,
+            largest,
+            collections,
+            peak,
+        } = self.tally;
+        match self.number {
+            0 => writeln!(to, "{allocations} {blocks} {largest} {collections} {peak}"),
+            number => writeln!(to, "refused {number} at record {}", self.records),
+        }
+    }
+}
+
+/// The program `report`: its heap, its pieces, its line.
+pub fn report(mut history: impl Read) -> io::Result<String> {
+    const BLOCKS: usize = 8192;
+    const WIDTH: usize = 3;
+    const PIECE: usize = 65_536;
+    let mut memory = Memory::zeros(BLOCKS, WIDTH, 64);
+    let mut lent = lend(&mut memory);
+    format(&mut lent);
+    let mut run = SoFar::default();
+    let mut piece = vec![0; PIECE];
+    loop {
+        let mut length = 0;
+        while length < PIECE {
+            match history.read(&mut piece[length..])? {
+                0 => break,
+                read => length += read,
+            }
+        }
+        run = run_records(BLOCKS, WIDTH, &mut lent, run, &piece[..length])
+            .expect("a formatted heap stays undamaged");
+        if run.number != 0 || length < PIECE {
+            return Ok(run.to_string());
+        }
+    }
+}
