@@ -1,4 +1,6 @@
 pub mod Progress
+pub mod Ends
 pub mod Made
 pub mod Pieces
 pub mod Whole
+pub mod TwoCalls

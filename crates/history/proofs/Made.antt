@@ -1,7 +1,7 @@
 -- A run of records counts as the calls it makes.
 use mathlib.Core.Path.{_≡_, refl, sym, ap, _∙_, subst}
 use mathlib.Core.Logic.{inl, inr}
-use mathlib.Core.Bool.{Bool, true, false, not, _&&_}
+use mathlib.Core.Bool.{Bool, true, false}
 use mathlib.Core.List.{List, [], _∷_, _++_}
 use Prim.Native.Nat.{ℕ, zero, suc, _+_, _*_}
 use native.Mathlib.Decide.{ℕ-discrete}
@@ -24,8 +24,9 @@ use Rattle.figures.specs.declared.tally.Run.{Run}
 use Rattle.figures.specs.Figures.{countedIn, noted, notedAll, run}
 use Rattle.turns.specs.Turns.{madeOn, Turn, triesAgain, triedAgain, turnOf, afterTurn}
 use Rattle.turns.proofs.Turns.{turn-once, turn-again}
-use Rattle.history.specs.Runs.{Came, came, recordAt, ranFrom, wholeRecords, ended, ran}
+use Rattle.history.specs.Runs.{Came, came, recordAt, ranFrom, wholeRecords, ran}
 use Rattle.history.specs.Claims.{withPeak, RunsAreCalls}
+use Rattle.history.proofs.Ends.{ended-figures}
 
 -- ---- lists of calls, one behind the other
 
@@ -186,15 +187,6 @@ module _ (N w : ℕ) where
         | no e ↦ rw (ne-eqb (x .number) 0 e, ranFrom) record { chained = first; figures-are = after-figures N x r }
       ]
 
-  -- the number 10 leaves the figures
-  ended-figures : (size n : ℕ) (r : Run) → ended size n r .tally ≡ r .tally
-  unfolding ended
-  ended-figures size n r = go (eqb (r .number) 0 && not (eqb size (recordLength * n)))
-    where
-      go : (b : Bool) → (let s : Run = elim b [ true ↦ run 10 (r .records) (r .tally) | false ↦ r ] in s .tally) ≡ r .tally
-      go true = refl
-      go false = refl
-
   run-makes : (bytes : List ℕ) (h : Memory) → Undamaged N w h → (r : Run) → Makes N w h r (ran N w bytes h r)
   unfolding ran notedAll
   run-makes bytes h u r =
@@ -213,6 +205,10 @@ module _ (N w : ℕ) where
             }
         | no e ↦ rw (ne-eqb (r .number) 0 e, ran) record { chained = no-calls N w h u; figures-are = refl }
       ]
+
+-- a run keeps a heap undamaged
+pub run-undamaged : (N w : ℕ) (bytes : List ℕ) (h : Memory) → Undamaged N w h → (r : Run) → Undamaged N w (ran N w bytes h r .memory)
+run-undamaged N w bytes h u r = run-makes N w bytes h u r .chained .undamaged
 
 pub runs-are-calls : RunsAreCalls
 runs-are-calls N w bytes h r u =

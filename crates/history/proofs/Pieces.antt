@@ -27,6 +27,7 @@ use Rattle.history.specs.declared.Ran.{Ran}
 use Rattle.history.specs.Runs.{wholeRecords, ended, ranFrom, ran}
 use Rattle.history.specs.RunBy.{RunBy}
 use Rattle.history.specs.Promised.{runReply, refusal, Promised}
+use Rattle.history.proofs.Ends.{ended-range}
 use Rattle.history.proofs.Made.{runs-are-calls}
 
 -- ---- a piece
@@ -49,9 +50,10 @@ whole-going N h bytes r n whole goes-on range used counted =
 
 module _ (N w : ℕ) (bytes : List ℕ) (h : Memory) (r : Run) where
   -- a run that was stopped
-  pub piece-stopped : Usable N w h → (r .number ≡ 0 → ⊥) → RunBy N w (ran N w bytes h r) r h
+  pub piece-stopped : Usable N w h → inRange r ≡ true → (r .number ≡ 0 → ⊥) → RunBy N w (ran N w bytes h r) r h
   unfolding ran
-  piece-stopped usable stopped = rw (ne-eqb (r .number) 0 stopped, ran) record { run-is = refl; memory-is = refl; usable = usable }
+  piece-stopped usable range stopped =
+      rw (ne-eqb (r .number) 0 stopped, ran) record { run-is = refl; memory-is = refl; in-range = range; usable = usable }
 
   -- one that goes on
   pub piece-ran :
@@ -63,6 +65,7 @@ module _ (N w : ℕ) (bytes : List ℕ) (h : Memory) (r : Run) where
       record {
         run-is = e ∙ ap (ended (length bytes) n) (by .run-is);
         memory-is = by .memory-is;
+        in-range = subst (λ (x : Run). inRange x ≡ true) (sym e) (ended-range (length bytes) n last (by .in-range));
         usable = by .usable;
       }
 
@@ -146,6 +149,7 @@ module _ (N w : ℕ) (bytes : List ℕ) (h : Memory) (r : Run) (x : Reply) (is :
         run-is = ap (λ (v : Ran). v .run) e ∙ sym (rw stops);
         after-is = sym (rw stops);
         idle = λ z. absurd (none z);
+        again = λ z. absurd (none z);
         calls = λ z. absurd (none z);
       }
 
@@ -162,5 +166,6 @@ module _ (N w : ℕ) (bytes : List ℕ) (h : Memory) (r : Run) (x : Reply) (is :
         run-is = ran-by .run-is ∙ sym (rw zero);
         after-is = ran-by .memory-is ∙ sym (rw zero);
         idle = λ _. ran-by .usable .idle;
+        again = λ _. ran-by .in-range;
         calls = λ _. runs-are-calls N w bytes (settled N h) r (record { right-shape = usable .shape-is; no-damage = usable .undamaged });
       }

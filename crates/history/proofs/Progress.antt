@@ -138,6 +138,7 @@ module _ (n N w : ℕ) (bytes : List ℕ) (start : Memory) (r : Run) where
                 (p .memory-left
                 ∙ ap (λ (k : ℕ). ranFrom k N w bytes i h (state .run) .memory) more
                 ∙ stop-memory left N w bytes i h (state .run) refused);
+            in-range = turned .in-range;
             usable = next-usable;
           }
 
@@ -151,5 +152,6 @@ module _ (n N w : ℕ) (bytes : List ℕ) (start : Memory) (r : Run) where
       record {
         run-is = sym (p .run-left ∙ ap (λ (k : ℕ). ranFrom k N w bytes i h (state .run) .run) none);
         memory-is = sym (p .memory-left ∙ ap (λ (k : ℕ). ranFrom k N w bytes i h (state .run) .memory) none);
+        in-range = p .going .in-range;
         usable = p .usable;
       }

@@ -20,6 +20,7 @@ use Rattle.turns.specs.Turns.{Turn, turnOf, afterTurn}
 use Rattle.turns.proofs.Kept.{after-number}
 use Rattle.history.specs.Runs.{Came, came, recordAt, ranFrom, wholeRecords, ended, ran}
 use Rattle.history.specs.Claims.{PiecesAreWhole}
+use Rattle.history.proofs.Ends.{ended-stopped, ended-whole, ended-past, ended-alike}
 
 -- ---- records of two pieces
 
@@ -175,35 +176,6 @@ ran-records (suc n) N w bytes i h r e = elim (ℕ-discrete (recordAt N w bytes i
       let rest =
       ran-records n N w bytes (i + 1) (x .after) (afterTurn N x r) (rw (eq-eqb (x .number) 0 accepted, ranFrom) at e) in
       rw (eq-eqb (x .number) 0 accepted, ranFrom) (omega (arith, rest, counted))
-]
-
--- ---- the end of a piece
-
-ended-stopped : (size n : ℕ) (r : Run) → r .number ≢ 0 → ended size n r ≡ r
-unfolding ended
-ended-stopped size n r stopped = rw (ne-eqb (r .number) 0 stopped, ended)
-
-ended-whole : (size n : ℕ) (r : Run) → size ≡ recordLength * n → ended size n r ≡ r
-unfolding ended
-ended-whole size n r e = elim (ℕ-discrete (r .number) 0) [
-  | yes going ↦ rw (eq-eqb (r .number) 0 going, eq-eqb size (recordLength * n) e, ended)
-  | no stopped ↦ rw (ne-eqb (r .number) 0 stopped, ended)
-]
-
-ended-past : (size n : ℕ) (r : Run) → size ≢ recordLength * n → r .number ≡ 0 → ended size n r ≡ run 10 (r .records) (r .tally)
-unfolding ended
-ended-past size n r past going = rw (eq-eqb (r .number) 0 going, ne-eqb size (recordLength * n) past, ended)
-
--- two ends behind which the bytes go on, or don't
-ended-alike :
-    (size n other m : ℕ) (r : Run) → (size ≡ recordLength * n → other ≡ recordLength * m) → (other ≡ recordLength * m → size ≡ recordLength * n)
-    → ended size n r ≡ ended other m r
-ended-alike size n other m r there back = elim (ℕ-discrete (r .number) 0) [
-  | no stopped ↦ ended-stopped size n r stopped ∙ sym (ended-stopped other m r stopped)
-  | yes going ↦ elim (ℕ-discrete size (recordLength * n)) [
-    | yes e ↦ ended-whole size n r e ∙ sym (ended-whole other m r (there e))
-    | no e ↦ ended-past size n r e going ∙ sym (ended-past other m r (λ f. e (back f)) going)
-  ]
 ]
 
 -- ---- two pieces

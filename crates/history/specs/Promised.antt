@@ -1,13 +1,15 @@
 -- What a run of records promises: its reply, the run it answers, and every lent number.
-use Prim.Native.Nat.{ℕ}
+use Prim.Native.Nat.{ℕ, _%_}
 use mathlib.Core.Path.{_≡_}
 use mathlib.Core.Bool.{true, false}
-use mathlib.Core.List.{List}
+use mathlib.Core.List.{List, _++_}
 use lib.Dec.{eqb}
-use lib.ListN.{replicate}
+use lib.ListN.{length, replicate}
 use Rattle.rules.specs.Heap.{Memory}
 use Rattle.rules.specs.Calls.{check, reply, settled, answer}
 use Rattle.rules.specs.declared.Reply.{Reply}
+use Rattle.theory.specs.Demand.{Finds}
+use Rattle.records.specs.Records.{recordLength}
 use Rattle.figures.specs.declared.tally.Run.{Run}
 use Rattle.figures.specs.Figures.{newRun, inRange}
 use Rattle.history.specs.declared.Ran.{Ran}
@@ -25,10 +27,19 @@ abbrev pub refusal : Reply → Ran
 refusal x = record { reply = x; run = newRun }
 
 -- Accepted: the run goes on over the bytes, on the heap with its waiting list cleared, and where it stands then is answered. A
--- refusal changes no buffer. Demand 3 holds of the calls that the run made.
+-- refusal changes no buffer. The run answered is in range, so it can be handed in again. Demand 3 holds of the calls that the run made.
 pub record Promised (N w : ℕ) (bytes : List ℕ) (h : Memory) (r : Run) (x : Ran) (g : Memory) : Type 0 where
   pub reply-is : x .reply ≡ runReply N w h r
   pub run-is : x .run ≡ elim (eqb (runReply N w h r .number) 0) [ true ↦ ran N w bytes (settled N h) r .run | false ↦ newRun ]
   pub after-is : g ≡ elim (eqb (runReply N w h r .number) 0) [ true ↦ ran N w bytes (settled N h) r .memory | false ↦ h ]
   pub idle : x .reply .number ≡ 0 → g .waiting ≡ replicate N 0
+  pub again : x .reply .number ≡ 0 → inRange (x .run) ≡ true
   pub calls : x .reply .number ≡ 0 → AsCalls N w (settled N h) r (ran N w bytes (settled N h) r)
+
+-- A history in pieces, over calls. A first call is accepted, on a piece of whole records; a second finds the heap that the first left, and
+-- is handed the run that the first answered. Then it is accepted too, and keeps the promise of one call on both pieces.
+abbrev pub CallsAreOne : Type 0
+CallsAreOne =
+    (N w : ℕ) (first rest : List ℕ) (h found : Memory) (r : Run) (x y : Ran) (g k : Memory) → length first % recordLength ≡ 0
+    → Promised N w first h r x g → x .reply .number ≡ 0 → Finds N g found → Promised N w rest found (x .run) y k
+    → Promised N w (first ++ rest) h r y k

@@ -1,13 +1,16 @@
 -- What a run over records gives, for contracts of inner functions.
 use Prim.Native.Nat.{ℕ}
 use mathlib.Core.Path.{_≡_}
+use mathlib.Core.Bool.{true}
 use Rattle.rules.specs.Heap.{Memory}
 use Rattle.inner.specs.Usable.{Usable}
 use Rattle.figures.specs.declared.tally.Run.{Run}
+use Rattle.figures.specs.Figures.{inRange}
 use Rattle.history.specs.Runs.{Came}
 
--- records were run: the run and the memory are what came of them, and the heap can be used again
+-- records were run: the run and the memory are what came of them, the run is in range, and the heap can be used again
 pub record RunBy (N w : ℕ) (x : Came) (r : Run) (g : Memory) : Type 0 where
   pub run-is : r ≡ x .run
   pub memory-is : g ≡ x .memory
+  pub in-range : inRange r ≡ true
   pub usable : Usable N w g

@@ -10,7 +10,9 @@ use Rattle.history.proofs.run.run_piece.Statement.{statement}
 use Rattle.history.proofs.run.run_piece.Tie as tie
 
 returns : tie.Need-returns
-returns c = piece-stopped _ _ _ _ _ (c .before .before .before .before .before .before .before .before .pre .0) (c .if1 .taken)
+returns c =
+    let pre = c .before .before .before .before .before .before .before .before .pre in
+    piece-stopped _ _ _ _ _ (pre .0) (pre .1) (c .if1 .taken)
 
 whole-records-requires : tie.Need-whole-records-requires
 whole-records-requires c κs = in-range-within _ (c .before .before .before .before .before .before .before .before .pre .1) .few

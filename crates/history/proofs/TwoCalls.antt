@@ -1,0 +1,124 @@
+-- Two calls on two pieces of a history, one after the other, promise what one call on both promises.
+use mathlib.Core.Path.{_≡_, refl, sym, ap, _∙_, subst}
+use mathlib.Core.Bool.{true}
+use mathlib.Core.List.{List, _++_}
+use Prim.Native.Nat.{ℕ, _%_}
+use lib.ListN.{length, replicate, length-replicate}
+use Rattle.rules.specs.Heap.{Memory, withWaiting, shaped}
+use Rattle.rules.specs.Damage.{damage, endOnFree, openEnd, unaligned, badCell, badRoot, badCount}
+use Rattle.rules.specs.Calls.{check, reply, settled, answer}
+use Rattle.rules.specs.declared.Reply.{Reply}
+use Rattle.rules.proofs.Shape.{shape-facts, shape-test}
+use Rattle.theory.specs.Statements.{Undamaged}
+use Rattle.theory.specs.Demand.{Finds}
+use Rattle.theory.proofs.Memories.ViewRelease.{reshaped}
+use Rattle.inner.specs.Usable.{Usable}
+use Rattle.inner.proofs.Idle.{settled-usable, settled-idle}
+use Rattle.inspect.proofs.Checked.{check-passed}
+use Rattle.records.specs.Records.{recordLength}
+use Rattle.figures.specs.declared.tally.Run.{Run}
+use Rattle.figures.specs.Figures.{inRange}
+use Rattle.history.specs.declared.Ran.{Ran}
+use Rattle.history.specs.Runs.{Came, came, ran}
+use Rattle.history.specs.Promised.{runReply, Promised, CallsAreOne}
+use Rattle.history.proofs.Made.{run-undamaged, runs-are-calls}
+use Rattle.history.proofs.Pieces.{Accepted, accepted, reply-passed}
+use Rattle.history.proofs.Whole.{pieces-are-whole}
+
+-- ---- an accepted call
+
+module _ (N w : ℕ) (bytes : List ℕ) (h : Memory) (r : Run) (x : Ran) (g : Memory) (promised : Promised N w bytes h r x g)
+    (accepts : x .reply .number ≡ 0) where
+  from : Accepted N w h r
+  from = accepted N w h r (ap (λ (v : Reply). v .number) (sym (promised .reply-is)) ∙ accepts)
+
+  -- the heap that it starts from
+  start : Undamaged N w (settled N h)
+  start =
+      let usable = settled-usable N w h (from .shape-is) (from .undamaged) in
+      record { right-shape = usable .shape-is; no-damage = usable .undamaged }
+
+  answered : x .run ≡ ran N w bytes (settled N h) r .run
+  answered = rw (from .reply-is) at (promised .run-is)
+
+  left : g ≡ ran N w bytes (settled N h) r .memory
+  left = rw (from .reply-is) at (promised .after-is)
+
+  -- what it leaves is usable
+  usable-left : Usable N w g
+  usable-left =
+      let undamaged = subst (λ (m : Memory). Undamaged N w m) (sym left) (run-undamaged N w bytes (settled N h) start r) in
+      record { shape-is = undamaged .right-shape; undamaged = undamaged .no-damage; idle = promised .idle accepts }
+
+-- ---- a call that finds a usable heap, with a waiting list of its own
+
+module _ (N w : ℕ) (g found : Memory) (usable : Usable N w g) (finds : Finds N g found) where
+  settled-found : settled N found ≡ g
+  settled-found = ap (withWaiting (replicate N 0)) (finds .same-heap) ∙ settled-idle N w g usable
+
+  found-settled : Usable N w (settled N found)
+  found-settled = subst (λ (m : Memory). Usable N w m) (sym settled-found) usable
+
+  found-shaped : shaped N w found ≡ true
+  found-shaped =
+      let facts = shape-facts N w (settled N found) (found-settled .shape-is) in
+      shape-test N w found
+      (reshaped N w (settled N found) found facts refl refl refl refl refl (finds .space ∙ sym (length-replicate N 0)))
+
+  found-undamaged : damage N w found ≡ 0
+  unfolding damage endOnFree openEnd unaligned badCell badRoot badCount
+  found-undamaged = found-settled .undamaged
+
+  found-accepted : (r : Run) → inRange r ≡ true → runReply N w found r ≡ reply 0 0 0
+  found-accepted r range =
+      sym
+      (reply-passed N w found r
+      (ap (λ (v : Reply). v .number) (sym (check-passed N w found (reply 0 0 0) found-shaped found-undamaged refl .reply-is)))
+      range
+      (reply 0 0 0)
+      refl)
+
+-- ---- both
+
+module _ (N w : ℕ) (first rest : List ℕ) (h found : Memory) (r : Run) (x y : Ran) (g k : Memory)
+    (even : length first % recordLength ≡ 0) (one : Promised N w first h r x g) (accepts : x .reply .number ≡ 0) (finds : Finds N g found)
+    (two : Promised N w rest found (x .run) y k) where
+  usable : Usable N w g
+  usable = usable-left N w first h r x g one accepts
+
+  second-accepted : runReply N w found (x .run) ≡ reply 0 0 0
+  second-accepted = found-accepted N w g found usable finds (x .run) (one .again accepts)
+
+  -- what came of the first piece, and then of the second
+  abbrev came-first : Came
+  came-first = ran N w first (settled N h) r
+
+  abbrev came-second : Came
+  came-second = ran N w rest (came-first .memory) (came-first .run)
+
+  same-start : ran N w rest (settled N found) (x .run) ≡ came-second
+  same-start =
+      ap (λ (m : Memory). ran N w rest m (x .run)) (settled-found N w g found usable finds ∙ left N w first h r x g one accepts)
+      ∙ ap (ran N w rest (came-first .memory)) (answered N w first h r x g one accepts)
+
+  whole : ran N w (first ++ rest) (settled N h) r ≡ came (came-second .run) (came-second .memory) (came-first .made ++ came-second .made)
+  whole = pieces-are-whole N w first rest (settled N h) r even
+
+  both-promised : Promised N w (first ++ rest) h r y k
+  both-promised =
+      let start-accepted : runReply N w h r ≡ reply 0 0 0 = from N w first h r x g one accepts .reply-is in
+      let number : y .reply .number ≡ 0 = ap (λ (v : Reply). v .number) (two .reply-is ∙ second-accepted) in
+      let run-is : y .run ≡ ran N w rest (settled N found) (x .run) .run = rw second-accepted at (two .run-is) in
+      let after-is : k ≡ ran N w rest (settled N found) (x .run) .memory = rw second-accepted at (two .after-is) in
+      record {
+        reply-is = two .reply-is ∙ second-accepted ∙ sym start-accepted;
+        run-is = run-is ∙ ap (λ (z : Came). z .run) same-start ∙ ap (λ (z : Came). z .run) (sym whole) ∙ sym (rw start-accepted);
+        after-is =
+            after-is ∙ ap (λ (z : Came). z .memory) same-start ∙ ap (λ (z : Came). z .memory) (sym whole) ∙ sym (rw start-accepted);
+        idle = λ _. two .idle number;
+        again = λ _. two .again number;
+        calls = λ _. runs-are-calls N w (first ++ rest) (settled N h) r (start N w first h r x g one accepts);
+      }
+
+pub calls-are-one : CallsAreOne
+calls-are-one N w first rest h found r x y g k even one accepts finds two = both-promised N w first rest h found r x y g k even one accepts finds two
