@@ -6,7 +6,7 @@ use Prim.Native.Nat.{ℕ, _%_}
 use lib.ListN.{length, replicate, length-replicate}
 use Rattle.rules.specs.Heap.{Memory, withWaiting, shaped}
 use Rattle.rules.specs.Damage.{damage, endOnFree, openEnd, unaligned, badCell, badRoot, badCount}
-use Rattle.rules.specs.Calls.{check, reply, settled, answer}
+use Rattle.rules.specs.Calls.{reply, settled}
 use Rattle.rules.specs.declared.Reply.{Reply}
 use Rattle.rules.proofs.Shape.{shape-facts, shape-test}
 use Rattle.theory.specs.Statements.{Undamaged}
