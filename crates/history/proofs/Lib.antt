@@ -4,3 +4,4 @@ pub mod Made
 pub mod Pieces
 pub mod Whole
 pub mod TwoCalls
+pub mod Cases

@@ -2,3 +2,4 @@ pub mod Runs
 pub mod Claims
 pub mod RunBy
 pub mod Promised
+pub mod Cases

@@ -1,0 +1,116 @@
+-- Small histories and the lines that they print, as one list, from documents 01 and 02. N is 8, w is 2 and there are 4 roots, as in document
+-- 01's small heaps, and the heap is new. That each case gives what it says is one lemma, in proofs/.
+use Prim.Native.Nat.{ℕ}
+use Prim.Native.Char.{code}
+use Prim.Native.String.{String, [] as none, _∷_ as _then_}
+use mathlib.Core.List.{List, [], _∷_, _++_}
+use lib.ListN.{getD}
+use Rattle.rules.specs.Store.{formatted}
+use Rattle.figures.specs.Figures.{noFigures, run}
+use Rattle.figures.specs.Line.{line}
+use Rattle.history.specs.Runs.{ran}
+
+-- ---- records
+
+-- "Byte 0 is the operation, byte 1 the root d, byte 2 the root s, byte 3 unused, bytes 4 and 5 a cell number c, bytes 6 and 7 a size, low byte
+-- first." The high bytes are 0 here.
+abbrev pub eight : (operation d s c size : ℕ) → List ℕ
+eight operation d s c size = operation ∷ d ∷ s ∷ 0 ∷ c ∷ 0 ∷ size ∷ 0 ∷ []
+
+-- "Operation 1 allocates the size into d; 2 copies root s to d; 3 writes root s into cell c of the object in d; 4 reads cell c of the
+-- object in s into d; 5 clears d; 6 collects."
+abbrev pub allocate : (size d : ℕ) → List ℕ
+allocate size d = eight 1 d 0 0 size
+
+abbrev pub copy : (s d : ℕ) → List ℕ
+copy s d = eight 2 d s 0 0
+
+abbrev pub write : (s c d : ℕ) → List ℕ
+write s c d = eight 3 d s c 0
+
+abbrev pub read : (c s d : ℕ) → List ℕ
+read c s d = eight 4 d s c 0
+
+abbrev pub clear : (d : ℕ) → List ℕ
+clear d = eight 5 d 0 0 0
+
+abbrev pub collect : List ℕ
+collect = eight 6 0 0 0 0
+
+-- ---- cases
+
+-- a history, with the number of records run before it; what is printed; and the byte of the A-map at the end
+pub record Case : Type 0 where
+  pub records : ℕ
+  pub bytes : List ℕ
+  pub text : String
+  pub a : ℕ
+
+abbrev pub prints : List ℕ → String → ℕ → Case
+prints bytes text a = record { records = 0; bytes = bytes; text = text; a = a }
+
+abbrev pub printsAfter : (records : ℕ) → List ℕ → String → ℕ → Case
+printsAfter records bytes text a = record { records = records; bytes = bytes; text = text; a = a }
+
+unfoldable pub cases : List Case
+cases =
+    -- "Allocating 2, 1, 3 into roots 0, 1, 2 prints `3 6 3 0 6` and a line end (byte 10)."
+    prints (allocate 2 0 ++ allocate 1 1 ++ allocate 3 2) "3 6 3 0 6\n" 119
+    -- "an empty file gives five zeros"
+    ∷ prints [] "0 0 0 0 0\n" 0
+    -- "most blocks in use after any record": in use after the last is 1
+    ∷ prints (allocate 5 0 ++ allocate 2 1 ++ clear 0 ++ allocate 1 1) "3 8 5 0 7\n" 1
+    -- "When allocation gives 5 the run collects and tries once more": the object of 1 block was in three roots, so its count is stuck
+    ∷ prints (allocate 1 0 ++ copy 0 1 ++ copy 0 2 ++ clear 0 ++ clear 1 ++ clear 2 ++ allocate 8 3) "2 9 8 1 8\n" 255
+    -- two objects that name each other
+    ∷ prints (allocate 1 0 ++ allocate 1 1 ++ write 1 0 0 ++ write 0 0 1 ++ clear 0 ++ clear 1 ++ allocate 8 2) "3 10 8 1 8\n" 255
+    -- "Otherwise it prints `refused 5 at record 7`, say .. and the heap stands as before that record, save a forced collection": this one
+    -- frees the stuck object, and 5 blocks stay in use
+    ∷ prints (allocate 5 0 ++ allocate 1 1 ++ copy 1 2 ++ copy 1 3 ++ clear 1 ++ clear 2 ++ clear 3 ++ allocate 8 1) "refused 5 at record 7\n" 31
+    -- "full collections forced or recorded": two recorded, one forced
+    ∷ prints (collect ++ allocate 1 0 ++ copy 0 1 ++ copy 0 2 ++ clear 0 ++ clear 1 ++ clear 2 ++ allocate 8 3 ++ collect) "2 9 8 3 8\n" 255
+    -- "elsewhere an empty root is copied or written as 0": copied, it lets the object in root 0 go; written, the one in cell 7
+    ∷ prints (allocate 1 0 ++ copy 1 0 ++ allocate 8 0) "2 9 8 0 8\n" 255
+    ∷ prints (allocate 2 0 ++ allocate 1 1 ++ write 1 7 0 ++ clear 1 ++ write 2 7 0) "2 3 2 0 3\n" 3
+    -- operation 4: root 2 holds what was read when the object it was read from is let go
+    ∷ prints (allocate 2 0 ++ allocate 1 1 ++ write 1 7 0 ++ clear 1 ++ read 7 0 2 ++ clear 0) "2 3 2 0 3\n" 4
+    -- "9 for an unknown operation or a nonzero unused field, before all others of that record but 10": before 4, there being no root 4
+    ∷ prints (allocate 1 0 ++ eight 7 4 0 0 0) "refused 9 at record 1\n" 1
+    ∷ prints (eight 5 4 0 0 1) "refused 9 at record 0\n" 0
+    -- "A root out of range gives 4, in operation 1 only after 3."
+    ∷ prints (allocate 0 4) "refused 3 at record 0\n" 0
+    ∷ prints (allocate 9 4) "refused 3 at record 0\n" 0
+    ∷ prints (allocate 8 4) "refused 4 at record 0\n" 0
+    -- "Then an empty root gives 6 where an object is needed, which is d in 3 and s in 4": 4 before 6
+    ∷ prints (write 4 0 0) "refused 4 at record 0\n" 0
+    ∷ prints (read 0 0 4) "refused 4 at record 0\n" 0
+    -- "Then comes 7, in 4 as in 3": 6 before 7; an object of 1 block has no cell 4
+    ∷ prints (write 0 4 0) "refused 6 at record 0\n" 0
+    ∷ prints (read 4 0 0) "refused 6 at record 0\n" 0
+    ∷ prints (allocate 1 0 ++ write 0 4 0) "refused 7 at record 1\n" 1
+    ∷ prints (allocate 1 0 ++ read 4 0 1) "refused 7 at record 1\n" 1
+    -- "the refused operation changes nothing, and what earlier records did remains"; later ones do nothing
+    ∷ prints (allocate 1 0 ++ allocate 0 1 ++ allocate 2 1) "refused 3 at record 1\n" 1
+    -- "10 for a file ending inside a record .. met after the whole records": 10, and not 9 for what may be an unknown operation; 9 for one
+    -- in a whole record before it
+    ∷ prints (allocate 1 0 ++ (200 ∷ 1 ∷ 2 ∷ [])) "refused 10 at record 1\n" 1
+    ∷ prints (eight 200 0 0 0 0 ++ (1 ∷ [])) "refused 9 at record 0\n" 0
+    -- "or going on past 4,294,967,295 records": up to that number there is no error
+    ∷ printsAfter 4294967294 (allocate 1 0) "1 1 1 0 1\n" 1
+    ∷ printsAfter 4294967294 (allocate 1 0 ++ allocate 1 1) "refused 10 at record 4294967295\n" 1
+    ∷ []
+
+-- what the rules give for a case
+unfoldable pub outcome : Case → List ℕ × ℕ
+outcome c =
+    let x = ran 8 2 (c .bytes) (formatted 8 2 4) (run 0 (c .records) noFigures) in
+    (line (x .run), getD (x .memory .a) 0 0)
+
+-- the bytes of a text of ASCII characters
+unfoldable pub bytesOf : String → List ℕ
+bytesOf none = []
+bytesOf (c then s) = code c ∷ bytesOf s
+
+-- what the case says
+unfoldable pub expected : Case → List ℕ × ℕ
+expected c = (bytesOf (c .text), c .a)
