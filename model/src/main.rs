@@ -6,7 +6,7 @@ use model::lists::families::{generate, FAMILIES};
 use model::lists::vectors;
 use model::product::{history_bench, port};
 use model::texts::expect::expect;
-use model::texts::{show, trace};
+use model::texts::{assembly, show, trace};
 use std::io::{Read, Write};
 use std::process::exit;
 
@@ -14,12 +14,15 @@ const USAGE: &str = "usage:
   model generate FAMILY SEED COUNT   a list of COUNT entries in the file form, to standard output
   model vectors PATH [SEED]          the one large file, written to PATH
   model paper                        the cases P1 to P11 as a file, to standard output
+  model assemble < TEXT              a list of calls in the file form from its text, to standard output
+  model words < FILE                 the text of a list of calls
   model show < OUTPUT                what `calls` printed for the paper cases, beside the calls in words
   model expect < FILE                what the program `calls` must print for a file
   model count < FILE                 what a file meets: calls, replies by number, damage kinds
   model trace SEED COUNT N W         a random list as text, with replies and buffers
   model damaged SEED COUNT           damaged memories as text, with their kinds
   model steps SEED COUNT             single calls as text, each on a memory of its own
+  model garbage SEED COUNT           memories as text, with their garbage by what holds it
   model history assemble < TEXT      a recorded history from its text, to standard output
   model history words < FILE         the text of a recorded history
   model history run < FILE           the line that the program `report` must print for it
@@ -66,6 +69,11 @@ fn main() {
         ["steps", seed, count] => {
             print(trace::steps(number(seed), number(count) as usize).as_bytes());
         }
+        ["garbage", seed, count] => {
+            print(trace::garbage(number(seed), number(count) as usize).as_bytes());
+        }
+        ["assemble"] => print_assembled(assembly::assemble(&String::from_utf8_lossy(&input()))),
+        ["words"] => print(assembly::words(&input()).as_bytes()),
         ["show"] => {
             let (text, same) = show::paper(&String::from_utf8_lossy(&input()));
             print(text.as_bytes());
@@ -80,10 +88,7 @@ fn main() {
 
 fn history(words: &[&str]) {
     match words {
-        ["assemble"] => match text::assemble(&String::from_utf8_lossy(&input())) {
-            Ok(bytes) => print(&bytes),
-            Err(message) => stop(&format!("{message}\n")),
-        },
+        ["assemble"] => print_assembled(text::assemble(&String::from_utf8_lossy(&input()))),
         ["words"] => print(text::words(&input()).as_bytes()),
         ["run"] => print(report(&input()).as_bytes()),
         ["vectors", folder] => {
@@ -106,6 +111,13 @@ fn history(words: &[&str]) {
             }
         }
         _ => stop(USAGE),
+    }
+}
+
+fn print_assembled(assembled: Result<Vec<u8>, String>) {
+    match assembled {
+        Ok(bytes) => print(&bytes),
+        Err(message) => stop(&format!("{message}\n")),
     }
 }
 

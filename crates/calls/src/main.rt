@@ -1,5 +1,5 @@
 // A list of calls from standard input, run through the public calls. For each call its reply goes to standard output, and for each heap
-// its six buffers. The file form and what is printed are stated in model/README.md.
+// its six buffers. The file form and what is printed are stated in docs/FILES.md.
 mod entries;
 mod lent;
 mod output;

@@ -1,10 +1,11 @@
 //! Recorded histories (document 01, "Recorded histories"; document 02, U1), from these documents alone.
 //!
-//! Read in this order: record, request, figures, run. The rest writes histories and runs other programs on them: text,
+//! Read in this order: record, request, figures, run; and garbage, what a run leaves. The rest writes histories and runs other programs on them: text,
 //! vectors and its parts, driver.
 
 pub mod driver;
 pub mod figures;
+pub mod garbage;
 pub mod record;
 pub mod request;
 pub mod run;

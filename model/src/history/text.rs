@@ -1,4 +1,4 @@
-//! Histories as text, one record a line. README.md states the form.
+//! Histories as text, one record a line. docs/FILES.md states the form.
 
 use super::record::{Operation, Record};
 use std::str::FromStr;

@@ -1,4 +1,4 @@
-//! The file form of a list of calls, and the bench that it runs on. README.md states the form.
+//! The file form of a list of calls, and the bench that it runs on. docs/FILES.md states the form.
 
 use crate::rules::answers::Reply;
 use crate::rules::calls::{apply, Call};

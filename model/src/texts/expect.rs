@@ -1,4 +1,5 @@
-//! What the program `calls` must print for a file. README.md states the rules; they are followed in order.
+//! What the program `calls` must print for a file. docs/FILES.md states the rules; they are
+//! followed in order.
 
 use crate::lists::file::{Bench, Entry};
 use crate::rules::heap::Memory;

@@ -1,6 +1,8 @@
-//! Lists, damaged memories and single calls as plain text. README.md states the three forms.
+//! Lists, damaged memories, single calls and garbage as plain text. README.md states the four forms.
 
+use crate::history::garbage::{self, blocks_of};
 use crate::lists::damaging::{some_damage, AIMS};
+use crate::lists::file::Bench;
 use crate::lists::generate::Desk;
 use crate::lists::random::Random;
 use crate::rules::calls::Call;
@@ -105,6 +107,64 @@ pub fn steps(seed: u64, count: usize) -> String {
         writeln!(out, " | {}", buffers(&desk.bench.memory)).unwrap();
     }
     out
+}
+
+/// Used memories, one a line, with the objects and blocks of their garbage: held by stuck counts, held by cycles.
+pub fn garbage(seed: u64, count: usize) -> String {
+    let mut random = Random::new(seed);
+    let mut out = String::new();
+    for k in 0..count {
+        let shape = [
+            random.pick(&[8, 16, 32, 64, 128]),
+            1 + k as u64 % 4,
+            1 + random.below(6) as u64,
+        ];
+        let mut desk = Desk::new(Random::new(random.word()), shape);
+        tangle(&mut desk);
+        let Bench {
+            blocks,
+            width,
+            memory,
+            ..
+        } = &desk.bench;
+        assert_eq!(
+            damage(*blocks, *width, memory),
+            0,
+            "no such list damages a heap"
+        );
+        let found = garbage::garbage(*blocks, *width, memory);
+        write!(out, "{blocks} {width} | {}", buffers(memory)).unwrap();
+        for held in [&found.stuck, &found.cycles] {
+            let held_blocks = blocks_of(*blocks, memory, held);
+            write!(out, " | {} {held_blocks}", held.len()).unwrap();
+        }
+        writeln!(out).unwrap();
+    }
+    out
+}
+
+/// Many small objects that name each other, and then most roots let go.
+fn tangle(desk: &mut Desk) {
+    desk.call(Call::Format);
+    for _ in 0..desk.random.below(3 * desk.blocks()) {
+        let n = 1 + desk.random.below(3);
+        let r = desk.random.below(desk.roots());
+        let made = desk.call(Call::Allocate { n, r });
+        let named = if made.number == 0 && desk.random.percent(60) {
+            made.value
+        } else {
+            // The lowest objects are named by many.
+            (0..5).map(|_| desk.some_object()).min().unwrap_or(0)
+        };
+        let a = desk.some_object();
+        let j = desk.random.below(desk.cells_of(a));
+        desk.call(Call::StoreCell { a, j, v: 1 + named });
+    }
+    for r in 0..desk.roots() {
+        if desk.random.percent(70) {
+            desk.call(Call::StoreRoot { r, v: 0 });
+        }
+    }
 }
 
 /// The six buffers on one line.
