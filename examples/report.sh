@@ -72,8 +72,8 @@ echo "100,000 records, written by the model: target/bin/report <target/mixed.his
 show_and_compare target/mixed.history
 
 echo
-echo "A history of your own, in eight-byte records (include/huwekapo.h has their fields):"
+echo "A history of your own, in eight-byte records (docs/FILES.md has their form):"
 echo "    target/bin/report <FILE"
 echo "    bash examples/report.sh FILE ..    # with the figures named"
-echo "One written by hand, as examples/histories/*.txt are (model/README.md has the words):"
+echo "One written by hand, as examples/histories/*.txt are (docs/FILES.md has the words):"
 echo "    $model history assemble <TEXT >FILE"
