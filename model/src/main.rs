@@ -26,7 +26,7 @@ const USAGE: &str = "usage:
   model history assemble < TEXT      a recorded history from its text, to standard output
   model history words < FILE         the text of a recorded history
   model history run < FILE           the line that the program `report` must print for it
-  model history vectors FOLDER       some 300 histories, NAME.history and NAME.line each
+  model history vectors FOLDER       some 340 histories, NAME.history and NAME.line each
   model history check PROGRAM ..     runs a program on all of these, by file and through a pipe
   model history mixed SEED COUNT     a mixed history of COUNT records, each accepted
   model history port < FILE          the line once more, by the product's algorithms in plain Rust
