@@ -1,76 +1,67 @@
 -- `acts::allocate` meets its contract: one try, or a collection and a second one where no chunk was free.
 use mathlib.Core.Path.{_∙_}
+use borrow.Author.Needs.{needs}
 use Rattle.inner.proofs.Kept.{usable-kept}
 use Rattle.turns.proofs.Turns.{acted-once, freed-fits, acted-twice}
-use borrow.Author.Needs.{needs}
 use Rattle.turns.proofs.acts.allocate.Statement.{statement}
 use Rattle.turns.proofs.acts.allocate.Tie as tie
 
+-- the places, from the last back: the second try, the collection, that no chunk was free, the first try (or the only one), the start
+abbrev second : tie.After-slice-known23 → tie.After-allocate2
+second c = c .before .before .before .before .before .before .before .before .before .before .before .before
+
+abbrev forced : tie.After-allocate-arg12 → tie.After-collect
+forced c = c .before .before .before .before .before .before .before .before .before .before .before .before .before .before .before .before
+
+abbrev none-free : tie.After-collect-arg6 → tie.Else1
+none-free c = c .before .before .before .before .before .before
+
+abbrev first : tie.Else1 → tie.After-allocate
+first c = c .before .before .before .before .before .before .before .before .before .before .before .before .before
+
+abbrev only : tie.Then1 → tie.After-allocate
+only c = c .before .before .before .before .before .before .before .before .before .before .before .before .before
+
+abbrev start : tie.After-allocate → tie.Start
+start c = c .before .before .before .before .before .before .before .before .before .before .before .before .before
+
 allocate-requires : tie.Need-allocate-requires
-allocate-requires c κs = search needs
+allocate-requires c κs = c .before .before .before .before .before .before .before .before .before .before .before .before .pre
 
 done-after-requires : tie.Need-done-after-requires
 done-after-requires c κs = search needs
 
-same-length : tie.Need-same-length
-same-length c = c .before .before .before .before .before .before .before .before .before .before .before .before .before .before .allocate .kept .1 .1 .0
-
-same-length-2 : tie.Need-same-length-2
-same-length-2 c = c .before .before .before .before .before .before .before .before .before .before .before .before .before .before .allocate .kept .1 .1 .1 .0
-
-same-length-3 : tie.Need-same-length-3
-same-length-3 c = c .before .before .before .before .before .before .before .before .before .before .before .before .before .before .allocate .kept .1 .1 .1 .1 .0
-
-same-length-4 : tie.Need-same-length-4
-same-length-4 c = c .before .before .before .before .before .before .before .before .before .before .before .before .before .before .allocate .kept .1 .1 .1 .1 .1 .0
-
-same-length-5 : tie.Need-same-length-5
-same-length-5 c = c .before .before .before .before .before .before .before .before .before .before .before .before .before .before .allocate .kept .1 .1 .1 .1 .1 .1 .0
-
-same-length-6 : tie.Need-same-length-6
-same-length-6 c = c .before .before .before .before .before .before .before .before .before .before .before .before .before .before .allocate .kept .1 .1 .1 .1 .1 .1 .1 .0
-
 returns : tie.Need-returns
 returns c =
-    rw (c .done-after .ensures) (acted-once _ _ _ (c .before .before .before .before .before .before .before .before .before .before .before .before .before .before .before .before .before .before .before .before .before .before .before .before .before .before .before .pre) _ _ _ _ (c .before .before .before .before .before .before .before .before .before .before .before .before .before .before .allocate .ensures) (c .before .if1 .taken))
+    let try = only (c .before) in
+    rw (c .done-after .ensures) (acted-once _ _ _ (start try .pre) _ _ _ _ (try .allocate .ensures) (c .before .if1 .taken))
 
 collect-requires : tie.Need-collect-requires
 collect-requires c κs =
-    usable-kept _ _ _ (c .before .before .before .before .before .before .before .before .before .before .before .before .before .before .before .before .before .before .before .before .before .before .before .before .before .before .before .before .before .before .before .before .pre) _ _ _ (c .before .before .before .before .before .before .before .before .before .before .before .before .before .before .before .before .before .before .before .allocate .ensures .promise)
+    let try = first (none-free c) in
+    usable-kept _ _ _ (start try .pre) _ _ _ (try .allocate .ensures .promise)
 
 allocate-requires-2 : tie.Need-allocate-requires-2
 allocate-requires-2 c κs =
-    let first = usable-kept _ _ _ (c .before .before .before .before .before .before .before .before .before .before .before .before .before .before .before .before .before .before .before .before .before .before .before .before .before .before .before .before .before .before .before .before .before .before .before .before .before .before .before .before .before .before .before .before .before .before .before .before .before .pre) _ _ _ (c .before .before .before .before .before .before .before .before .before .before .before .before .before .before .before .before .before .before .before .before .before .before .before .before .before .before .before .before .before .before .before .before .before .before .before .before .allocate .ensures .promise) in
-    usable-kept _ _ _ first _ _ _ (c .before .before .before .before .before .before .before .before .before .before .before .before .before .before .before .before .collect .ensures)
+    let collection = forced c in
+    let try = first (none-free (collection .before)) in
+    usable-kept _ _ _ (usable-kept _ _ _ (start try .pre) _ _ _ (try .allocate .ensures .promise)) _ _ _ (collection .collect .ensures)
 
 done-after-requires-2 : tie.Need-done-after-requires-2
 done-after-requires-2 c κs =
-    freed-fits _ _ _ (c .before .before .before .before .before .before .before .before .before .before .before .before .before .before .before .before .before .before .before .before .before .before .before .before .before .before .before .before .before .before .before .before .before .before .before .before .before .before .before .before .before .before .before .before .before .before .before .before .before .before .before .before .before .before .before .before .before .before .before .before .before .before .pre) _ _ _ _ (c .before .before .before .before .before .before .before .before .before .before .before .before .before .before .before .before .before .before .before .before .before .before .before .before .before .before .before .before .before .before .before .before .before .before .before .before .before .before .before .before .before .before .before .before .before .before .before .before .before .allocate .ensures)
-    _ _ (c .before .before .before .before .before .before .before .before .before .before .before .before .before .before .before .before .before .before .before .before .before .before .before .before .before .before .before .before .before .collect .ensures) _ _ (c .before .before .before .before .before .before .before .before .before .before .before .before .allocate2 .ensures)
-
-same-length-7 : tie.Need-same-length-7
-same-length-7 c = c .before .before .before .before .before .before .before .before .before .before .before .before .before .allocate2 .kept .1 .1 .0 ∙ c .before .before .before .before .before .before .before .before .before .before .before .before .before .before .before .before .before .before .before .before .before .before .before .before .before .before .before .before .before .before .collect .kept .1 .1 .0 ∙ c .before .before .before .before .before .before .before .before .before .before .before .before .before .before .before .before .before .before .before .before .before .before .before .before .before .before .before .before .before .before .before .before .before .before .before .before .before .before .before .before .before .before .before .before .before .before .before .before .before .before .allocate .kept .1 .1 .0
-
-same-length-8 : tie.Need-same-length-8
-same-length-8 c = c .before .before .before .before .before .before .before .before .before .before .before .before .before .allocate2 .kept .1 .1 .1 .0 ∙ c .before .before .before .before .before .before .before .before .before .before .before .before .before .before .before .before .before .before .before .before .before .before .before .before .before .before .before .before .before .before .collect .kept .1 .1 .1 .0 ∙ c .before .before .before .before .before .before .before .before .before .before .before .before .before .before .before .before .before .before .before .before .before .before .before .before .before .before .before .before .before .before .before .before .before .before .before .before .before .before .before .before .before .before .before .before .before .before .before .before .before .before .allocate .kept .1 .1 .1 .0
-
-same-length-9 : tie.Need-same-length-9
-same-length-9 c = c .before .before .before .before .before .before .before .before .before .before .before .before .before .allocate2 .kept .1 .1 .1 .1 .0 ∙ c .before .before .before .before .before .before .before .before .before .before .before .before .before .before .before .before .before .before .before .before .before .before .before .before .before .before .before .before .before .before .collect .kept .1 .1 .1 .1 .0 ∙ c .before .before .before .before .before .before .before .before .before .before .before .before .before .before .before .before .before .before .before .before .before .before .before .before .before .before .before .before .before .before .before .before .before .before .before .before .before .before .before .before .before .before .before .before .before .before .before .before .before .before .allocate .kept .1 .1 .1 .1 .0
-
-same-length-10 : tie.Need-same-length-10
-same-length-10 c = c .before .before .before .before .before .before .before .before .before .before .before .before .before .allocate2 .kept .1 .1 .1 .1 .1 .0 ∙ c .before .before .before .before .before .before .before .before .before .before .before .before .before .before .before .before .before .before .before .before .before .before .before .before .before .before .before .before .before .before .collect .kept .1 .1 .1 .1 .1 .0 ∙ c .before .before .before .before .before .before .before .before .before .before .before .before .before .before .before .before .before .before .before .before .before .before .before .before .before .before .before .before .before .before .before .before .before .before .before .before .before .before .before .before .before .before .before .before .before .before .before .before .before .before .allocate .kept .1 .1 .1 .1 .1 .0
-
-same-length-11 : tie.Need-same-length-11
-same-length-11 c = c .before .before .before .before .before .before .before .before .before .before .before .before .before .allocate2 .kept .1 .1 .1 .1 .1 .1 .0 ∙ c .before .before .before .before .before .before .before .before .before .before .before .before .before .before .before .before .before .before .before .before .before .before .before .before .before .before .before .before .before .before .before .before .before .before .before .before .before .before .before .before .before .before .before .before .before .before .before .before .before .before .allocate .kept .1 .1 .1 .1 .1 .1 .0
-
-same-length-12 : tie.Need-same-length-12
-same-length-12 c = c .before .before .before .before .before .before .before .before .before .before .before .before .before .allocate2 .kept .1 .1 .1 .1 .1 .1 .1 .0 ∙ c .before .before .before .before .before .before .before .before .before .before .before .before .before .before .before .before .before .before .before .before .before .before .before .before .before .before .before .before .before .before .collect .kept .1 .1 .1 .1 .1 .1 .1 .0 ∙ c .before .before .before .before .before .before .before .before .before .before .before .before .before .before .before .before .before .before .before .before .before .before .before .before .before .before .before .before .before .before .before .before .before .before .before .before .before .before .before .before .before .before .before .before .before .before .before .before .before .before .allocate .kept .1 .1 .1 .1 .1 .1 .1 .0
+    let again = second c in
+    let collection = forced (again .before) in
+    let try = first (none-free (collection .before)) in
+    freed-fits _ _ _ (start try .pre) _ _ _ _ (try .allocate .ensures) _ _ (collection .collect .ensures) _ _ (again .allocate2 .ensures)
 
 returns-2 : tie.Need-returns-2
 returns-2 c =
+    let again = second (c .before) in
+    let collection = forced (again .before) in
+    let none = none-free (collection .before) in
+    let try = first none in
     rw (c .done-after2 .ensures)
-    (acted-twice _ _ _ (c .before .before .before .before .before .before .before .before .before .before .before .before .before .before .before .before .before .before .before .before .before .before .before .before .before .before .before .before .before .before .before .before .before .before .before .before .before .before .before .before .before .before .before .before .before .before .before .before .before .before .before .before .before .before .before .before .before .before .before .before .before .before .before .pre) _ _ _ _ (c .before .before .before .before .before .before .before .before .before .before .before .before .before .before .before .before .before .before .before .before .before .before .before .before .before .before .before .before .before .before .before .before .before .before .before .before .before .before .before .before .before .before .before .before .before .before .before .before .before .before .allocate .ensures)
-    _ _ (c .before .before .before .before .before .before .before .before .before .before .before .before .before .before .before .before .before .before .before .before .before .before .before .before .before .before .before .before .before .before .collect .ensures) _ _ (c .before .before .before .before .before .before .before .before .before .before .before .before .before .allocate2 .ensures) (c .before .before .before .before .before .before .before .before .before .before .before .before .before .before .before .before .before .before .before .before .before .before .before .before .before .before .before .before .before .before .before .before .before .before .before .before .before .if1 .left))
+    (acted-twice _ _ _ (start try .pre) _ _ _ _ (try .allocate .ensures) _ _ (collection .collect .ensures) _ _ (again .allocate2 .ensures) (none .if1 .left))
 
 pub allocate-spec : {M : Type 1} → statement M
 allocate-spec =
@@ -78,20 +69,20 @@ allocate-spec =
     (tie.spec
     allocate-requires
     done-after-requires
-    same-length
-    same-length-2
-    same-length-3
-    same-length-4
-    same-length-5
-    same-length-6
+    (λ c. only (c .before) .allocate .kept .1 .1 .0)
+    (λ c. only (c .before) .allocate .kept .1 .1 .1 .0)
+    (λ c. only (c .before) .allocate .kept .1 .1 .1 .1 .0)
+    (λ c. only (c .before) .allocate .kept .1 .1 .1 .1 .1 .0)
+    (λ c. only (c .before) .allocate .kept .1 .1 .1 .1 .1 .1 .0)
+    (λ c. only (c .before) .allocate .kept .1 .1 .1 .1 .1 .1 .1 .0)
     returns
     collect-requires
     allocate-requires-2
     done-after-requires-2
-    same-length-7
-    same-length-8
-    same-length-9
-    same-length-10
-    same-length-11
-    same-length-12
+    (λ c. second (c .before) .allocate2 .kept .1 .1 .0 ∙ forced (second (c .before) .before) .collect .kept .1 .1 .0 ∙ first (none-free (forced (second (c .before) .before) .before)) .allocate .kept .1 .1 .0)
+    (λ c. second (c .before) .allocate2 .kept .1 .1 .1 .0 ∙ forced (second (c .before) .before) .collect .kept .1 .1 .1 .0 ∙ first (none-free (forced (second (c .before) .before) .before)) .allocate .kept .1 .1 .1 .0)
+    (λ c. second (c .before) .allocate2 .kept .1 .1 .1 .1 .0 ∙ forced (second (c .before) .before) .collect .kept .1 .1 .1 .1 .0 ∙ first (none-free (forced (second (c .before) .before) .before)) .allocate .kept .1 .1 .1 .1 .0)
+    (λ c. second (c .before) .allocate2 .kept .1 .1 .1 .1 .1 .0 ∙ forced (second (c .before) .before) .collect .kept .1 .1 .1 .1 .1 .0 ∙ first (none-free (forced (second (c .before) .before) .before)) .allocate .kept .1 .1 .1 .1 .1 .0)
+    (λ c. second (c .before) .allocate2 .kept .1 .1 .1 .1 .1 .1 .0 ∙ first (none-free (forced (second (c .before) .before) .before)) .allocate .kept .1 .1 .1 .1 .1 .1 .0)
+    (λ c. second (c .before) .allocate2 .kept .1 .1 .1 .1 .1 .1 .1 .0 ∙ forced (second (c .before) .before) .collect .kept .1 .1 .1 .1 .1 .1 .1 .0 ∙ first (none-free (forced (second (c .before) .before) .before)) .allocate .kept .1 .1 .1 .1 .1 .1 .1 .0)
     returns-2)
