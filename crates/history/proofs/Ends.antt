@@ -29,7 +29,8 @@ ended-past size n r past going = rw (eq-eqb (r .number) 0 going, ne-eqb size (re
 
 -- two ends behind which the bytes go on, or don't
 pub ended-alike :
-    (size n other m : ℕ) (r : Run) → (size ≡ recordLength * n → other ≡ recordLength * m) → (other ≡ recordLength * m → size ≡ recordLength * n)
+    (size n other m : ℕ) (r : Run) → (size ≡ recordLength * n → other ≡ recordLength * m)
+    → (other ≡ recordLength * m → size ≡ recordLength * n)
     → ended size n r ≡ ended other m r
 ended-alike size n other m r there back = elim (ℕ-discrete (r .number) 0) [
   | no stopped ↦ ended-stopped size n r stopped ∙ sym (ended-stopped other m r stopped)

@@ -10,7 +10,8 @@ use lib.Dec.{eqb}
 use lib.ListN.{length}
 use borrow.Author.Tests.{eq-eqb, ne-eqb}
 use Rattle.rules.specs.Heap.{Memory}
-use Rattle.rules.specs.Calls.{Call, format, check, collect, freeBlocks, allocate, storeRoot, storeCell, look, returnRoots, answer, lastMemory}
+use Rattle.rules.specs.Calls.{Call, format, check, collect, freeBlocks, allocate, storeRoot, storeCell, look, returnRoots}
+use Rattle.rules.specs.Calls.{answer, lastMemory}
 use Rattle.rules.proofs.Shape.{shape-facts}
 use Rattle.rules.proofs.Tests.{test-cases}
 use Rattle.theory.specs.Words.{Made, leftBy}
@@ -146,7 +147,9 @@ module _ (N w : ℕ) where
       ]
 
 -- the figures after a turn, but the peak
-after-figures : (N : ℕ) (x : Turn) (r : Run) → afterTurn N x r .tally ≡ withPeak (afterTurn N x r .tally .peak) (notedAll (x .made) (r .tally))
+after-figures :
+    (N : ℕ) (x : Turn) (r : Run)
+    → afterTurn N x r .tally ≡ withPeak (afterTurn N x r .tally .peak) (notedAll (x .made) (r .tally))
 unfolding afterTurn
 after-figures N x r = elim (ℕ-discrete (x .number) 0) [
   | yes e ↦ rw (eq-eqb (x .number) 0 e, afterTurn)
@@ -183,7 +186,9 @@ module _ (N w : ℕ) where
       let first = turn-chained N w h u (asked N h (fieldsAt bytes (recordLength * i))) in
       let rest = records-make n bytes (i + 1) (x .after) (first .undamaged) (afterTurn N x r) in
       elim (ℕ-discrete (x .number) 0) [
-        | yes e ↦ rw (eq-eqb (x .number) 0 e, ranFrom) (turn-then h r x (ranFrom n N w bytes (i + 1) (x .after) (afterTurn N x r)) first rest)
+        | yes e ↦
+            rw (eq-eqb (x .number) 0 e, ranFrom)
+            (turn-then h r x (ranFrom n N w bytes (i + 1) (x .after) (afterTurn N x r)) first rest)
         | no e ↦ rw (ne-eqb (x .number) 0 e, ranFrom) record { chained = first; figures-are = after-figures N x r }
       ]
 

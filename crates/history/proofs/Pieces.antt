@@ -71,6 +71,9 @@ module _ (N w : ℕ) (bytes : List ℕ) (h : Memory) (r : Run) where
 
 -- ---- the reply
 
+pub check-accepted : (N w : ℕ) (h : Memory) (y : Reply) → Promise N w check h y h → y .number ≡ 0 → answer N w h check .0 .number ≡ 0
+check-accepted N w h y checked accepts = ap (λ (v : Reply). v .number) (sym (checked .reply-is)) ∙ accepts
+
 module _ (N w : ℕ) (h : Memory) (r : Run) where
   -- the check refuses
   pub reply-unsound : (y : Reply) → Promise N w check h y h → (y .number ≡ 0 → ⊥) → y ≡ runReply N w h r

@@ -1,4 +1,4 @@
--- The run over whole records, turn by turn: what is left of it after some records is the run over those that are left, from where it stands.
+-- The run over whole records, turn by turn: what is left of it after some records is the run over the rest, from where it stands.
 use mathlib.Core.Path.{_≡_, refl, sym, ap, _∙_, subst}
 use mathlib.Core.List.{List}
 use Prim.Native.Nat.{ℕ, suc, _+_, _-_, _*_, _≤_, _<_}
@@ -52,7 +52,8 @@ pub record Progress (n N w : ℕ) (bytes : List ℕ) (start : Memory) (r : Run) 
   pub memory-left : ranFrom n N w bytes 0 start r .memory ≡ ranFrom (n - i) N w bytes i h (state .run) .memory
 
 module _ (n N w : ℕ) (bytes : List ℕ) (start : Memory) (r : Run) where
-  pub progress-start : (state : Running) → state .run ≡ r → Usable N w start → Going N start n state → Progress n N w bytes start r 0 start state
+  pub progress-start :
+      (state : Running) → state .run ≡ r → Usable N w start → Going N start n state → Progress n N w bytes start r 0 start state
   progress-start state same usable going =
       let all : n - 0 ≡ n = omega arith in
       record {
@@ -86,7 +87,9 @@ module _ (n N w : ℕ) (bytes : List ℕ) (start : Memory) (r : Run) where
       number-is = ap (λ (y : Run). y .number) (turned .run-is) ∙ after-number N (recordAt N w bytes i h) (state .run)
 
       pub next-usable : Usable N w g
-      next-usable = subst (λ (m : Memory). Usable N w m) (sym (turned .after-is)) (turn-usable N w h (p .usable) (asked N h (fieldsAt bytes (recordLength * i))))
+      next-usable =
+          subst (λ (m : Memory). Usable N w m) (sym (turned .after-is))
+          (turn-usable N w h (p .usable) (asked N h (fieldsAt bytes (recordLength * i))))
 
       -- the record was accepted
       records-next : next .run .number ≡ 0 → next .run .records ≡ state .run .records + 1

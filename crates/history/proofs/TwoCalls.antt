@@ -22,7 +22,7 @@ use Rattle.history.specs.declared.Ran.{Ran}
 use Rattle.history.specs.Runs.{Came, came, ran}
 use Rattle.history.specs.Promised.{runReply, Promised, CallsAreOne}
 use Rattle.history.proofs.Made.{run-undamaged, runs-are-calls}
-use Rattle.history.proofs.Pieces.{Accepted, accepted, reply-passed}
+use Rattle.history.proofs.Pieces.{check-accepted, Accepted, accepted, reply-passed}
 use Rattle.history.proofs.Whole.{pieces-are-whole}
 
 -- ---- an accepted call
@@ -73,7 +73,7 @@ module _ (N w : ℕ) (g found : Memory) (usable : Usable N w g) (finds : Finds N
   found-accepted r range =
       sym
       (reply-passed N w found r
-      (ap (λ (v : Reply). v .number) (sym (check-passed N w found (reply 0 0 0) found-shaped found-undamaged refl .reply-is)))
+      (check-accepted N w found (reply 0 0 0) (check-passed N w found (reply 0 0 0) found-shaped found-undamaged refl) refl)
       range
       (reply 0 0 0)
       refl)
@@ -121,4 +121,5 @@ module _ (N w : ℕ) (first rest : List ℕ) (h found : Memory) (r : Run) (x y :
       }
 
 pub calls-are-one : CallsAreOne
-calls-are-one N w first rest h found r x y g k even one accepts finds two = both-promised N w first rest h found r x y g k even one accepts finds two
+calls-are-one N w first rest h found r x y g k even one accepts finds two =
+    both-promised N w first rest h found r x y g k even one accepts finds two

@@ -128,7 +128,8 @@ ran-parts (suc m) n N w bytes i h r e =
           (λ z. stopped (sym (after-number N x r) ∙ z))))
       | yes accepted ↦
           rw (eq-eqb (x .number) 0 accepted, ranFrom)
-          (behind x (ranFrom m N w bytes (i + 1) (x .after) (afterTurn N x r)) (ranFrom (m + n) N w bytes (i + 1) (x .after) (afterTurn N x r))
+          (behind x (ranFrom m N w bytes (i + 1) (x .after) (afterTurn N x r))
+          (ranFrom (m + n) N w bytes (i + 1) (x .after) (afterTurn N x r))
           (ran-parts m n N w bytes (i + 1) (x .after) (afterTurn N x r) (after-number N x r ∙ accepted)))
     ]
   where
@@ -199,7 +200,8 @@ over-stopped N w rest x stopped =
     ap (λ (y : Came). came (y .run) (y .memory) (x .made ++ y .made)) (ran-stopped N w rest (x .memory) (x .run) stopped)
     ∙ ap (λ (l : List Made). came (x .run) (x .memory) l) (append-nil (x .made))
 
-module _ (N w : ℕ) (first rest : List ℕ) (h : Memory) (r : Run) (going : r .number ≡ 0) (k : ℕ) (even : length first ≡ recordLength * k) where
+module _ (N w : ℕ) (first rest : List ℕ) (h : Memory) (r : Run) (going : r .number ≡ 0) (k : ℕ)
+    (even : length first ≡ recordLength * k) where
   abbrev bytes : List ℕ
   bytes = first ++ rest
 
@@ -253,7 +255,8 @@ module _ (N w : ℕ) (first rest : List ℕ) (h : Memory) (r : Run) (going : r .
       ∙ ap (λ (s : Came). elim (eqb (x .run .number) 0) [ true ↦ came (s .run) (s .memory) (x .made ++ s .made) | false ↦ x ])
       (right n (x .memory) (x .run)) in
       let whole : ran N w bytes h r
-      ≡ (let z : Came = continued x (λ y. ranFrom n N w rest 0 (y .memory) (y .run)) in came (ended (length bytes) (k + n) (z .run)) (z .memory) (z .made)) =
+      ≡ (let z : Came = continued x (λ y. ranFrom n N w rest 0 (y .memory) (y .run)) in
+      came (ended (length bytes) (k + n) (z .run)) (z .memory) (z .made)) =
       ran-going N w bytes h r going (k + n) (omega (arith, total))
       ∙ ap (λ (y : Came). came (ended (length bytes) (k + n) (y .run)) (y .memory) (y .made)) parts in
       whole

@@ -1,5 +1,5 @@
--- Small histories and the lines that they print, as one list, from documents 01 and 02. N is 8, w is 2 and there are 4 roots, as in document
--- 01's small heaps, and the heap is new. That each case gives what it says is one lemma, in proofs/.
+-- Small histories and the lines that they print, as one list, from documents 01 and 02. N is 8, w is 2 and there are 4 roots, as in
+-- document 01's small heaps, and the heap is new. That each case gives what it says is one lemma, in proofs/.
 use Prim.Native.Nat.{ℕ}
 use Prim.Native.Char.{code}
 use Prim.Native.String.{String, [] as none, _∷_ as _then_}
@@ -12,8 +12,8 @@ use Rattle.history.specs.Runs.{ran}
 
 -- ---- records
 
--- "Byte 0 is the operation, byte 1 the root d, byte 2 the root s, byte 3 unused, bytes 4 and 5 a cell number c, bytes 6 and 7 a size, low byte
--- first." The high bytes are 0 here.
+-- "Byte 0 is the operation, byte 1 the root d, byte 2 the root s, byte 3 unused, bytes 4 and 5 a cell number c, bytes 6 and 7 a size, low
+-- byte first." The high bytes are 0 here.
 abbrev pub eight : (operation d s c size : ℕ) → List ℕ
 eight operation d s c size = operation ∷ d ∷ s ∷ 0 ∷ c ∷ 0 ∷ size ∷ 0 ∷ []
 
@@ -66,7 +66,8 @@ cases =
     ∷ prints (allocate 1 0 ++ allocate 1 1 ++ write 1 0 0 ++ write 0 0 1 ++ clear 0 ++ clear 1 ++ allocate 8 2) "3 10 8 1 8\n" 255
     -- "Otherwise it prints `refused 5 at record 7`, say .. and the heap stands as before that record, save a forced collection": this one
     -- frees the stuck object, and 5 blocks stay in use
-    ∷ prints (allocate 5 0 ++ allocate 1 1 ++ copy 1 2 ++ copy 1 3 ++ clear 1 ++ clear 2 ++ clear 3 ++ allocate 8 1) "refused 5 at record 7\n" 31
+    ∷ prints (allocate 5 0 ++ allocate 1 1 ++ copy 1 2 ++ copy 1 3 ++ clear 1 ++ clear 2 ++ clear 3 ++ allocate 8 1)
+    "refused 5 at record 7\n" 31
     -- "full collections forced or recorded": two recorded, one forced
     ∷ prints (collect ++ allocate 1 0 ++ copy 0 1 ++ copy 0 2 ++ clear 0 ++ clear 1 ++ clear 2 ++ allocate 8 3 ++ collect) "2 9 8 3 8\n" 255
     -- "elsewhere an empty root is copied or written as 0": copied, it lets the object in root 0 go; written, the one in cell 7

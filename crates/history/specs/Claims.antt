@@ -18,9 +18,9 @@ use Rattle.history.specs.Runs.{Came, came, ran}
 abbrev pub withPeak : (peak : ℕ) → Tally → Tally
 withPeak peak t = tally (t .allocations) (t .blocks) (t .largest) (t .collections) peak
 
--- "a run of records counts as the calls it makes": what came of a run, stopped or not, is what came of the calls that it made, each on the heap
--- that the one before it left. Demand 3 holds of these calls. The figures but the peak are those of these calls; and "blocks allocated in all,
--- less the blocks freed by every call, allocations too, are the blocks in use", with what was allocated and in use before the run.
+-- "a run of records counts as the calls it makes": what came of a run, stopped or not, is what came of the calls that it made, each on the
+-- heap that the one before it left. Demand 3 holds of these calls. The figures but the peak are those of these calls; and "blocks allocated
+-- in all, less the blocks freed by every call, allocations too, are the blocks in use", with what was allocated and in use before the run.
 pub record AsCalls (N w : ℕ) (h : Memory) (r : Run) (x : Came) : Type 0 where
   pub chain : Chain N w h (x .made)
   pub memory-is : x .memory ≡ leftBy h (x .made)

@@ -26,8 +26,8 @@ came r h made = record { run = r; memory = h; made = made }
 abbrev pub recordAt : ℕ → ℕ → List ℕ → (i : ℕ) → Memory → Turn
 recordAt N w bytes i h = turnOf N w h (asked N h (fieldsAt bytes (recordLength * i)))
 
--- n records, from number i of the bytes on. "the refused operation changes nothing, and what earlier records did remains": the first that is
--- refused stops the run.
+-- n records, from number i of the bytes on. "the refused operation changes nothing, and what earlier records did remains": the first
+-- that is refused stops the run.
 unfoldable pub ranFrom : (n N w : ℕ) → List ℕ → (i : ℕ) → Memory → Run → Came
 ranFrom zero N w bytes i h r = came r h []
 ranFrom (suc n) N w bytes i h r =
@@ -42,8 +42,8 @@ ranFrom (suc n) N w bytes i h r =
 abbrev pub wholeRecords : List ℕ → Run → ℕ
 wholeRecords bytes r = min (length bytes / recordLength) (mostRecords - r .records)
 
--- "10 for a file ending inside a record, or going on past 4,294,967,295 records, met after the whole records up to that number": a run at the
--- end of n whole records, none of which was refused, in a piece that goes on behind them
+-- "10 for a file ending inside a record, or going on past 4,294,967,295 records, met after the whole records up to that number": a run at
+-- the end of n whole records, none of which was refused, in a piece that goes on behind them
 unfoldable pub ended : (size n : ℕ) → Run → Run
 ended size n r =
     elim (eqb (r .number) 0 && not (eqb size (recordLength * n))) [ true ↦ run 10 (r .records) (r .tally) | false ↦ r ]

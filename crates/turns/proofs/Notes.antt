@@ -43,7 +43,12 @@ figures-grow d t =
     elim (ℕ-discrete (d .allocated) 0) [
       | yes e ↦
           rw (eq-eqb (d .allocated) 0 e, withAllocation)
-          record { collections = first .0; allocations = omega (arith, first .1); no-allocation = λ _. first .1; blocks = omega (arith, first .2) }
+          record {
+            collections = first .0;
+            allocations = omega (arith, first .1);
+            no-allocation = λ _. first .1;
+            blocks = omega (arith, first .2);
+          }
       | no e ↦
           rw (ne-eqb (d .allocated) 0 e, withAllocation)
           record {

@@ -407,7 +407,8 @@ module _ (N w : ℕ) (h : Memory) (usable : Usable N w h) (n r : ℕ) (y : Reply
 -- ---- an allocation that was tried twice: the first try left k, the collection l
 
 module _ (N w : ℕ) (h : Memory) (usable : Usable N w h) (n r : ℕ) (first : Allocated) (k : Memory) (tried : Allocating N w n r h first k)
-    (y : Reply) (l : Memory) (forced : Promise N w collect k y l) (second : Allocated) (g : Memory) (retried : Allocating N w n r l second g) where
+    (y : Reply) (l : Memory) (forced : Promise N w collect k y l) (second : Allocated) (g : Memory)
+    (retried : Allocating N w n r l second g) where
   tried-usable : Usable N w k
   tried-usable = usable-kept N w h usable (allocate n r) (first .reply) k (tried .promise)
 

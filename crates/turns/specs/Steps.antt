@@ -19,7 +19,7 @@ running r used = record { run = r; used = used }
 abbrev pub done : (number allocated : ℕ) → Bool → (freed : ℕ) → Done
 done number allocated collected freed = record { number = number; allocated = allocated; collected = collected; freed = freed }
 
--- what came of an allocation of n blocks: of its last try, and of the collection before that, where one was made, which freed so many blocks
+-- what came of an allocation of n blocks: of its last try, and of a collection before that, if one was made, which freed so many blocks
 unfoldable pub doneAfter : Allocated → (n : ℕ) → (collected : Bool) → (freed : ℕ) → Done
 doneAfter last n collected freed =
     elim (eqb (last .reply .number) 0) [

@@ -22,7 +22,7 @@ pub struct Done {
     pub freed: usize,
 }
 
-// What came of an allocation of n blocks: of its last try, and of the collection before that, where one was made, which freed so many blocks.
+// What came of an allocation of n blocks: of its last try, and of a collection before that, if one was made, which freed so many blocks.
 fn done_after(last: Allocated, n: usize, collected: bool, freed: usize) -> Done
     requires { ⌜ freed + last .freed < 2 ^ 64 ⌝ }
     ensures { λ done. ⌜ done ≡ doneAfter last n collected freed ⌝ }
@@ -61,7 +61,8 @@ fn allocate(
     requires { ⌜ Usable blocks width (lent a b counts cells roots waiting) ⌝ }
     ensures { λ done.
         ⌜ Acted blocks (before a b counts cells roots waiting)
-        (turnOf blocks width (before a b counts cells roots waiting) (makes (Call.allocate n r))) done (after a b counts cells roots waiting) ⌝ }
+        (turnOf blocks width (before a b counts cells roots waiting) (makes (Call.allocate n r))) done
+        (after a b counts cells roots waiting) ⌝ }
 {
     let first = steps::allocate(blocks, width, a, b, counts, cells, roots, waiting, n, r);
     let number = first.reply.number;

@@ -1,9 +1,8 @@
 -- `run_reply` meets its contract: the check, then the run's range.
-use mathlib.Core.Path.{sym, ap, _∙_}
+use mathlib.Core.Path.{sym, _∙_}
 use borrow.Author.Tests.{not-true, not-false}
-use Rattle.rules.specs.declared.Reply.{Reply}
-use Rattle.history.proofs.Pieces.{reply-unsound, reply-range, reply-passed}
 use borrow.Author.Needs.{needs}
+use Rattle.history.proofs.Pieces.{reply-unsound, check-accepted, reply-range, reply-passed}
 use Rattle.history.proofs.run_reply.Statement.{statement}
 use Rattle.history.proofs.run_reply.Tie as tie
 
@@ -21,7 +20,7 @@ refusal-requires c κs = search needs
 
 returns-2 : tie.Need-returns-2
 returns-2 c =
-    reply-range _ _ _ _ (ap (λ (x : Reply). x .number) (sym (c .before .before .before .before .check .ensures .reply-is)) ∙ c .before .before .before .if1 .left)
+    reply-range _ _ _ _ (check-accepted _ _ _ _ (c .before .before .before .before .check .ensures) (c .before .before .before .if1 .left))
     (sym (c .before .before .in-range .ensures) ∙ not-true _ (c .before .if2 .taken)) _ (c .refusal .ensures)
 
 acceptance-requires : tie.Need-acceptance-requires
@@ -29,7 +28,7 @@ acceptance-requires c κs = search needs
 
 returns-3 : tie.Need-returns-3
 returns-3 c =
-    reply-passed _ _ _ _ (ap (λ (x : Reply). x .number) (sym (c .before .before .before .before .check .ensures .reply-is)) ∙ c .before .before .before .if1 .left)
+    reply-passed _ _ _ _ (check-accepted _ _ _ _ (c .before .before .before .before .check .ensures) (c .before .before .before .if1 .left))
     (sym (c .before .before .in-range .ensures) ∙ not-false _ (c .before .if2 .left)) _ (c .acceptance .ensures)
 
 pub run-reply-spec : {M : Type 1} → statement M

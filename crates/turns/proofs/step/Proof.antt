@@ -1,5 +1,4 @@
 -- `step` meets its contract: the plan, its calls, and what came of them noted.
-use borrow.Author.Needs.{needs}
 use Rattle.inner.proofs.Idle.{usable-healthy}
 use Rattle.turns.proofs.Notes.{can-note, noted-stepped}
 use Rattle.turns.proofs.Readable.{usable-readable, planned}
@@ -20,7 +19,7 @@ plan-of-requires : tie.Need-plan-of-requires
 plan-of-requires c κs = usable-readable _ _ _ (c .before .before .before .before .before .before .before .before .before .pre .0)
 
 act-requires : tie.Need-act-requires
-act-requires c κs = c .before .before .before .before .before .before .before .before .before .before .before .before .before .before .before .before .pre .0
+act-requires c κs = start (c .before .before .before .before .before .before) .pre .0
 
 noted-requires : tie.Need-noted-requires
 noted-requires c κs =

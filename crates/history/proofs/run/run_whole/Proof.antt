@@ -11,33 +11,51 @@ use Rattle.history.proofs.run.run_whole.Tie as tie
 
 abbrev Inv-loop : tie.InvT-loop
 Inv-loop blocks width a₀ b₀ counts₀ cells₀ roots₀ waiting₀ bytes n state₀ i₀ a b counts cells roots waiting state i =
-    Progress n blocks width bytes (memory a₀ b₀ counts₀ cells₀ roots₀ waiting₀) (state₀ .run) i (memory a b counts cells roots waiting) state
+    Progress n blocks width bytes (memory a₀ b₀ counts₀ cells₀ roots₀ waiting₀) (state₀ .run) i (memory a b counts cells roots waiting)
+    state
 
 abbrev μ-loop : tie.MeasureT-loop
 μ-loop blocks width a₀ b₀ counts₀ cells₀ roots₀ waiting₀ bytes n state₀ i₀ a b counts cells roots waiting state i =
     n - i
 
+-- the places, from the last back: the record run (it stopped the run, or the loop goes on), the record read, the loop's test, the start
+abbrev stopped : tie.After-result Inv-loop μ-loop → tie.After-step Inv-loop μ-loop
+stopped c = c .before .before .before .before .before .before .before .before .before .before .before .before .before .before
+
+abbrev went-on : tie.Else1 Inv-loop μ-loop → tie.After-step Inv-loop μ-loop
+went-on c = c .before .before .before .before .before .before .before .before .before .before .before .before .before
+
+abbrev record-read : tie.After-step-arg6 Inv-loop μ-loop → tie.After-fields-at Inv-loop μ-loop
+record-read c = c .before .before .before .before .before .before
+
+abbrev start : tie.At-loop Inv-loop μ-loop → tie.Start Inv-loop μ-loop
+start c = c .before .before .before .before .before .before .before .before
+
 -- the shape before the loop, at a record that stops the run, and after the loop
 shaped-at : (c : tie.At-loop Inv-loop μ-loop) →
-    let args = c .before .before .before .before .before .before .before .before .args in
+    let args = start c .args in
     Shaped (args .blocks) (args .width)
     (memory (args .a .now) (args .b .now) (args .counts .now) (args .cells .now) (args .roots .now) (args .waiting .now))
-shaped-at c = usable-healthy _ _ _ (c .before .before .before .before .before .before .before .before .pre .0) .shape
+shaped-at c = usable-healthy _ _ _ (start c .pre .0) .shape
 
-shaped-stop : (c : tie.After-result Inv-loop μ-loop) →
-    let args = c .before .before .before .before .before .before .before .before .before .before .before .before .before .before .before .before .before .before .before .before .before .before .before .before .before .before .before .before .before .before .before .args in
-    let left = c .before .before .before .before .before .before .before .before .before .before .before .before .before .before .step .last in
+shaped-stop : (c : tie.After-step Inv-loop μ-loop) →
+    let args = start (record-read (c .before) .before .before) .args in
+    let left = c .step .last in
     Shaped (args .blocks) (args .width)
-    (memory (left .1 .1 .0) (left .1 .1 .1 .0) (left .1 .1 .1 .1 .0) (left .1 .1 .1 .1 .1 .0) (left .1 .1 .1 .1 .1 .1 .0) (left .1 .1 .1 .1 .1 .1 .1 .0))
+    (memory (left .1 .1 .0) (left .1 .1 .1 .0) (left .1 .1 .1 .1 .0) (left .1 .1 .1 .1 .1 .0)
+    (left .1 .1 .1 .1 .1 .1 .0) (left .1 .1 .1 .1 .1 .1 .1 .0))
 shaped-stop c =
+    let read = record-read (c .before) in
+    let test = read .before in
     usable-healthy _ _ _
-    (next-usable _ _ _ _ _ _ _ _ _ (c .before .before .before .before .before .before .before .before .before .before .before .before .before .before .before .before .before .before .before .before .before .before .loop-test .taken) (c .before .before .before .before .before .before .before .before .before .before .before .before .before .before .before .before .before .before .before .before .before .before .before .loop .inv) _ (c .before .before .before .before .before .before .before .before .before .before .before .before .before .before .before .before .before .before .before .before .before .fields-at .ensures) _ _ (c .before .before .before .before .before .before .before .before .before .before .before .before .before .before .step .ensures)) .shape
+    (next-usable _ _ _ _ _ _ _ _ _ (test .loop-test .taken) (test .before .loop .inv) _ (read .fields-at .ensures) _ _ (c .step .ensures))
+    .shape
 
-shaped-done : (c : tie.After-result2 Inv-loop μ-loop) →
-    let args = c .before .before .before .before .before .before .before .before .before .before .args in
-    let l = c .before .before .loop in
+shaped-done : (c : tie.At-loop Inv-loop μ-loop) →
+    let args = start c .args in
+    let l = c .loop in
     Shaped (args .blocks) (args .width) (memory (l .a) (l .b) (l .counts) (l .cells) (l .roots) (l .waiting))
-shaped-done c = usable-healthy _ _ _ (c .before .before .loop .inv .usable) .shape
+shaped-done c = usable-healthy _ _ _ (c .loop .inv .usable) .shape
 
 loop-holds : tie.Need-loop-holds Inv-loop μ-loop
 loop-holds c =
@@ -45,67 +63,39 @@ loop-holds c =
     progress-start _ _ _ _ _ _ _ refl (pre .0) (pre .1)
 
 mul-fields-at : tie.Need-mul-fields-at Inv-loop μ-loop
-mul-fields-at c = omega (arith, c .before .before .before .before .before .before .before .before .before .pre .2)
+mul-fields-at c = omega (arith, start (c .before) .pre .2)
 
 fields-at-requires : tie.Need-fields-at-requires Inv-loop μ-loop
-fields-at-requires c κs = omega (arith, c .before .before .before .before .before .before .before .before .before .pre .2)
+fields-at-requires c κs = omega (arith, start (c .before) .pre .2)
 
 step-requires : tie.Need-step-requires Inv-loop μ-loop
 step-requires c κs =
-    let inv = c .before .before .before .before .before .before .before .before .loop .inv in
+    let inv = record-read c .before .before .loop .inv in
     (inv .usable, step-going _ _ _ _ _ _ _ _ _ (omega arith) inv)
-
-same-length : tie.Need-same-length Inv-loop μ-loop
-same-length c = shaped-stop c .length-a ∙ sym (shaped-at (c .before .before .before .before .before .before .before .before .before .before .before .before .before .before .before .before .before .before .before .before .before .before .before) .length-a)
-
-same-length-2 : tie.Need-same-length-2 Inv-loop μ-loop
-same-length-2 c = shaped-stop c .length-b ∙ sym (shaped-at (c .before .before .before .before .before .before .before .before .before .before .before .before .before .before .before .before .before .before .before .before .before .before .before) .length-b)
-
-same-length-3 : tie.Need-same-length-3 Inv-loop μ-loop
-same-length-3 c = shaped-stop c .length-counts ∙ sym (shaped-at (c .before .before .before .before .before .before .before .before .before .before .before .before .before .before .before .before .before .before .before .before .before .before .before) .length-counts)
-
-same-length-4 : tie.Need-same-length-4 Inv-loop μ-loop
-same-length-4 c = shaped-stop c .length-cells ∙ sym (shaped-at (c .before .before .before .before .before .before .before .before .before .before .before .before .before .before .before .before .before .before .before .before .before .before .before) .length-cells)
-
-same-length-5 : tie.Need-same-length-5 Inv-loop μ-loop
-same-length-5 c = c .before .before .before .before .before .before .before .before .before .before .before .before .before .before .step .kept .1 .1 .1 .1 .1 .1 .0 ∙ c .before .before .before .before .before .before .before .before .before .before .before .before .before .before .before .before .before .before .before .before .before .before .before .loop .inv .roots-length
-
-same-length-6 : tie.Need-same-length-6 Inv-loop μ-loop
-same-length-6 c = shaped-stop c .length-waiting ∙ sym (shaped-at (c .before .before .before .before .before .before .before .before .before .before .before .before .before .before .before .before .before .before .before .before .before .before .before) .length-waiting)
 
 returns : tie.Need-returns Inv-loop μ-loop
 returns c =
-    progress-stop _ _ _ _ _ _ _ _ _ (c .before .before .before .before .before .before .before .before .before .before .before .before .before .before .before .before .before .before .before .before .before .before .loop-test .taken) (c .before .before .before .before .before .before .before .before .before .before .before .before .before .before .before .before .before .before .before .before .before .before .before .loop .inv) _ (c .before .before .before .before .before .before .before .before .before .before .before .before .before .before .before .before .before .before .before .before .before .fields-at .ensures) _ _ (c .before .before .before .before .before .before .before .before .before .before .before .before .before .before .step .ensures)
-    (c .before .if1 .taken)
+    let step = stopped c in
+    let read = record-read (step .before) in
+    let test = read .before in
+    progress-stop _ _ _ _ _ _ _ _ _ (test .loop-test .taken) (test .before .loop .inv) _ (read .fields-at .ensures)
+    _ _ (step .step .ensures) (c .before .if1 .taken)
 
 add-i : tie.Need-add-i Inv-loop μ-loop
-add-i c = omega (arith, c .before .before .before .before .before .before .before .before .before .before .before .before .before .before .before .before .before .before .before .before .before .loop-test .taken, c .before .before .before .before .before .before .before .before .before .before .before .before .before .before .before .before .before .before .before .before .before .before .before .before .before .before .before .before .before .before .good)
+add-i c =
+    let test = record-read (went-on c .before) .before in
+    omega (arith, test .loop-test .taken, start (test .before) .good)
 
 loop-less : tie.Need-loop-less Inv-loop μ-loop
-loop-less c = omega (arith, c .before .before .before .before .before .before .before .before .before .before .before .before .before .before .before .before .before .before .before .before .before .loop-test .taken)
+loop-less c = omega (arith, record-read (went-on c .before) .before .loop-test .taken)
 
 loop-again : tie.Need-loop-again Inv-loop μ-loop
 loop-again c =
-    progress-next _ _ _ _ _ _ _ _ _ (c .before .before .before .before .before .before .before .before .before .before .before .before .before .before .before .before .before .before .before .before .before .loop-test .taken) (c .before .before .before .before .before .before .before .before .before .before .before .before .before .before .before .before .before .before .before .before .before .before .loop .inv) _ (c .before .before .before .before .before .before .before .before .before .before .before .before .before .before .before .before .before .before .before .before .fields-at .ensures) _ _ (c .before .before .before .before .before .before .before .before .before .before .before .before .before .step .ensures)
-    (c .before .before .before .before .before .before .before .before .before .before .before .before .before .step .kept .1 .1 .1 .1 .1 .1 .0) (c .if1 .left)
-
-same-length-7 : tie.Need-same-length-7 Inv-loop μ-loop
-same-length-7 c = shaped-done c .length-a ∙ sym (shaped-at (c .before .before) .length-a)
-
-same-length-8 : tie.Need-same-length-8 Inv-loop μ-loop
-same-length-8 c = shaped-done c .length-b ∙ sym (shaped-at (c .before .before) .length-b)
-
-same-length-9 : tie.Need-same-length-9 Inv-loop μ-loop
-same-length-9 c = shaped-done c .length-counts ∙ sym (shaped-at (c .before .before) .length-counts)
-
-same-length-10 : tie.Need-same-length-10 Inv-loop μ-loop
-same-length-10 c = shaped-done c .length-cells ∙ sym (shaped-at (c .before .before) .length-cells)
-
-same-length-11 : tie.Need-same-length-11 Inv-loop μ-loop
-same-length-11 c = c .before .before .loop .inv .roots-length
-
-same-length-12 : tie.Need-same-length-12 Inv-loop μ-loop
-same-length-12 c = shaped-done c .length-waiting ∙ sym (shaped-at (c .before .before) .length-waiting)
+    let step = went-on c in
+    let read = record-read (step .before) in
+    let test = read .before in
+    progress-next _ _ _ _ _ _ _ _ _ (test .loop-test .taken) (test .before .loop .inv) _ (read .fields-at .ensures)
+    _ _ (step .step .ensures) (step .step .kept .1 .1 .1 .1 .1 .1 .0) (c .if1 .left)
 
 returns-2 : tie.Need-returns-2 Inv-loop μ-loop
 returns-2 c = progress-done _ _ _ _ _ _ _ _ _ (omega arith) (c .before .before .loop .inv)
@@ -120,20 +110,20 @@ run-whole-spec =
     mul-fields-at
     fields-at-requires
     step-requires
-    same-length
-    same-length-2
-    same-length-3
-    same-length-4
-    same-length-5
-    same-length-6
+    (λ c. shaped-stop (stopped c) .length-a ∙ sym (shaped-at (record-read (stopped c .before) .before .before) .length-a))
+    (λ c. shaped-stop (stopped c) .length-b ∙ sym (shaped-at (record-read (stopped c .before) .before .before) .length-b))
+    (λ c. shaped-stop (stopped c) .length-counts ∙ sym (shaped-at (record-read (stopped c .before) .before .before) .length-counts))
+    (λ c. shaped-stop (stopped c) .length-cells ∙ sym (shaped-at (record-read (stopped c .before) .before .before) .length-cells))
+    (λ c. stopped c .step .kept .1 .1 .1 .1 .1 .1 .0 ∙ record-read (stopped c .before) .before .before .loop .inv .roots-length)
+    (λ c. shaped-stop (stopped c) .length-waiting ∙ sym (shaped-at (record-read (stopped c .before) .before .before) .length-waiting))
     returns
     add-i
     loop-less
     loop-again
-    same-length-7
-    same-length-8
-    same-length-9
-    same-length-10
-    same-length-11
-    same-length-12
+    (λ c. shaped-done (c .before .before) .length-a ∙ sym (shaped-at (c .before .before) .length-a))
+    (λ c. shaped-done (c .before .before) .length-b ∙ sym (shaped-at (c .before .before) .length-b))
+    (λ c. shaped-done (c .before .before) .length-counts ∙ sym (shaped-at (c .before .before) .length-counts))
+    (λ c. shaped-done (c .before .before) .length-cells ∙ sym (shaped-at (c .before .before) .length-cells))
+    (λ c. c .before .before .loop .inv .roots-length)
+    (λ c. shaped-done (c .before .before) .length-waiting ∙ sym (shaped-at (c .before .before) .length-waiting))
     returns-2)

@@ -25,25 +25,29 @@ enum-known-plan-2 : tie.Need-enum-known-plan-2
 enum-known-plan-2 c = search needs
 
 allocate-requires : tie.Need-allocate-requires
-allocate-requires c κs = c .before .before .before .before .before .before .before .before .before .before .before .before .before .before .before .pre
+allocate-requires c κs =
+    c .before .before .before .before .before .before .before .before .before .before .before .before .before .before .before .pre
 
 enum-known-plan-3 : tie.Need-enum-known-plan-3
 enum-known-plan-3 c = search needs
 
 store-root-requires : tie.Need-store-root-requires
-store-root-requires c κs = c .before .before .before .before .before .before .before .before .before .before .before .before .before .before .before .pre
+store-root-requires c κs =
+    c .before .before .before .before .before .before .before .before .before .before .before .before .before .before .before .pre
 
 enum-known-plan-4 : tie.Need-enum-known-plan-4
 enum-known-plan-4 c = search needs
 
 store-cell-requires : tie.Need-store-cell-requires
-store-cell-requires c κs = c .before .before .before .before .before .before .before .before .before .before .before .before .before .before .before .pre
+store-cell-requires c κs =
+    c .before .before .before .before .before .before .before .before .before .before .before .before .before .before .before .pre
 
 enum-told : tie.Need-enum-told
 enum-told c = search needs
 
 collect-requires : tie.Need-collect-requires
-collect-requires c κs = c .before .before .before .before .before .before .before .before .before .before .before .before .before .before .pre
+collect-requires c κs =
+    c .before .before .before .before .before .before .before .before .before .before .before .before .before .before .pre
 
 returns : tie.Need-returns
 returns c = acted-plan _ (c .before .plan .given .1) (acted-stop _ _ _ _)
@@ -56,17 +60,20 @@ returns-2 c =
 returns-3 : tie.Need-returns-3
 returns-3 c =
     let arm = root-stored c .before .before .before .before .before .before .before .before in
-    acted-plan _ (arm .plan3 .given .1) (acted-root _ _ _ (arm .before .before .before .before .before .before .before .before .pre) _ _ (root-stored c .store-root .ensures))
+    let start = arm .before .before .before .before .before .before .before .before in
+    acted-plan _ (arm .plan3 .given .1) (acted-root _ _ _ (start .pre) _ _ (root-stored c .store-root .ensures))
 
 returns-4 : tie.Need-returns-4
 returns-4 c =
     let arm = cell-stored c .before .before .before .before .before .before .before .before in
-    acted-plan _ (arm .plan4 .given .1) (acted-cell _ _ _ (arm .before .before .before .before .before .before .before .before .pre) _ _ _ (cell-stored c .store-cell .ensures))
+    let start = arm .before .before .before .before .before .before .before .before in
+    acted-plan _ (arm .plan4 .given .1) (acted-cell _ _ _ (start .pre) _ _ _ (cell-stored c .store-cell .ensures))
 
 returns-5 : tie.Need-returns-5
 returns-5 c =
     let arm = collected c .before .before .before .before .before .before .before in
-    acted-plan _ (arm .enum-told .given .1) (acted-collect _ _ _ (arm .before .before .before .before .before .before .before .before .pre) (collected c .collect .ensures))
+    let start = arm .before .before .before .before .before .before .before .before in
+    acted-plan _ (arm .enum-told .given .1) (acted-collect _ _ _ (start .pre) (collected c .collect .ensures))
 
 pub act-spec : {M : Type 1} → statement M
 act-spec =

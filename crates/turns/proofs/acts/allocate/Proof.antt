@@ -25,6 +25,16 @@ only c = c .before .before .before .before .before .before .before .before .befo
 abbrev start : tie.After-allocate → tie.Start
 start c = c .before .before .before .before .before .before .before .before .before .before .before .before .before
 
+-- those of an allocation that was tried twice, from its return
+abbrev last-try : tie.After-done-after2 → tie.After-allocate2
+last-try c = second (c .before)
+
+abbrev collection : tie.After-done-after2 → tie.After-collect
+collection c = forced (last-try c .before)
+
+abbrev first-try : tie.After-done-after2 → tie.After-allocate
+first-try c = first (none-free (collection c .before))
+
 allocate-requires : tie.Need-allocate-requires
 allocate-requires c κs = c .before .before .before .before .before .before .before .before .before .before .before .before .pre
 
@@ -43,25 +53,20 @@ collect-requires c κs =
 
 allocate-requires-2 : tie.Need-allocate-requires-2
 allocate-requires-2 c κs =
-    let collection = forced c in
-    let try = first (none-free (collection .before)) in
-    usable-kept _ _ _ (usable-kept _ _ _ (start try .pre) _ _ _ (try .allocate .ensures .promise)) _ _ _ (collection .collect .ensures)
+    let try = first (none-free (forced c .before)) in
+    usable-kept _ _ _ (usable-kept _ _ _ (start try .pre) _ _ _ (try .allocate .ensures .promise)) _ _ _ (forced c .collect .ensures)
 
 done-after-requires-2 : tie.Need-done-after-requires-2
 done-after-requires-2 c κs =
-    let again = second c in
-    let collection = forced (again .before) in
-    let try = first (none-free (collection .before)) in
-    freed-fits _ _ _ (start try .pre) _ _ _ _ (try .allocate .ensures) _ _ (collection .collect .ensures) _ _ (again .allocate2 .ensures)
+    let again = forced (second c .before) in
+    let try = first (none-free (again .before)) in
+    freed-fits _ _ _ (start try .pre) _ _ _ _ (try .allocate .ensures) _ _ (again .collect .ensures) _ _ (second c .allocate2 .ensures)
 
 returns-2 : tie.Need-returns-2
 returns-2 c =
-    let again = second (c .before) in
-    let collection = forced (again .before) in
-    let none = none-free (collection .before) in
-    let try = first none in
     rw (c .done-after2 .ensures)
-    (acted-twice _ _ _ (start try .pre) _ _ _ _ (try .allocate .ensures) _ _ (collection .collect .ensures) _ _ (again .allocate2 .ensures) (none .if1 .left))
+    (acted-twice _ _ _ (start (first-try c) .pre) _ _ _ _ (first-try c .allocate .ensures) _ _ (collection c .collect .ensures)
+    _ _ (last-try c .allocate2 .ensures) (none-free (collection c .before) .if1 .left))
 
 pub allocate-spec : {M : Type 1} → statement M
 allocate-spec =
@@ -79,10 +84,13 @@ allocate-spec =
     collect-requires
     allocate-requires-2
     done-after-requires-2
-    (λ c. second (c .before) .allocate2 .kept .1 .1 .0 ∙ forced (second (c .before) .before) .collect .kept .1 .1 .0 ∙ first (none-free (forced (second (c .before) .before) .before)) .allocate .kept .1 .1 .0)
-    (λ c. second (c .before) .allocate2 .kept .1 .1 .1 .0 ∙ forced (second (c .before) .before) .collect .kept .1 .1 .1 .0 ∙ first (none-free (forced (second (c .before) .before) .before)) .allocate .kept .1 .1 .1 .0)
-    (λ c. second (c .before) .allocate2 .kept .1 .1 .1 .1 .0 ∙ forced (second (c .before) .before) .collect .kept .1 .1 .1 .1 .0 ∙ first (none-free (forced (second (c .before) .before) .before)) .allocate .kept .1 .1 .1 .1 .0)
-    (λ c. second (c .before) .allocate2 .kept .1 .1 .1 .1 .1 .0 ∙ forced (second (c .before) .before) .collect .kept .1 .1 .1 .1 .1 .0 ∙ first (none-free (forced (second (c .before) .before) .before)) .allocate .kept .1 .1 .1 .1 .1 .0)
-    (λ c. second (c .before) .allocate2 .kept .1 .1 .1 .1 .1 .1 .0 ∙ first (none-free (forced (second (c .before) .before) .before)) .allocate .kept .1 .1 .1 .1 .1 .1 .0)
-    (λ c. second (c .before) .allocate2 .kept .1 .1 .1 .1 .1 .1 .1 .0 ∙ forced (second (c .before) .before) .collect .kept .1 .1 .1 .1 .1 .1 .1 .0 ∙ first (none-free (forced (second (c .before) .before) .before)) .allocate .kept .1 .1 .1 .1 .1 .1 .1 .0)
+    (λ c. last-try c .allocate2 .kept .1 .1 .0 ∙ collection c .collect .kept .1 .1 .0 ∙ first-try c .allocate .kept .1 .1 .0)
+    (λ c. last-try c .allocate2 .kept .1 .1 .1 .0 ∙ collection c .collect .kept .1 .1 .1 .0 ∙ first-try c .allocate .kept .1 .1 .1 .0)
+    (λ c. last-try c .allocate2 .kept .1 .1 .1 .1 .0 ∙ collection c .collect .kept .1 .1 .1 .1 .0
+    ∙ first-try c .allocate .kept .1 .1 .1 .1 .0)
+    (λ c. last-try c .allocate2 .kept .1 .1 .1 .1 .1 .0 ∙ collection c .collect .kept .1 .1 .1 .1 .1 .0
+    ∙ first-try c .allocate .kept .1 .1 .1 .1 .1 .0)
+    (λ c. last-try c .allocate2 .kept .1 .1 .1 .1 .1 .1 .0 ∙ first-try c .allocate .kept .1 .1 .1 .1 .1 .1 .0)
+    (λ c. last-try c .allocate2 .kept .1 .1 .1 .1 .1 .1 .1 .0 ∙ collection c .collect .kept .1 .1 .1 .1 .1 .1 .1 .0
+    ∙ first-try c .allocate .kept .1 .1 .1 .1 .1 .1 .1 .0)
     returns-2)

@@ -15,7 +15,8 @@ use Rattle.turns.proofs.noting.noted.Tie as tie
 figures : (c : tie.After-with-allocation) →
     let args = c .before .before .before .before .args in
     c .with-allocation .result ≡ withAllocation (args .done) (withCollection (args .done) (args .state .run .tally))
-figures c = c .with-allocation .ensures ∙ ap (withAllocation (c .before .before .before .before .args .done)) (c .before .with-collection .ensures)
+figures c =
+    c .with-allocation .ensures ∙ ap (withAllocation (c .before .before .before .before .args .done)) (c .before .with-collection .ensures)
 
 with-collection-requires : tie.Need-with-collection-requires
 with-collection-requires c κs = search needs
@@ -24,8 +25,10 @@ with-allocation-requires : tie.Need-with-allocation-requires
 with-allocation-requires c κs =
     let start = c .before .before .before in
     let grown = collection-grows (start .args .done) (start .args .state .run .tally) in
-    let pre = start .pre in
-    (omega (arith, ap (λ (t : Tally). t .allocations) (c .with-collection .ensures), grown .1), omega (arith, ap (λ (t : Tally). t .blocks) (c .with-collection .ensures), grown .2))
+    let pre = start .pre in (
+      omega (arith, ap (λ (t : Tally). t .allocations) (c .with-collection .ensures), grown .1),
+      omega (arith, ap (λ (t : Tally). t .blocks) (c .with-collection .ensures), grown .2),
+    )
 
 add-used : tie.Need-add-used
 add-used c = search needs
@@ -40,7 +43,8 @@ returns c =
     let done = start .args .done in
     let state = start .args .state in
     rw (ne-eqb _ 0 (c .if1 .taken), notedBy)
-    (ap (λ (t : Tally). running (run (done .number) (state .run .records) t) (state .used + done .allocated - done .freed)) (figures (c .before .before .before .before)))
+    (ap (λ (t : Tally). running (run (done .number) (state .run .records) t) (state .used + done .allocated - done .freed))
+    (figures (c .before .before .before .before)))
 
 used-requires : tie.Need-used-requires
 used-requires c κs = search needs
