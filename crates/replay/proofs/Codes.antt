@@ -15,8 +15,9 @@ use Rattle.rules.specs.Calls.{reply}
 use Rattle.rules.specs.Promise.{Promise}
 use Rattle.rules.specs.declared.Reply.{Reply}
 use Rattle.rules.proofs.Tests.{true-some, some-false, false-some}
-use Rattle.replay.specs.Encoding.{decoded, isCall, isCallAt, areCalls}
-use Rattle.replay.specs.Steps.{Stepped}
+use Rattle.replay.specs.Encoding.{decoded, isCall, callAt, isCallAt, areCalls}
+use Rattle.replay.specs.Steps.{Stepped, wordsAt}
+use Rattle.replay.specs.declared.words.Words.{Words}
 use Rattle.replay.specs.Replay.{unlessFails, replyOn}
 
 -- ---- one call
@@ -31,6 +32,13 @@ stepped-as N w {code} k x y z {h} {r} {g} known e promise =
       known = λ _. subst (λ (k : ℕ). Promise N w (decoded k x y z) h r g) (sym e) promise;
       unknown = λ f. absurd (true≢false (sym (le-leb code 8 (omega arith)) ∙ f));
     }
+
+-- .. and as it stands in the list
+pub call-made :
+    (N w : ℕ) (words : List ℕ) (i : ℕ) {v : Words} {h : Memory} {r : Reply} {g : Memory} → v ≡ wordsAt words i → isCallAt words i ≡ true
+    → Stepped N w (v .code) (v .x) (v .y) (v .z) h r g → Promise N w (callAt words i) h r g
+call-made N w words i {v} {h} {r} {g} read known made =
+    subst (λ (v : Words). Stepped N w (v .code) (v .x) (v .y) (v .z) h r g) read made .known known
 
 -- .. and any other code
 pub stepped-none : (N w code x y z : ℕ) {h : Memory} {r : Reply} → 9 ≤ code → r ≡ reply 9 0 0 → Stepped N w code x y z h r h

@@ -8,10 +8,12 @@ use lib.ListN.{length, take, drop, set, length-set, take-append-drop}
 use lib.Seq.{take-suc-set, drop-set-lt}
 use Rattle.rules.specs.Heap.{Memory}
 use Rattle.rules.specs.Calls.{Call, Answer, answer, run, lastMemory}
+use Rattle.rules.specs.Promise.{Promise}
 use Rattle.rules.specs.declared.Reply.{Reply}
 use Rattle.inner.specs.Usable.{Usable}
+use Rattle.inner.proofs.Kept.{usable-kept}
 use Rattle.replay.specs.Encoding.{callAt, callsFrom, callsIn, replyWords}
-use Rattle.replay.specs.Steps.{withReply, Turned, AsRun}
+use Rattle.replay.specs.Steps.{withReply, AsRun}
 
 -- ---- the replies written
 
@@ -94,38 +96,38 @@ module _ (N w : ℕ) (start : Memory) (words before : List ℕ) where
       }
 
   pub progress-next :
-      {i : ℕ} {h g : Memory} {replies replies′ : List ℕ} → i < length words / 4 → Usable N w g
-      → length (g .roots) ≡ length (h .roots)
-      → Turned N w h words replies i g replies′ → Progress N w start words before i h replies
-      → Progress N w start words before (i + 1) g replies′
+      {i : ℕ} {h g : Memory} {replies replies′ : List ℕ} {made : Reply} → i < length words / 4
+      → length (g .roots) ≡ length (h .roots) → Promise N w (callAt words i) h made g → replies′ ≡ withReply replies i made
+      → Progress N w start words before i h replies → Progress N w start words before (i + 1) g replies′
   unfolding run lastMemory replyWords
-  progress-next {i} {h} {g} {replies} {replies′} l u roots-kept turned p =
+  progress-next {i} {h} {g} {replies} {replies′} {made} l roots-kept promise put p =
       let n : ℕ = length words / 4 in
       let x : Answer = answer N w h (callAt words i) in
       let rest : List Call = callsFrom words (i + 1) (n - (i + 1)) in
       let next : callsFrom words i (n - i) ≡ callAt words i ∷ rest = call-next words n i l in
       let left : List ℕ = replyWords (run N w g rest) ++ drop (3 * n) replies′ in
+      let answered : replies′ ≡ withReply replies i (x .0) = put ∙ ap (withReply replies i) (promise .reply-is) in
       let kept : drop (3 * n) replies′ ≡ drop (3 * n) replies =
-      ap (λ (l : List ℕ). drop (3 * n) l) (turned .replies-are) ∙ dropped-with-reply replies i (x .0) n l in
+      ap (λ (l : List ℕ). drop (3 * n) l) answered ∙ dropped-with-reply replies i (x .0) n l in
       let written : take (3 * (i + 1)) replies′ ≡ take (3 * i) replies ++ (x .0 .number ∷ x .0 .value ∷ x .0 .second ∷ []) =
-      ap (λ (l : List ℕ). take (3 * (i + 1)) l) (turned .replies-are)
+      ap (λ (l : List ℕ). take (3 * (i + 1)) l) answered
       ∙ taken-with-reply replies i (x .0) (omega (arith, p .room, p .replies-length)) in
       record {
-        usable = u;
+        usable = usable-kept N w h (p .usable) (callAt words i) made g promise;
         made = omega arith;
         room = p .room;
         roots-length = roots-kept ∙ p .roots-length;
-        replies-length = ap length (turned .replies-are) ∙ length-with-reply replies i (x .0) ∙ p .replies-length;
+        replies-length = ap length answered ∙ length-with-reply replies i (x .0) ∙ p .replies-length;
         memory-left =
             p .memory-left
             ∙ ap (λ (l : List Call). lastMemory h (run N w h l)) next
-            ∙ ap (λ (m : Memory). lastMemory m (run N w m rest)) (sym (turned .after-is));
+            ∙ ap (λ (m : Memory). lastMemory m (run N w m rest)) (sym (promise .after-is));
         replies-left =
             p .replies-left
             ∙ ap (λ (l : List Call). take (3 * i) replies ++ (replyWords (run N w h l) ++ drop (3 * n) replies)) next
             ∙ ap (λ (m : Memory). take (3 * i) replies
             ++ (x .0 .number ∷ x .0 .value ∷ x .0 .second ∷ (replyWords (run N w m rest) ++ drop (3 * n) replies)))
-            (sym (turned .after-is))
+            (sym (promise .after-is))
             ∙ ap (λ (l : List ℕ). take (3 * i) replies ++ (x .0 .number ∷ x .0 .value ∷ x .0 .second ∷ (replyWords (run N w g rest) ++ l)))
             (sym kept)
             ∙ sym (append-assoc (take (3 * i) replies) (x .0 .number ∷ x .0 .value ∷ x .0 .second ∷ []) left)

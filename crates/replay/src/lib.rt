@@ -8,6 +8,7 @@ use rules::Reply;
 mod run;
 mod step;
 mod tests;
+mod words;
 
 // Formats the heap and runs the calls: four words each, the replies three words each. The value is the number of calls. Refused lists, and
 // their numbers, are those of `replayReply`: nothing is written then.

@@ -1,58 +1,15 @@
 // The loop over the calls.
 ghost use mathlib.Core.Path.{_≡_};
 ghost use mathlib.Core.Bool.{true};
-ghost use Prim.Native.Nat.{_+_, _*_, _/_, _≤_, _<_};
+ghost use Prim.Native.Nat.{_*_, _/_, _≤_};
 ghost use lib.ListN.{length};
 ghost use Rattle.rules.specs.Lent.{before, after, lent};
 ghost use Rattle.inner.specs.Usable.{Usable};
-ghost use Rattle.replay.specs.Encoding.{isCallAt, areCalls};
-ghost use Rattle.replay.specs.Steps.{Turned, AsRun};
+ghost use Rattle.replay.specs.Encoding.{areCalls};
+ghost use Rattle.replay.specs.Steps.{AsRun};
 use crate::step;
+use crate::words;
 use blocks::Ref;
-
-// Makes call number i, and writes its reply.
-fn run_one(
-    blocks: usize,
-    width: usize,
-    a: &mut [u8],
-    b: &mut [u8],
-    counts: &mut [u8],
-    cells: &mut [Ref],
-    roots: &mut [Ref],
-    waiting: &mut [Ref],
-    calls: &[u64],
-    replies: &mut [u64],
-    i: usize,
-)
-    requires { ⌜ Usable blocks width (lent a b counts cells roots waiting)
-        × (isCallAt (now calls) i ≡ true) × (4 * i + 3 < length (now calls)) × (3 * i + 2 < length (now replies)) ⌝ }
-    ensures { λ _.
-        ⌜ Turned blocks width
-        (before a b counts cells roots waiting)
-        (now (calls .entry)) (now (replies .entry)) i
-        (after a b counts cells roots waiting)
-        (now (replies .exit)) ⌝ }
-{
-    let at = 4 * i;
-    let reply = step::step(
-        blocks,
-        width,
-        a,
-        b,
-        counts,
-        cells,
-        roots,
-        waiting,
-        calls[at],
-        calls[at + 1],
-        calls[at + 2],
-        calls[at + 3],
-    );
-    let to = 3 * i;
-    replies[to] = reply.number as u64;
-    replies[to + 1] = reply.value as u64;
-    replies[to + 2] = reply.second as u64;
-}
 
 // Makes every call, and writes every reply.
 pub(crate) fn run_all(
@@ -79,7 +36,8 @@ pub(crate) fn run_all(
     let n = calls.len() / 4;
     let mut i = 0;
     while i < n {
-        run_one(
+        let call = words::call_at(calls, i);
+        let reply = step::step(
             blocks,
             width,
             a,
@@ -88,10 +46,12 @@ pub(crate) fn run_all(
             cells,
             roots,
             waiting,
-            calls,
-            replies,
-            i,
+            call.code,
+            call.x,
+            call.y,
+            call.z,
         );
+        words::put_reply(replies, i, reply);
         i += 1;
     }
 }

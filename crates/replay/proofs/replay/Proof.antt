@@ -9,6 +9,16 @@ use Rattle.replay.proofs.Start.{started-usable, replayed}
 use Rattle.replay.proofs.replay.Statement.{statement}
 use Rattle.replay.proofs.replay.Tie as tie
 
+-- the places: past the test, the heap formatted, the list run
+abbrev tested : tie.After-format-arg6 → tie.Else1
+tested c = c .before .before .before .before .before .before
+
+abbrev formatted : tie.After-run-all-arg7 → tie.After-format
+formatted c = c .before .before .before .before .before .before .before .before .before .before .before .before .before .before .before .before .before .before .before
+
+abbrev done : tie.After-slice-known20 → tie.After-run-all
+done c = c .before .before .before .before .before .before .before .before .before .before .before .before .before .before
+
 -- what an accepted list has passed
 passed : (c : tie.Else1) →
     let args = c .before .before .before .before .before .before .before .before .before .before .args in
@@ -34,37 +44,18 @@ format-requires c κs = search needs
 
 run-all-requires : tie.Need-run-all-requires
 run-all-requires c κs =
-    let ok = passed (c .before .before .before .before .before .before .before .before .before .before .before .before .before .before .before .before .before .before .before .before .before .before .before .before .before .before) in
-    (started-usable _ _ _ (ok .right-shape) (c .before .before .before .before .before .before .before .before .before .before .before .before .before .before .before .before .before .before .before .format .ensures), ok .calls, ok .enough-room)
-
-same-length : tie.Need-same-length
-same-length c = search needs
-
-same-length-2 : tie.Need-same-length-2
-same-length-2 c = search needs
-
-same-length-3 : tie.Need-same-length-3
-same-length-3 c = search needs
-
-same-length-4 : tie.Need-same-length-4
-same-length-4 c = search needs
-
-same-length-5 : tie.Need-same-length-5
-same-length-5 c = search needs
-
-same-length-6 : tie.Need-same-length-6
-same-length-6 c = search needs
-
-same-length-7 : tie.Need-same-length-7
-same-length-7 c = search needs
+    let format = formatted c in
+    let ok = passed (tested (format .before)) in
+    (started-usable _ _ _ (ok .right-shape) (format .format .ensures), ok .calls, ok .enough-room)
 
 returns-2 : tie.Need-returns-2
 returns-2 c =
-    let tested = c .before .before .before .before .before .before .before .before .before .before .before .before .before .before .before .before .before .before .before .before .before .before .before .before .before .before .before .before .before .before .before .before .before .before .before .before .before .before .before .before .before in
+    let format = formatted (done c .before) in
+    let test = tested (format .before) in
     record {
-      reply-is = tested .before .replay-reply .ensures;
-      refused = λ n. absurd (n (tested .if1 .left));
-      ran = λ _. replayed _ _ _ _ _ (passed tested .right-shape) (c .before .before .before .before .before .before .before .before .before .before .before .before .before .before .before .before .before .before .before .before .before .before .before .before .before .before .before .before .before .before .before .before .before .before .format .ensures) (c .before .before .before .before .before .before .before .before .before .before .before .before .before .before .run-all .ensures);
+      reply-is = test .before .replay-reply .ensures;
+      refused = λ n. absurd (n (test .if1 .left));
+      ran = λ _. replayed _ _ _ _ _ (passed test .right-shape) (format .format .ensures) (done c .run-all .ensures);
     }
 
 pub replay-spec : {M : Type 1} → statement M
@@ -75,11 +66,11 @@ replay-spec =
     returns
     format-requires
     run-all-requires
-    same-length
-    same-length-2
-    same-length-3
-    same-length-4
-    same-length-5
-    same-length-6
-    same-length-7
+    (λ c. done c .run-all .kept .1 .1 .0 ∙ formatted (done c .before) .format .kept .1 .1 .0)
+    (λ c. done c .run-all .kept .1 .1 .1 .0 ∙ formatted (done c .before) .format .kept .1 .1 .1 .0)
+    (λ c. done c .run-all .kept .1 .1 .1 .1 .0 ∙ formatted (done c .before) .format .kept .1 .1 .1 .1 .0)
+    (λ c. done c .run-all .kept .1 .1 .1 .1 .1 .0 ∙ formatted (done c .before) .format .kept .1 .1 .1 .1 .1 .0)
+    (λ c. done c .run-all .kept .1 .1 .1 .1 .1 .1 .0 ∙ formatted (done c .before) .format .kept .1 .1 .1 .1 .1 .1 .0)
+    (λ c. done c .run-all .kept .1 .1 .1 .1 .1 .1 .1 .0 ∙ formatted (done c .before) .format .kept .1 .1 .1 .1 .1 .1 .1 .0)
+    (λ c. done c .run-all .kept .1 .1 .1 .1 .1 .1 .1 .1 .1 .0)
     returns-2)

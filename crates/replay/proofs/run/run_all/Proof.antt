@@ -1,13 +1,12 @@
 -- `run::run_all` meets its contract: what is left of the run is the run on the calls that are left. The measure is their number.
-use mathlib.Core.Path.{refl, sym, _∙_}
-use Prim.Native.Nat.{_-_, _/_}
+use mathlib.Core.Path.{sym, _∙_}
+use Prim.Native.Nat.{_-_, _/_, _<_}
 use native.Mathlib.Omega.{arith}
 use lib.ListN.{length}
 use Rattle.rules.specs.Heap.{memory}
 use Rattle.rules.proofs.Shape.{Shaped}
 use Rattle.inner.proofs.Idle.{usable-healthy}
-use Rattle.inner.proofs.Kept.{usable-kept}
-use Rattle.replay.proofs.Codes.{call-at}
+use Rattle.replay.proofs.Codes.{call-at, call-made}
 use Rattle.replay.proofs.Turns.{Progress, progress-start, progress-next, progress-done}
 use Rattle.replay.proofs.run.run_all.Statement.{statement}
 use Rattle.replay.proofs.run.run_all.Tie as tie
@@ -21,67 +20,71 @@ abbrev μ-loop : tie.MeasureT-loop
 μ-loop blocks width a₀ b₀ counts₀ cells₀ roots₀ waiting₀ calls replies₀ n i₀ a b counts cells roots waiting replies i =
     length calls / 4 - i
 
+-- the places: the entry, the turn of the loop, the call made, its reply written
+abbrev entry : tie.At-loop Inv-loop μ-loop → tie.Start Inv-loop μ-loop
+entry c = c .before .before .before .before .before .before .before .before .before
+
+abbrev turn : tie.After-step-arg6 Inv-loop μ-loop → tie.In-loop Inv-loop μ-loop
+turn c = c .before .before .before .before .before .before .before
+
+abbrev made : tie.After-put-reply-arg Inv-loop μ-loop → tie.After-step Inv-loop μ-loop
+made c = c .before .before .before .before .before .before .before .before .before .before .before .before .before
+
+abbrev put : tie.After-slice-known14 Inv-loop μ-loop → tie.After-put-reply Inv-loop μ-loop
+put c = c .before .before
+
+-- in a turn there is a call left
+left : (c : tie.In-loop Inv-loop μ-loop) → c .before .loop .i < length (entry (c .before) .args .calls .now) / 4
+left c = omega arith
+
 loop-holds : tie.Need-loop-holds Inv-loop μ-loop
 loop-holds c =
     let pre = c .before .before .before .before .before .before .before .before .pre in
     progress-start _ _ _ _ _ (pre .0) (pre .2)
 
-run-one-requires : tie.Need-run-one-requires Inv-loop μ-loop
-run-one-requires c κs =
-    let i = c .before .before .before .before .before .before .before .before .loop .i in
-    let inv = c .before .before .before .before .before .before .before .before .loop .inv in
-    let entry = c .before .before .before .before .before .before .before .before .before .before .before .before .before .before .before .before .before in (
-      inv .usable,
-      call-at _ _ (entry .pre .1) i (omega arith),
-      omega arith,
-      omega (arith, inv .room, inv .replies-length),
-    )
+call-at-requires : tie.Need-call-at-requires Inv-loop μ-loop
+call-at-requires c κs = omega (arith, left c)
+
+step-requires : tie.Need-step-requires Inv-loop μ-loop
+step-requires c κs = turn c .before .loop .inv .usable
+
+put-reply-requires : tie.Need-put-reply-requires Inv-loop μ-loop
+put-reply-requires c κs =
+    let t = turn (made c .before) in
+    let inv = t .before .loop .inv in
+    omega (arith, left t, inv .room, inv .replies-length)
 
 add-i : tie.Need-add-i Inv-loop μ-loop
-add-i c = omega (arith, c .before .before .before .before .before .before .before .before .before .before .before .before .before .before .before .before .before .before .before .before .before .before .loop-test .taken, c .before .before .before .before .before .before .before .before .before .before .before .before .before .before .before .before .before .before .before .before .before .before .before .before .before .before .before .before .before .before .before .before .good)
+add-i c =
+    let t = turn (made (put c .before) .before) in
+    omega (arith, left t, entry (t .before) .good)
 
 loop-less : tie.Need-loop-less Inv-loop μ-loop
-loop-less c = omega arith
+loop-less c = omega (arith, left (turn (made (put c .before) .before)))
 
 loop-again : tie.Need-loop-again Inv-loop μ-loop
 loop-again c =
-    let made = c .before .before .before .before .before .before .before .before .before .before .before .before .before .before .run-one in
-    let inv = c .before .before .before .before .before .before .before .before .before .before .before .before .before .before .before .before .before .before .before .before .before .before .before .loop .inv in
-    let kept = usable-kept _ _ _ (inv .usable) _ _ _ (record { reply-is = refl; after-is = made .ensures .after-is }) in
-    progress-next _ _ _ _ _ (omega arith) kept (made .kept .1 .1 .1 .1 .1 .1 .0) (made .ensures) inv
+    let m = made (put c .before) in
+    let t = turn (m .before) in
+    let s = entry (t .before) in
+    let read = m .before .before .before .before .before .before .before .call-at .ensures in
+    progress-next _ _ _ _ _ (left t) (m .step .kept .1 .1 .1 .1 .1 .1 .0)
+    (call-made _ _ (s .args .calls .now) (t .before .loop .i) read (call-at _ _ (s .pre .1) _ (left t)) (m .step .ensures))
+    (put c .put-reply .ensures)
+    (t .before .loop .inv)
 
 -- the shape after the loop, and before it
 shaped-now : (c : tie.After-loop Inv-loop μ-loop) →
     let l = c .before .loop in
-    Shaped (c .before .before .before .before .before .before .before .before .before .before .args .blocks) (c .before .before .before .before .before .before .before .before .before .before .args .width) (memory (l .a) (l .b) (l .counts) (l .cells) (l .roots) (l .waiting))
+    let args = entry (c .before) .args in
+    Shaped (args .blocks) (args .width) (memory (l .a) (l .b) (l .counts) (l .cells) (l .roots) (l .waiting))
 shaped-now c = usable-healthy _ _ _ (c .before .loop .inv .usable) .shape
 
 shaped-before : (c : tie.After-loop Inv-loop μ-loop) →
-    let args = c .before .before .before .before .before .before .before .before .before .before .args in
+    let args = entry (c .before) .args in
     Shaped (args .blocks) (args .width)
     (memory (args .a .now) (args .b .now) (args .counts .now) (args .cells .now) (args .roots .now) (args .waiting .now))
-shaped-before c = usable-healthy _ _ _ (c .before .before .before .before .before .before .before .before .before .before .pre .0) .shape
-
-same-length : tie.Need-same-length Inv-loop μ-loop
-same-length c = shaped-now c .length-a ∙ sym (shaped-before c .length-a)
-
-same-length-2 : tie.Need-same-length-2 Inv-loop μ-loop
-same-length-2 c = shaped-now c .length-b ∙ sym (shaped-before c .length-b)
-
-same-length-3 : tie.Need-same-length-3 Inv-loop μ-loop
-same-length-3 c = shaped-now c .length-counts ∙ sym (shaped-before c .length-counts)
-
-same-length-4 : tie.Need-same-length-4 Inv-loop μ-loop
-same-length-4 c = shaped-now c .length-cells ∙ sym (shaped-before c .length-cells)
-
-same-length-5 : tie.Need-same-length-5 Inv-loop μ-loop
-same-length-5 c = c .before .loop .inv .roots-length
-
-same-length-6 : tie.Need-same-length-6 Inv-loop μ-loop
-same-length-6 c = shaped-now c .length-waiting ∙ sym (shaped-before c .length-waiting)
-
-same-length-7 : tie.Need-same-length-7 Inv-loop μ-loop
-same-length-7 c = c .before .loop .inv .replies-length
+shaped-before c = usable-healthy _ _ _ (entry (c .before) .pre .0) .shape
 
 returns : tie.Need-returns Inv-loop μ-loop
 returns c = progress-done _ _ _ _ _ (omega arith) (c .before .loop .inv)
@@ -93,15 +96,17 @@ run-all-spec =
     Inv-loop
     μ-loop
     loop-holds
-    run-one-requires
+    call-at-requires
+    step-requires
+    put-reply-requires
     add-i
     loop-less
     loop-again
-    same-length
-    same-length-2
-    same-length-3
-    same-length-4
-    same-length-5
-    same-length-6
-    same-length-7
+    (λ c. shaped-now c .length-a ∙ sym (shaped-before c .length-a))
+    (λ c. shaped-now c .length-b ∙ sym (shaped-before c .length-b))
+    (λ c. shaped-now c .length-counts ∙ sym (shaped-before c .length-counts))
+    (λ c. shaped-now c .length-cells ∙ sym (shaped-before c .length-cells))
+    (λ c. c .before .loop .inv .roots-length)
+    (λ c. shaped-now c .length-waiting ∙ sym (shaped-before c .length-waiting))
+    (λ c. c .before .loop .inv .replies-length)
     returns)
