@@ -7,7 +7,8 @@ use Rattle.rules.specs.Promise.{Promise}
 use Rattle.rules.specs.declared.Reply.{Reply}
 use Rattle.theory.specs.Statements.{Undamaged}
 
--- A refusal is the call's own, with nothing written. Else the heap is undamaged, and `test`, the call's test of its own arguments, is passed.
+-- A refusal is the call's own, with nothing written. Else the heap is undamaged, and the call's test of its own arguments is passed: `test` is
+-- what that one answers.
 pub record Gated (N w : ℕ) (call : Call) (h : Memory) (reply test : Reply) : Type 0 where
   pub refused : (reply .number ≡ 0 → ⊥) → Promise N w call h reply h
   pub fit : reply .number ≡ 0 → Undamaged N w h

@@ -5,42 +5,31 @@ use Rattle.session.proofs.Lives.{life}
 use Rattle.session.proofs.one_life.Statement.{statement}
 use Rattle.session.proofs.one_life.Tie as tie
 
--- the places at which the earlier calls have just returned
-abbrev stored : tie.After-collect → tie.After-store-root
-stored c = c .before .before .before .before .before .before .before .before .before .before .before .before .before .before .before .before .before .before .before
+-- the places at which the calls have just returned, from the end back
+abbrev collected : tie.After-slice-known29 → tie.After-collect
+collected c = c .before .before .before .before .before .before .before .before .before .before
 
-abbrev allocated : tie.After-store-root → tie.After-allocate
-allocated c = c .before .before .before .before .before .before .before .before .before .before .before .before .before .before .before .before .before .before .before
+abbrev stored : tie.After-slice-known29 → tie.After-store-root
+stored c = collected c .before .before .before .before .before .before .before .before .before .before .before .before .before .before .before .before .before .before .before
 
-abbrev accepted : tie.After-allocate → tie.Else1
-accepted c = c .before .before .before .before .before .before .before
+abbrev allocated : tie.After-slice-known29 → tie.After-allocate
+allocated c = stored c .before .before .before .before .before .before .before .before .before .before .before .before .before .before .before .before .before .before .before
 
-abbrev formatted : tie.Else1 → tie.After-format
-formatted c = c .before .before .before .before .before .before .before .before .before .before .before .before .before
+abbrev accepted : tie.After-slice-known29 → tie.Else1
+accepted c = allocated c .before .before .before .before .before .before .before
+
+abbrev formatted : tie.After-slice-known29 → tie.After-format
+formatted c = accepted c .before .before .before .before .before .before .before .before .before .before .before .before .before
+
+-- .. and where the format refuses
+abbrev refused : tie.Then1 → tie.After-format
+refused c = c .before .before .before .before .before .before .before .before .before .before .before .before .before
 
 format-requires : tie.Need-format-requires
 format-requires c κs = search needs
 
-same-length : tie.Need-same-length
-same-length c = search needs
-
-same-length-2 : tie.Need-same-length-2
-same-length-2 c = search needs
-
-same-length-3 : tie.Need-same-length-3
-same-length-3 c = search needs
-
-same-length-4 : tie.Need-same-length-4
-same-length-4 c = search needs
-
-same-length-5 : tie.Need-same-length-5
-same-length-5 c = search needs
-
-same-length-6 : tie.Need-same-length-6
-same-length-6 c = search needs
-
 returns : tie.Need-returns
-returns c = record { refused = λ _. c .before .before .before .before .before .before .before .before .before .before .before .before .before .format .ensures; lived = λ e. absurd (c .if1 .taken e) }
+returns c = record { refused = λ _. refused c .format .ensures; lived = λ e. absurd (c .if1 .taken e) }
 
 allocate-requires : tie.Need-allocate-requires
 allocate-requires c κs = search needs
@@ -51,59 +40,13 @@ store-root-requires c κs = search needs
 collect-requires : tie.Need-collect-requires
 collect-requires c κs = search needs
 
-same-length-7 : tie.Need-same-length-7
-same-length-7 c =
-    let collection : tie.After-collect = c .before .before .before .before .before .before .before .before .before .before in
-    let store = stored collection in
-    let allocation = allocated store in
-    collection .collect .kept .1 .1 .0 ∙ store .store-root .kept .1 .1 .0 ∙ allocation .allocate .kept .1 .1 .0 ∙ formatted (accepted allocation) .format .kept .1 .1 .0
-
-same-length-8 : tie.Need-same-length-8
-same-length-8 c =
-    let collection : tie.After-collect = c .before .before .before .before .before .before .before .before .before .before in
-    let store = stored collection in
-    let allocation = allocated store in
-    collection .collect .kept .1 .1 .1 .0 ∙ store .store-root .kept .1 .1 .1 .0 ∙ allocation .allocate .kept .1 .1 .1 .0 ∙ formatted (accepted allocation) .format .kept .1 .1 .1 .0
-
-same-length-9 : tie.Need-same-length-9
-same-length-9 c =
-    let collection : tie.After-collect = c .before .before .before .before .before .before .before .before .before .before in
-    let store = stored collection in
-    let allocation = allocated store in
-    collection .collect .kept .1 .1 .1 .1 .0 ∙ store .store-root .kept .1 .1 .1 .1 .0 ∙ allocation .allocate .kept .1 .1 .1 .1 .0 ∙ formatted (accepted allocation) .format .kept .1 .1 .1 .1 .0
-
-same-length-10 : tie.Need-same-length-10
-same-length-10 c =
-    let collection : tie.After-collect = c .before .before .before .before .before .before .before .before .before .before in
-    let store = stored collection in
-    let allocation = allocated store in
-    collection .collect .kept .1 .1 .1 .1 .1 .0 ∙ store .store-root .kept .1 .1 .1 .1 .1 .0 ∙ allocation .allocate .kept .1 .1 .1 .1 .1 .0 ∙ formatted (accepted allocation) .format .kept .1 .1 .1 .1 .1 .0
-
-same-length-11 : tie.Need-same-length-11
-same-length-11 c =
-    let collection : tie.After-collect = c .before .before .before .before .before .before .before .before .before .before in
-    let store = stored collection in
-    let allocation = allocated store in
-    store .store-root .kept .1 .1 .1 .1 .1 .1 .0 ∙ allocation .allocate .kept .1 .1 .1 .1 .1 .1 .0 ∙ formatted (accepted allocation) .format .kept .1 .1 .1 .1 .1 .1 .0
-
-same-length-12 : tie.Need-same-length-12
-same-length-12 c =
-    let collection : tie.After-collect = c .before .before .before .before .before .before .before .before .before .before in
-    let store = stored collection in
-    let allocation = allocated store in
-    collection .collect .kept .1 .1 .1 .1 .1 .1 .1 .0 ∙ store .store-root .kept .1 .1 .1 .1 .1 .1 .1 .0 ∙ allocation .allocate .kept .1 .1 .1 .1 .1 .1 .1 .0 ∙ formatted (accepted allocation) .format .kept .1 .1 .1 .1 .1 .1 .1 .0
-
 returns-2 : tie.Need-returns-2
 returns-2 c =
-    let collection : tie.After-collect = c .before .before .before .before .before .before .before .before .before .before in
-    let store = stored collection in
-    let allocation = allocated store in
-    let else = accepted allocation in
     record {
-      refused = λ n. absurd (n (else .if1 .left));
+      refused = λ n. absurd (n (accepted c .if1 .left));
       lived = λ e.
-          life _ _ _ _ _ (formatted else .format .ensures) e _ _ (allocation .allocate .ensures) _ _ (store .store-root .ensures) _ _
-          (collection .collect .ensures);
+          life _ _ _ _ _ (formatted c .format .ensures) e _ _ (allocated c .allocate .ensures) _ _ (stored c .store-root .ensures) _ _
+          (collected c .collect .ensures);
     }
 
 pub one-life-spec : {M : Type 1} → statement M
@@ -111,20 +54,26 @@ one-life-spec =
     tie.close
     (tie.spec
     format-requires
-    same-length
-    same-length-2
-    same-length-3
-    same-length-4
-    same-length-5
-    same-length-6
+    (λ c. refused c .format .kept .1 .1 .0)
+    (λ c. refused c .format .kept .1 .1 .1 .0)
+    (λ c. refused c .format .kept .1 .1 .1 .1 .0)
+    (λ c. refused c .format .kept .1 .1 .1 .1 .1 .0)
+    (λ c. refused c .format .kept .1 .1 .1 .1 .1 .1 .0)
+    (λ c. refused c .format .kept .1 .1 .1 .1 .1 .1 .1 .0)
     returns
     allocate-requires
     store-root-requires
     collect-requires
-    same-length-7
-    same-length-8
-    same-length-9
-    same-length-10
-    same-length-11
-    same-length-12
+    (λ c. collected c .collect .kept .1 .1 .0 ∙ stored c .store-root .kept .1 .1 .0 ∙ allocated c .allocate .kept .1 .1 .0
+    ∙ formatted c .format .kept .1 .1 .0)
+    (λ c. collected c .collect .kept .1 .1 .1 .0 ∙ stored c .store-root .kept .1 .1 .1 .0 ∙ allocated c .allocate .kept .1 .1 .1 .0
+    ∙ formatted c .format .kept .1 .1 .1 .0)
+    (λ c. collected c .collect .kept .1 .1 .1 .1 .0 ∙ stored c .store-root .kept .1 .1 .1 .1 .0
+    ∙ allocated c .allocate .kept .1 .1 .1 .1 .0 ∙ formatted c .format .kept .1 .1 .1 .1 .0)
+    (λ c. collected c .collect .kept .1 .1 .1 .1 .1 .0 ∙ stored c .store-root .kept .1 .1 .1 .1 .1 .0
+    ∙ allocated c .allocate .kept .1 .1 .1 .1 .1 .0 ∙ formatted c .format .kept .1 .1 .1 .1 .1 .0)
+    (λ c. stored c .store-root .kept .1 .1 .1 .1 .1 .1 .0 ∙ allocated c .allocate .kept .1 .1 .1 .1 .1 .1 .0
+    ∙ formatted c .format .kept .1 .1 .1 .1 .1 .1 .0)
+    (λ c. collected c .collect .kept .1 .1 .1 .1 .1 .1 .1 .0 ∙ stored c .store-root .kept .1 .1 .1 .1 .1 .1 .1 .0
+    ∙ allocated c .allocate .kept .1 .1 .1 .1 .1 .1 .1 .0 ∙ formatted c .format .kept .1 .1 .1 .1 .1 .1 .1 .0)
     returns-2)

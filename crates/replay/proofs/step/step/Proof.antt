@@ -79,43 +79,50 @@ returns : tie.Need-returns
 unfolding decoded
 returns c =
     let called = formatted c in
-    stepped-as _ _ 0 _ _ _ (omega arith) (called .before .before .before .before .before .before .before .match .keys1) (called .format .ensures)
+    stepped-as _ _ 0 _ _ _ (omega arith) (called .before .before .before .before .before .before .before .match .keys1)
+    (called .format .ensures)
 
 returns-2 : tie.Need-returns-2
 unfolding decoded
 returns-2 c =
     let chosen = c .before in
-    stepped-as _ _ 1 _ _ _ (omega arith) (chosen .match .keys2) (check-promise _ _ _ (entry (chosen .before) .pre) _ (c .acceptance .ensures))
+    stepped-as _ _ 1 _ _ _ (omega arith) (chosen .match .keys2) (check-promise _ _ _ (entry (chosen .before) .pre) _
+    (c .acceptance .ensures))
 
 returns-3 : tie.Need-returns-3
 unfolding decoded
 returns-3 c =
     let called = allocated c in
-    stepped-as _ _ 2 _ _ _ (omega arith) (called .before .before .before .before .before .before .before .match .keys3) (called .allocate .ensures .promise)
+    stepped-as _ _ 2 _ _ _ (omega arith) (called .before .before .before .before .before .before .before .match .keys3)
+    (called .allocate .ensures .promise)
 
 returns-4 : tie.Need-returns-4
 unfolding decoded
 returns-4 c =
     let called = root-stored c in
-    stepped-as _ _ 3 _ _ _ (omega arith) (called .before .before .before .before .before .before .before .match .keys4) (called .store-root .ensures)
+    stepped-as _ _ 3 _ _ _ (omega arith) (called .before .before .before .before .before .before .before .match .keys4)
+    (called .store-root .ensures)
 
 returns-5 : tie.Need-returns-5
 unfolding decoded
 returns-5 c =
     let called = cell-stored c in
-    stepped-as _ _ 4 _ _ _ (omega arith) (called .before .before .before .before .before .before .before .match .keys5) (called .store-cell .ensures)
+    stepped-as _ _ 4 _ _ _ (omega arith) (called .before .before .before .before .before .before .before .match .keys5)
+    (called .store-cell .ensures)
 
 returns-6 : tie.Need-returns-6
 unfolding decoded
 returns-6 c =
     let called = collected c in
-    stepped-as _ _ 5 _ _ _ (omega arith) (called .before .before .before .before .before .before .before .match .keys6) (called .collect .ensures)
+    stepped-as _ _ 5 _ _ _ (omega arith) (called .before .before .before .before .before .before .before .match .keys6)
+    (called .collect .ensures)
 
 returns-7 : tie.Need-returns-7
 unfolding decoded
 returns-7 c =
     let chosen = c .before .before .before .before in
-    stepped-as _ _ 6 _ _ _ (omega arith) (chosen .match .keys7) (look-promise _ _ _ (entry (chosen .before) .pre) _ _ (c .look-reply .ensures))
+    stepped-as _ _ 6 _ _ _ (omega arith) (chosen .match .keys7) (look-promise _ _ _ (entry (chosen .before) .pre) _ _
+    (c .look-reply .ensures))
 
 returns-8 : tie.Need-returns-8
 unfolding decoded
@@ -128,12 +135,15 @@ returns-9 : tie.Need-returns-9
 unfolding decoded
 returns-9 c =
     let called = returned c in
-    stepped-as _ _ 8 _ _ _ (omega arith) (called .before .before .before .before .before .before .before .match .keys9) (called .return-roots .ensures)
+    stepped-as _ _ 8 _ _ _ (omega arith) (called .before .before .before .before .before .before .before .match .keys9)
+    (called .return-roots .ensures)
 
 returns-10 : tie.Need-returns-10
 returns-10 c =
     let rest = c .before .match .rest in
-    let past = past-codes _ (rest .0 .0 .0 .0 .0 .0 .0 .0 .1) (rest .0 .0 .0 .0 .0 .0 .0 .1) (rest .0 .0 .0 .0 .0 .0 .1) (rest .0 .0 .0 .0 .0 .1) (rest .0 .0 .0 .0 .1) (rest .0 .0 .0 .1) (rest .0 .0 .1) (rest .0 .1) (rest .1) in
+    let past =
+    past-codes _ (rest .0 .0 .0 .0 .0 .0 .0 .0 .1) (rest .0 .0 .0 .0 .0 .0 .0 .1) (rest .0 .0 .0 .0 .0 .0 .1) (rest .0 .0 .0 .0 .0 .1)
+    (rest .0 .0 .0 .0 .1) (rest .0 .0 .0 .1) (rest .0 .0 .1) (rest .0 .1) (rest .1) in
     stepped-none _ _ _ _ _ _ past (c .refusal .ensures)
 
 pub step-spec : {M : Type 1} → statement M
