@@ -20,6 +20,16 @@ abbrev μ-loop : tie.MeasureT-loop
 μ-loop blocks width a₀ b₀ counts₀ cells₀ roots₀ waiting₀ chosen freed₀ r₀ a b counts cells roots waiting freed r =
     length roots₀ - r
 
+-- the places: the entry, a turn of the loop, its root seen to
+abbrev entry : tie.At-loop Inv-loop μ-loop → tie.Start Inv-loop μ-loop
+entry c = c .before .before .before .before .before .before .before
+
+abbrev turn : tie.After-slice-known12 Inv-loop μ-loop → tie.In-loop Inv-loop μ-loop
+turn c = c .before .before .before .before .before .before .before .before .before .before .before .before .before .before .before .before .before .before .before
+
+abbrev seen : tie.After-slice-known12 Inv-loop μ-loop → tie.After-clear-chosen Inv-loop μ-loop
+seen c = c .before .before .before .before .before .before .before .before .before .before .before .before
+
 loop-holds : tie.Need-loop-holds Inv-loop μ-loop
 loop-holds c = progress-start _ _ _ _ (c .before .before .before .before .before .before .pre .0)
 
@@ -29,13 +39,12 @@ clear-chosen-requires c κs = (c .before .before .before .before .before .before
 -- what was freed so far are blocks of the heap
 add-freed : tie.Need-add-freed Inv-loop μ-loop
 add-freed c =
-    let turn = c .before .before .before .before .before .before .before .before .before .before .before .before in
-    let made = turn .clear-chosen in
+    let made = seen c .clear-chosen in
     let shape = usable-healthy _ _ _ (made .ensures .usable) .shape in
     omega (
       arith,
       made .ensures .blocks,
-      turn .before .before .before .before .before .before .before .before .loop .inv .blocks,
+      turn c .before .loop .inv .blocks,
       zeros-le (made .last .1 .1 .0),
       shape .length-a,
       shape .whole-bytes,
@@ -44,18 +53,18 @@ add-freed c =
 
 add-r : tie.Need-add-r Inv-loop μ-loop
 add-r c =
-    let test = c .before .before .before .before .before .before .before .before .before .before .before .before .before .before .before .before .before .before .before in
+    let test = turn c in
     omega (arith, test .loop-test .taken, usable-healthy _ _ _ (test .before .loop .inv .usable) .shape .roots-max)
 
 loop-less : tie.Need-loop-less Inv-loop μ-loop
 loop-less c =
-    let test = c .before .before .before .before .before .before .before .before .before .before .before .before .before .before .before .before .before .before .before in
+    let test = turn c in
     omega (arith, test .loop-test .taken, test .before .loop .inv .roots-length)
 
 loop-again : tie.Need-loop-again Inv-loop μ-loop
 loop-again c =
-    let made = c .before .before .before .before .before .before .before .before .before .before .before .before .clear-chosen in
-    let test = c .before .before .before .before .before .before .before .before .before .before .before .before .before .before .before .before .before .before .before in
+    let made = seen c .clear-chosen in
+    let test = turn c in
     progress-next _ _ _ _ (test .loop-test .taken) (made .kept .1 .1 .1 .1 .1 .1 .0) (made .ensures) (test .before .loop .inv)
 
 acceptance-requires : tie.Need-acceptance-requires Inv-loop μ-loop
@@ -65,38 +74,20 @@ acceptance-requires c κs = search needs
 shaped-now :
     (c : tie.After-acceptance Inv-loop μ-loop)
     → let l = c .before .before .loop in
-    let args = c .before .before .before .before .before .before .before .before .before .args in
+    let args = entry (c .before .before) .args in
     Shaped (args .blocks) (args .width) (memory (l .a) (l .b) (l .counts) (l .cells) (l .roots) (l .waiting))
 shaped-now c = usable-healthy _ _ _ (c .before .before .loop .inv .usable) .shape
 
 shaped-before :
     (c : tie.After-acceptance Inv-loop μ-loop)
-    → let args = c .before .before .before .before .before .before .before .before .before .args in
+    → let args = entry (c .before .before) .args in
     Shaped (args .blocks) (args .width)
     (memory (args .a .now) (args .b .now) (args .counts .now) (args .cells .now) (args .roots .now) (args .waiting .now))
-shaped-before c = usable-healthy _ _ _ (c .before .before .before .before .before .before .before .before .before .pre .0) .shape
-
-same-length : tie.Need-same-length Inv-loop μ-loop
-same-length c = shaped-now c .length-a ∙ sym (shaped-before c .length-a)
-
-same-length-2 : tie.Need-same-length-2 Inv-loop μ-loop
-same-length-2 c = shaped-now c .length-b ∙ sym (shaped-before c .length-b)
-
-same-length-3 : tie.Need-same-length-3 Inv-loop μ-loop
-same-length-3 c = shaped-now c .length-counts ∙ sym (shaped-before c .length-counts)
-
-same-length-4 : tie.Need-same-length-4 Inv-loop μ-loop
-same-length-4 c = shaped-now c .length-cells ∙ sym (shaped-before c .length-cells)
-
-same-length-5 : tie.Need-same-length-5 Inv-loop μ-loop
-same-length-5 c = c .before .before .loop .inv .roots-length
-
-same-length-6 : tie.Need-same-length-6 Inv-loop μ-loop
-same-length-6 c = shaped-now c .length-waiting ∙ sym (shaped-before c .length-waiting)
+shaped-before c = usable-healthy _ _ _ (entry (c .before .before) .pre .0) .shape
 
 returns : tie.Need-returns Inv-loop μ-loop
 returns c =
-    let pre = c .before .before .before .before .before .before .before .before .before .pre in
+    let pre = entry (c .before .before) .pre in
     progress-done _ _ _ _ _ (pre .0) (pre .1) (omega arith) (c .before .before .loop .inv) (c .acceptance .ensures)
 
 pub clear-roots-spec : {M : Type 1} → statement M
@@ -112,10 +103,10 @@ clear-roots-spec =
     loop-less
     loop-again
     acceptance-requires
-    same-length
-    same-length-2
-    same-length-3
-    same-length-4
-    same-length-5
-    same-length-6
+    (λ c. shaped-now c .length-a ∙ sym (shaped-before c .length-a))
+    (λ c. shaped-now c .length-b ∙ sym (shaped-before c .length-b))
+    (λ c. shaped-now c .length-counts ∙ sym (shaped-before c .length-counts))
+    (λ c. shaped-now c .length-cells ∙ sym (shaped-before c .length-cells))
+    (λ c. c .before .before .loop .inv .roots-length)
+    (λ c. shaped-now c .length-waiting ∙ sym (shaped-before c .length-waiting))
     returns)
