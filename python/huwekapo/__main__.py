@@ -4,22 +4,19 @@ from __future__ import annotations
 
 import argparse
 import os
-import shutil
 import sys
-import tempfile
 from contextlib import contextmanager
-from typing import BinaryIO, Callable, Iterator, List, Optional, Sequence
+from typing import Callable, Iterator, List, Optional, Sequence
 
 from . import __version__
-from .examples import PROGRAMS, example
+from .examples import PROGRAMS
 from .history import History, run
-from .library import REPORT_BLOCKS, REPORT_ROOTS, REPORT_WIDTH, LibraryMissing
+from .library import REPORT_BLOCKS, REPORT_ROOTS, REPORT_WIDTH
 from .measures import FIGURE_WORDS
-from .plot import MatplotlibMissing, course, plot
 from .progress import Bar
 from .refused import Refused
-from .sweep import SweepError, sweep
-from .widths import text, widths, write_csv
+
+# What only one command needs is imported where it is used: `report` should not wait for it.
 
 
 def numbers(words: str) -> List[int]:
@@ -114,6 +111,9 @@ def _history(name: str, again: bool = False) -> Iterator[History]:
     if not again or given.seekable():
         yield History(given)
         return
+    import shutil
+    import tempfile
+
     with tempfile.TemporaryFile() as kept:
         shutil.copyfileobj(given, kept)
         kept.seek(0)
@@ -134,6 +134,8 @@ def _report(chosen: argparse.Namespace) -> int:
 
 
 def _widths(chosen: argparse.Namespace) -> int:
+    from .widths import text, widths, write_csv
+
     with _history(chosen.file, again=True) as history:
         total = (history.size() or 0) * len(chosen.blocks) * len(chosen.widths)
         with Bar("records", total) as bar:
@@ -146,6 +148,12 @@ def _widths(chosen: argparse.Namespace) -> int:
 
 
 def _plot(chosen: argparse.Namespace) -> int:
+    from .plot import MatplotlibMissing, course, pictures, plot
+
+    try:
+        pictures()
+    except MatplotlibMissing as error:
+        return _failed(error)
     with _history(chosen.file, again=True) as history:
         size = history.size() or 0
         courses = []
@@ -158,18 +166,23 @@ def _plot(chosen: argparse.Namespace) -> int:
 
 
 def _sweep(chosen: argparse.Namespace) -> int:
-    with Bar("rows", None) as bar:
-        swept = sweep(
-            chosen.folder,
-            chosen.output,
-            chosen.widths,
-            chosen.blocks,
-            chosen.roots,
-            chosen.pattern,
-            chosen.jobs,
-            chosen.dask,
-            bar.done_of,
-        )
+    from .sweep import SweepError, sweep
+
+    try:
+        with Bar("rows", None) as bar:
+            swept = sweep(
+                chosen.folder,
+                chosen.output,
+                chosen.widths,
+                chosen.blocks,
+                chosen.roots,
+                chosen.pattern,
+                chosen.jobs,
+                chosen.dask,
+                bar.done_of,
+            )
+    except SweepError as error:
+        return _failed(error)
     print(f"{chosen.output}: {swept.kept + swept.run} rows, {swept.run} of them run now", file=sys.stderr)
     for failure in swept.failures:
         print(f"not run: {failure}", file=sys.stderr)
@@ -177,6 +190,8 @@ def _sweep(chosen: argparse.Namespace) -> int:
 
 
 def _example(chosen: argparse.Namespace) -> int:
+    from .examples import example
+
     history = example(chosen.name, chosen.records, chosen.seed)
     if chosen.output == "-":
         sys.stdout.buffer.write(history)
@@ -184,6 +199,11 @@ def _example(chosen: argparse.Namespace) -> int:
         with open(chosen.output, "wb") as file:
             file.write(history)
     return 0
+
+
+def _failed(error: Exception) -> int:
+    print(f"huwekapo: {error}", file=sys.stderr)
+    return 1
 
 
 def main(words: Optional[Sequence[str]] = None) -> int:
@@ -199,9 +219,8 @@ def main(words: Optional[Sequence[str]] = None) -> int:
     except Refused as refused:
         print(f"huwekapo: refused {refused}", file=sys.stderr)
         return 2
-    except (OSError, SweepError, LibraryMissing, MatplotlibMissing) as error:
-        print(f"huwekapo: {error}", file=sys.stderr)
-        return 1
+    except OSError as error:
+        return _failed(error)
     except KeyboardInterrupt:
         return 130
 

@@ -6,7 +6,6 @@ run. Where a history stops it is for want of room.
 
 from __future__ import annotations
 
-import random
 from typing import Callable, Dict, Iterator, List, Optional
 
 #: Variables of a program, as many as the program `report` has roots.
@@ -30,7 +29,10 @@ class _Program:
     """Writes records, and carries them out on objects of its own."""
 
     def __init__(self, seed: int, records: int) -> None:
-        self._random = random.Random(seed)
+        # Slow to import, and no other command needs it.
+        from random import Random
+
+        self._random = Random(seed)
         self._records = records
         self.history = bytearray()
         self.variables: List[Optional[_Object]] = _ROOTS * [None]

@@ -7,11 +7,10 @@ to nothing else of the declarations.
 from __future__ import annotations
 
 import ctypes
-import ctypes.util
 import functools
 import os
 from pathlib import Path
-from typing import Any, Callable, Iterator, NamedTuple
+from typing import Any, Callable, Iterator, List, NamedTuple
 
 #: The version of the library that this package is for, and its own.
 VERSION = "0.2.0"
@@ -123,14 +122,21 @@ def places() -> Iterator[str]:
     package = Path(__file__).resolve().parent
     yield str(package / FILE)
     yield str(package.parent.parent / "target" / "install" / "lib" / FILE)
-    yield ctypes.util.find_library("huwekapo") or FILE
+    # As the linker finds it; else by what ldconfig knows, which takes longer to ask.
+    yield FILE
+    from ctypes.util import find_library
+
+    found = find_library("huwekapo")
+    if found:
+        yield found
 
 
 @functools.lru_cache(maxsize=None)
 def load() -> dict[str, Any]:
     """The library's functions, by their names without `huwekapo_`. It is loaded at the first call and stays so."""
-    tried = list(places())
-    for place in tried:
+    tried: List[str] = []
+    for place in places():
+        tried.append(place)
         try:
             library = ctypes.CDLL(place)
         except OSError as error:

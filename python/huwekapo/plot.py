@@ -3,7 +3,7 @@
 from __future__ import annotations
 
 import os
-from typing import NamedTuple, Optional, Sequence
+from typing import Any, NamedTuple, Optional, Sequence
 
 from .heap import Heap
 from .history import RECORD, History, Progress, Source
@@ -62,27 +62,30 @@ def course(
     return Course(width, samples, run)
 
 
-def plot(courses: Sequence[Course], blocks: int, title: str, path: "str | os.PathLike[str]") -> None:
-    """Draws the courses, one below another on the same scale, to a file whose ending names its kind (svg, pdf, png)."""
+def pictures() -> Any:
+    """matplotlib's pyplot, drawing to files alone."""
     try:
         import matplotlib
 
         matplotlib.use("Agg")
         from matplotlib import pyplot
-        from matplotlib.ticker import FuncFormatter
     except ImportError as error:
         raise MatplotlibMissing() from error
+    return pyplot
 
+
+def plot(courses: Sequence[Course], blocks: int, title: str, path: "str | os.PathLike[str]") -> None:
+    """Draws the courses, one below another on the same scale, to a file whose ending names its kind (svg, pdf, png)."""
+    pyplot = pictures()
     # The same courses give the same file.
     settings = {"svg.hashsalt": "huwekapo", "svg.fonttype": "none", "font.size": 9, "hatch.linewidth": 0.4}
     with pyplot.rc_context(settings):
         height = 1.0 + 1.35 * len(courses)
         figure, panels = pyplot.subplots(len(courses), 1, sharex=True, sharey=True, figsize=(7.2, height), squeeze=False)
-        thousands = FuncFormatter(lambda number, _: f"{number:,.0f}")
         for panel, one in zip(panels[:, 0], courses):
             _draw(panel, one)
-            panel.xaxis.set_major_formatter(thousands)
-            panel.yaxis.set_major_formatter(thousands)
+            panel.xaxis.set_major_formatter("{x:,.0f}")
+            panel.yaxis.set_major_formatter("{x:,.0f}")
         lowest = panels[-1, 0]
         lowest.set_xlim(0, max(1, *(one.samples[-1].records for one in courses)))
         lowest.set_ylim(0, None)
@@ -97,17 +100,17 @@ def plot(courses: Sequence[Course], blocks: int, title: str, path: "str | os.Pat
         pyplot.close(figure)
 
 
-def _draw(panel: object, one: Course) -> None:
+def _draw(panel: Any, one: Course) -> None:
     """One width: a line, a hatched area below it and marks at the bottom, which differ in grey too."""
     records = [sample.records for sample in one.samples]
     used = [sample.in_use for sample in one.samples]
     free_of_stuck = [sample.in_use - sample.stuck for sample in one.samples]
     marks = [sample.records for sample in one.samples if sample.collections]
-    panel.fill_between(  # type: ignore[attr-defined]
+    panel.fill_between(
         records, free_of_stuck, used, facecolor="0.85", edgecolor="0.45", hatch="////", linewidth=0, label="garbage held by stuck counts"
     )
-    panel.plot(records, used, color="black", linewidth=0.9, label="blocks in use")  # type: ignore[attr-defined]
-    panel.plot(  # type: ignore[attr-defined]
+    panel.plot(records, used, color="black", linewidth=0.9, label="blocks in use")
+    panel.plot(
         marks,
         len(marks) * [0.0],
         linestyle="none",
@@ -125,5 +128,5 @@ def _draw(panel: object, one: Course) -> None:
     words = f"width {one.width}: {collections}, most blocks in use {figures.peak:,}"
     if one.run.stopped:
         words += f", stopped with {one.run.number} at record {one.run.records:,}"
-    panel.set_title(words, fontsize=8, loc="left", pad=3)  # type: ignore[attr-defined]
-    panel.grid(True, linewidth=0.3, color="0.8")  # type: ignore[attr-defined]
+    panel.set_title(words, fontsize=8, loc="left", pad=3)
+    panel.grid(True, linewidth=0.3, color="0.8")
