@@ -43,10 +43,12 @@ static void run_records(void) {
 
 /* A list for replay and one of records: each makes a chain of objects in root 0, lets go of it at once, and collects. */
 static void write_lists(void) {
-    static const uint64_t call[3][4] = {
-        {HUWEKAPO_CODE_ALLOCATE, 2, 1, 0}, {HUWEKAPO_CODE_STORE_CELL, 0, 0, 0}, {HUWEKAPO_CODE_STORE_ROOT, 0, 0, 0}};
-    static const uint8_t record[3][8] = {
-        {HUWEKAPO_RECORD_ALLOCATE, 1, 0, 0, 0, 0, 2, 0}, {HUWEKAPO_RECORD_WRITE, 1, 0, 0, 0, 0, 0, 0}, {HUWEKAPO_RECORD_COPY, 0, 1, 0, 0, 0, 0, 0}};
+    static const uint64_t call[3][4] = {{HUWEKAPO_CODE_ALLOCATE, 2, 1, 0},
+                                        {HUWEKAPO_CODE_STORE_CELL, 0, 0, 0},
+                                        {HUWEKAPO_CODE_STORE_ROOT, 0, 0, 0}};
+    static const uint8_t record[3][8] = {{HUWEKAPO_RECORD_ALLOCATE, 1, 0, 0, 0, 0, 2, 0},
+                                         {HUWEKAPO_RECORD_WRITE, 1, 0, 0, 0, 0, 0, 0},
+                                         {HUWEKAPO_RECORD_COPY, 0, 1, 0, 0, 0, 0, 0}};
     for (size_t i = 0; i < CALLS - 3; i++) {
         size_t block = 2 * (i / 3);
         memcpy(calls + 4 * i, call[i % 3], sizeof *call);

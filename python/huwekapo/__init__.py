@@ -30,10 +30,11 @@ package itself.
 from .unreached import Garbage, Held, garbage, in_use, objects, stuck
 from .heap import Heap, Look, Reply
 from .history import History, run
-from .library import VERSION as __version__
-from .library import Figures, LibraryMissing
+from .library import VERSION, Figures, LibraryMissing
 from .refused import Damage, Number, Refused
 from .runs import Run
+
+__version__ = VERSION
 
 __all__ = [
     "Damage",

@@ -76,7 +76,8 @@ def arguments() -> argparse.ArgumentParser:
 
     made = command("plot", _plot, "A picture of the blocks in use over the records of a history, for each count width.")
     history(made)
-    made.add_argument("-o", "--output", required=True, metavar="FIGURE", help="the picture to write: its ending says which kind (.svg, .pdf, .png)")
+    words = "the picture to write: its ending says which kind (.svg, .pdf, .png)"
+    made.add_argument("-o", "--output", required=True, metavar="FIGURE", help=words)
     blocks(made, False, [REPORT_BLOCKS])
     made.add_argument("--widths", type=numbers, default=[1, 2, 3, 4], metavar="W", help="count widths (1-4)")
     roots(made)
@@ -90,7 +91,8 @@ def arguments() -> argparse.ArgumentParser:
     blocks(made, True, [REPORT_BLOCKS])
     roots(made)
     made.add_argument("--pattern", default="*.history", help="the names of the histories (*.history)")
-    made.add_argument("--jobs", type=positive, default=os.cpu_count() or 1, metavar="N", help="processes on this machine (one for each processor)")
+    words = "processes on this machine (one for each processor)"
+    made.add_argument("--jobs", type=positive, default=os.cpu_count() or 1, metavar="N", help=words)
     made.add_argument("--dask", metavar="ADDRESS", help="run on the Dask cluster whose scheduler is at this address instead")
 
     made = command("example", _example, "A history as a small Java program might leave it.")

@@ -18,7 +18,7 @@ class _Object:
     __slots__ = ("cells",)
 
     def __init__(self, size: int) -> None:
-        self.cells: List[Optional[_Object]] = 4 * size * [None]
+        self.cells: List[Optional[_Object]] = [None] * (4 * size)
 
 
 class _Full(Exception):
@@ -35,7 +35,7 @@ class _Program:
         self._random = Random(seed)
         self._records = records
         self.history = bytearray()
-        self.variables: List[Optional[_Object]] = _ROOTS * [None]
+        self.variables: List[Optional[_Object]] = [None] * _ROOTS
 
     def below(self, number: int) -> int:
         """A number from 0 on. `random` is the one method whose numbers Python promises to keep."""

@@ -5,6 +5,7 @@ from __future__ import annotations
 import ctypes
 import operator
 import threading
+from dataclasses import dataclass
 from typing import Any, Iterable, NamedTuple, Sequence, Union
 
 from . import library
@@ -16,8 +17,9 @@ from .runs import Run
 Bytes = Union[bytes, bytearray, memoryview]
 
 
-class Look(NamedTuple):
-    """What a look at an object finds."""
+@dataclass(frozen=True)
+class Look:
+    """What a look at an object finds: its size in blocks, and its count."""
 
     size: int
     count: int
@@ -78,7 +80,7 @@ class Heap:
             return self._functions[name](*self._heap, *arguments)
 
     def _value(self, name: str, *arguments: int) -> int:
-        return _accepted(self._call(name, *map(_word, arguments))).value
+        return int(_accepted(self._call(name, *map(_word, arguments))).value)
 
     def _view(self, name: str) -> memoryview:
         view = memoryview(self._arrays[name]).cast("B").toreadonly()
@@ -97,7 +99,7 @@ class Heap:
     @property
     def capacity(self) -> int:
         """The largest count, at which an object is stuck."""
-        return 2**self._width - 1
+        return (1 << self._width) - 1
 
     @property
     def a(self) -> memoryview:

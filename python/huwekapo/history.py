@@ -6,7 +6,7 @@ import ctypes
 import os
 from contextlib import contextmanager
 from pathlib import Path
-from typing import BinaryIO, Callable, Iterator, Optional, Union
+from typing import IO, Callable, Iterator, Optional, Union
 
 from .heap import Heap
 from .library import REPORT_BLOCKS, REPORT_ROOTS, REPORT_WIDTH
@@ -19,7 +19,7 @@ RECORD = 8
 PIECE = 1 << 20
 
 #: What a history may be given as.
-Source = Union[str, "os.PathLike[str]", BinaryIO, "History"]
+Source = Union[str, "os.PathLike[str]", IO[bytes], "History"]
 
 #: Is told how many bytes of the history have been run.
 Progress = Callable[[int], object]
@@ -32,9 +32,9 @@ class History:
     open file that can seek, each time from where it stood. Any other, as a pipe, is run once.
     """
 
-    def __init__(self, source: Union[str, os.PathLike[str], BinaryIO]) -> None:
+    def __init__(self, source: Union[str, os.PathLike[str], IO[bytes]]) -> None:
         self._path: Optional[Path] = None
-        self._file: Optional[BinaryIO] = None
+        self._file: Optional[IO[bytes]] = None
         if isinstance(source, (str, os.PathLike)):
             self._path = Path(source)
         else:
@@ -50,7 +50,7 @@ class History:
     @property
     def name(self) -> str:
         """The path, or the open file's name."""
-        return str(self._path or getattr(self._file, "name", "a file"))
+        return str(self._path) if self._path else str(getattr(self._file, "name", "a file"))
 
     def size(self) -> Optional[int]:
         """The length in bytes, where it is known before it is read."""
@@ -65,7 +65,7 @@ class History:
             return None
 
     @contextmanager
-    def _opened(self) -> Iterator[BinaryIO]:
+    def _opened(self) -> Iterator[IO[bytes]]:
         if self._path:
             with open(self._path, "rb", buffering=0) as file:
                 yield file
@@ -114,7 +114,7 @@ def run(
     return History.of(history).run(Heap(blocks, width, roots), progress)
 
 
-def _position(file: BinaryIO) -> Optional[int]:
+def _position(file: IO[bytes]) -> Optional[int]:
     """Where a file stands; None where it can't seek."""
     try:
         return file.tell() if file.seekable() else None
@@ -122,7 +122,7 @@ def _position(file: BinaryIO) -> Optional[int]:
         return None
 
 
-def _pieces(file: BinaryIO, view: memoryview, fill: bool) -> Iterator[int]:
+def _pieces(file: IO[bytes], view: memoryview, fill: bool) -> Iterator[int]:
     """The lengths of the pieces of a file, each read to the view's start; there is one at least. Only the last may end inside a
     record. With `fill`, all but the last fill the view."""
     held, none = 0, True
@@ -141,7 +141,7 @@ def _pieces(file: BinaryIO, view: memoryview, fill: bool) -> Iterator[int]:
         yield held
 
 
-def _read_into(file: BinaryIO, view: memoryview) -> int:
+def _read_into(file: IO[bytes], view: memoryview) -> int:
     """Reads some bytes, as they come; 0 at the end."""
     for name in ("readinto1", "readinto"):
         read_into = getattr(file, name, None)

@@ -65,7 +65,7 @@ def course(
 def pictures() -> Any:
     """matplotlib's pyplot, drawing to files alone."""
     try:
-        import matplotlib
+        import matplotlib  # type: ignore[import]
 
         matplotlib.use("Agg")
         from matplotlib import pyplot
@@ -80,7 +80,7 @@ def plot(courses: Sequence[Course], blocks: int, title: str, path: "str | os.Pat
     # The same courses give the same file.
     settings = {"svg.hashsalt": "huwekapo", "svg.fonttype": "none", "font.size": 9, "hatch.linewidth": 0.4}
     with pyplot.rc_context(settings):
-        height = 1.0 + 1.35 * len(courses)
+        height = 1.3 + 1.3 * len(courses)
         figure, panels = pyplot.subplots(len(courses), 1, sharex=True, sharey=True, figsize=(7.2, height), squeeze=False)
         for panel, one in zip(panels[:, 0], courses):
             _draw(panel, one)
@@ -90,11 +90,12 @@ def plot(courses: Sequence[Course], blocks: int, title: str, path: "str | os.Pat
         lowest.set_xlim(0, max(1, *(one.samples[-1].records for one in courses)))
         lowest.set_ylim(0, None)
         lowest.set_xlabel("records")
-        figure.supylabel(f"blocks in use, of {blocks:,}", fontsize=9)
-        figure.suptitle(title, fontsize=10)
+        figure.supylabel(f"blocks in use, of {blocks:,}", x=0.015, fontsize=9)
+        figure.suptitle(title, y=1 - 0.15 / height, fontsize=10)
         handles, labels = panels[0, 0].get_legend_handles_labels()
         figure.legend(handles, labels, loc="lower center", ncol=3, frameon=False, fontsize=8)
-        figure.tight_layout(rect=(0, 0.35 / height, 1, 1))
+        # In inches above and below the panels, whatever their number.
+        figure.subplots_adjust(left=0.12, right=0.96, top=1 - 0.55 / height, bottom=0.85 / height, hspace=0.35)
         metadata = {"Date": None} if str(path).endswith(".svg") else None
         figure.savefig(path, metadata=metadata, dpi=150)
         pyplot.close(figure)

@@ -3,6 +3,7 @@
 from __future__ import annotations
 
 import enum
+from typing import Dict
 
 
 class Number(enum.IntEnum):
@@ -33,7 +34,7 @@ class Damage(enum.IntEnum):
     WRONG_COUNT = 5
 
 
-_CALL_WORDS = {
+_CALL_WORDS: Dict[int, str] = {
     Number.MISSHAPEN: "blocks, width, the number of roots or any buffer's length is not as it must be",
     Number.DAMAGED: "the heap is damaged",
     Number.BAD_SIZE: "n is 0 or above blocks",
@@ -48,7 +49,7 @@ _CALL_WORDS = {
     Number.BAD_RUN: "no run leaves these numbers",
 }
 
-_RECORD_WORDS = {
+_RECORD_WORDS: Dict[int, str] = {
     Number.BAD_SIZE: "the size is 0 or above the number of blocks",
     Number.BAD_ROOT: "a root is not below the number of roots",
     Number.NO_CHUNK: "no chunk is free, not after a full collection either",
@@ -58,7 +59,7 @@ _RECORD_WORDS = {
     Number.CUT_OFF: "the file ends inside a record, or goes on past 4,294,967,295 records",
 }
 
-_DAMAGE_WORDS = {
+_DAMAGE_WORDS: Dict[int, str] = {
     Damage.END_ON_FREE: "a 0 in the B-map on a free block",
     Damage.OPEN_END: "an allocated block with B bit 1 whose next block is free or past the end",
     Damage.UNALIGNED: "an object whose first block is not a multiple of the least power of two that is its size or more",
@@ -70,7 +71,7 @@ _DAMAGE_WORDS = {
 
 def stop_in_words(number: int) -> str:
     """Why a run stopped at a record, in words."""
-    return _RECORD_WORDS.get(number, "a number that this package has no words for")  # type: ignore[call-overload]
+    return _RECORD_WORDS.get(number, "a number that this package has no words for")
 
 
 class Refused(Exception):
@@ -94,8 +95,8 @@ class Refused(Exception):
             return "UNKNOWN"
 
     def __str__(self) -> str:
-        words = _CALL_WORDS.get(self.number, "a number that this package has no words for")  # type: ignore[call-overload]
+        words = _CALL_WORDS.get(self.number, "a number that this package has no words for")
         if self.number == Number.DAMAGED:
-            kind = _DAMAGE_WORDS.get(self.value, "a kind that this package has no words for")  # type: ignore[call-overload]
+            kind = _DAMAGE_WORDS.get(self.value, "a kind that this package has no words for")
             words = f"{words}, kind {self.value}: {kind}"
         return f"{self.number} {self.name}: {words}"

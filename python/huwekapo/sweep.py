@@ -125,7 +125,7 @@ class _Digested:
 
 def _digest(path: Path) -> str:
     with open(path, "rb", buffering=0) as file:
-        return _Digested(file).whole()  # type: ignore[arg-type]
+        return _Digested(file).whole()
 
 
 class _Table:
@@ -251,7 +251,7 @@ def _workers(jobs: int, dask: Optional[str]) -> Iterator[_Workers]:
             from distributed import Client
         except ImportError:
             raise SweepError("a Dask cluster needs distributed: `apt-get install python3-distributed` on Debian") from None
-        with Client(dask) as client:
+        with Client(dask) as client:  # type: ignore[no-untyped-call]
             yield _Workers(client.get_executor(pure=False), 2 * max(1, sum(client.ncores().values())))
         return
     if jobs == 1:
@@ -271,12 +271,12 @@ def _begin_worker() -> None:
     signal.signal(signal.SIGINT, signal.SIG_IGN)
     parent = multiprocessing.parent_process()
     assert parent
+    threading.Thread(target=_end_after, args=(parent.sentinel,), daemon=True).start()
 
-    def watch() -> None:
-        multiprocessing.connection.wait([parent.sentinel])
-        os._exit(1)
 
-    threading.Thread(target=watch, daemon=True).start()
+def _end_after(sentinel: int) -> None:
+    multiprocessing.connection.wait([sentinel])
+    os._exit(1)
 
 
 def _finished(

@@ -18,8 +18,12 @@ def widths(
     size = history.size() or 0
     runs = [(n, width) for n in blocks for width in counts]
     for done, (n, width) in enumerate(runs):
-        before = done * size
-        yield measure(history, n, width, roots, (lambda part: progress(before + part)) if progress else None)
+
+        def tell(part: int, before: int = done * size) -> None:
+            if progress:
+                progress(before + part)
+
+        yield measure(history, n, width, roots, tell)
 
 
 def write_csv(measures: Iterable[Measured], file: TextIO) -> None:

@@ -89,7 +89,8 @@ class Commands(unittest.TestCase):
         path = self.folder / "made.history"
         self.start("example", "trees", "--records", 100, "-o", path)
         self.assertEqual(path.read_bytes(), examples.example("trees", 100))
-        made = subprocess.run(self.command("example", "trees", "--records", "70", "--seed", "3", "-o", "-"), env=self.environment, capture_output=True, check=True)
+        command = self.command("example", "trees", "--records", 70, "--seed", 3, "-o", "-")
+        made = subprocess.run(command, env=self.environment, capture_output=True, check=True)
         self.assertEqual(made.stdout, examples.example("trees", 70, 3))
 
     def test_plot(self) -> None:
@@ -116,7 +117,8 @@ class Commands(unittest.TestCase):
         reading, writing = os.pipe()
         os.close(reading)
         with open(writing, "wb") as nobody:
-            done = subprocess.run(self.command("report", self.three), env=self.environment, stdout=nobody, stderr=subprocess.PIPE, check=False)
+            command = self.command("report", self.three)
+            done = subprocess.run(command, env=self.environment, stdout=nobody, stderr=subprocess.PIPE, check=False)
         self.assertEqual((done.returncode, done.stderr), (1, b""))
 
     def test_progress_bar(self) -> None:
