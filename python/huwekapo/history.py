@@ -4,6 +4,7 @@ from __future__ import annotations
 
 import ctypes
 import os
+import time
 from contextlib import contextmanager
 from pathlib import Path
 from typing import IO, Callable, Iterator, Optional, Union
@@ -15,8 +16,11 @@ from .runs import Run
 #: The bytes of a record.
 RECORD = 8
 
-#: The bytes that are read at a time.
+#: The bytes that are run at a time: so many that the check of the heap, which each piece begins with, hardly counts.
 PIECE = 1 << 20
+
+#: The seconds for which bytes that come slowly are held back, to be run in one piece.
+_PATIENCE = 0.1
 
 #: What a history may be given as.
 Source = Union[str, "os.PathLike[str]", IO[bytes], "History"]
@@ -80,7 +84,7 @@ class History:
 
     def runs(self, heap: Heap, step: Optional[int] = None) -> Iterator[Run]:
         """Runs the history on a heap, in pieces, and gives where the run stands after each; the last is where it ends. A piece has
-        `step` records; without it, as many as come at a time."""
+        `step` records; without it, as many as come in a tenth of a second, and a mebibyte at most."""
         if step is not None and step < 1:
             raise ValueError(f"a piece can't have {step} records")
         buffer = bytearray(RECORD * step if step else PIECE)
@@ -125,19 +129,20 @@ def _position(file: IO[bytes]) -> Optional[int]:
 def _pieces(file: IO[bytes], view: memoryview, fill: bool) -> Iterator[int]:
     """The lengths of the pieces of a file, each read to the view's start; there is one at least. Only the last may end inside a
     record. With `fill`, all but the last fill the view."""
-    held, none = 0, True
+    held, pieces, since = 0, 0, time.monotonic()
     while True:
         read = _read_into(file, view[held:])
-        held += read
         if not read:
             break
-        whole = len(view) if held == len(view) else 0 if fill else held - held % RECORD
-        if whole:
-            yield whole
-            none = False
-            held -= whole
-            view[:held] = bytes(view[whole : whole + held])
-    if held or none:
+        held += read
+        if held < len(view) and (fill or held < RECORD or time.monotonic() - since < _PATIENCE):
+            continue
+        whole = held - held % RECORD
+        yield whole
+        held -= whole
+        view[:held] = bytes(view[whole : whole + held])
+        pieces, since = pieces + 1, time.monotonic()
+    if held or not pieces:
         yield held
 
 
