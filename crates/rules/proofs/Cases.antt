@@ -7,18 +7,18 @@ use Rattle.planes.specs.Plane.{countAt, setCount}
 use Rattle.rules.specs.Heap.{isPowerFrom, all, shape, firstIn, sizeFrom, exponentFrom, exponent, chunkFree, lowestFrom}
 use Rattle.rules.specs.Heap.{lowestFree, refIn, holding}
 use Rattle.rules.specs.Damage.{someBelow, endOnFree, openEnd, unaligned, badCell, badRoot, badCount, firstKind, damage}
-use Rattle.rules.specs.Store.{formatted, countUp, countDown, countDownEach, clearCells, freed, release, letGo, putRoot, putCell}
-use Rattle.rules.specs.Store.{changeRoot, changeCell, storeRootIn, storeCellIn, clearChosen, returnIn, placed, allocateIn}
+use Rattle.rules.specs.Store.{formatted, countUp, sticks, countDown, countDownEach, clearCells, freed, release, letGo, putRoot, putCell}
+use Rattle.rules.specs.Store.{changeRoot, changeCell, storeRootIn, storeCellIn, storeSticks, clearChosen, returnIn, placed, allocateIn}
 use Rattle.rules.specs.Collection.{isCellOf, cellOfChosen, referencesFrom, tabulate, reachedNext, reachedIn, reached, swept}
 use Rattle.rules.specs.Collection.{recounted, collected}
 use Rattle.rules.specs.Calls.{require, onUndamaged, freeing, allocation, answer, run, lastMemory}
-use Rattle.rules.specs.Cases.{Case, fresh, freshBut, cases, readings, returns, outcome, expected}
+use Rattle.rules.specs.Cases.{Case, fresh, freshBut, cases, readings, returns, moments, outcome, expected}
 use Rattle.rules.specs.Distinctions.{lent, cellHolding, rootHolding, distinctions}
 use Rattle.rules.specs.declared.Reply.{Reply}
 
 -- what the rules give for a case: to unfold this is to open every rule
 unfoldable pub computed : Case → List Reply × ℕ × ℕ
-unfolding bitAt setBit fillBits countBelow zeros countAt setCount isPowerFrom all shape firstIn sizeFrom exponentFrom exponent chunkFree lowestFrom lowestFree refIn holding someBelow endOnFree openEnd unaligned badCell badRoot badCount firstKind damage formatted countUp countDown countDownEach clearCells freed release letGo putRoot putCell changeRoot changeCell storeRootIn storeCellIn clearChosen returnIn placed allocateIn isCellOf cellOfChosen referencesFrom tabulate reachedNext reachedIn reached swept recounted collected require onUndamaged freeing allocation answer run fresh freshBut lastMemory outcome expected
+unfolding bitAt setBit fillBits countBelow zeros countAt setCount isPowerFrom all shape firstIn sizeFrom exponentFrom exponent chunkFree lowestFrom lowestFree refIn holding someBelow endOnFree openEnd unaligned badCell badRoot badCount firstKind damage formatted countUp sticks countDown countDownEach clearCells freed release letGo putRoot putCell changeRoot changeCell storeRootIn storeCellIn storeSticks clearChosen returnIn placed allocateIn isCellOf cellOfChosen referencesFrom tabulate reachedNext reachedIn reached swept recounted collected require onUndamaged freeing allocation answer run fresh freshBut lastMemory outcome expected
 computed c = outcome c
 
 pub cases-hold : map outcome cases ≡ map expected cases
@@ -34,6 +34,11 @@ readings-hold = refl
 pub returns-hold : map outcome returns ≡ map expected returns
 unfolding computed returns
 returns-hold = refl
+
+-- and those of request U5
+pub moments-hold : map outcome moments ≡ map expected moments
+unfolding computed moments
+moments-hold = refl
 
 -- and those that tell further wrong rules from the right ones
 pub distinctions-hold : map outcome distinctions ≡ map expected distinctions

@@ -12,7 +12,7 @@ use Rattle.rules.specs.Store.{formatted}
 use Rattle.rules.specs.Calls.{Answer, answer}
 use Rattle.rules.specs.Cases.{fresh, freshBut}
 use Rattle.rules.specs.Distinctions.{lent, cellHolding, rootHolding}
-use Rattle.rules.specs.WrongAnswers.{Question, Promised, used, chained, shared, alone, cyclic, collectedCyclic}
+use Rattle.rules.specs.WrongAnswers.{Question, Promised, used, chained, shared, stuck, alone, cyclic, collectedCyclic}
 use Rattle.rules.specs.WrongAnswers.{allocatedTwo, allocatedThree, allocatedOver, wrongAnswers}
 use Rattle.rules.specs.declared.Reply.{Reply}
 use Rattle.rules.proofs.Cases.{computed}
@@ -107,7 +107,7 @@ each-told (q ∷ qs) rights differs =
 
 -- to unfold this is to open the list and its heaps
 opened : List Question
-unfolding formatted fresh freshBut lent cellHolding rootHolding used chained shared alone cyclic collectedCyclic allocatedTwo allocatedThree allocatedOver wrongAnswers
+unfolding formatted fresh freshBut lent cellHolding rootHolding used chained shared stuck alone cyclic collectedCyclic allocatedTwo allocatedThree allocatedOver wrongAnswers
 opened = wrongAnswers
 
 rights-hold : map asked wrongAnswers ≡ map (λ q. q .right) wrongAnswers

@@ -29,6 +29,10 @@ freshBut a b = withA (a ∷ []) (withB (b ∷ []) (fresh 2))
 abbrev pub gives : ℕ → Reply
 gives value = reply 0 value 0
 
+-- request U5: the value, and an object became stuck
+abbrev pub sticking : ℕ → Reply
+sticking value = reply 0 value 1
+
 abbrev pub shows : ℕ → ℕ → Reply
 shows size count = reply 0 size count
 
@@ -51,14 +55,14 @@ cases =
     ∷ case 2 (fresh 2) 223 111 ((allocate 5 0, gives 0) ∷ (allocate 3 1, refuses 5) ∷ (allocate 2 1, gives 6) ∷ [])
     -- P4
     ∷ case 2 (fresh 2) 0 255
-    ((allocate 1 0, gives 0) ∷ (storeRoot 1 1, gives 0) ∷ (storeRoot 2 1, gives 0) ∷ (look 0, shows 1 3)
+    ((allocate 1 0, gives 0) ∷ (storeRoot 1 1, gives 0) ∷ (storeRoot 2 1, sticking 0) ∷ (look 0, shows 1 3)
     ∷ (storeRoot 0 0, gives 0) ∷ (storeRoot 1 0, gives 0) ∷ (storeRoot 2 0, gives 0) ∷ (look 0, shows 1 3) ∷ (collect, gives 1) ∷ [])
     -- P5
     ∷ case 2 (fresh 2) 0 255
     ((allocate 1 0, gives 0) ∷ (storeRoot 1 1, gives 0) ∷ (storeRoot 0 0, gives 0) ∷ (look 0, shows 1 1)
     ∷ (storeRoot 1 0, gives 1) ∷ (look 0, refuses 6) ∷ [])
     -- P6
-    ∷ case 1 (fresh 1) 0 255 ((allocate 1 0, gives 0) ∷ (storeRoot 0 0, gives 0) ∷ (look 0, shows 1 1) ∷ (collect, gives 1) ∷ [])
+    ∷ case 1 (fresh 1) 0 255 ((allocate 1 0, sticking 0) ∷ (storeRoot 0 0, gives 0) ∷ (look 0, shows 1 1) ∷ (collect, gives 1) ∷ [])
     -- P7
     ∷ case 2 (fresh 2) 0 255
     ((allocate 1 0, gives 0) ∷ (allocate 1 1, gives 1) ∷ (storeCell 0 0 2, gives 0) ∷ (storeCell 1 0 1, gives 0)
@@ -99,7 +103,7 @@ readings =
     ∷ case 2 (fresh 2) 3 253 ((allocate 1 0, gives 0) ∷ (storeRoot 0 0, gives 1) ∷ (allocate 2 0, gives 0) ∷ (look 0, shows 2 1) ∷ [])
     -- "Counting a stuck object down, or treating 2^w as the capacity."
     ∷ case 1 (fresh 1) 1 254
-    ((allocate 1 0, gives 0) ∷ (storeRoot 1 1, gives 0) ∷ (look 0, shows 1 1) ∷ (storeRoot 0 0, gives 0) ∷ (storeRoot 1 0, gives 0)
+    ((allocate 1 0, sticking 0) ∷ (storeRoot 1 1, gives 0) ∷ (look 0, shows 1 1) ∷ (storeRoot 0 0, gives 0) ∷ (storeRoot 1 0, gives 0)
     ∷ (look 0, shows 1 1) ∷ [])
     -- "Counting references from unreached objects in a collection."
     ∷ case 2 (fresh 2) 1 254
@@ -126,11 +130,39 @@ returns =
     ∷ case 2 (fresh 2) 0 255 ((allocate 2 0, gives 0) ∷ (storeRoot 1 1, gives 0) ∷ (returnRoots 3, gives 2) ∷ [])
     -- one object in three roots: its count is at capacity
     ∷ case 2 (fresh 2) 1 254
-    ((allocate 1 0, gives 0) ∷ (storeRoot 1 1, gives 0) ∷ (storeRoot 2 1, gives 0) ∷ (returnRoots 7, gives 0) ∷ (look 0, shows 1 3) ∷ [])
+    ((allocate 1 0, gives 0) ∷ (storeRoot 1 1, gives 0) ∷ (storeRoot 2 1, sticking 0) ∷ (returnRoots 7, gives 0) ∷ (look 0, shows 1 3) ∷ [])
     -- two objects that name each other
     ∷ case 2 (fresh 2) 3 252
     ((allocate 1 0, gives 0) ∷ (allocate 1 1, gives 1) ∷ (storeCell 0 0 2, gives 0) ∷ (storeCell 1 0 1, gives 0) ∷ (returnRoots 3, gives 0)
     ∷ (look 0, shows 1 1) ∷ (look 1, shows 1 1) ∷ [])
+    ∷ []
+
+-- Request U5, "When objects become stuck": "this very step brought the count to the capacity"
+unfoldable pub moments : List Case
+moments =
+    -- "a birth at width 1 included": into a root that is in use, too
+    case 1 (fresh 1) 13 246 ((allocate 1 0, sticking 0) ∷ (allocate 2 0, sticking 2) ∷ (look 0, shows 1 1) ∷ [])
+    -- the third reference, in a cell; a fourth; one of them stored over itself
+    ∷ case 2 (fresh 2) 1 254
+    ((allocate 1 0, gives 0) ∷ (storeRoot 1 1, gives 0) ∷ (storeCell 0 0 1, sticking 0) ∷ (storeCell 0 1 1, gives 0) ∷ (storeRoot 2 1, gives 0)
+    ∷ (storeRoot 1 1, gives 0) ∷ [])
+    -- a reference stored over itself, one below the capacity: in a root, in a cell
+    ∷ case 2 (fresh 2) 1 254 ((allocate 1 0, gives 0) ∷ (storeCell 0 3 1, gives 0) ∷ (storeRoot 0 1, gives 0) ∷ (storeCell 0 3 1, gives 0) ∷ [])
+    -- a collection sticks none; the object comes to the capacity again
+    ∷ case 2 (fresh 2) 1 254
+    ((allocate 1 0, gives 0) ∷ (storeRoot 1 1, gives 0) ∷ (storeRoot 2 1, sticking 0) ∷ (collect, gives 0) ∷ (storeRoot 2 0, gives 0) ∷ (collect, gives 0)
+    ∷ (look 0, shows 1 2) ∷ (storeRoot 3 1, sticking 0) ∷ [])
+    -- the object that is let go is one below the capacity, the new one is not
+    ∷ case 2 (fresh 2) 3 252
+    ((allocate 1 0, gives 0) ∷ (storeRoot 1 1, gives 0) ∷ (allocate 1 2, gives 1) ∷ (storeRoot 1 2, gives 0) ∷ (storeCell 0 0 1, gives 0)
+    ∷ (storeCell 0 0 2, sticking 0) ∷ [])
+    -- the new object comes to the capacity and the old one is freed
+    ∷ case 2 (fresh 2) 2 253 ((allocate 1 0, gives 0) ∷ (allocate 1 1, gives 1) ∷ (storeRoot 2 2, gives 0) ∷ (storeRoot 0 2, sticking 1) ∷ [])
+    -- "any further value of a reply is 0, or no, in every refusal"
+    ∷ case 2 (fresh 2) 1 254
+    ((allocate 1 0, gives 0) ∷ (storeRoot 1 1, gives 0) ∷ (storeRoot 4 1, refuses 4) ∷ (storeCell 1 0 1, refuses 6) ∷ (storeCell 0 4 1, refuses 7)
+    ∷ (storeRoot 2 2, refuses 8) ∷ [])
+    ∷ case 1 (fresh 1) 0 255 ((allocate 9 0, refuses 3) ∷ (allocate 1 4, refuses 4) ∷ [])
     ∷ []
 
 -- what the rules give for a case: the replies and the two bytes

@@ -5,7 +5,7 @@ use mathlib.Core.List.{List, [], _∷_}
 use lib.ListN.{set, replicate}
 use Rattle.rules.specs.Heap.{Memory, memory, withRoots}
 use Rattle.rules.specs.Calls.{format, check, collect, freeBlocks, allocate, storeRoot, storeCell, look}
-use Rattle.rules.specs.Cases.{Case, case, fresh, freshBut, gives, shows, refuses, damaged}
+use Rattle.rules.specs.Cases.{Case, case, fresh, freshBut, gives, sticking, shows, refuses, damaged}
 
 -- a heap of 8 blocks and width 2: the byte of each of the four maps, the cells and the roots
 unfoldable pub lent : (a b low high : ℕ) → (cells roots : List ℕ) → Memory
@@ -42,7 +42,7 @@ distinctions =
     ((allocate 1 0, gives 0) ∷ (allocate 1 1, gives 1) ∷ (allocate 1 2, gives 2) ∷ (storeCell 0 0 2, gives 0) ∷ (storeCell 1 0 3, gives 0)
     ∷ (storeRoot 1 0, gives 0) ∷ (storeRoot 2 0, gives 0) ∷ (collect, gives 0) ∷ (look 2, shows 1 1) ∷ [])
     -- "Each reached object's count becomes the smaller of the capacity and the number of roots and cells .. that name it."
-    ∷ case 1 (fresh 1) 1 254 ((allocate 1 0, gives 0) ∷ (storeRoot 1 1, gives 0) ∷ (collect, gives 0) ∷ (look 0, shows 1 1) ∷ [])
+    ∷ case 1 (fresh 1) 1 254 ((allocate 1 0, sticking 0) ∷ (storeRoot 1 1, gives 0) ∷ (collect, gives 0) ∷ (look 0, shows 1 1) ∷ [])
     -- "Each list is in order, and the first number that applies is given": 3, 4, 5; 4, 8; 6, 7, 8
     ∷ case 2 (fresh 2) 255 127
     ((allocate 8 0, gives 0) ∷ (allocate 9 4, refuses 3) ∷ (allocate 8 4, refuses 4) ∷ (storeRoot 4 9, refuses 4) ∷ (storeRoot 3 9, refuses 8)

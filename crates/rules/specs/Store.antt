@@ -1,6 +1,6 @@
 -- Document 01, "What each call does": format, counting up and down, freeing, the stores and the placing of a new object.
 use Prim.Native.Nat.{ℕ, zero, suc, _+_, _-_, _*_, _/_, _^_}
-use mathlib.Core.Bool.{Bool, true, false, _||_}
+use mathlib.Core.Bool.{Bool, true, false, not, _&&_, _||_}
 use mathlib.Core.List.{List, [], _∷_}
 use lib.ListN.{getD, set, replicate}
 use lib.Dec.{eqb}
@@ -21,6 +21,11 @@ unfoldable pub countUp : ℕ → ℕ → List ℕ → ℕ → List ℕ
 countUp N w counts v =
     let c = countAt (N / 8) w counts (v - 1) in
     elim (eqb v 0 || eqb c (capacity w)) [ true ↦ counts | false ↦ setCount (N / 8) w counts (v - 1) (c + 1) ]
+
+-- request U5: "Counting up must say whether this very step brought the count to the capacity". It did where v names an object whose count is
+-- one below the capacity.
+unfoldable pub sticks : ℕ → ℕ → List ℕ → ℕ → Bool
+sticks N w counts v = not (eqb v 0) && eqb (countAt (N / 8) w counts (v - 1) + 1) (capacity w)
 
 -- the counts, and the first blocks of the objects whose count came to 0 and that wait to be freed, the last one first
 pub record Work : Type 0 where
@@ -113,6 +118,10 @@ storeRootIn N w h r v = elim (eqb (getD (h .roots) r 0) v) [ true ↦ h | false 
 unfoldable pub storeCellIn : ℕ → ℕ → Memory → ℕ → ℕ → Memory
 storeCellIn N w h c v = elim (eqb (getD (h .cells) c 0) v) [ true ↦ h | false ↦ changeCell N w h c v ]
 
+-- request U5: "Every store and allocation passes the fact on". Where v is stored over `old`; a store of the value present counts nothing up.
+unfoldable pub storeSticks : (N w : ℕ) → (counts : List ℕ) → (old v : ℕ) → Bool
+storeSticks N w counts old v = not (eqb old v) && sticks N w counts v
+
 -- ---- a return (request U10)
 
 -- "a set of roots as a 64-bit number, bit r for root r": root r is one of the set
@@ -143,6 +152,10 @@ placed N w h i n =
     (withB (setBit (h .b) (i + n - 1) 0)
     (withCounts (setCount (N / 8) w (h .counts) i 1)
     (withCells (clearCells (h .cells) (4 * i) (4 * n)) h)))
+
+-- request U5: ".. a birth at width 1 included": the new object's count is the capacity
+abbrev pub birthSticks : ℕ → Bool
+birthSticks w = eqb 1 (capacity w)
 
 -- "Then the reference is stored in root r as below, except that the new object isn't counted up again."
 unfoldable pub allocateIn : ℕ → ℕ → Memory → ℕ → ℕ → ℕ → Memory

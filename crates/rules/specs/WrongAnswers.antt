@@ -4,10 +4,10 @@
 use Prim.Native.Nat.{ℕ}
 use mathlib.Core.List.{List, [], _∷_}
 use lib.ListN.{set, replicate}
-use Rattle.rules.specs.Heap.{Memory, withA, withB, withCells, withRoots, withWaiting}
+use Rattle.rules.specs.Heap.{Memory, withA, withB, withCounts, withCells, withRoots, withWaiting}
 use Rattle.rules.specs.Calls.{Call, format, check, collect, freeBlocks, allocate, storeRoot, storeCell, look, returnRoots, Answer, reply}
 use Rattle.rules.specs.Promise.{Promise}
-use Rattle.rules.specs.Cases.{fresh, freshBut, gives, shows, refuses, damaged}
+use Rattle.rules.specs.Cases.{fresh, freshBut, gives, sticking, shows, refuses, damaged}
 use Rattle.rules.specs.Distinctions.{lent, cellHolding, rootHolding}
 
 -- a call with its right answer, that is the reply and the memory after it, and wrong ones
@@ -38,6 +38,10 @@ chained = lent 7 249 5 0 (cellHolding 7 3) (rootHolding 0 1)
 -- the same with Y in root 1 too
 unfoldable pub shared : Memory
 shared = lent 7 249 1 4 (cellHolding 7 3) (1 ∷ 3 ∷ 0 ∷ 0 ∷ [])
+
+-- the same with Y in root 2 too: Y is stuck
+unfoldable pub stuck : Memory
+stuck = lent 7 249 5 4 (cellHolding 7 3) (1 ∷ 3 ∷ 3 ∷ 0 ∷ [])
 
 -- the same with Y let go by X: X alone
 unfoldable pub alone : Memory
@@ -102,7 +106,14 @@ wrongAnswers =
     -- counted up again; the root not written, or another; the block without 1 added; the waiting list left
     ∷ (gives 4, lent 55 217 5 16 (cellHolding 7 3) (1 ∷ 5 ∷ 0 ∷ 0 ∷ []))
     ∷ (gives 4, withRoots (rootHolding 0 1) allocatedTwo) ∷ (gives 4, withRoots (1 ∷ 0 ∷ 5 ∷ 0 ∷ []) allocatedTwo)
-    ∷ (gives 4, withRoots (1 ∷ 4 ∷ 0 ∷ 0 ∷ []) allocatedTwo) ∷ (gives 4, used allocatedTwo) ∷ [])
+    ∷ (gives 4, withRoots (1 ∷ 4 ∷ 0 ∷ 0 ∷ []) allocatedTwo) ∷ (gives 4, used allocatedTwo)
+    -- a birth at width 2 told as one that sticks
+    ∷ (sticking 4, allocatedTwo) ∷ [])
+    -- a birth at width 1
+    ∷ question 1 (fresh 1) (allocate 1 0) (sticking 0, withCounts (1 ∷ []) (lent 1 254 0 0 (replicate 32 0) (rootHolding 0 1)))
+    -- not told; told in the value
+    ((gives 0, withCounts (1 ∷ []) (lent 1 254 0 0 (replicate 32 0) (rootHolding 0 1)))
+    ∷ (gives 1, withCounts (1 ∷ []) (lent 1 254 0 0 (replicate 32 0) (rootHolding 0 1))) ∷ [])
     ∷ question 2 (used chained) (allocate 3 1) (gives 4, allocatedThree)
     -- the whole chunk flipped, with the object's end at its last block or at the chunk's
     ((gives 4, withA (247 ∷ []) allocatedThree) ∷ (gives 4, lent 247 121 21 0 (cellHolding 7 3) (1 ∷ 5 ∷ 0 ∷ 0 ∷ []))
@@ -120,7 +131,9 @@ wrongAnswers =
     -- no chunk is free
     ∷ question 2 (used chained) (allocate 8 1) (refuses 5, used chained)
     -- replies 0 always; another number; the number of blocks for "none"; writes in a refusal
-    ((gives 0, used chained) ∷ (refuses 3, used chained) ∷ (gives 8, used chained) ∷ (reply 5 8 0, used chained) ∷ (refuses 5, chained) ∷ [])
+    ((gives 0, used chained) ∷ (refuses 3, used chained) ∷ (gives 8, used chained) ∷ (reply 5 8 0, used chained) ∷ (refuses 5, chained)
+    -- a refusal that tells of a birth
+    ∷ (reply 5 0 1, used chained) ∷ [])
     -- everything is let go
     ∷ question 2 (used chained) (storeRoot 0 0) (gives 3, fresh 2)
     -- refuses everything; never writes
@@ -145,7 +158,26 @@ wrongAnswers =
     ((gives 0, chained) ∷ (gives 2, lent 4 251 4 0 (replicate 32 0) (rootHolding 0 3))
     -- doesn't count up; stores in another root; stores the block without 1 added
     ∷ (gives 0, withRoots (1 ∷ 3 ∷ 0 ∷ 0 ∷ []) chained) ∷ (gives 0, withRoots (1 ∷ 0 ∷ 3 ∷ 0 ∷ []) shared)
-    ∷ (gives 0, withRoots (1 ∷ 2 ∷ 0 ∷ 0 ∷ []) shared) ∷ [])
+    ∷ (gives 0, withRoots (1 ∷ 2 ∷ 0 ∷ 0 ∷ []) shared)
+    -- tells one early that Y sticks
+    ∷ (sticking 0, shared) ∷ [])
+    -- the reference that sticks Y
+    ∷ question 2 (used shared) (storeRoot 2 3) (sticking 0, stuck)
+    -- not told; told in the value; the count, or the room below it, for the fact; counted past the capacity
+    ((gives 0, stuck) ∷ (gives 1, stuck) ∷ (reply 0 0 3, stuck) ∷ (reply 0 0 2, stuck)
+    ∷ (sticking 0, lent 7 249 1 0 (cellHolding 7 3) (1 ∷ 3 ∷ 3 ∷ 0 ∷ [])) ∷ [])
+    -- one more: Y is stuck already
+    ∷ question 2 (used stuck) (storeRoot 3 3) (gives 0, withRoots (1 ∷ 3 ∷ 3 ∷ 3 ∷ []) stuck)
+    -- told once more
+    ((sticking 0, withRoots (1 ∷ 3 ∷ 3 ∷ 3 ∷ []) stuck) ∷ [])
+    -- X over Y: Y, one below the capacity, is let go
+    ∷ question 2 (used shared) (storeRoot 1 1) (gives 0, lent 7 249 4 1 (cellHolding 7 3) (1 ∷ 1 ∷ 0 ∷ 0 ∷ []))
+    -- told of the old object
+    ((sticking 0, lent 7 249 4 1 (cellHolding 7 3) (1 ∷ 1 ∷ 0 ∷ 0 ∷ [])) ∷ [])
+    -- the value present, one below the capacity
+    ∷ question 2 (used shared) (storeRoot 1 3) (gives 0, shared)
+    -- told though nothing is counted up; counted up
+    ((sticking 0, shared) ∷ (sticking 0, withRoots (1 ∷ 3 ∷ 0 ∷ 0 ∷ []) stuck) ∷ [])
     -- the value present
     ∷ question 2 (used chained) (storeRoot 0 1) (gives 0, chained)
     -- counts up and not down; counts down first; leaves the waiting list
@@ -160,6 +192,9 @@ wrongAnswers =
     -- replies 0 always; counts up; another number; writes in a refusal
     ((gives 0, used chained) ∷ (gives 0, lent 7 249 1 4 (cellHolding 7 3) (rootHolding 0 1)) ∷ (refuses 8, used chained)
     ∷ (refuses 4, chained) ∷ [])
+    ∷ question 2 (used shared) (storeRoot 4 3) (refuses 4, used shared)
+    -- a refusal that tells of what the store would stick
+    ((reply 4 0 1, used shared) ∷ [])
     -- X lets go of Y
     ∷ question 2 (used chained) (storeCell 0 7 0) (gives 1, alone)
     -- refuses everything, or takes the cell for the block; never writes
@@ -175,6 +210,15 @@ wrongAnswers =
     -- clears the cell; doesn't count up; doesn't write; stores in the next cell
     ((gives 0, chained) ∷ (gives 0, lent 7 249 5 0 (set (cellHolding 7 3) 0 3) (rootHolding 0 1))
     ∷ (gives 0, lent 7 249 1 4 (cellHolding 7 3) (rootHolding 0 1)) ∷ (gives 0, lent 7 249 1 4 (set (cellHolding 7 3) 1 3) (rootHolding 0 1)) ∷ [])
+    -- the reference that sticks Y, in a cell
+    ∷ question 2 (used shared) (storeCell 0 0 3) (sticking 0, lent 7 249 5 4 (set (cellHolding 7 3) 0 3) (1 ∷ 3 ∷ 0 ∷ 0 ∷ []))
+    -- not told; told in the value
+    ((gives 0, lent 7 249 5 4 (set (cellHolding 7 3) 0 3) (1 ∷ 3 ∷ 0 ∷ 0 ∷ []))
+    ∷ (gives 1, lent 7 249 5 4 (set (cellHolding 7 3) 0 3) (1 ∷ 3 ∷ 0 ∷ 0 ∷ [])) ∷ [])
+    -- the value present, one below the capacity
+    ∷ question 2 (used shared) (storeCell 0 7 3) (gives 0, shared)
+    -- told though nothing is counted up
+    ((sticking 0, shared) ∷ [])
     -- a cell past the object
     ∷ question 2 (used chained) (storeCell 0 8 1) (refuses 7, used chained)
     -- replies 0 always; stores in the next object; another number; writes in a refusal
@@ -191,6 +235,10 @@ wrongAnswers =
     ∷ question 2 (used shared) (returnRoots 3) (gives 3, fresh 2)
     -- the value of the first clearing, or of the last; the last root forgotten
     ((gives 2, fresh 2) ∷ (gives 1, fresh 2) ∷ (gives 2, lent 4 251 4 0 (replicate 32 0) (rootHolding 1 3)) ∷ [])
+    -- of a stuck object
+    ∷ question 2 (used stuck) (returnRoots 6) (gives 0, withRoots (rootHolding 0 1) stuck)
+    -- tells that it is stuck
+    ((sticking 0, withRoots (rootHolding 0 1) stuck) ∷ [])
     -- there is no root 4
     ∷ question 2 (used shared) (returnRoots 17) (refuses 4, used shared)
     -- replies 0 always; clears those there are; writes in a refusal
@@ -211,6 +259,10 @@ wrongAnswers =
     ((gives 0, fresh 2) ∷ (gives 1, alone)
     ∷ (gives 0, lent 7 249 1 0 (cellHolding 7 3) (rootHolding 0 1)) ∷ (gives 0, lent 7 249 1 4 (cellHolding 7 3) (rootHolding 0 1))
     ∷ (gives 0, used chained) ∷ [])
+    -- a stuck object stays so while three references name it
+    ∷ question 2 (used stuck) collect (gives 0, stuck)
+    -- tells that it is stuck
+    ((sticking 0, stuck) ∷ [])
     -- a damaged heap
     ∷ question 2 (freshBut 6 251) collect (damaged 3, freshBut 6 251)
     -- replies 0 always; not tested; no kind; collects in a refusal
