@@ -8,3 +8,4 @@ pub mod ReturnOrders
 pub mod CollectionServed
 pub mod Answers
 pub mod Balance
+pub mod Moments

@@ -29,6 +29,7 @@ use Rattle.theory.specs.Words.{Object}
 use Rattle.theory.specs.Orders.{OrderUnseen}
 use Rattle.theory.specs.Balance.{BlocksBalance}
 use Rattle.theory.specs.Returns.{ReturnInAnyOrder, ReturnRefusedExactly}
+use Rattle.theory.specs.Moments.{NoneUntold, CollectionSticksNone}
 use Rattle.theory.specs.Theory.{Theory}
 use Rattle.theory.proofs.Maps.Extents.{Represents, sizesOf, inner, represents-delimited}
 use Rattle.rules.proofs.Sections.{sections-find-lowest}
@@ -50,6 +51,7 @@ use Rattle.theory.proofs.EachCall.AnyWaiting.{waiting-unread}
 use Rattle.theory.proofs.EachCall.ReturnOrders.{same-as-singly, return-refused}
 use Rattle.theory.proofs.Demand.{every-list, chains-append, claim, demand3, balance}
 use Rattle.theory.proofs.EachCall.Balance.{blocks-add-up}
+use Rattle.theory.proofs.EachCall.Moments as moments
 
 healthy-undamaged : (N w : ℕ) (h : Memory) → Healthy N w h → Undamaged N w h
 healthy-undamaged N w h healthy = record { right-shape = healthy-shaped N w h healthy; no-damage = healthy-no-damage N w h healthy }
@@ -207,6 +209,13 @@ ends-on-last N w h u i l = ends-represent N h (sizesOf N (h .a) (h .b)) (undamag
 pub blocks-balance : BlocksBalance
 blocks-balance N w h u made chain = balance N w (undamaged-healthy N w h u) chain
 
+-- request U5
+pub none-untold : NoneUntold
+none-untold N w h u call b n = moments.none-untold N w h (undamaged-healthy N w h u) call b n
+
+pub collection-sticks-none : CollectionSticksNone
+collection-sticks-none N w h u = moments.collection-sticks-none N w h (undamaged-healthy N w h u)
+
 pub theory : Theory
 theory =
     record {
@@ -232,4 +241,7 @@ theory =
       return-refused-exactly = return-refused-exactly;
       sections-find-lowest = sections-find-lowest;
       figures-are-largest = figures-are-largest;
+      stuck-told = moments.stuck-told;
+      none-untold = none-untold;
+      collection-sticks-none = collection-sticks-none;
     }

@@ -6,4 +6,5 @@ pub mod Orders
 pub mod Balance
 pub mod Returns
 pub mod Sections
+pub mod Moments
 pub mod Theory

@@ -7,6 +7,7 @@ use Rattle.theory.specs.Orders.{OrderUnseen}
 use Rattle.theory.specs.Balance.{BlocksBalance, BlocksAddUp}
 use Rattle.theory.specs.Returns.{ReturnInAnyOrder, ReturnRefusedExactly}
 use Rattle.theory.specs.Sections.{SectionsFindLowest, FiguresAreLargest}
+use Rattle.theory.specs.Moments.{StuckTold, NoneUntold, CollectionSticksNone}
 
 pub record Theory : Type 0 where
   -- demand 3, and what makes it usable
@@ -37,3 +38,6 @@ pub record Theory : Type 0 where
   pub return-refused-exactly : ReturnRefusedExactly
   pub sections-find-lowest : SectionsFindLowest
   pub figures-are-largest : FiguresAreLargest
+  pub stuck-told : StuckTold
+  pub none-untold : NoneUntold
+  pub collection-sticks-none : CollectionSticksNone

@@ -24,7 +24,7 @@ allocation-served :
     → lowestFree N (exponent n) (h .a) ≡ found → Served N w (allocate n r) h (allocation N w h n r found)
 unfolding allocation
 allocation-served N w h healthy n r low high inside none e = refused-served N w h healthy (allocate n r) 5 (omega arith)
-allocation-served N w h healthy n r low high inside (some i) e = allocate-served N w h healthy n r i low high inside e
+allocation-served N w h healthy n r low high inside (some i) e = allocate-served N w h healthy n r i low high inside e _
 
 pub answer-served : (N w : ℕ) (h : Memory) → Healthy N w h → (c : Call) → Served N w c h (answer N w h c)
 unfolding answer Collects
@@ -45,13 +45,13 @@ answer-served N w h healthy (storeRoot r v) =
     on-undamaged-served N w h healthy
     (require-served N w h healthy (ltb r (length (h .roots))) 4 (omega arith) λ place.
     (require-served N w h healthy (isRef N h v) 8 (omega arith) λ ref.
-    storeRoot-served N w h healthy r v (ltb-true r (length (h .roots)) place) ref))
+    storeRoot-served N w h healthy r v (ltb-true r (length (h .roots)) place) ref _))
 answer-served N w h healthy (storeCell a j v) =
     on-undamaged-served N w h healthy
     (require-served N w h healthy (isFirst N h a) 6 (omega arith) λ first.
     (require-served N w h healthy (ltb j (4 * sizeAt N h a)) 7 (omega arith) λ place.
     (require-served N w h healthy (isRef N h v) 8 (omega arith) λ ref.
-    storeCell-served N w h healthy a j v first (ltb-true j (4 * sizeAt N h a) place) ref)))
+    storeCell-served N w h healthy a j v first (ltb-true j (4 * sizeAt N h a) place) ref _)))
 answer-served N w h healthy (look a) =
     on-undamaged-served N w h healthy
     (require-served N w h healthy (isFirst N h a) 6 (omega arith) λ first.

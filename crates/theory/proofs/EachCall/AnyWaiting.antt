@@ -7,13 +7,13 @@ use mathlib.Core.Option.{Option, none, some}
 use Prim.Native.Nat.{ℕ, _+_, _*_}
 use lib.Dec.{leb, ltb, eqb}
 use lib.ListN.{length}
-use Rattle.bitmap.specs.Bit.{zeros}
+use Rattle.bitmap.specs.Bit.{one, zeros}
 use Rattle.rules.specs.Heap.{Memory, withWaiting, shape, shaped, countOf, isFirst, sizeAt, exponent, lowestFree, isRef}
 use Rattle.rules.specs.Damage.{endOnFree, openEnd, unaligned, badCell, badRoot, badCount, damage}
-use Rattle.rules.specs.Store.{storeRootIn, storeCellIn, chosenBelow, returnIn, allocateIn}
+use Rattle.rules.specs.Store.{storeRootIn, storeCellIn, chosenBelow, returnIn, birthSticks, allocateIn}
 use Rattle.rules.specs.Collection.{collected}
 use Rattle.rules.specs.Calls.{Call, format, check, collect, freeBlocks, allocate, storeRoot, storeCell, look, returnRoots, Answer, require, onUndamaged}
-use Rattle.rules.specs.Calls.{reply, accepted, settled, freeing, allocation, answer}
+use Rattle.rules.specs.Calls.{reply, settled, freeing, allocation, answer}
 use Rattle.rules.specs.declared.Reply.{Reply}
 use Rattle.theory.specs.Words.{heapOf}
 use Rattle.theory.specs.Statements.{WaitingUnread}
@@ -55,16 +55,17 @@ module _ (N w : ℕ) (h : Memory) (x : List ℕ) (same-length : length x ≡ len
       go true alike = alike
       go false alike = unchanged-alike (reply 2 (damage N w h) 0)
 
-  freeing-alike : (p q : Memory) → p ≡ withWaiting x q → Alike (freeing N g p) (freeing N h q)
+  freeing-alike : (p q : Memory) (second : ℕ) → p ≡ withWaiting x q → Alike (freeing N g p second) (freeing N h q second)
   unfolding freeing
-  freeing-alike p q e =
-      subst (λ (k : Memory). Alike (freeing N g k) (freeing N h q)) (sym e) (record { reply-is = refl; heap-is = refl })
+  freeing-alike p q second e =
+      subst (λ (k : Memory). Alike (freeing N g k second) (freeing N h q second)) (sym e) (record { reply-is = refl; heap-is = refl })
 
   allocation-alike : (n r : ℕ) (found : Option ℕ) → Alike (allocation N w g n r found) (allocation N w h n r found)
   unfolding allocation
   allocation-alike n r none = unchanged-alike (reply 5 0 0)
   allocation-alike n r (some i) =
-      subst (λ (k : Memory). Alike (accepted (settled N k) i) (accepted (settled N (allocateIn N w h n r i)) i))
+      let said : Reply = reply 0 i (one (birthSticks w)) in
+      subst (λ (k : Memory). Alike (said, settled N k) (said, settled N (allocateIn N w h n r i)))
       (sym (allocate-waiting N w x h n r i)) (record { reply-is = refl; heap-is = refl })
 
   answer-alike : (c : Call) → Alike (answer N w g c) (answer N w h c)
@@ -72,7 +73,7 @@ module _ (N w : ℕ) (h : Memory) (x : List ℕ) (same-length : length x ≡ len
   answer-alike format = rw same-shape (require-alike (shaped N w h) 1 (record { reply-is = refl; heap-is = refl }))
   answer-alike check = on-undamaged-alike (unchanged-alike (reply 0 0 0))
   answer-alike freeBlocks = on-undamaged-alike (unchanged-alike (reply 0 (zeros (h .a)) 0))
-  answer-alike collect = on-undamaged-alike (freeing-alike (collected N w g) (collected N w h) (collect-waiting N w x h))
+  answer-alike collect = on-undamaged-alike (freeing-alike (collected N w g) (collected N w h) 0 (collect-waiting N w x h))
   answer-alike (allocate n r) =
       on-undamaged-alike
       (require-alike (leb 1 n && leb n N) 3
@@ -80,19 +81,19 @@ module _ (N w : ℕ) (h : Memory) (x : List ℕ) (same-length : length x ≡ len
   answer-alike (storeRoot r v) =
       on-undamaged-alike
       (require-alike (ltb r (length (h .roots))) 4
-      (require-alike (isRef N h v) 8 (freeing-alike (storeRootIn N w g r v) (storeRootIn N w h r v) (store-root-waiting N w x h r v))))
+      (require-alike (isRef N h v) 8 (freeing-alike (storeRootIn N w g r v) (storeRootIn N w h r v) _ (store-root-waiting N w x h r v))))
   answer-alike (storeCell a j v) =
       on-undamaged-alike
       (require-alike (isFirst N h a) 6
       (require-alike (ltb j (4 * sizeAt N h a)) 7
       (require-alike (isRef N h v) 8
-      (freeing-alike (storeCellIn N w g (4 * a + j) v) (storeCellIn N w h (4 * a + j) v) (store-cell-waiting N w x h (4 * a + j) v)))))
+      (freeing-alike (storeCellIn N w g (4 * a + j) v) (storeCellIn N w h (4 * a + j) v) _ (store-cell-waiting N w x h (4 * a + j) v)))))
   answer-alike (look a) =
       on-undamaged-alike (require-alike (isFirst N h a) 6 (unchanged-alike (reply 0 (sizeAt N h a) (countOf N w h a))))
   answer-alike (returnRoots chosen) =
       on-undamaged-alike
       (require-alike (chosenBelow chosen (length (h .roots))) 4
-      (freeing-alike (returnIn N w g chosen (length (h .roots))) (returnIn N w h chosen (length (h .roots)))
+      (freeing-alike (returnIn N w g chosen (length (h .roots))) (returnIn N w h chosen (length (h .roots))) 0
       (return-waiting N w x h chosen (length (h .roots)))))
 
 pub waiting-unread : WaitingUnread

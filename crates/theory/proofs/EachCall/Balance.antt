@@ -218,29 +218,30 @@ module _ (N w : ℕ) (h : Memory) (healthy : Healthy N w h) where
 
   -- a store of the value present frees nothing
   unless-present :
-      (c : Call) (t : Bool) (g : Memory) → allocates c ≡ 0 → (t ≡ false → inUse N h ≡ freedBlocks N h (settled N g) + inUse N g)
-      → Even N c h (freeing N h (elim t [ true ↦ h | false ↦ g ]))
+      (c : Call) (t : Bool) (g : Memory) (second : ℕ) → allocates c ≡ 0 → (t ≡ false → inUse N h ≡ freedBlocks N h (settled N g) + inUse N g)
+      → Even N c h (freeing N h (elim t [ true ↦ h | false ↦ g ]) second)
   unfolding freeing
-  unless-present c true g e kept = plain c _ (settled N h) e (same-blocks (settled N h) refl refl)
-  unless-present c false g e kept = plain c _ (settled N g) e (kept refl)
+  unless-present c true g second e kept = plain c _ (settled N h) e (same-blocks (settled N h) refl refl)
+  unless-present c false g second e kept = plain c _ (settled N g) e (kept refl)
 
-  store-root-even : (r v : ℕ) → r < length (h .roots) → isRef N h v ≡ true → Even N (storeRoot r v) h (freeing N h (storeRootIn N w h r v))
+  store-root-even :
+      (r v second : ℕ) → r < length (h .roots) → isRef N h v ≡ true → Even N (storeRoot r v) h (freeing N h (storeRootIn N w h r v) second)
   unfolding storeRootIn changeRoot putRoot allocates
-  store-root-even r v l ref =
-      unless-present (storeRoot r v) (eqb (getD (h .roots) r 0) v) (changeRoot N w h r v) refl
+  store-root-even r v second l ref =
+      unless-present (storeRoot r v) (eqb (getD (h .roots) r 0) v) (changeRoot N w h r v) second refl
       (λ e. shown-even (length (h .roots)) (changeRoot N w h r v) _ (store-root N w h healthy v ref r l .shows) (store-leaves v ref r (inl l)))
 
   store-cell-even :
-      (a j v : ℕ) → isFirst N h a ≡ true → j < 4 * sizeAt N h a → isRef N h v ≡ true
-      → Even N (storeCell a j v) h (freeing N h (storeCellIn N w h (4 * a + j) v))
+      (a j v second : ℕ) → isFirst N h a ≡ true → j < 4 * sizeAt N h a → isRef N h v ≡ true
+      → Even N (storeCell a j v) h (freeing N h (storeCellIn N w h (4 * a + j) v) second)
   unfolding storeCellIn changeCell putCell allocates
-  store-cell-even a j v first l ref =
-      unless-present (storeCell a j v) (eqb (getD (h .cells) (4 * a + j) 0) v) (changeCell N w h (4 * a + j) v) refl
+  store-cell-even a j v second first l ref =
+      unless-present (storeCell a j v) (eqb (getD (h .cells) (4 * a + j) 0) v) (changeCell N w h (4 * a + j) v) second refl
       (λ e.
       shown-even (length (h .roots)) (changeCell N w h (4 * a + j) v) _ (store-cell N w h healthy v ref a j first l .shows)
       (store-leaves v ref (length (h .roots) + (4 * a + j)) (cell-place N w h healthy a j first l)))
 
-  return-even : (chosen : ℕ) → Even N (returnRoots chosen) h (freeing N h (returnIn N w h chosen (length (h .roots))))
+  return-even : (chosen : ℕ) → Even N (returnRoots chosen) h (freeing N h (returnIn N w h chosen (length (h .roots))) 0)
   unfolding freeing allocates
   return-even chosen =
       let g : Memory = returnIn N w h chosen (length (h .roots)) in
@@ -250,7 +251,7 @@ module _ (N w : ℕ) (h : Memory) (healthy : Healthy N w h) where
       (balance-freed N h (settled N g) sizes (sizesOf N (g .a) (g .b)) (healthy .represents) (cleared .healthy .represents)
       (λ b. elim (leaves .objects b) [ inl e ↦ inl e | inr e ↦ inr (e .0) ]))
 
-  collect-even : Even N collect h (freeing N h (collected N w h))
+  collect-even : Even N collect h (freeing N h (collected N w h) 0)
   unfolding freeing allocates
   collect-even =
       plain collect _ (settled N (collected N w h)) refl
@@ -278,9 +279,9 @@ module _ (N w : ℕ) (h : Memory) (healthy : Healthy N w h) where
     inside : i < N
     inside = omega (arith, space .inside)
 
-    allocate-even : Even N (allocate n r) h (accepted (settled N (allocateIn N w h n r i)) i)
+    allocate-even : (second : ℕ) → Even N (allocate n r) h (reply 0 i second, settled N (allocateIn N w h n r i))
     unfolding allocateIn putRoot placed graph.allocate allocatedBy allocates
-    allocate-even =
+    allocate-even second =
         let cap : ℕ = capacity w in
         let roots : ℕ = length (h .roots) in
         let pos = positive N w h healthy in
@@ -309,7 +310,7 @@ module _ (N w : ℕ) (h : Memory) (healthy : Healthy N w h) where
       → Even N (allocate n r) h (allocation N w h n r o)
   unfolding allocation
   allocation-even n r low l none e = refused-even (allocate n r) 5 (omega arith)
-  allocation-even n r low l (some i) e = allocate-even n r i low l e
+  allocation-even n r low l (some i) e = allocate-even n r i low l e _
 
   pub answer-even : (c : Call) → Even N c h (answer N w h c)
   unfolding answer allocates
@@ -327,13 +328,13 @@ module _ (N w : ℕ) (h : Memory) (healthy : Healthy N w h) where
       on-undamaged-even
       (require-even (ltb r (length (h .roots))) 4 (omega arith) λ place.
       (require-even (isRef N h v) 8 (omega arith) λ ref.
-      store-root-even r v (ltb-true r (length (h .roots)) place) ref))
+      store-root-even r v _ (ltb-true r (length (h .roots)) place) ref))
   answer-even (storeCell a j v) =
       on-undamaged-even
       (require-even (isFirst N h a) 6 (omega arith) λ first.
       (require-even (ltb j (4 * sizeAt N h a)) 7 (omega arith) λ place.
       (require-even (isRef N h v) 8 (omega arith) λ ref.
-      store-cell-even a j v first (ltb-true j (4 * sizeAt N h a) place) ref)))
+      store-cell-even a j v _ first (ltb-true j (4 * sizeAt N h a) place) ref)))
   answer-even (returnRoots chosen) =
       on-undamaged-even (require-even (chosenBelow chosen (length (h .roots))) 4 (omega arith) λ below. return-even chosen)
   answer-even (look a) =
@@ -346,9 +347,9 @@ record Grown (h : Memory) (x : Answer) : Type 0 where
   grown : x .0 .number ≡ 0 → x .0 .value ≡ zeros (x .1 .a) - zeros (h .a)
 
 module _ (N w : ℕ) (h : Memory) where
-  freeing-grown : (g : Memory) → Grown h (freeing N h g)
+  freeing-grown : (g : Memory) (second : ℕ) → Grown h (freeing N h g second)
   unfolding freeing
-  freeing-grown g = record { grown = λ e. refl }
+  freeing-grown g second = record { grown = λ e. refl }
 
   require-grown : {next : Answer} (test : Bool) (number : ℕ) → number ≢ 0 → Grown h next → Grown h (require test number h next)
   unfolding require
@@ -364,7 +365,7 @@ module _ (N w : ℕ) (h : Memory) where
       go false next = record { grown = λ e. absurd (omega (arith, e)) }
 
   -- what is accepted was found undamaged
-  accepted-healthy : (next : Answer) → onUndamaged N w h next .0 .number ≡ 0 → Healthy N w h
+  pub accepted-healthy : (next : Answer) → onUndamaged N w h next .0 .number ≡ 0 → Healthy N w h
   accepted-healthy next e = healthy-facts N w h (on-undamaged-shaped N w h next e) (on-undamaged-no-damage N w h next e)
 
   zeros-within : {g : Memory} → Healthy N w g → zeros (g .a) ≤ N
@@ -394,22 +395,22 @@ blocks-add-up N w h =
           freed-value N w h (storeRoot r v) refl
           (on-undamaged-grown N w h
           (require-grown N w h (ltb r (length (h .roots))) 4 (omega arith)
-          (require-grown N w h (isRef N h v) 8 (omega arith) (freeing-grown N w h (storeRootIn N w h r v)))))
+          (require-grown N w h (isRef N h v) 8 (omega arith) (freeing-grown N w h (storeRootIn N w h r v) _))))
           (accepted-healthy N w h _ e) e;
       store-cell = λ a j v e.
           freed-value N w h (storeCell a j v) refl
           (on-undamaged-grown N w h
           (require-grown N w h (isFirst N h a) 6 (omega arith)
           (require-grown N w h (ltb j (4 * sizeAt N h a)) 7 (omega arith)
-          (require-grown N w h (isRef N h v) 8 (omega arith) (freeing-grown N w h (storeCellIn N w h (4 * a + j) v))))))
+          (require-grown N w h (isRef N h v) 8 (omega arith) (freeing-grown N w h (storeCellIn N w h (4 * a + j) v) _)))))
           (accepted-healthy N w h _ e) e;
       return-roots = λ chosen e.
           freed-value N w h (returnRoots chosen) refl
           (on-undamaged-grown N w h
           (require-grown N w h (chosenBelow chosen (length (h .roots))) 4 (omega arith)
-          (freeing-grown N w h (returnIn N w h chosen (length (h .roots))))))
+          (freeing-grown N w h (returnIn N w h chosen (length (h .roots))) 0)))
           (accepted-healthy N w h _ e) e;
       collection = λ e.
-          freed-value N w h collect refl (on-undamaged-grown N w h (freeing-grown N w h (collected N w h))) (accepted-healthy N w h _ e) e;
+          freed-value N w h collect refl (on-undamaged-grown N w h (freeing-grown N w h (collected N w h) 0)) (accepted-healthy N w h _ e) e;
       allocation = λ n r e. even-zeros N w h (allocate n r) (accepted-healthy N w h _ e) e;
     }

@@ -126,7 +126,7 @@ module _ (N w : ℕ) (h : Memory) (healthy : Healthy N w h) where
       }
 
   -- no object below the capacity before a collection stands at it afterwards
-  unstuck :
+  pub unstuck :
       (b : ℕ) → isFirst N h b ≡ true → isFirst N (settled N (collected N w h)) b ≡ true → countOf N w h b < capacity w
       → countOf N w (settled N (collected N w h)) b ≡ capacity w → ⊥
   unstuck b was is low top =
@@ -135,7 +135,7 @@ module _ (N w : ℕ) (h : Memory) (healthy : Healthy N w h) where
         | inr e ↦ omega (arith, recounted-first b is, references-le N h (marked (reached N h)) b)
       ]
 
-  pub collect-served : Served N w collect h (freeing N h (collected N w h))
+  pub collect-served : Served N w collect h (freeing N h (collected N w h) 0)
   unfolding freeing stored written Collects
   collect-served =
       record {

@@ -8,12 +8,12 @@ use Prim.Native.Nat.{ℕ, _+_, _-_, _/_, _^_, _≤_, _<_}
 use native.Mathlib.Decide.{decLt}
 use native.Mathlib.Omega.{arith}
 use lib.Dec.{ltb}
-use lib.ListN.{length}
+use lib.ListN.{length, getD}
 use borrow.Author.Tests.{lt-ltb, eqb-true, eqb-false}
-use Rattle.bitmap.specs.Bit.{bitOf, zeros}
+use Rattle.bitmap.specs.Bit.{bitOf, one, zeros}
 use Rattle.bitmap.proofs.Bits.{bit-lt, bits-past, some-bit-past}
 use Rattle.rules.specs.Heap.{Memory, capacity, isRef}
-use Rattle.rules.specs.Store.{storeRootIn, chosenBelow, returnIn}
+use Rattle.rules.specs.Store.{storeRootIn, storeSticks, chosenBelow, returnIn}
 use Rattle.rules.specs.Calls.{storeRoot, returnRoots, Answer, require, settled, freeing, answer, run, lastMemory}
 use Rattle.rules.proofs.Tests.{require-true, require-passed}
 use Rattle.theory.specs.Returns.{freedInAll, clearedSingly, EachOnce, SameAsSingly}
@@ -31,12 +31,12 @@ use Rattle.theory.proofs.EachCall.Clearing.{none-ref, Cleared, cleared-
 
 clear-answered :
     (N w : ℕ) (g : Memory) → Healthy N w g → (r : ℕ) → r < length (g .roots)
-    → answer N w g (storeRoot r 0) ≡ freeing N g (storeRootIn N w g r 0)
+    → answer N w g (storeRoot r 0) ≡ freeing N g (storeRootIn N w g r 0) (one (storeSticks N w (g .counts) (getD (g .roots) r 0) 0))
 unfolding answer
 clear-answered N w g healthy r l =
     on-undamaged N w g healthy _
     ∙ require-true (ltb r (length (g .roots))) 4 g _ (lt-ltb r (length (g .roots)) l)
-    ∙ require-true (isRef N g 0) 8 g (freeing N g (storeRootIn N w g r 0)) (none-ref N g)
+    ∙ require-true (isRef N g 0) 8 g _ (none-ref N g)
 
 -- root i stands in the list
 abbrev Listed : List ℕ → ℕ → Type 0
@@ -132,7 +132,7 @@ module _ (N w : ℕ) (h : Memory) (healthy : Healthy N w h) (chosen : ℕ) (pass
   same-blocks = omega (arith, ran .blocks, ap (λ (m : Memory). zeros (m .a)) same-heap)
 
   pub return-is :
-      answer N w h (returnRoots chosen) ≡ freeing N h end → SameAsSingly N w h chosen order
+      answer N w h (returnRoots chosen) ≡ freeing N h end 0 → SameAsSingly N w h chosen order
   unfolding freeing
   return-is is =
       record { heap = same-heap ∙ sym (ap (λ (x : Answer). x .1) is); value = same-blocks ∙ sym (ap (λ (x : Answer). x .0 .value) is) }
@@ -141,7 +141,7 @@ module _ (N w : ℕ) (h : Memory) (healthy : Healthy N w h) (chosen : ℕ) (pass
 
 module _ (N w : ℕ) (h : Memory) (healthy : Healthy N w h) (chosen : ℕ) where
   abbrev done : Answer
-  done = freeing N h (returnIn N w h chosen (length (h .roots)))
+  done = freeing N h (returnIn N w h chosen (length (h .roots))) 0
 
   abbrev test : Bool
   test = chosenBelow chosen (length (h .roots))

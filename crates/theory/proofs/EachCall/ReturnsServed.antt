@@ -81,7 +81,7 @@ module _ (N w : ℕ) (h : Memory) (healthy : Healthy N w h) (chosen : ℕ) where
   all : Cleared N w Chosen Chosen h end
   all = returned N w h healthy chosen (length (h .roots)) (omega arith)
 
-  pub return-served : Served N w (returnRoots chosen) h (freeing N h end)
+  pub return-served : Served N w (returnRoots chosen) h (freeing N h end 0)
   unfolding freeing stored written Collects
   return-served =
       record {

@@ -15,7 +15,7 @@ use Rattle.bitmap.specs.Bit.{bitAt, zeros}
 use lib.Seq.{set-append-left, getD-set-same, getD-set-other}
 use Rattle.rules.specs.Heap.{Memory, withCells, withRoots, capacity, countOf, isFirst, sizeAt, exponent, lowestFree, isRef}
 use Rattle.rules.specs.Store.{placed, putRoot, putCell, changeRoot, changeCell, storeRootIn, storeCellIn, allocateIn}
-use Rattle.rules.specs.Calls.{Call, allocate, storeRoot, storeCell, reply, accepted, settled, freeing}
+use Rattle.rules.specs.Calls.{Call, allocate, storeRoot, storeCell, reply, settled, freeing}
 use Rattle.theory.specs.Words.{Object, numberOfReferences, written, stored}
 use Rattle.theory.specs.Stuck.{writes}
 use Rattle.theory.specs.Demand.{Collects}
@@ -80,7 +80,7 @@ module _ (N w : ℕ) (h : Memory) (healthy : Healthy N w h) where
   -- g is the memory after a store of v in slot i
   module _ (v : ℕ) (ref : isRef N h v ≡ true) (i : ℕ) (slot-i : Place (length (h .roots)) (view N w h) i) (g : Memory)
       (shows : Shows N w (length (h .roots)) g (graph.store (capacity w) (length (h .roots)) (view N w h) i v)) where
-    store-healthy : Healthy N w (settled N g)
+    pub store-healthy : Healthy N w (settled N g)
     unfolding graph.store
     store-healthy =
         let cap : ℕ = capacity w in
@@ -157,9 +157,9 @@ module _ (N w : ℕ) (h : Memory) (healthy : Healthy N w h) where
             }
 
     change-root-served :
-        getD (h .roots) r 0 ≢ v → Served N w (storeRoot r v) h (freeing N h (changeRoot N w h r v))
+        (second : ℕ) → getD (h .roots) r 0 ≢ v → Served N w (storeRoot r v) h (freeing N h (changeRoot N w h r v) second)
     unfolding changeRoot putRoot freeing stored written writes Collects
-    change-root-served new =
+    change-root-served second new =
         let shows = store-root N w h healthy v ref r l .shows in
         record {
           keep = store-healthy v ref r (inl l) (changeRoot N w h r v) shows;
@@ -175,14 +175,14 @@ module _ (N w : ℕ) (h : Memory) (healthy : Healthy N w h) where
               record { accepted = refl; reference = omega (arith, found .0); enough = omega (arith, found .1, root-references b) };
         }
 
-    pub storeRoot-served : Served N w (storeRoot r v) h (freeing N h (storeRootIn N w h r v))
+    pub storeRoot-served : (second : ℕ) → Served N w (storeRoot r v) h (freeing N h (storeRootIn N w h r v) second)
     unfolding storeRootIn freeing Collects
-    storeRoot-served = go (eqb (getD (h .roots) r 0) v) refl
+    storeRoot-served second = go (eqb (getD (h .roots) r 0) v) refl
       where
         go : (t : Bool) → eqb (getD (h .roots) r 0) v ≡ t
-            → Served N w (storeRoot r v) h (freeing N h (elim t [ true ↦ h | false ↦ changeRoot N w h r v ]))
-        go true e = same-served (storeRoot r v) (reply 0 (zeros (h .a) - zeros (h .a)) 0) tt
-        go false e = change-root-served (eqb-false (getD (h .roots) r 0) v e)
+            → Served N w (storeRoot r v) h (freeing N h (elim t [ true ↦ h | false ↦ changeRoot N w h r v ]) second)
+        go true e = same-served (storeRoot r v) (reply 0 (zeros (h .a) - zeros (h .a)) second) tt
+        go false e = change-root-served second (eqb-false (getD (h .roots) r 0) v e)
 
   -- ---- a cell
 
@@ -205,9 +205,9 @@ module _ (N w : ℕ) (h : Memory) (healthy : Healthy N w h) where
         ∙ ap (occurrences (suc b)) (sym (set-append-right (h .roots) (h .cells) c v))
 
     change-cell-served :
-        getD (h .cells) c 0 ≢ v → Served N w (storeCell a j v) h (freeing N h (changeCell N w h c v))
+        (second : ℕ) → getD (h .cells) c 0 ≢ v → Served N w (storeCell a j v) h (freeing N h (changeCell N w h c v) second)
     unfolding changeCell putCell freeing stored written writes Collects
-    change-cell-served new =
+    change-cell-served second new =
         let shows = store-cell N w h healthy v ref a j first l .shows in
         let slot-i = cell-place N w h healthy a j first l in
         let i : ℕ = length (h .roots) + c in
@@ -225,14 +225,14 @@ module _ (N w : ℕ) (h : Memory) (healthy : Healthy N w h) where
               record { accepted = refl; reference = omega (arith, found .0); enough = omega (arith, found .1, cell-references b) };
         }
 
-    pub storeCell-served : Served N w (storeCell a j v) h (freeing N h (storeCellIn N w h c v))
+    pub storeCell-served : (second : ℕ) → Served N w (storeCell a j v) h (freeing N h (storeCellIn N w h c v) second)
     unfolding storeCellIn freeing Collects
-    storeCell-served = go (eqb (getD (h .cells) c 0) v) refl
+    storeCell-served second = go (eqb (getD (h .cells) c 0) v) refl
       where
         go : (t : Bool) → eqb (getD (h .cells) c 0) v ≡ t
-            → Served N w (storeCell a j v) h (freeing N h (elim t [ true ↦ h | false ↦ changeCell N w h c v ]))
-        go true e = same-served (storeCell a j v) (reply 0 (zeros (h .a) - zeros (h .a)) 0) tt
-        go false e = change-cell-served (eqb-false (getD (h .cells) c 0) v e)
+            → Served N w (storeCell a j v) h (freeing N h (elim t [ true ↦ h | false ↦ changeCell N w h c v ]) second)
+        go true e = same-served (storeCell a j v) (reply 0 (zeros (h .a) - zeros (h .a)) second) tt
+        go false e = change-cell-served second (eqb-false (getD (h .cells) c 0) v e)
 
   -- ---- the allocation
 
@@ -261,9 +261,9 @@ module _ (N w : ℕ) (h : Memory) (healthy : Healthy N w h) where
         let was = object-size N h (sizesOf N (h .a) (h .b)) (healthy .represents) b m object in
         omega (arith, place-found .free b (omega arith) (omega arith), healthy .represents .used b b (omega arith) (omega (arith, was)))
 
-    pub allocate-served : Served N w (allocate n root) h (accepted (settled N (allocateIn N w h n root i)) i)
+    pub allocate-served : (second : ℕ) → Served N w (allocate n root) h (reply 0 i second, settled N (allocateIn N w h n root i))
     unfolding allocateIn putRoot placed graph.allocate stored written Collects
-    allocate-served =
+    allocate-served second =
         let cap : ℕ = capacity w in
         let r : ℕ = length (h .roots) in
         let pos = positive N w h healthy in

@@ -1,7 +1,7 @@
 -- When a count comes to the capacity: only by a store that changes a slot, and then that many slots name the object once the new value is
 -- written. The end of a store or of an allocation only lowers counts.
 use mathlib.Core.Path.{_≡_, sym, _∙_}
-use mathlib.Core.Logic.{_≢_, inl, inr}
+use mathlib.Core.Logic.{_≢_, _↔_, inl, inr}
 use mathlib.Core.List.{[]}
 use Prim.Native.Nat.{ℕ, suc, _+_, _≤_, _<_, min}
 use native.Mathlib.Omega.{arith}
@@ -10,9 +10,20 @@ use lib.Seq.{getD-set-other}
 use Rattle.theory.proofs.Graphs.Occurrences.{equals-cases, equals-none, equals-other, occurrences, occurrences-set, nonzero-inside}
 use Rattle.theory.proofs.Graphs.Graph.{Graph, size, count, slot, raise, finish, store, place, allocate, count-up-same, count-up-other}
 use Rattle.theory.proofs.Graphs.Balance.{Balanced, Waits, all-counted}
+use Rattle.theory.proofs.Graphs.Keep.{count-down-stuck}
 use Rattle.theory.proofs.Graphs.Order.{runs-leave, count-down-le}
 use Rattle.theory.proofs.Graphs.Calls.{Shape, Whole, Place, Vacant, finish-ends, raised-balanced, raised-waits, raised-shape}
 use Rattle.theory.proofs.Graphs.Calls.{placed-balanced, placed-waits, placed-shape}
+
+-- the end of a store: what is at the capacity stays there, and nothing else comes to it
+pub finish-stuck :
+    (cap : ℕ) (pos : 0 < cap) (r : ℕ) (k : Graph) (i v : ℕ) → Balanced cap k v → Waits k [] → Shape r k → Place r k i → (b : ℕ)
+    → (count k b ≡ cap) ↔ (count (finish cap r k i v) b ≡ cap)
+finish-stuck cap pos r k i v held waits shape slot-i b =
+    let leaves = runs-leave cap r (λ j. ⊥) pos (finish-ends cap pos r k i v held waits shape slot-i .runs) in (
+      λ e. leaves .stuck b (count-down-stuck cap pos (k .counts) (slot k i) b e),
+      λ e. omega (arith, leaves .lowered b, count-down-le cap (k .counts) (slot k i) b, held b .bounded),
+    )
 
 finish-lowers :
     (cap : ℕ) (pos : 0 < cap) (r : ℕ) (k : Graph) (i v : ℕ) → Balanced cap k v → Waits k [] → Shape r k → Place r k i → (b : ℕ)

@@ -168,7 +168,7 @@ module _ (N w : ℕ) (h : Memory) (healthy : Healthy N w h) where
         go (suc a) e = first-facts N (h .a) (h .b) a (ref-first N h v a ref e) .inside
 
     -- it is counted up
-    raised-shows : Shows N w (length (h .roots)) (withCounts (countUp N w (h .counts) v) h) (raise (capacity w) (view N w h) v)
+    pub raised-shows : Shows N w (length (h .roots)) (withCounts (countUp N w (h .counts) v) h) (raise (capacity w) (view N w h) v)
     raised-shows =
         let shape = healthy .shape in
         record {
@@ -234,7 +234,7 @@ module _ (N w : ℕ) (h : Memory) (healthy : Healthy N w h) where
     pub maps-placed : Represents N (fillBits (h .a) i n 1) (setBit (h .b) (i + n - 1) 0) (set (sizesOf N (h .a) (h .b)) i n)
     maps-placed = placed-represents N (h .a) (h .b) (sizesOf N (h .a) (h .b)) (healthy .represents) i n some (room .inside) (room .free)
 
-    placed-shows : Shows N w (length (h .roots)) (placed N w h i n) (place (view N w h) i n)
+    pub placed-shows : Shows N w (length (h .roots)) (placed N w h i n) (place (view N w h) i n)
     unfolding placed
     placed-shows =
         let shape = healthy .shape in
