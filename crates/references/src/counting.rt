@@ -2,7 +2,7 @@
 ghost use mathlib.Core.Path.{_≡_};
 ghost use Prim.Native.Nat.{_≤_, _<_};
 ghost use Rattle.rules.specs.Heap.{capacity};
-ghost use Rattle.rules.specs.Store.{countUp};
+ghost use Rattle.rules.specs.Store.{countUp, sticks};
 ghost use Rattle.references.specs.Ready.{Planes};
 use blocks::Ref;
 
@@ -14,18 +14,20 @@ pub fn capacity_of(width: usize) -> u8
     (1u8 << width) - 1
 }
 
-// Counts up the object that v names, if any.
-pub fn count_up(blocks: usize, width: usize, counts: &mut [u8], v: Ref)
+// Counts up the object that v names, if any. Whether this very step brought its count to the capacity.
+pub fn count_up(blocks: usize, width: usize, counts: &mut [u8], v: Ref) -> bool
     requires { ⌜ Planes blocks width (now counts) × (v ≤ blocks) ⌝ }
-    ensures { λ _. ⌜ now (counts .exit) ≡ countUp blocks width (now (counts .entry)) v ⌝ }
+    ensures { λ stuck. ⌜ (now (counts .exit) ≡ countUp blocks width (now (counts .entry)) v) × (stuck ≡ sticks blocks width (now (counts .entry)) v) ⌝ }
 {
     if v == 0 {
-        return;
+        return false;
     }
     let block = v as usize - 1;
     let count = planes::get_count(counts, blocks / 8, width, block);
-    if count == capacity_of(width) {
-        return;
+    let most = capacity_of(width);
+    if count == most {
+        return false; // it is stuck already
     }
     planes::set_count(counts, blocks / 8, width, block, count + 1);
+    count + 1 == most
 }

@@ -50,8 +50,8 @@ onUndamaged N w h next =
 abbrev pub settled : ℕ → Memory → Memory
 settled N h = withWaiting (replicate N 0) h
 
--- "The value is the number of blocks freed": 0 bits of the A-map after the call less those before. The second value of a store is 1 where an
--- object became stuck and 0 where not (request U5); that of another call is 0.
+-- "The value is the number of blocks freed": 0 bits of the A-map after the call less those before. The second value of a store is 1 where
+-- an object became stuck and 0 where not (request U5); that of another call is 0.
 unfoldable pub freeing : ℕ → Memory → Memory → (second : ℕ) → Answer
 freeing N h g second = (reply 0 (zeros (g .a) - zeros (h .a)) second, settled N g)
 

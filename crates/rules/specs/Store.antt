@@ -22,8 +22,7 @@ countUp N w counts v =
     let c = countAt (N / 8) w counts (v - 1) in
     elim (eqb v 0 || eqb c (capacity w)) [ true ↦ counts | false ↦ setCount (N / 8) w counts (v - 1) (c + 1) ]
 
--- request U5: "Counting up must say whether this very step brought the count to the capacity". It did where v names an object whose count is
--- one below the capacity.
+-- request U5: "Counting up must say whether this very step brought the count to the capacity": v names an object, and its count is one below
 unfoldable pub sticks : ℕ → ℕ → List ℕ → ℕ → Bool
 sticks N w counts v = not (eqb v 0) && eqb (countAt (N / 8) w counts (v - 1) + 1) (capacity w)
 
@@ -118,7 +117,7 @@ storeRootIn N w h r v = elim (eqb (getD (h .roots) r 0) v) [ true ↦ h | false 
 unfoldable pub storeCellIn : ℕ → ℕ → Memory → ℕ → ℕ → Memory
 storeCellIn N w h c v = elim (eqb (getD (h .cells) c 0) v) [ true ↦ h | false ↦ changeCell N w h c v ]
 
--- request U5: "Every store and allocation passes the fact on". Where v is stored over `old`; a store of the value present counts nothing up.
+-- request U5: "Every store .. passes the fact on", here v stored over `old`. A store of the value present counts nothing up.
 unfoldable pub storeSticks : (N w : ℕ) → (counts : List ℕ) → (old v : ℕ) → Bool
 storeSticks N w counts old v = not (eqb old v) && sticks N w counts v
 
@@ -153,9 +152,9 @@ placed N w h i n =
     (withCounts (setCount (N / 8) w (h .counts) i 1)
     (withCells (clearCells (h .cells) (4 * i) (4 * n)) h)))
 
--- request U5: ".. a birth at width 1 included": the new object's count is the capacity
+-- request U5: ".. a birth at width 1 included": the count of the new object, which is 1, is the capacity
 abbrev pub birthSticks : ℕ → Bool
-birthSticks w = eqb 1 (capacity w)
+birthSticks w = eqb (capacity w) 1
 
 -- "Then the reference is stored in root r as below, except that the new object isn't counted up again."
 unfoldable pub allocateIn : ℕ → ℕ → Memory → ℕ → ℕ → ℕ → Memory

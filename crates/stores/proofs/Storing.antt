@@ -2,41 +2,78 @@
 -- what the rule gives.
 use mathlib.Core.Path.{_≡_, refl, ap, _∙_}
 use mathlib.Core.Logic.{_≢_}
-use borrow.Author.Tests.{eq-eqb, ne-eqb}
+use mathlib.Core.Bool.{false}
 use mathlib.Core.List.{List, []}
 use Prim.Native.Nat.{ℕ, _+_, _-_, _*_, _/_}
 use lib.ListN.{length, getD, set}
+use borrow.Author.Tests.{eq-eqb, ne-eqb}
 use Rattle.bitmap.specs.Bit.{setBit, fillBits}
 use Rattle.planes.specs.Plane.{setCount}
 use Rattle.planes.proofs.Counts.{length-set-count}
 use Rattle.rules.specs.Heap.{Memory, memory}
-use Rattle.rules.specs.Store.{countUp, clearCells, letGo, putRoot, putCell, changeRoot, changeCell, storeRootIn, storeCellIn, placed, allocateIn}
+use Rattle.rules.specs.Store.{countUp, sticks, clearCells, letGo, putRoot, putCell, changeRoot, changeCell, storeRootIn, storeCellIn}
+use Rattle.rules.specs.Store.{storeSticks, placed, allocateIn}
 use Rattle.references.specs.Ready.{Ready}
 use Rattle.references.specs.Blocks.{letGoBlocks}
-use Rattle.stores.specs.Blocks.{putRootBlocks, putCellBlocks, changeRootBlocks, changeCellBlocks, storeRootBlocks, storeCellBlocks, allocateBlocks}
+use Rattle.stores.specs.Blocks.{putRootBlocks, putCellBlocks, changeRootBlocks, changeCellBlocks}
+use Rattle.stores.specs.Blocks.{storeRootBlocks, storeCellBlocks, allocateBlocks}
 use Rattle.references.proofs.Shapes.{planes-same, extents-written}
 use Rattle.references.proofs.Elsewhere.{let-go-roots, let-go-blocks-roots}
 
 -- ---- what a store does where the value is present, and where it is not
 
+sticks-present : (N w : ℕ) (counts : List ℕ) (old v : ℕ) → old ≡ v → false ≡ storeSticks N w counts old v
+unfolding storeSticks
+sticks-present N w counts old v e = rw (eq-eqb old v e)
+
+sticks-changed : (N w : ℕ) (counts : List ℕ) (old v : ℕ) → old ≢ v → sticks N w counts v ≡ storeSticks N w counts old v
+unfolding storeSticks
+sticks-changed N w counts old v n = rw (ne-eqb old v n)
+
 module _ (N w : ℕ) (h : Memory) (i v : ℕ) where
-  pub root-present : getD (h .roots) i 0 ≡ v → (h ≡ storeRootIn N w h i v) × (_≡_ {A = ℕ} 0 (storeRootBlocks N w h i v))
+  pub root-present :
+      getD (h .roots) i 0 ≡ v
+      → (h ≡ storeRootIn N w h i v) × (_≡_ {A = ℕ} 0 (storeRootBlocks N w h i v))
+      × (false ≡ storeSticks N w (h .counts) (getD (h .roots) i 0) v)
   unfolding storeRootIn storeRootBlocks
-  root-present e = (rw (eq-eqb (getD (h .roots) i 0) v e, storeRootIn) refl, rw (eq-eqb (getD (h .roots) i 0) v e, storeRootBlocks) refl)
+  root-present e = (
+    rw (eq-eqb (getD (h .roots) i 0) v e, storeRootIn) refl,
+    rw (eq-eqb (getD (h .roots) i 0) v e, storeRootBlocks) refl,
+    sticks-present N w (h .counts) (getD (h .roots) i 0) v e,
+  )
 
   pub root-changed :
-      getD (h .roots) i 0 ≢ v → (changeRoot N w h i v ≡ storeRootIn N w h i v) × (changeRootBlocks N w h i v ≡ storeRootBlocks N w h i v)
+      getD (h .roots) i 0 ≢ v
+      → (changeRoot N w h i v ≡ storeRootIn N w h i v) × (changeRootBlocks N w h i v ≡ storeRootBlocks N w h i v)
+      × (sticks N w (h .counts) v ≡ storeSticks N w (h .counts) (getD (h .roots) i 0) v)
   unfolding storeRootIn storeRootBlocks
-  root-changed n = (rw (ne-eqb (getD (h .roots) i 0) v n, storeRootIn) refl, rw (ne-eqb (getD (h .roots) i 0) v n, storeRootBlocks) refl)
+  root-changed n = (
+    rw (ne-eqb (getD (h .roots) i 0) v n, storeRootIn) refl,
+    rw (ne-eqb (getD (h .roots) i 0) v n, storeRootBlocks) refl,
+    sticks-changed N w (h .counts) (getD (h .roots) i 0) v n,
+  )
 
-  pub cell-present : getD (h .cells) i 0 ≡ v → (h ≡ storeCellIn N w h i v) × (_≡_ {A = ℕ} 0 (storeCellBlocks N w h i v))
+  pub cell-present :
+      getD (h .cells) i 0 ≡ v
+      → (h ≡ storeCellIn N w h i v) × (_≡_ {A = ℕ} 0 (storeCellBlocks N w h i v))
+      × (false ≡ storeSticks N w (h .counts) (getD (h .cells) i 0) v)
   unfolding storeCellIn storeCellBlocks
-  cell-present e = (rw (eq-eqb (getD (h .cells) i 0) v e, storeCellIn) refl, rw (eq-eqb (getD (h .cells) i 0) v e, storeCellBlocks) refl)
+  cell-present e = (
+    rw (eq-eqb (getD (h .cells) i 0) v e, storeCellIn) refl,
+    rw (eq-eqb (getD (h .cells) i 0) v e, storeCellBlocks) refl,
+    sticks-present N w (h .counts) (getD (h .cells) i 0) v e,
+  )
 
   pub cell-changed :
-      getD (h .cells) i 0 ≢ v → (changeCell N w h i v ≡ storeCellIn N w h i v) × (changeCellBlocks N w h i v ≡ storeCellBlocks N w h i v)
+      getD (h .cells) i 0 ≢ v
+      → (changeCell N w h i v ≡ storeCellIn N w h i v) × (changeCellBlocks N w h i v ≡ storeCellBlocks N w h i v)
+      × (sticks N w (h .counts) v ≡ storeSticks N w (h .counts) (getD (h .cells) i 0) v)
   unfolding storeCellIn storeCellBlocks
-  cell-changed n = (rw (ne-eqb (getD (h .cells) i 0) v n, storeCellIn) refl, rw (ne-eqb (getD (h .cells) i 0) v n, storeCellBlocks) refl)
+  cell-changed n = (
+    rw (ne-eqb (getD (h .cells) i 0) v n, storeCellIn) refl,
+    rw (ne-eqb (getD (h .cells) i 0) v n, storeCellBlocks) refl,
+    sticks-changed N w (h .counts) (getD (h .cells) i 0) v n,
+  )
 
 module _ (N w : ℕ) (a b counts cells roots waiting : List ℕ) where
   -- ---- stores: the counts are counted up first

@@ -1,5 +1,5 @@
--- Request U5, "When objects become stuck": what the second value of an allocation and of the two stores says of the heap, and that no collection
--- brings a count to the capacity.
+-- Request U5, "When objects become stuck": what the second value of an allocation and of the two stores says of the heap, and that no
+-- collection brings a count to the capacity.
 use Prim.Native.Nat.{ℕ, _+_, _*_, _<_}
 use mathlib.Core.Path.{_≡_}
 use mathlib.Core.Logic.{_⊎_, _↔_}
@@ -14,8 +14,8 @@ use Rattle.theory.specs.Words.{Object}
 use Rattle.theory.specs.Stuck.{writes}
 use Rattle.theory.specs.Statements.{Undamaged}
 
--- The heap once the call's own reference is counted, nothing let go yet: an allocation's object stands with its count, a store has counted up what it
--- stores. A store of the value present counts nothing up (request U2).
+-- The heap once the call's own reference is counted, nothing let go yet: an allocation's object stands with its count, a store has counted
+-- up what it stores. A store of the value present counts nothing up (request U2).
 unfoldable pub counted : ℕ → ℕ → Call → Memory → Reply → Memory
 counted N w (allocate n r) h x = placed N w h (x .value) n
 counted N w (storeRoot r v) h x = elim (eqb (getD (h .roots) r 0) v) [ true ↦ h | false ↦ withCounts (countUp N w (h .counts) v) h ]
@@ -28,8 +28,8 @@ counted N w freeBlocks h x = h
 counted N w (look a) h x = h
 counted N w (returnRoots chosen) h x = h
 
--- "this very step brought the count to the capacity, a birth at width 1 included": the object at b, between the heap h before the call and a heap g
--- with the reference counted
+-- "this very step brought the count to the capacity, a birth at width 1 included": the object at b, between the heap h before the call and
+-- a heap g with the reference counted
 pub record BecameStuck (N w : ℕ) (call : Call) (h : Memory) (x : Reply) (g : Memory) (b : ℕ) : Type 0 where
   -- the call's own reference names it
   pub reference : writes call x ≡ 1 + b
@@ -39,8 +39,8 @@ pub record BecameStuck (N w : ℕ) (call : Call) (h : Memory) (x : Reply) (g : M
   pub stands : isFirst N g b ≡ true
   pub full : countOf N w g b ≡ capacity w
 
--- The second value is 1 exactly where this is so. What is stuck stays so whatever the call lets go, and nothing else comes to the capacity: so
--- it can be told as well from the heap that the call leaves.
+-- The second value is 1 exactly where this is so. What is stuck stays so whatever the call lets go, and nothing else comes to the capacity:
+-- so it can be told as well from the heap that the call leaves.
 pub record Tells (N w : ℕ) (call : Call) (h : Memory) (x : Reply) (g : Memory) : Type 0 where
   pub once-counted : (x .second ≡ 1) ↔ ((b : ℕ) × BecameStuck N w call h x (counted N w call h x) b)
   pub afterwards : (x .second ≡ 1) ↔ ((b : ℕ) × BecameStuck N w call h x g b)
@@ -49,14 +49,15 @@ pub record Tells (N w : ℕ) (call : Call) (h : Memory) (x : Reply) (g : Memory)
 pub record EachTells (N w : ℕ) (h : Memory) : Type 0 where
   pub allocation : (n r : ℕ) → let x = answer N w h (allocate n r) in x .0 .number ≡ 0 → Tells N w (allocate n r) h (x .0) (x .1)
   pub store-root : (r v : ℕ) → let x = answer N w h (storeRoot r v) in x .0 .number ≡ 0 → Tells N w (storeRoot r v) h (x .0) (x .1)
-  pub store-cell : (a j v : ℕ) → let x = answer N w h (storeCell a j v) in x .0 .number ≡ 0 → Tells N w (storeCell a j v) h (x .0) (x .1)
+  pub store-cell :
+      (a j v : ℕ) → let x = answer N w h (storeCell a j v) in x .0 .number ≡ 0 → Tells N w (storeCell a j v) h (x .0) (x .1)
 
 -- "Every store and allocation passes the fact on". No hypothesis: only an undamaged heap is accepted.
 abbrev pub StuckTold : Type 0
 StuckTold = (N w : ℕ) (h : Memory) → EachTells N w h
 
--- No moment goes untold: an object that stands before and after a call, below the capacity and at it, came there by a call whose second value is 1.
--- The new object of an allocation is in `StuckTold`.
+-- No moment goes untold: where an object stands before a call below the capacity and after it at the capacity, the second value is 1. The new
+-- object of an allocation is in `StuckTold`.
 abbrev pub NoneUntold : Type 0
 NoneUntold =
     (N w : ℕ) (h : Memory) → Undamaged N w h → (call : Call) (b n : ℕ) → let x = answer N w h call in

@@ -1,11 +1,11 @@
--- `stores::store_cell` meets its contract: letting go is the same beside the roots, with the counts counted up and the cell
--- written; where the value is present nothing is done.
+-- `stores::store_cell` meets its contract: letting go is the same beside the roots, with the counts counted up and the cell written; where the
+-- value is present nothing is done.
 use mathlib.Core.Path.{_∙_}
 use native.Mathlib.Omega.{arith}
 use lib.ListN.{length-set}
+use borrow.Author.Needs.{needs}
 use Rattle.references.proofs.Shapes.{planes-same, extents-cell}
 use Rattle.stores.proofs.Storing.{cell-present, cell-changed, store-cell-done, store-cell-blocks}
-use borrow.Author.Needs.{needs}
 use Rattle.stores.proofs.store_cell.Statement.{statement}
 use Rattle.stores.proofs.store_cell.Tie as tie
 
@@ -38,13 +38,13 @@ let-go-requires c κs =
     )
 
 same-length : tie.Need-same-length
-same-length c = search needs
+same-length c = c .before .before .before .before .before .before .before .before .before .before .let-go .kept .1 .1 .0
 
 same-length-2 : tie.Need-same-length-2
-same-length-2 c = search needs
+same-length-2 c = c .before .before .before .before .before .before .before .before .before .before .let-go .kept .1 .1 .1 .0
 
 same-length-3 : tie.Need-same-length-3
-same-length-3 c = search needs
+same-length-3 c = c .before .before .before .before .before .before .before .before .before .before .let-go .kept .1 .1 .1 .1 .0 ∙ c .before .before .before .before .before .before .before .before .before .before .before .before .before .before .before .before .before .before .count-up .kept .1 .1 .0
 
 same-length-4 : tie.Need-same-length-4
 same-length-4 c =
@@ -52,15 +52,16 @@ same-length-4 c =
     omega (arith, length-set (args .cells .now) (args .c) (args .v))
 
 same-length-5 : tie.Need-same-length-5
-same-length-5 c = search needs
+same-length-5 c = c .before .before .before .before .before .before .before .before .before .before .let-go .kept .1 .1 .1 .1 .1 .1 .0
 
 returns-2 : tie.Need-returns-2
 returns-2 c =
     let gone = c .before .before .before .before .before .before .before .before .before .before in
     let up = gone .before .before .before .before .before .before .before .before .count-up .ensures in
     let changed = cell-changed _ _ _ _ _ (gone .before .before .before .before .before .before .before .before .before .before .if1 .left) in (
-      store-cell-done _ _ _ _ _ _ _ _ _ _ up _ _ _ _ _ _ (gone .let-go .ensures .0) ∙ changed .0,
-      store-cell-blocks _ _ _ _ _ _ _ _ _ _ up _ _ (gone .let-go .ensures .1) ∙ changed .1,
+      store-cell-done _ _ _ _ _ _ _ _ _ _ (up .0) _ _ _ _ _ _ (gone .let-go .ensures .0) ∙ changed .0,
+      store-cell-blocks _ _ _ _ _ _ _ _ _ _ (up .0) _ _ (gone .let-go .ensures .1) ∙ changed .1,
+      up .1 ∙ changed .2,
     )
 
 pub store-cell-spec : {M : Type 1} → statement M

@@ -1,9 +1,8 @@
--- `stores::store_root` meets its contract: the counts that are handed on are those counted up; where the value is present nothing
--- is done.
+-- `stores::store_root` meets its contract: the counts that are handed on are those counted up; where the value is present nothing is done.
 use mathlib.Core.Path.{_∙_}
 use native.Mathlib.Omega.{arith}
-use Rattle.stores.proofs.Storing.{ready-counts, root-present, root-changed, store-root-done, store-root-blocks}
 use borrow.Author.Needs.{needs}
+use Rattle.stores.proofs.Storing.{ready-counts, root-present, root-changed, store-root-done, store-root-blocks}
 use Rattle.stores.proofs.store_root.Statement.{statement}
 use Rattle.stores.proofs.store_root.Tie as tie
 
@@ -25,30 +24,31 @@ put-root-requires c κs =
     (ready-counts _ _ _ _ _ _ _ _ _ (omega arith) (pre .0), pre .1, pre .2)
 
 same-length : tie.Need-same-length
-same-length c = search needs
+same-length c = c .before .before .before .before .before .before .before .before .before .before .before .before .put-root .kept .1 .1 .0
 
 same-length-2 : tie.Need-same-length-2
-same-length-2 c = search needs
+same-length-2 c = c .before .before .before .before .before .before .before .before .before .before .before .before .put-root .kept .1 .1 .1 .0
 
 same-length-3 : tie.Need-same-length-3
-same-length-3 c = search needs
+same-length-3 c = c .before .before .before .before .before .before .before .before .before .before .before .before .put-root .kept .1 .1 .1 .1 .0 ∙ c .before .before .before .before .before .before .before .before .before .before .before .before .before .before .before .before .before .before .before .before .before .count-up .kept .1 .1 .0
 
 same-length-4 : tie.Need-same-length-4
-same-length-4 c = search needs
+same-length-4 c = c .before .before .before .before .before .before .before .before .before .before .before .before .put-root .kept .1 .1 .1 .1 .1 .0
 
 same-length-5 : tie.Need-same-length-5
-same-length-5 c = search needs
+same-length-5 c = c .before .before .before .before .before .before .before .before .before .before .before .before .put-root .kept .1 .1 .1 .1 .1 .1 .0
 
 same-length-6 : tie.Need-same-length-6
-same-length-6 c = search needs
+same-length-6 c = c .before .before .before .before .before .before .before .before .before .before .before .before .put-root .kept .1 .1 .1 .1 .1 .1 .1 .0
 
 returns-2 : tie.Need-returns-2
 returns-2 c =
     let put = c .before .before .before .before .before .before .before .before .before .before .before .before in
     let up = put .before .before .before .before .before .before .before .before .before .count-up .ensures in
     let changed = root-changed _ _ _ _ _ (put .before .before .before .before .before .before .before .before .before .before .before .if1 .left) in (
-      store-root-done _ _ _ _ _ _ _ _ _ _ up _ _ (put .put-root .ensures .0) ∙ changed .0,
-      store-root-blocks _ _ _ _ _ _ _ _ _ _ up _ _ (put .put-root .ensures .1) ∙ changed .1,
+      store-root-done _ _ _ _ _ _ _ _ _ _ (up .0) _ _ (put .put-root .ensures .0) ∙ changed .0,
+      store-root-blocks _ _ _ _ _ _ _ _ _ _ (up .0) _ _ (put .put-root .ensures .1) ∙ changed .1,
+      up .1 ∙ changed .2,
     )
 
 pub store-root-spec : {M : Type 1} → statement M

@@ -1,5 +1,5 @@
--- Request U5: the second value of an allocation and of the two stores tells whether the call's own reference brought an object to the capacity,
--- and a collection brings none there.
+-- Request U5: the second value of an allocation and of the two stores tells whether the call's own reference brought an object to the
+-- capacity, and a collection brings none there.
 use mathlib.Core.Path.{_≡_, refl, sym, ap, _∙_, subst}
 use mathlib.Core.Logic.{_≢_, _⊎_, _↔_, inl, inr}
 use mathlib.Core.Bool.{Bool, true, false, not, _&&_, true≢false}
@@ -14,10 +14,11 @@ use borrow.Author.Tests.{ne-eqb, eqb-true, eqb-false, leb-true, ltb-true}
 use Rattle.bitmap.specs.Bit.{one, zeros}
 use Rattle.planes.proofs.Counts.{count-lt}
 use Rattle.rules.specs.Heap.{Memory, withCounts, capacity, countOf, isFirst, sizeAt, exponent, lowestFree, isRef}
-use Rattle.rules.specs.Store.{countUp, sticks, storeSticks, birthSticks, putRoot, putCell, changeRoot, changeCell, storeRootIn, storeCellIn, placed, allocateIn}
+use Rattle.rules.specs.Store.{countUp, sticks, putRoot, putCell, changeRoot, changeCell, storeRootIn, storeCellIn, storeSticks, birthSticks}
+use Rattle.rules.specs.Store.{placed, allocateIn}
 use Rattle.rules.specs.Collection.{collected}
-use Rattle.rules.specs.Calls.{Call, format, check, collect, freeBlocks, allocate, storeRoot, storeCell, look, returnRoots, Answer, reply, require}
-use Rattle.rules.specs.Calls.{onUndamaged, settled, freeing, allocation, answer}
+use Rattle.rules.specs.Calls.{Call, format, check, collect, freeBlocks, allocate, storeRoot, storeCell, look, returnRoots, Answer, reply}
+use Rattle.rules.specs.Calls.{require, onUndamaged, settled, freeing, allocation, answer}
 use Rattle.rules.specs.declared.Reply.{Reply}
 use Rattle.rules.proofs.Tests.{test-cases, and-true}
 use Rattle.rules.proofs.Objects.{first-facts}
@@ -30,13 +31,15 @@ use Rattle.theory.proofs.Graphs.Occurrences.{nonzero-inside}
 use Rattle.theory.proofs.Graphs.Graph as graph
 use Rattle.theory.proofs.Graphs.Graph.{Graph, size, count, raise, place, count-up-same}
 use Rattle.theory.proofs.Graphs.Balance.{all-counted}
-use Rattle.theory.proofs.Graphs.Calls.{Place, raised-balanced, raised-waits, raised-shape, placed-balanced, placed-waits, placed-shape}
+use Rattle.theory.proofs.Graphs.Calls.{Place, raised-balanced, raised-waits, raised-shape}
+use Rattle.theory.proofs.Graphs.Calls.{placed-balanced, placed-waits, placed-shape}
 use Rattle.theory.proofs.Graphs.Stuck.{finish-stuck}
 use Rattle.theory.proofs.Memories.View.{view}
 use Rattle.theory.proofs.Memories.Slots.{ref-first}
 use Rattle.theory.proofs.Memories.Healthy.{Healthy, view-count, healthy-damage-free}
 use Rattle.theory.proofs.Memories.ViewRelease.{Shows}
-use Rattle.theory.proofs.Memories.Stores.{positive, ref-object, raised-shows, store-root, cell-place, store-cell, room-vacant, placed-shows, allocate-root}
+use Rattle.theory.proofs.Memories.Stores.{positive, ref-object, raised-shows, store-root, cell-place, store-cell}
+use Rattle.theory.proofs.Memories.Stores.{room-vacant, placed-shows, allocate-root}
 use Rattle.theory.proofs.EachCall.Served.{on-undamaged}
 use Rattle.theory.proofs.EachCall.StoresServed.{store-healthy, allocate-served}
 use Rattle.theory.proofs.EachCall.CollectionServed.{unstuck, collect-served}
@@ -67,8 +70,8 @@ module _ (N w : ℕ) (h : Memory) (healthy : Healthy N w h) where
   -- ---- a store of v in slot i that changes what stands there: g is the memory after it, x the reply
 
   module _ (v : ℕ) (ref : isRef N h v ≡ true) (i : ℕ) (slot-i : Place (length (h .roots)) (view N w h) i) (g : Memory)
-      (shows : Shows N w (length (h .roots)) g (graph.store (capacity w) (length (h .roots)) (view N w h) i v)) (fine : Healthy N w (settled N g))
-      (call : Call) (x : Reply) (writing : writes call x ≡ v) (said : x .second ≡ one (sticks N w (h .counts) v)) where
+      (shows : Shows N w (length (h .roots)) g (graph.store (capacity w) (length (h .roots)) (view N w h) i v))
+      (fine : Healthy N w (settled N g)) (call : Call) (x : Reply) (writing : writes call x ≡ v) (said : x .second ≡ one (sticks N w (h .counts) v)) where
     abbrev up : Memory
     up = withCounts (countUp N w (h .counts) v) h
 
@@ -96,7 +99,9 @@ module _ (N w : ℕ) (h : Memory) (healthy : Healthy N w h) where
           let r : ℕ = length (h .roots) in
           let pos = positive N w h healthy in
           let names = ref-object N w h healthy v ref in
-          let ends = finish-stuck cap pos r (raise cap (view N w h) v) i v (raised-balanced cap pos r (view N w h) (healthy .whole) i v slot-i names)
+          let ends =
+          finish-stuck cap pos r (raise cap (view N w h) v) i v
+          (raised-balanced cap pos r (view N w h) (healthy .whole) i v slot-i names)
           (raised-waits cap pos r (view N w h) (healthy .whole) i v slot-i names)
           (raised-shape cap pos r (view N w h) (healthy .whole) i v slot-i names) slot-i a in
           let before : countOf N w up a ≡ count (raise cap (view N w h) v) a =
@@ -229,14 +234,14 @@ module _ (N w : ℕ) (h : Memory) (healthy : Healthy N w h) where
     said = reply 0 i (one (birthSticks w))
 
     -- in k its count is at the capacity exactly where that is 1
-    born-exactly : (k : Memory) → (1 ≡ capacity w) ↔ (countOf N w k i ≡ capacity w) → (countOf N w k i ≡ capacity w → isFirst N k i ≡ true)
+    born-exactly : (k : Memory) → (capacity w ≡ 1) ↔ (countOf N w k i ≡ capacity w) → (countOf N w k i ≡ capacity w → isFirst N k i ≡ true)
         → Exactly (allocate n r) said k
     unfolding writes
     born-exactly k same stands = go (birthSticks w) refl
       where
         go : (t : Bool) → birthSticks w ≡ t → Exactly (allocate n r) said k
         go true e =
-            let full = same .0 (eqb-true 1 (capacity w) e) in (
+            let full = same .0 (eqb-true (capacity w) 1 e) in (
               λ yes. (i, record { reference = refl; below = inl new; stands = stands full; full = full }),
               λ stuck. ap one e,
             )
@@ -245,7 +250,7 @@ module _ (N w : ℕ) (h : Memory) (healthy : Healthy N w h) where
               λ yes. absurd (omega arith),
               λ stuck.
                   let at-i : stuck .0 ≡ i = omega (arith, stuck .1 .reference) in
-                  absurd (eqb-false 1 (capacity w) e (same .1 (ap (λ (c : ℕ). countOf N w k c) (sym at-i) ∙ stuck .1 .full))),
+                  absurd (eqb-false (capacity w) 1 e (same .1 (ap (λ (c : ℕ). countOf N w k c) (sym at-i) ∙ stuck .1 .full))),
             )
 
     allocate-tells : Tells N w (allocate n r) h said (settled N (allocateIn N w h n r i))
@@ -258,7 +263,8 @@ module _ (N w : ℕ) (h : Memory) (healthy : Healthy N w h) where
         let shown = placed-shows N w h healthy n i nonzero (room N (h .a) n i found) in
         let shows = allocate-root N w h healthy n i nonzero (room N (h .a) n i found) r l .shows in
         let fine = allocate-served N w h healthy n r i some-blocks not-more l found (one (birthSticks w)) .keep in
-        let one-there : count (place (view N w h) i n) i ≡ 1 = getD-set-same (view N w h .counts) i 1 0 (omega (arith, within, length-tabulate N (countOf N w h))) in
+        let one-there : count (place (view N w h) i n) i ≡ 1 =
+        getD-set-same (view N w h .counts) i 1 0 (omega (arith, within, length-tabulate N (countOf N w h))) in
         let size-there : size (view N w (placed N w h i n)) i ≡ n =
         ap (λ (k : Graph). size k i) (shown .view-is)
         ∙ getD-set-same (sizesOf N (h .a) (h .b)) i n 0 (omega (arith, within, length-sizes-of N (h .a) (h .b))) in
@@ -270,11 +276,11 @@ module _ (N w : ℕ) (h : Memory) (healthy : Healthy N w h) where
         let after = sym (view-count N w (allocateIn N w h n r i) i within) ∙ ap (λ (k : Graph). count k i) (shows .view-is) in
         record {
           once-counted =
-              born-exactly (placed N w h i n) (λ e. before ∙ e, λ e. sym before ∙ e)
+              born-exactly (placed N w h i n) (λ e. before ∙ sym e, λ e. sym e ∙ before)
               (λ full. sized-first N (placed N w h i n .a) (placed N w h i n .b) i (λ z. nonzero (sym size-there ∙ z)));
           afterwards =
               born-exactly (settled N (allocateIn N w h n r i))
-              (λ e. after ∙ ends .0 (one-there ∙ e), λ e. sym one-there ∙ ends .1 (sym after ∙ e))
+              (λ e. after ∙ ends .0 (one-there ∙ sym e), λ e. sym (ends .1 (sym after ∙ e)) ∙ one-there)
               (full-stands (settled N (allocateIn N w h n r i)) fine i within);
           yes-or-no = one-or-none (birthSticks w);
         }
