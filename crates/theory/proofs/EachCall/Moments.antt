@@ -22,10 +22,11 @@ use Rattle.rules.specs.Calls.{require, onUndamaged, settled, freeing, allocatio
 use Rattle.rules.specs.declared.Reply.{Reply}
 use Rattle.rules.proofs.Tests.{test-cases, and-true}
 use Rattle.rules.proofs.Objects.{first-facts}
+use Rattle.rules.proofs.Tabulate.{length-tabulate}
 use Rattle.theory.specs.Words.{Object}
 use Rattle.theory.specs.Stuck.{writes, Wrote}
 use Rattle.theory.specs.Moments.{counted, BecameStuck, Tells, StuckTold}
-use Rattle.theory.proofs.Maps.Extents.{sizesOf, length-tabulate, length-sizes-of, sized-first}
+use Rattle.theory.proofs.Maps.Extents.{sizesOf, length-sizes-of, sized-first}
 use Rattle.theory.proofs.Maps.LowestChunk.{room}
 use Rattle.theory.proofs.Graphs.Occurrences.{nonzero-inside}
 use Rattle.theory.proofs.Graphs.Graph as graph
