@@ -9,9 +9,10 @@ use native.Mathlib.Omega.{arith}
 use lib.Dec.{leb, ltb}
 use lib.ListN.{length, replicate}
 use borrow.Author.Tests.{leb-true, ltb-true}
+use Rattle.bitmap.specs.Bit.{one}
 use Rattle.rules.specs.Heap.{Memory, exponent, lowestFree}
-use Rattle.rules.specs.Store.{allocateIn}
-use Rattle.rules.specs.Calls.{allocate, reply, accepted, require, allocation, settled, answer}
+use Rattle.rules.specs.Store.{birthSticks, allocateIn}
+use Rattle.rules.specs.Calls.{allocate, reply, require, allocation, settled, answer}
 use Rattle.rules.specs.Promise.{Promise}
 use Rattle.rules.specs.declared.Reply.{Reply}
 use Rattle.rules.proofs.Tests.{and-true}
@@ -98,15 +99,17 @@ module _ (N w : ℕ) (h : Memory) (n r : ℕ) where
       x h tested refl
 
   module _ (at : ℕ) (free : Found N (h .a) (length (h .roots)) n r at) where
-    pub allocate-answered : Healthy N w h → answer N w h (allocate n r) ≡ accepted (settled N (allocateIn N w h n r at)) at
+    pub allocate-answered : Healthy N w h → answer N w h (allocate n r) ≡ (reply 0 at (one (birthSticks w)), settled N (allocateIn N w h n r at))
     unfolding answer require allocation
     allocate-answered healthy = on-undamaged N w h healthy _ ∙ rw (free .size-test, free .place-test, free .lowest)
 
     pub allocate-promised :
-        Usable N w h → (x : Reply) (g : Memory) → g ≡ allocateIn N w h n r at → x ≡ reply 0 at 0 → Promise N w (allocate n r) h x g
-    allocate-promised usable x g left replied =
-        promised N w h (allocate n r) (accepted (settled N (allocateIn N w h n r at)) at) (allocate-answered (usable-healthy N w h usable)) x g
-        replied
+        Usable N w h → (stuck : Bool) (x : Reply) (g : Memory) → g ≡ allocateIn N w h n r at → stuck ≡ birthSticks w → x ≡ reply 0 at (one stuck)
+        → Promise N w (allocate n r) h x g
+    allocate-promised usable stuck x g left told replied =
+        promised N w h (allocate n r) (reply 0 at (one (birthSticks w)), settled N (allocateIn N w h n r at))
+        (allocate-answered (usable-healthy N w h usable)) x g
+        (replied ∙ ap (λ (t : Bool). reply 0 at (one t)) told)
         (left
         ∙ ap (λ (k : Memory). allocateIn N w k n r at) (sym (settled-idle N w h usable))
         ∙ allocate-waiting N w (replicate N 0) h n r at)

@@ -1,12 +1,13 @@
 -- The blocks that an allocation frees, from what it left and counted.
 use mathlib.Core.Path.{_≡_, refl, sym, ap, _∙_}
+use mathlib.Core.Bool.{Bool}
 use Prim.Native.Nat.{ℕ, _+_, _-_}
 use native.Mathlib.Omega.{arith}
 use lib.ListN.{length}
 use borrow.Author.Tests.{eq-eqb, ne-eqb}
-use Rattle.bitmap.specs.Bit.{zeros}
+use Rattle.bitmap.specs.Bit.{one, zeros}
 use Rattle.rules.specs.Heap.{Memory}
-use Rattle.rules.specs.Store.{allocateIn}
+use Rattle.rules.specs.Store.{birthSticks, allocateIn}
 use Rattle.rules.specs.Calls.{allocate, reply, Answer, answer}
 use Rattle.rules.specs.Promise.{Promise}
 use Rattle.rules.specs.declared.Reply.{Reply}
@@ -58,10 +59,10 @@ module _ (N w : ℕ) (h : Memory) (usable : Usable N w h) (n r : ℕ) where
       }
 
   pub allocate-accepting :
-      (at : ℕ) → Found N (h .a) (length (h .roots)) n r at → (done : Allocated) (g : Memory) → g ≡ allocateIn N w h n r at
-      → done .freed ≡ allocateBlocks N w h n r at → done .reply ≡ reply 0 at 0 → Allocating N w n r h done g
-  allocate-accepting at free done g left counted replied =
-      let promise = allocate-promised N w h n r at free usable (done .reply) g left replied in
+      (at : ℕ) → Found N (h .a) (length (h .roots)) n r at → (stuck : Bool) (done : Allocated) (g : Memory) → g ≡ allocateIn N w h n r at
+      → done .freed ≡ allocateBlocks N w h n r at → stuck ≡ birthSticks w → done .reply ≡ reply 0 at (one stuck) → Allocating N w n r h done g
+  allocate-accepting at free stuck done g left counted told replied =
+      let promise = allocate-promised N w h n r at free usable stuck (done .reply) g left told replied in
       let healthy = usable-healthy N w h usable in
       let zeros-are : zeros (g .a) + n ≡ zeros (h .a) + done .freed =
       omega (

@@ -18,16 +18,16 @@ use Rattle.inner.proofs.Idle.{settled-idle, usable-healthy}
 use Rattle.inner.proofs.Stored.{freeing-promised}
 
 module _ (N w : ℕ) (h : Memory) where
-  pub collect-answered : Healthy N w h → answer N w h collect ≡ freeing N h (collected N w h)
+  pub collect-answered : Healthy N w h → answer N w h collect ≡ freeing N h (collected N w h) 0
   unfolding answer
-  collect-answered healthy = on-undamaged N w h healthy (freeing N h (collected N w h))
+  collect-answered healthy = on-undamaged N w h healthy (freeing N h (collected N w h) 0)
 
   pub collect-promised :
       Usable N w h → Bytewise h → (freed : ℕ) (x : Reply) (g : Memory) → g ≡ collectBy N w h → freed ≡ collectBlocks N w h
       → x ≡ reply 0 freed 0 → Promise N w collect h x g
   collect-promised usable bytes freed x g left counted replied =
       let healthy = usable-healthy N w h usable in
-      freeing-promised N w h (collected N w h) collect (collect-answered healthy) freed x g
+      freeing-promised N w h (collected N w h) 0 collect (collect-answered healthy) freed x g
       (counted ∙ collect-blocks-is N w h healthy)
       replied
       (left

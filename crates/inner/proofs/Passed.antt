@@ -73,7 +73,7 @@ module _ (N : ℕ) (h : Memory) (r v : ℕ) where
   root-stopped w healthy fails =
       on-undamaged N w h healthy _
       ∙ require-stops (ltb r (length (h .roots))) 4 (require (isRef N h v) 8 h (accepted h 0)) _
-      (require-stops (isRef N h v) 8 (accepted h 0) (freeing N h (storeRootIn N w h r v)) (λ n. absurd (n refl)))
+      (require-stops (isRef N h v) 8 (accepted h 0) _ (λ n. absurd (n refl)))
       fails
 
   module _ (x : Reply) (tested : x ≡ storeRootTest N rootRead r v) where
@@ -139,7 +139,7 @@ module _ (N : ℕ) (h : Memory) (a j v : ℕ) where
       on-undamaged N w h healthy _
       ∙ require-stops (isFirst N h a) 6 cellTest _
       (require-stops (ltb j (4 * sizeAt N h a)) 7 refTest _
-      (require-stops (isRef N h v) 8 (accepted h 0) (freeing N h (storeCellIn N w h (4 * a + j) v)) (λ n. absurd (n refl))))
+      (require-stops (isRef N h v) 8 (accepted h 0) _ (λ n. absurd (n refl))))
       fails
 
   module _ (x : Reply) (tested : x ≡ storeCellTest N cellRead a j v) where

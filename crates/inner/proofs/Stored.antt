@@ -1,12 +1,13 @@
--- The answer of a store whose tests are passed, and that of the code: memory and number of blocks freed.
+-- The answer of a store whose tests are passed, and that of the code: memory, number of blocks freed, and whether an object became stuck.
 use mathlib.Core.Path.{_≡_, sym, ap, _∙_}
+use mathlib.Core.Bool.{Bool}
 use Prim.Native.Nat.{ℕ, _+_, _-_, _*_}
 use lib.Dec.{ltb}
-use lib.ListN.{length, replicate}
+use lib.ListN.{length, getD, replicate}
 use borrow.Author.Tests.{lt-ltb}
-use Rattle.bitmap.specs.Bit.{zeros}
+use Rattle.bitmap.specs.Bit.{one, zeros}
 use Rattle.rules.specs.Heap.{Memory, isFirst, sizeAt, isRef}
-use Rattle.rules.specs.Store.{storeRootIn, storeCellIn}
+use Rattle.rules.specs.Store.{storeRootIn, storeCellIn, storeSticks}
 use Rattle.rules.specs.Calls.{Call, storeRoot, storeCell, reply, freeing, settled, answer}
 use Rattle.rules.specs.Promise.{Promise}
 use Rattle.rules.specs.declared.Reply.{Reply}
@@ -22,49 +23,56 @@ use Rattle.inner.proofs.Passed.{RootPassed, CellPassed}
 
 -- an answer that frees, from the memory left and the number of blocks counted
 pub freeing-promised :
-    (N w : ℕ) (h k : Memory) (c : Call) → answer N w h c ≡ freeing N h k → (freed : ℕ) (x : Reply) (g : Memory)
-    → freed ≡ zeros (k .a) - zeros (h .a) → x ≡ reply 0 freed 0 → g ≡ settled N k → Promise N w c h x g
+    (N w : ℕ) (h k : Memory) (second : ℕ) (c : Call) → answer N w h c ≡ freeing N h k second → (freed : ℕ) (x : Reply) (g : Memory)
+    → freed ≡ zeros (k .a) - zeros (h .a) → x ≡ reply 0 freed second → g ≡ settled N k → Promise N w c h x g
 unfolding freeing
-freeing-promised N w h k c e freed x g counted replied left =
-    promised N w h c (freeing N h k) e x g (replied ∙ ap (λ (n : ℕ). reply 0 n 0) counted) left
+freeing-promised N w h k second c e freed x g counted replied left =
+    promised N w h c (freeing N h k second) e x g (replied ∙ ap (λ (n : ℕ). reply 0 n second) counted) left
 
 module _ (N w : ℕ) (h : Memory) (r v : ℕ) (passed : RootPassed N h r v) where
-  pub root-answered : Healthy N w h → answer N w h (storeRoot r v) ≡ freeing N h (storeRootIn N w h r v)
+  abbrev pub rootSticks : Bool
+  rootSticks = storeSticks N w (h .counts) (getD (h .roots) r 0) v
+
+  pub root-answered : Healthy N w h → answer N w h (storeRoot r v) ≡ freeing N h (storeRootIn N w h r v) (one rootSticks)
   unfolding answer
   root-answered healthy =
       on-undamaged N w h healthy _
       ∙ require-true (ltb r (length (h .roots))) 4 h _ (lt-ltb r (length (h .roots)) (passed .place))
-      ∙ require-true (isRef N h v) 8 h (freeing N h (storeRootIn N w h r v)) (passed .ref)
+      ∙ require-true (isRef N h v) 8 h _ (passed .ref)
 
   pub root-promised :
-      Usable N w h → (freed : ℕ) (x : Reply) (g : Memory) → g ≡ storeRootIn N w h r v → freed ≡ storeRootBlocks N w h r v
-      → x ≡ reply 0 freed 0 → Promise N w (storeRoot r v) h x g
-  root-promised usable freed x g left counted replied =
+      Usable N w h → (freed : ℕ) (stuck : Bool) (x : Reply) (g : Memory) → g ≡ storeRootIn N w h r v → freed ≡ storeRootBlocks N w h r v
+      → stuck ≡ rootSticks → x ≡ reply 0 freed (one stuck) → Promise N w (storeRoot r v) h x g
+  root-promised usable freed stuck x g left counted told replied =
       let healthy = usable-healthy N w h usable in
-      freeing-promised N w h (storeRootIn N w h r v) (storeRoot r v) (root-answered healthy) freed x g
+      freeing-promised N w h (storeRootIn N w h r v) (one rootSticks) (storeRoot r v) (root-answered healthy) freed x g
       (counted ∙ sym (store-root-freed N w h healthy r v (passed .place) (passed .ref)))
-      replied
+      (replied ∙ ap (λ (t : Bool). reply 0 freed (one t)) told)
       (left
       ∙ ap (λ (k : Memory). storeRootIn N w k r v) (sym (settled-idle N w h usable))
       ∙ store-root-waiting N w (replicate N 0) h r v)
 
 module _ (N w : ℕ) (h : Memory) (a j v : ℕ) (passed : CellPassed N h a j v) where
-  pub cell-answered : Healthy N w h → answer N w h (storeCell a j v) ≡ freeing N h (storeCellIn N w h (4 * a + j) v)
+  abbrev pub cellSticks : Bool
+  cellSticks = storeSticks N w (h .counts) (getD (h .cells) (4 * a + j) 0) v
+
+  pub cell-answered : Healthy N w h → answer N w h (storeCell a j v) ≡ freeing N h (storeCellIn N w h (4 * a + j) v) (one cellSticks)
   unfolding answer
   cell-answered healthy =
       on-undamaged N w h healthy _
       ∙ require-true (isFirst N h a) 6 h _ (passed .first)
       ∙ require-true (ltb j (4 * sizeAt N h a)) 7 h _ (lt-ltb j (4 * sizeAt N h a) (passed .place))
-      ∙ require-true (isRef N h v) 8 h (freeing N h (storeCellIn N w h (4 * a + j) v)) (passed .ref)
+      ∙ require-true (isRef N h v) 8 h _ (passed .ref)
 
   pub cell-promised :
-      Usable N w h → (freed : ℕ) (x : Reply) (g : Memory) → g ≡ storeCellIn N w h (4 * a + j) v
-      → freed ≡ storeCellBlocks N w h (4 * a + j) v → x ≡ reply 0 freed 0 → Promise N w (storeCell a j v) h x g
-  cell-promised usable freed x g left counted replied =
+      Usable N w h → (freed : ℕ) (stuck : Bool) (x : Reply) (g : Memory) → g ≡ storeCellIn N w h (4 * a + j) v
+      → freed ≡ storeCellBlocks N w h (4 * a + j) v → stuck ≡ cellSticks → x ≡ reply 0 freed (one stuck)
+      → Promise N w (storeCell a j v) h x g
+  cell-promised usable freed stuck x g left counted told replied =
       let healthy = usable-healthy N w h usable in
-      freeing-promised N w h (storeCellIn N w h (4 * a + j) v) (storeCell a j v) (cell-answered healthy) freed x g
+      freeing-promised N w h (storeCellIn N w h (4 * a + j) v) (one cellSticks) (storeCell a j v) (cell-answered healthy) freed x g
       (counted ∙ sym (store-cell-freed N w h healthy a j v (passed .first) (passed .place) (passed .ref)))
-      replied
+      (replied ∙ ap (λ (t : Bool). reply 0 freed (one t)) told)
       (left
       ∙ ap (λ (k : Memory). storeCellIn N w k (4 * a + j) v) (sym (settled-idle N w h usable))
       ∙ store-cell-waiting N w (replicate N 0) h (4 * a + j) v)

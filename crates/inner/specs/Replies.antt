@@ -18,7 +18,7 @@ unfoldable pub storeCellTest : ℕ → Memory → ℕ → ℕ → ℕ → Reply
 storeCellTest N h a j v =
     require (isFirst N h a) 6 h (require (ltb j (4 * sizeAt N h a)) 7 h (require (isRef N h v) 8 h (accepted h 0))) .0
 
--- the whole reply of an allocation and of a look
+-- the reply of an allocation but for its second value, and the whole reply of a look
 unfoldable pub found : Option ℕ → Reply
 found none = reply 5 0 0
 found (some i) = reply 0 i 0

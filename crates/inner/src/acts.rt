@@ -37,11 +37,11 @@ pub fn allocate(
     ensures { λ done.
         ⌜ Allocating blocks width n r (before a b counts cells roots waiting) done (after a b counts cells roots waiting) ⌝ }
 {
-    let freed = stores::place(blocks, width, a, b, counts, cells, roots, waiting, n, r, at);
-    let reply = tests::acceptance(at);
+    let placed = stores::place(blocks, width, a, b, counts, cells, roots, waiting, n, r, at);
+    let reply = tests::telling(at, placed.stuck);
     Allocated {
         reply: reply,
-        freed: freed,
+        freed: placed.freed,
     }
 }
 
@@ -64,7 +64,7 @@ pub fn store_root(
         ⌜ Promise blocks width (Call.storeRoot r v) (before a b counts cells roots waiting) reply
         (after a b counts cells roots waiting) ⌝ }
 {
-    let freed = stores::store_root(
+    let stored = stores::store_root(
         blocks,
         width,
         a,
@@ -76,7 +76,7 @@ pub fn store_root(
         r,
         v as Ref,
     );
-    tests::acceptance(freed)
+    tests::telling(stored.freed, stored.stuck)
 }
 
 // Stores v in cell j of the object at block `at`. The passed test shows that v fits a cell.
@@ -99,7 +99,7 @@ pub fn store_cell(
         ⌜ Promise blocks width (Call.storeCell at j v) (before a b counts cells roots waiting) reply
         (after a b counts cells roots waiting) ⌝ }
 {
-    let freed = stores::store_cell(
+    let written = stores::store_cell(
         blocks,
         width,
         a,
@@ -111,7 +111,7 @@ pub fn store_cell(
         4 * at + j,
         v as Ref,
     );
-    tests::acceptance(freed)
+    tests::telling(written.freed, written.stuck)
 }
 
 // Collects.

@@ -4,6 +4,7 @@ ghost use mathlib.Core.Bool.{true};
 ghost use mathlib.Core.List.{[]};
 ghost use Prim.Native.Nat.{_*_, _/_, _≤_};
 ghost use lib.ListN.{length};
+ghost use Rattle.bitmap.specs.Bit.{one};
 ghost use Rattle.rules.specs.Heap.{memory, maxBlocks, isBlocks, exponent, lowestFree};
 ghost use Rattle.rules.specs.Calls.{reply};
 ghost use Rattle.blocks.specs.Search.{Search};
@@ -21,7 +22,7 @@ pub fn refusal(number: usize) -> Reply
     Reply {
         number: number,
         value: 0,
-        second: 0,
+        second: 0, // in every refusal
     }
 }
 
@@ -33,6 +34,17 @@ pub fn acceptance(value: usize) -> Reply
         number: 0,
         value: value,
         second: 0,
+    }
+}
+
+// Acceptance of an allocation or a store: its value, and whether an object became stuck.
+pub fn telling(value: usize, stuck: bool) -> Reply
+    ensures { λ r. ⌜ r ≡ reply 0 value (one stuck) ⌝ }
+{
+    Reply {
+        number: 0,
+        value: value,
+        second: stuck as usize,
     }
 }
 
@@ -84,7 +96,7 @@ fn find_place(blocks: usize, a: &[u8], n: usize) -> Searched
     chunks::lowest_chunk(a, 0, blocks, size)
 }
 
-// The reply of an allocation of n blocks into root r.
+// The number and the value of the reply of an allocation of n blocks into root r.
 pub fn allocate_reply(blocks: usize, a: &[u8], roots: usize, n: usize, r: usize) -> Reply
     requires { ⌜ (isBlocks blocks ≡ true) × (blocks ≤ 8 * length (now a)) ⌝ }
     ensures { λ t. ⌜ t ≡ allocateReply blocks (now (a .entry)) roots n r ⌝ }

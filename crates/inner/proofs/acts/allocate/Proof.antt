@@ -12,39 +12,39 @@ place-requires c κs =
     let free = allocate-passed _ _ _ _ _ _ (pre .1) in
     (usable-ready _ _ _ (pre .0), free .some-blocks, free .inside, free .place)
 
-acceptance-requires : tie.Need-acceptance-requires
-acceptance-requires c κs = search needs
+telling-requires : tie.Need-telling-requires
+telling-requires c κs = search needs
 
 same-length : tie.Need-same-length
-same-length c = search needs
+same-length c = c .before .before .before .before .before .before .before .before .before .before .before .before .before .place .kept .1 .1 .0
 
 same-length-2 : tie.Need-same-length-2
-same-length-2 c = search needs
+same-length-2 c = c .before .before .before .before .before .before .before .before .before .before .before .before .before .place .kept .1 .1 .1 .0
 
 same-length-3 : tie.Need-same-length-3
-same-length-3 c = search needs
+same-length-3 c = c .before .before .before .before .before .before .before .before .before .before .before .before .before .place .kept .1 .1 .1 .1 .0
 
 same-length-4 : tie.Need-same-length-4
-same-length-4 c = search needs
+same-length-4 c = c .before .before .before .before .before .before .before .before .before .before .before .before .before .place .kept .1 .1 .1 .1 .1 .0
 
 same-length-5 : tie.Need-same-length-5
-same-length-5 c = search needs
+same-length-5 c = c .before .before .before .before .before .before .before .before .before .before .before .before .before .place .kept .1 .1 .1 .1 .1 .1 .0
 
 same-length-6 : tie.Need-same-length-6
-same-length-6 c = search needs
+same-length-6 c = c .before .before .before .before .before .before .before .before .before .before .before .before .before .place .kept .1 .1 .1 .1 .1 .1 .1 .0
 
 returns : tie.Need-returns
 returns c =
     let pre = c .before .before .before .before .before .before .before .before .before .before .before .before .before .before .before .before .before .before .before .before .before .before .before .before .before .before .pre in
     let placed = c .before .before .before .before .before .before .before .before .before .before .before .before .before .place .ensures in
-    allocate-accepting _ _ _ (pre .0) _ _ _ (allocate-passed _ _ _ _ _ _ (pre .1)) _ _ (placed .0) (placed .1) (c .acceptance .ensures)
+    allocate-accepting _ _ _ (pre .0) _ _ _ (allocate-passed _ _ _ _ _ _ (pre .1)) _ _ _ (placed .0) (placed .1) (placed .2) (c .telling .ensures)
 
 pub allocate-spec : {M : Type 1} → statement M
 allocate-spec =
     tie.close
     (tie.spec
     place-requires
-    acceptance-requires
+    telling-requires
     same-length
     same-length-2
     same-length-3

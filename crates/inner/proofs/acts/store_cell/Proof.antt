@@ -29,29 +29,29 @@ store-cell-requires c κs =
     let passed = cell-passed _ _ _ _ _ (pre .1) in
     (usable-ready _ _ _ (pre .0), passed .cell-inside, passed .inside)
 
-acceptance-requires : tie.Need-acceptance-requires
-acceptance-requires c κs = search needs
+telling-requires : tie.Need-telling-requires
+telling-requires c κs = search needs
 
 same-length : tie.Need-same-length
-same-length c = search needs
+same-length c = c .before .before .before .before .before .before .before .before .before .before .before .store-cell .kept .1 .1 .0
 
 same-length-2 : tie.Need-same-length-2
-same-length-2 c = search needs
+same-length-2 c = c .before .before .before .before .before .before .before .before .before .before .before .store-cell .kept .1 .1 .1 .0
 
 same-length-3 : tie.Need-same-length-3
-same-length-3 c = search needs
+same-length-3 c = c .before .before .before .before .before .before .before .before .before .before .before .store-cell .kept .1 .1 .1 .1 .0
 
 same-length-4 : tie.Need-same-length-4
-same-length-4 c = search needs
+same-length-4 c = c .before .before .before .before .before .before .before .before .before .before .before .store-cell .kept .1 .1 .1 .1 .1 .0
 
 same-length-5 : tie.Need-same-length-5
-same-length-5 c = search needs
+same-length-5 c = c .before .before .before .before .before .before .before .before .before .before .before .store-cell .kept .1 .1 .1 .1 .1 .1 .1 .0
 
 returns : tie.Need-returns
 returns c =
     let pre = c .before .before .before .before .before .before .before .before .before .before .before .before .before .before .before .before .before .before .before .before .before .before .before .pre in
     let done = c .before .before .before .before .before .before .before .before .before .before .before .store-cell .ensures in
-    cell-promised _ _ _ _ _ _ (cell-passed _ _ _ _ _ (pre .1)) (pre .0) _ _ _ (done .0) (done .1) (c .acceptance .ensures)
+    cell-promised _ _ _ _ _ _ (cell-passed _ _ _ _ _ (pre .1)) (pre .0) _ _ _ _ (done .0) (done .1) (done .2) (c .telling .ensures)
 
 pub store-cell-spec : {M : Type 1} → statement M
 store-cell-spec =
@@ -61,7 +61,7 @@ store-cell-spec =
     add-store-cell
     cast-store-cell
     store-cell-requires
-    acceptance-requires
+    telling-requires
     same-length
     same-length-2
     same-length-3

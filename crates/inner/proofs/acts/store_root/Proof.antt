@@ -19,32 +19,32 @@ store-root-requires c κs =
     let passed = root-passed _ _ _ _ (pre .1) in
     (usable-ready _ _ _ (pre .0), passed .place, passed .inside)
 
-acceptance-requires : tie.Need-acceptance-requires
-acceptance-requires c κs = search needs
+telling-requires : tie.Need-telling-requires
+telling-requires c κs = search needs
 
 same-length : tie.Need-same-length
-same-length c = search needs
+same-length c = c .before .before .before .before .before .before .before .before .before .before .before .before .before .store-root .kept .1 .1 .0
 
 same-length-2 : tie.Need-same-length-2
-same-length-2 c = search needs
+same-length-2 c = c .before .before .before .before .before .before .before .before .before .before .before .before .before .store-root .kept .1 .1 .1 .0
 
 same-length-3 : tie.Need-same-length-3
-same-length-3 c = search needs
+same-length-3 c = c .before .before .before .before .before .before .before .before .before .before .before .before .before .store-root .kept .1 .1 .1 .1 .0
 
 same-length-4 : tie.Need-same-length-4
-same-length-4 c = search needs
+same-length-4 c = c .before .before .before .before .before .before .before .before .before .before .before .before .before .store-root .kept .1 .1 .1 .1 .1 .0
 
 same-length-5 : tie.Need-same-length-5
-same-length-5 c = search needs
+same-length-5 c = c .before .before .before .before .before .before .before .before .before .before .before .before .before .store-root .kept .1 .1 .1 .1 .1 .1 .0
 
 same-length-6 : tie.Need-same-length-6
-same-length-6 c = search needs
+same-length-6 c = c .before .before .before .before .before .before .before .before .before .before .before .before .before .store-root .kept .1 .1 .1 .1 .1 .1 .1 .0
 
 returns : tie.Need-returns
 returns c =
     let pre = c .before .before .before .before .before .before .before .before .before .before .before .before .before .before .before .before .before .before .before .before .before .before .before .before .before .before .pre in
     let done = c .before .before .before .before .before .before .before .before .before .before .before .before .before .store-root .ensures in
-    root-promised _ _ _ _ _ (root-passed _ _ _ _ (pre .1)) (pre .0) _ _ _ (done .0) (done .1) (c .acceptance .ensures)
+    root-promised _ _ _ _ _ (root-passed _ _ _ _ (pre .1)) (pre .0) _ _ _ _ (done .0) (done .1) (done .2) (c .telling .ensures)
 
 pub store-root-spec : {M : Type 1} → statement M
 store-root-spec =
@@ -52,7 +52,7 @@ store-root-spec =
     (tie.spec
     cast-store-root
     store-root-requires
-    acceptance-requires
+    telling-requires
     same-length
     same-length-2
     same-length-3

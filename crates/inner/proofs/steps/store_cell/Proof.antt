@@ -1,4 +1,5 @@
 -- `inner::steps::store_cell` meets its contract.
+use mathlib.Core.Path.{refl}
 use native.Mathlib.Omega.{arith}
 use Rattle.inner.proofs.Idle.{usable-healthy}
 use Rattle.inner.proofs.Passed.{cell-goes-on, cell-refused}
@@ -12,10 +13,10 @@ store-cell-test-requires c κs =
     (omega (arith, shape .length-a, shape .whole-bytes), omega (arith, shape .length-b, shape .whole-bytes), shape .blocks-max)
 
 same-length : tie.Need-same-length
-same-length c = search needs
+same-length c = refl
 
 same-length-2 : tie.Need-same-length-2
-same-length-2 c = search needs
+same-length-2 c = refl
 
 returns : tie.Need-returns
 returns c =
@@ -27,19 +28,19 @@ store-cell-requires c κs =
     (tested .before .before .before .before .before .before .before .before .before .before .pre, cell-goes-on _ _ _ _ _ _ (tested .before .store-cell-test .ensures) (tested .if1 .left))
 
 same-length-3 : tie.Need-same-length-3
-same-length-3 c = search needs
+same-length-3 c = c .before .before .before .before .before .before .before .before .before .before .store-cell .kept .1 .1 .0
 
 same-length-4 : tie.Need-same-length-4
-same-length-4 c = search needs
+same-length-4 c = c .before .before .before .before .before .before .before .before .before .before .store-cell .kept .1 .1 .1 .0
 
 same-length-5 : tie.Need-same-length-5
-same-length-5 c = search needs
+same-length-5 c = c .before .before .before .before .before .before .before .before .before .before .store-cell .kept .1 .1 .1 .1 .0
 
 same-length-6 : tie.Need-same-length-6
-same-length-6 c = search needs
+same-length-6 c = c .before .before .before .before .before .before .before .before .before .before .store-cell .kept .1 .1 .1 .1 .1 .0
 
 same-length-7 : tie.Need-same-length-7
-same-length-7 c = search needs
+same-length-7 c = c .before .before .before .before .before .before .before .before .before .before .store-cell .kept .1 .1 .1 .1 .1 .1 .1 .0
 
 returns-2 : tie.Need-returns-2
 returns-2 c = search needs
