@@ -35,7 +35,7 @@ module _ (N w : ℕ) (h : Memory) (healthy : Healthy N w h) (chosen : ℕ) where
   test = returnTest (length (h .roots)) chosen
 
   abbrev done : Answer
-  done = freeing N h (returnIn N w h chosen (length (h .roots)))
+  done = freeing N h (returnIn N w h chosen (length (h .roots))) 0
 
   pub return-answered : test .number ≡ 0 → answer N w h (returnRoots chosen) ≡ done
   unfolding answer returnTest outcome require
@@ -77,8 +77,7 @@ module _ (N w : ℕ) (h : Memory) (usable : Usable N w h) (chosen r : ℕ) where
   turn-one inside e x g promise =
       let healthy = usable-healthy N w h usable in
       let end : Memory = storeRootIn N w h r 0 in
-      let stored : answer N w h (storeRoot r 0) ≡ freeing N h end =
-      root-answered N w h r 0 (root-passed N h r 0 (zero-passes N h r inside)) healthy in
+      let stored = root-answered N w h r 0 (root-passed N h r 0 (zero-passes N h r inside)) healthy in
       let settles : settled N end ≡ end =
       sym (store-root-waiting N w (replicate N 0) h r 0) ∙ ap (λ (k : Memory). storeRootIn N w k r 0) (settled-idle N w h usable) in
       let is : g ≡ end = promise .after-is ∙ ap (λ (y : Answer). y .1) stored ∙ settles in
@@ -128,6 +127,6 @@ module _ (N w : ℕ) (start : Memory) (chosen : ℕ) where
       let end : Memory = returnIn N w start chosen (length (start .roots)) in
       let all : r ≡ length (start .roots) = omega (arith, p .made, p .roots-length) in
       let is : h ≡ end = p .after-is ∙ ap (returnIn N w start chosen) all in
-      freeing-promised N w start end (returnRoots chosen) (return-answered N w start (usable-healthy N w start usable) chosen passes) freed x h
+      freeing-promised N w start end 0 (returnRoots chosen) (return-answered N w start (usable-healthy N w start usable) chosen passes) freed x h
       (omega (arith, p .blocks, ap (λ (k : Memory). zeros (k .a)) is)) replied
       (sym (settled-idle N w h (p .usable)) ∙ ap (settled N) is)

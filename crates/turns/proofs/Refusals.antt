@@ -14,9 +14,9 @@ pub record Keeps (h : Memory) (x : Answer) : Type 0 where
   pub kept : (x .0 .number ≡ 0 → ⊥) → (x .1 ≡ h) × (x .0 .value ≡ 0)
 
 module _ (N w : ℕ) (h : Memory) (healthy : Healthy N w h) where
-  freeing-keeps : (g : Memory) → Keeps h (freeing N h g)
+  freeing-keeps : (g : Memory) (second : ℕ) → Keeps h (freeing N h g second)
   unfolding freeing
-  freeing-keeps g = record { kept = λ refused. absurd (refused refl) }
+  freeing-keeps g second = record { kept = λ refused. absurd (refused refl) }
 
   require-keeps : {next : Answer} (test : Bool) (number : ℕ) → Keeps h next → Keeps h (require test number h next)
   unfolding require
@@ -30,7 +30,7 @@ module _ (N w : ℕ) (h : Memory) (healthy : Healthy N w h) where
   unfolding answer
   store-root-keeps r v =
       on-undamaged-keeps
-      (require-keeps (ltb r (length (h .roots))) 4 (require-keeps (isRef N h v) 8 (freeing-keeps (storeRootIn N w h r v))))
+      (require-keeps (ltb r (length (h .roots))) 4 (require-keeps (isRef N h v) 8 (freeing-keeps (storeRootIn N w h r v) _)))
 
   pub store-cell-keeps : (a j v : ℕ) → Keeps h (answer N w h (storeCell a j v))
   unfolding answer
@@ -38,4 +38,4 @@ module _ (N w : ℕ) (h : Memory) (healthy : Healthy N w h) where
       on-undamaged-keeps
       (require-keeps (isFirst N h a) 6
       (require-keeps (ltb j (4 * sizeAt N h a)) 7
-      (require-keeps (isRef N h v) 8 (freeing-keeps (storeCellIn N w h (4 * a + j) v)))))
+      (require-keeps (isRef N h v) 8 (freeing-keeps (storeCellIn N w h (4 * a + j) v) _))))
