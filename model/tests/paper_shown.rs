@@ -57,9 +57,9 @@ fn what_the_documents_name_is_shown() {
     );
     has("P2", &["refused 5", " 3, 7", "block 3"]);
     has("P3", &["block 0", "refused 5", "block 6"]);
-    has("P4", &["count 3", "freed: 1"]);
+    has("P4", &["freed: 0, stuck", "count 3", "freed: 1"]);
     has("P5", &["count 1", "freed: 1"]);
-    has("P6", &["freed: 0", "freed: 1"]);
+    has("P6", &["block 0, stuck", "freed: 0", "freed: 1"]);
     has("P7", &["count 1", "freed: 2"]);
     has("P8", &["freed: 3", "refused 7"]);
     has("P9", &["count 1", "count 2", "freed: 1"]);

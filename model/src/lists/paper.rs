@@ -68,6 +68,11 @@ pub fn cases() -> Vec<Case> {
     let fresh = Gives(Call::Format, 0, 0, 0);
     let allocate = |n, r, number, value| Gives(Call::Allocate { n, r }, number, value, 0);
     let root = |r, v, value| Gives(Call::StoreRoot { r, v }, 0, value, 0);
+    // Document 02, U5: the same, and "this very step brought the count to the capacity".
+    let sticking = |step| match step {
+        Gives(call, number, value, 0) => Gives(call, number, value, 1),
+        other => other,
+    };
     let cell = |a, j, v, number| Gives(Call::StoreCell { a, j, v }, number, 0, 0);
     let look = |a, size, count| Gives(Call::Look { a }, 0, size, count);
     let nothing_at = |a| Gives(Call::Look { a }, 6, 0, 0);
@@ -125,7 +130,7 @@ pub fn cases() -> Vec<Case> {
                 fresh,
                 allocate(1, 0, 0, 0),
                 root(1, 1, 0),
-                root(2, 1, 0),
+                sticking(root(2, 1, 0)),
                 look(0, 1, 3),
                 root(0, 0, 0),
                 root(1, 0, 0),
@@ -157,9 +162,9 @@ pub fn cases() -> Vec<Case> {
             1,
             vec![
                 // "P6. w = 1: allocate 1, clear its root; the value is 0 and the object stays; collect
-                // gives 1."
+                // gives 1." U5: "a birth at width 1 included".
                 fresh,
-                allocate(1, 0, 0, 0),
+                sticking(allocate(1, 0, 0, 0)),
                 root(0, 0, 0),
                 look(0, 1, 1),
                 collect(1),

@@ -166,6 +166,133 @@ pub fn returns(desk: &mut Desk) {
     }
 }
 
+/// Objects that come to the capacity (U5), each case on a new heap.
+pub fn moments(desk: &mut Desk) {
+    let format = Call::Format;
+    // Births at width 1, into a root that is in use, too, and births at the other widths.
+    for width in 1..=4 {
+        let births = [format, allocate(1, 0), allocate(2, 0), allocate(3, 1)];
+        on_new_heap(
+            desk,
+            [8, width, 4],
+            &[&births[..], &[look(0), look(2)]].concat(),
+        );
+    }
+    // A birth that frees what stood in the root; and a refused one.
+    let hold = [format, allocate(4, 0), allocate(3, 1), allocate(2, 1)];
+    on_new_heap(
+        desk,
+        [8, 2, 2],
+        &[&hold[..], &[allocate(4, 0), allocate(9, 0), allocate(1, 2)]].concat(),
+    );
+    // The third reference of width 2, a fourth one, and each of them over itself.
+    let three = [
+        format,
+        allocate(1, 0),
+        root(1, 1),
+        cell(0, 0, 1),
+        cell(0, 1, 1),
+    ];
+    let over = [
+        root(1, 1),
+        cell(0, 0, 1),
+        cell(0, 1, 1),
+        root(0, 1),
+        look(0),
+    ];
+    on_new_heap(desk, [8, 2, 4], &[three, over].concat());
+    // One below the capacity, over itself: in a root, in a cell.
+    let two = [
+        format,
+        allocate(1, 0),
+        cell(0, 3, 1),
+        root(0, 1),
+        cell(0, 3, 1),
+        look(0),
+    ];
+    on_new_heap(desk, [8, 2, 4], &two);
+    // Stuck; collected with three references and stuck as before; collected with two and stuck again.
+    let stick = [
+        format,
+        allocate(1, 0),
+        root(1, 1),
+        root(2, 1),
+        Call::Collect,
+        look(0),
+    ];
+    let again = [
+        root(2, 0),
+        root(3, 1),
+        Call::Collect,
+        root(3, 0),
+        Call::Collect,
+        look(0),
+        root(2, 1),
+        look(0),
+    ];
+    on_new_heap(desk, [8, 2, 4], &[&stick[..], &again].concat());
+    // The old object is one below the capacity and the new one is not; then the other way round.
+    let olds = [
+        format,
+        allocate(1, 0),
+        root(1, 1),
+        allocate(1, 2),
+        root(1, 2),
+        look(0),
+        look(1),
+    ];
+    let news = [root(3, 2), root(0, 2), look(1), Call::FreeBlocks];
+    on_new_heap(desk, [8, 2, 4], &[&olds[..], &news].concat());
+    // The new object is held by the old one alone, which goes; it comes to the capacity by that store.
+    let held = [
+        format,
+        allocate(1, 0),
+        allocate(1, 1),
+        cell(0, 0, 2),
+        cell(0, 1, 2),
+        root(1, 0),
+    ];
+    on_new_heap(
+        desk,
+        [8, 2, 4],
+        &[&held[..], &[look(1), root(0, 2), look(1)]].concat(),
+    );
+    // Refusals with an object one below the capacity.
+    let refused = [
+        root(4, 1),
+        root(2, 2),
+        cell(1, 0, 1),
+        cell(0, 4, 1),
+        cell(0, 0, 9),
+        allocate(9, 0),
+    ];
+    on_new_heap(
+        desk,
+        [8, 2, 4],
+        &[&[format, allocate(1, 0), root(1, 1)], &refused[..]].concat(),
+    );
+    // A return of three roots, and a collection, of a stuck object: neither tells of it.
+    let stuck = [
+        format,
+        allocate(1, 0),
+        root(1, 1),
+        root(2, 1),
+        chosen(6),
+        Call::Collect,
+        root(3, 1),
+    ];
+    on_new_heap(desk, [8, 2, 4], &stuck);
+    // Width 3 with seven references and width 4 with fifteen, in the cells of the object itself; then one more.
+    for (width, top) in [(3, 7), (4, 15)] {
+        let cells: Vec<Call> = (0..top).map(|j| cell(0, j, 1)).collect();
+        on_new_heap(
+            desk,
+            [8, width, 4],
+            &[&[format, allocate(4, 0)], &cells[..], &[look(0)]].concat(),
+        );
+    }
+}
+
 fn on_new_heap(desk: &mut Desk, shape: [u64; 3], calls: &[Call]) {
     desk.new_heap(shape);
     for call in calls {

@@ -6,7 +6,7 @@ use crate::lists::file::{LENGTH, LOAD, NEW};
 use crate::lists::generate::Desk;
 use crate::lists::paper::{self, Step};
 use crate::lists::random::Random;
-use crate::lists::request_vectors::{present_values, returns};
+use crate::lists::request_vectors::{moments, present_values, returns};
 use crate::rules::calls::short::{allocate, cell, root};
 use crate::rules::calls::Call;
 
@@ -52,6 +52,7 @@ pub fn vectors(seed: u64) -> Vec<u8> {
     waiting_list(&mut desk);
     present_values(&mut desk);
     returns(&mut desk);
+    moments(&mut desk);
     for round in 0..16 {
         for (_, write) in FAMILIES {
             let shape = some_shape(round, &mut desk.random);

@@ -12,10 +12,11 @@ use crate::rules::collection::sweep_and_recount;
 use crate::rules::counting::{count_up, release, Order};
 use crate::rules::damage::damage;
 use crate::rules::heap::{
-    count, free_count, is_first_block, misshapen, set_bit, set_count, size, Memory,
+    capacity, count, free_count, is_first_block, misshapen, set_bit, set_count, size, Memory,
 };
 
-/// "A reply is a number and a value (two values for the look). Number 0 is acceptance."
+/// "A reply is a number and a value (two values for the look). Number 0 is acceptance." Since U5 a store and an
+/// allocation have two values as well.
 #[derive(Clone, Copy, Debug, PartialEq, Eq, Hash)]
 pub struct Reply {
     pub number: usize,
@@ -32,7 +33,17 @@ pub(crate) fn accepted(value: usize) -> Reply {
     }
 }
 
-/// "A refusal carries value 0, or the damage kind for number 2 (any further value of a reply is 0 ...), and
+/// Document 02, U5: "Every store and allocation passes the fact on": 1 where this very call brought a count to the
+/// capacity.
+fn accepted_telling(value: usize, stuck: bool) -> Reply {
+    Reply {
+        number: 0,
+        value,
+        second: usize::from(stuck),
+    }
+}
+
+/// "A refusal carries value 0, or the damage kind for number 2 (any further value of a reply is 0, or no, ...), and
 /// changes no buffer."
 pub(crate) fn refused(number: usize) -> Reply {
     Reply {
@@ -120,10 +131,12 @@ pub fn allocate(
     // "Then the reference is stored in root r as below, except that the new object isn't counted up again."
     let old = memory.roots[r];
     memory.roots[r] = (1 + first) as u16;
+    // U5: "a birth at width 1 included".
+    let stuck = count(blocks, width, memory, first) == capacity(width);
     release(blocks, width, memory, old, order);
     leave_waiting_list_zero(memory);
     // "The value is the first block."
-    accepted(first)
+    accepted_telling(first, stuck)
 }
 
 /// "8 if v is neither 0 nor 1 + a first block." What is left, as a cell holds it.
@@ -131,7 +144,8 @@ fn reference(blocks: usize, memory: &Memory, v: usize) -> Option<u16> {
     (v == 0 || is_first_block(blocks, memory, v - 1)).then_some(v as u16)
 }
 
-/// Document 02, U2: "From now on an accepted store of the value present changes no buffer but the waiting list".
+/// Document 02, U2: "From now on an accepted store of the value present changes no buffer but the waiting list". So
+/// no count comes to the capacity.
 fn store_value_present(memory: &mut Memory) -> Reply {
     leave_waiting_list_zero(memory);
     accepted(0)
@@ -160,13 +174,13 @@ pub fn store_root(
     let free_before = free_count(blocks, memory);
     // "First the object named by v, if v isn't 0, is counted up; then the cell is written; then the old
     // object, if any, is counted down."
-    count_up(blocks, width, memory, v);
+    let stuck = count_up(blocks, width, memory, v);
     let old = memory.roots[r];
     memory.roots[r] = v;
     release(blocks, width, memory, old, order);
     leave_waiting_list_zero(memory);
     // "The value is the number of blocks freed."
-    accepted(free_count(blocks, memory) - free_before)
+    accepted_telling(free_count(blocks, memory) - free_before, stuck)
 }
 
 /// "Store v ... in cell j of the object at block a."
@@ -195,13 +209,13 @@ pub fn store_cell(
     }
     let free_before = free_count(blocks, memory);
     // The same three steps as in a root. "The owner of the written cell may itself be freed this way."
-    count_up(blocks, width, memory, v);
+    let stuck = count_up(blocks, width, memory, v);
     let old = memory.cells[4 * a + j];
     memory.cells[4 * a + j] = v;
     release(blocks, width, memory, old, order);
     leave_waiting_list_zero(memory);
     // "The value is the number of blocks freed."
-    accepted(free_count(blocks, memory) - free_before)
+    accepted_telling(free_count(blocks, memory) - free_before, stuck)
 }
 
 /// Document 02, U10: "A return lets go of all local variables together. Give one call a set of roots as a 64-bit

@@ -216,9 +216,10 @@ fn wrong_value(
 ) -> Option<String> {
     let free_before = free_count(blocks, before);
     let free_after = free_count(blocks, after);
-    let second = match call {
-        Call::Look { a } => count(blocks, width, after, a),
-        _ => 0,
+    let second = match (call, own_reference(call, reply)) {
+        (Call::Look { a }, _) => count(blocks, width, after, a),
+        (_, Some(v)) => usize::from(became_stuck(blocks, width, before, v as usize - 1, after)),
+        (_, None) => 0,
     };
     let right = match call {
         Call::StoreRoot { .. }
@@ -236,11 +237,56 @@ fn wrong_value(
     (!right || reply.second != second).then(|| format!("reply {reply:?} has a wrong value"))
 }
 
+/// The reference that an accepted call itself writes, if it writes one.
+pub fn own_reference(call: Call, reply: Reply) -> Option<u16> {
+    let v = match call {
+        _ if reply.number != 0 => 0,
+        Call::StoreRoot { v, .. } | Call::StoreCell { v, .. } => v,
+        Call::Allocate { .. } => 1 + reply.value,
+        Call::Format | Call::Check | Call::Collect | Call::Look { .. } | Call::FreeBlocks => 0,
+        Call::ReturnRoots { .. } => 0,
+    };
+    (v != 0).then_some(v as u16)
+}
+
+/// Document 02, U5: "this very step brought the count to the capacity, a birth at width 1 included". The object stands
+/// at the capacity after the call, and before it was lower or not there: what is stuck is not let go again.
+fn became_stuck(
+    blocks: usize,
+    width: usize,
+    before: &Memory,
+    first: usize,
+    after: &Memory,
+) -> bool {
+    let is_stuck = |memory| {
+        is_first_block(blocks, memory, first)
+            && count(blocks, width, memory, first) == capacity(width)
+    };
+    is_stuck(after) && !is_stuck(before)
+}
+
+/// No object comes to the capacity but one that the call's own reference names. Of collections, U5: "no object below
+/// the capacity before a collection stands at it afterwards."
+fn stuck_untold(
+    blocks: usize,
+    width: usize,
+    before: &Memory,
+    call: Call,
+    reply: Reply,
+    after: &Memory,
+) -> Option<String> {
+    let own = own_reference(call, reply).map(|v| v as usize - 1);
+    let (first, _) = objects(blocks, after).into_iter().find(|(first, _)| {
+        Some(*first) != own && became_stuck(blocks, width, before, *first, after)
+    })?;
+    Some(format!("the object at {first} became stuck by {call:?}"))
+}
+
 /// Document 02, U2: "an accepted store of the value present changes no buffer but the waiting list".
 fn changed_by_present_value(before: &Memory, call: Call, reply: Reply, after: &Memory) -> bool {
     let is_store = matches!(call, Call::StoreRoot { .. } | Call::StoreCell { .. });
     let present = is_store && written_in(before, call, reply) == *before;
-    present && (!after.same_but_for_waiting(before) || reply.value != 0)
+    present && (!after.same_but_for_waiting(before) || (reply.value, reply.second) != (0, 0))
 }
 
 /// What an accepted call isn't said to write keeps its content: the other roots, and the cells of the
@@ -320,6 +366,9 @@ pub fn broken_claim(
         return Some(what);
     }
     if let Some(what) = wrong_value(blocks, width, before, call, reply, after) {
+        return Some(what);
+    }
+    if let Some(what) = stuck_untold(blocks, width, before, call, reply, after) {
         return Some(what);
     }
     if let Call::Allocate { n, .. } = call {

@@ -11,15 +11,19 @@ pub fn references(memory: &Memory, first: usize) -> usize {
 
 /// "First the object named by v, if v isn't 0, is counted up". "A count at capacity is stuck: up and down
 /// don't change it."
-pub fn count_up(blocks: usize, width: usize, memory: &mut Memory, v: u16) {
+///
+/// Document 02, U5: "Counting up must say whether this very step brought the count to the capacity".
+pub fn count_up(blocks: usize, width: usize, memory: &mut Memory, v: u16) -> bool {
     if v == 0 {
-        return;
+        return false;
     }
     let first = named(blocks, memory, v).expect("v was tested to name an object");
-    let now = count(blocks, width, memory, first);
-    if now != capacity(width) {
-        set_count(blocks, width, memory, first, now + 1);
+    let before = count(blocks, width, memory, first);
+    if before != capacity(width) {
+        set_count(blocks, width, memory, first, before + 1);
     }
+    let after = count(blocks, width, memory, first);
+    before != after && after == capacity(width)
 }
 
 /// Which of the objects that wait to be freed is taken next: a place in the list of their first blocks, which

@@ -3,7 +3,7 @@
 
 use crate::rules::answers::Reply;
 use crate::rules::calls::Call;
-use crate::rules::claims::{all_references, objects, written_in, Object};
+use crate::rules::claims::{all_references, objects, own_reference, written_in, Object};
 use crate::rules::heap::{capacity, count, Memory};
 use std::collections::BTreeMap;
 
@@ -83,20 +83,8 @@ fn filled_by(
     step: &Step,
     counted_on: fn(&Step) -> Memory,
 ) -> Option<usize> {
-    let v = own_reference(step)?;
+    let v = own_reference(step.call, step.reply)?;
     let all = all_references(blocks, &counted_on(step));
     let number = all.iter().filter(|reference| **reference == v).count();
     (number >= capacity(width)).then_some(v as usize - 1)
-}
-
-/// The reference that an accepted call itself writes, if it writes one.
-fn own_reference(step: &Step) -> Option<u16> {
-    let v = match step.call {
-        _ if step.reply.number != 0 => 0,
-        Call::StoreRoot { v, .. } | Call::StoreCell { v, .. } => v,
-        Call::Allocate { .. } => 1 + step.reply.value,
-        Call::Format | Call::Check | Call::Collect | Call::Look { .. } | Call::FreeBlocks => 0,
-        Call::ReturnRoots { .. } => 0,
-    };
-    (v != 0).then_some(v as u16)
 }

@@ -65,13 +65,12 @@ pub fn reply_in_words(call: Call, [number, value, second]: [usize; 3]) -> String
     if number != 0 {
         return format!("refused {number}");
     }
+    let stuck = if second == 1 { ", stuck" } else { "" };
     match call {
         Call::Format | Call::Check => "accepted".to_string(),
-        Call::Allocate { .. } => format!("block {value}"),
-        Call::StoreRoot { .. }
-        | Call::StoreCell { .. }
-        | Call::Collect
-        | Call::ReturnRoots { .. } => format!("blocks freed: {value}"),
+        Call::Allocate { .. } => format!("block {value}{stuck}"),
+        Call::StoreRoot { .. } | Call::StoreCell { .. } => format!("blocks freed: {value}{stuck}"),
+        Call::Collect | Call::ReturnRoots { .. } => format!("blocks freed: {value}"),
         Call::Look { .. } => format!("size {value}, count {second}"),
         Call::FreeBlocks => format!("blocks free: {value}"),
     }

@@ -56,9 +56,13 @@ fn refusal(number: usize) -> Answer {
 }
 
 fn acceptance(value: usize) -> Answer {
+    telling(value, false)
+}
+
+fn telling(value: usize, stuck: bool) -> Answer {
     Answer {
         number: 0,
         value,
-        second: 0,
+        second: usize::from(stuck),
     }
 }

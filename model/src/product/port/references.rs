@@ -7,15 +7,18 @@ fn capacity(width: usize) -> u8 {
     (1u8 << width) - 1
 }
 
-fn count_up(blocks: usize, width: usize, counts: &mut [u8], v: u16) {
+fn count_up(blocks: usize, width: usize, counts: &mut [u8], v: u16) -> bool {
     if v == 0 {
-        return;
+        return false;
     }
     let block = v as usize - 1;
     let count = get_count(counts, blocks / 8, width, block);
-    if count != capacity(width) {
-        set_count(counts, blocks / 8, width, block, count + 1);
+    let most = capacity(width);
+    if count == most {
+        return false;
     }
+    set_count(counts, blocks / 8, width, block, count + 1);
+    count + 1 == most
 }
 
 fn count_down(
@@ -67,12 +70,25 @@ fn put_root(blocks: usize, width: usize, m: &mut Lent, r: usize, v: u16) -> usiz
     let_go(blocks, width, m, old)
 }
 
-pub fn store_root(blocks: usize, width: usize, m: &mut Lent, r: usize, v: u16) -> usize {
+/// The number of blocks freed, and whether an object became stuck.
+pub struct Stored {
+    pub freed: usize,
+    pub stuck: bool,
+}
+
+/// A store of the value present.
+const NOTHING: Stored = Stored {
+    freed: 0,
+    stuck: false,
+};
+
+pub fn store_root(blocks: usize, width: usize, m: &mut Lent, r: usize, v: u16) -> Stored {
     if m.roots[r] == v {
-        return 0;
+        return NOTHING;
     }
-    count_up(blocks, width, m.counts, v);
-    put_root(blocks, width, m, r, v)
+    let stuck = count_up(blocks, width, m.counts, v);
+    let freed = put_root(blocks, width, m, r, v);
+    Stored { freed, stuck }
 }
 
 /// The roots of a set cleared, in ascending order. The number of blocks freed in all.
@@ -80,29 +96,34 @@ pub fn return_roots(blocks: usize, width: usize, m: &mut Lent, chosen: u64) -> u
     let mut freed = 0;
     for r in 0..m.roots.len() {
         if (chosen >> r) % 2 == 1 {
-            freed += store_root(blocks, width, m, r, 0);
+            freed += store_root(blocks, width, m, r, 0).freed;
         }
     }
     freed
 }
 
-pub fn store_cell(blocks: usize, width: usize, m: &mut Lent, c: usize, v: u16) -> usize {
+pub fn store_cell(blocks: usize, width: usize, m: &mut Lent, c: usize, v: u16) -> Stored {
     let old = m.cells[c];
     if old == v {
-        return 0;
+        return NOTHING;
     }
-    count_up(blocks, width, m.counts, v);
+    let stuck = count_up(blocks, width, m.counts, v);
     m.cells[c] = v;
-    let_go(blocks, width, m, old)
+    let freed = let_go(blocks, width, m, old);
+    Stored { freed, stuck }
 }
 
-pub fn place(blocks: usize, width: usize, m: &mut Lent, n: usize, r: usize, i: usize) -> usize {
+pub fn place(blocks: usize, width: usize, m: &mut Lent, n: usize, r: usize, i: usize) -> Stored {
     mark_extent(m.a, m.b, i, n);
     set_count(m.counts, blocks / 8, width, i, 1);
     for j in 4 * i..4 * i + 4 * n {
         m.cells[j] = 0;
     }
-    put_root(blocks, width, m, r, (i + 1) as u16)
+    let freed = put_root(blocks, width, m, r, (i + 1) as u16);
+    Stored {
+        freed,
+        stuck: capacity(width) == 1,
+    }
 }
 
 fn visit(

@@ -5,7 +5,7 @@ use super::blocks::{
 };
 use super::damage::is_shaped;
 use super::references::{collect, place, return_roots, store_cell, store_root};
-use super::{acceptance, refusal, Answer, Lent};
+use super::{acceptance, refusal, telling, Answer, Lent};
 
 pub fn format(m: &mut Lent) {
     m.a.fill(0);
@@ -44,8 +44,8 @@ pub fn allocate(
     if at == blocks {
         return (refusal(5), 0);
     }
-    let freed = place(blocks, width, m, n, r, at);
-    (acceptance(at), freed)
+    let placed = place(blocks, width, m, n, r, at);
+    (telling(at, placed.stuck), placed.freed)
 }
 
 pub fn put_in_root(blocks: usize, width: usize, m: &mut Lent, r: usize, v: usize) -> Answer {
@@ -55,7 +55,8 @@ pub fn put_in_root(blocks: usize, width: usize, m: &mut Lent, r: usize, v: usize
     if !is_reference(blocks, m.a, m.b, v) {
         return refusal(8);
     }
-    acceptance(store_root(blocks, width, m, r, v as u16))
+    let stored = store_root(blocks, width, m, r, v as u16);
+    telling(stored.freed, stored.stuck)
 }
 
 pub fn put_in_cell(
@@ -75,7 +76,8 @@ pub fn put_in_cell(
     if !is_reference(blocks, m.a, m.b, v) {
         return refusal(8);
     }
-    acceptance(store_cell(blocks, width, m, 4 * at + j, v as u16))
+    let stored = store_cell(blocks, width, m, 4 * at + j, v as u16);
+    telling(stored.freed, stored.stuck)
 }
 
 fn let_go_of(blocks: usize, width: usize, m: &mut Lent, chosen: u64) -> Answer {
