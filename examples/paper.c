@@ -110,6 +110,11 @@ int main(void) {
     expect("collect", huwekapo_collect(HEAP), HUWEKAPO_ACCEPTED, 0, 0);
     expect("return root 4", huwekapo_return_roots(HEAP, 16), HUWEKAPO_BAD_ROOT, 0, 0);
     expect("return roots 0 and 2", huwekapo_return_roots(HEAP, 5), HUWEKAPO_ACCEPTED, 5, 0);
+    /* P4: the third reference brings the count to the capacity, which the second value tells. */
+    expect("allocate 1 into root 0", huwekapo_allocate(HEAP, 1, 0), HUWEKAPO_ACCEPTED, 0, 0);
+    expect("store 1 in root 1", huwekapo_store_root(HEAP, 1, 1), HUWEKAPO_ACCEPTED, 0, 0);
+    expect("store 1 in root 2", huwekapo_store_root(HEAP, 2, 1), HUWEKAPO_ACCEPTED, 0, 1);
+    expect("store 1 in root 3", huwekapo_store_root(HEAP, 3, 1), HUWEKAPO_ACCEPTED, 0, 0);
     replay_p1();
     replay_wide();
     puts(failures == 0 ? "paper: ok" : "paper: DIFFERENT");

@@ -82,8 +82,9 @@ extern "C" {
 extern const char huwekapo_version[];
 
 /* A number and its values. `number` is 0 where the call was accepted, else the first that applies of the refusals that the
- * call names, in the order in which it names them. A refusal carries value 0, or the damage kind for number 2. `second` is 0
- * but for an accepted look. */
+ * call names, in the order in which it names them. A refusal carries value 0, or the damage kind for number 2. `second` is the
+ * count that a look finds; of an accepted allocation or store it is 1 where this call brought the count of the object that it
+ * stores to the capacity, at which the object is stuck, and 0 where not. Else it is 0. */
 struct huwekapo_reply {
     size_t number;
     size_t value;
@@ -162,7 +163,8 @@ struct huwekapo_reply huwekapo_check(size_t blocks, size_t width,
                                      const uint16_t *roots, size_t roots_length,
                                      const uint16_t *waiting, size_t waiting_length);
 
-/* Allocates n blocks into root r. The value is the first block. Refusals: 1, 2, 3, 4, 5. */
+/* Allocates n blocks into root r. The value is the first block, `second` whether the new object is stuck, as it is at width 1.
+ * Refusals: 1, 2, 3, 4, 5. */
 struct huwekapo_reply huwekapo_allocate(size_t blocks, size_t width,
                                         uint8_t *a, size_t a_length,
                                         uint8_t *b, size_t b_length,
@@ -172,8 +174,8 @@ struct huwekapo_reply huwekapo_allocate(size_t blocks, size_t width,
                                         uint16_t *waiting, size_t waiting_length,
                                         size_t n, size_t r);
 
-/* Stores v in root r. The value is the number of blocks freed. Where the root holds v already, only the waiting list is
- * written. Refusals: 1, 2, 4, 8. */
+/* Stores v in root r. The value is the number of blocks freed, `second` whether the object that v names became stuck. Where
+ * the root holds v already, only the waiting list is written. Refusals: 1, 2, 4, 8. */
 struct huwekapo_reply huwekapo_store_root(size_t blocks, size_t width,
                                           uint8_t *a, size_t a_length,
                                           uint8_t *b, size_t b_length,
@@ -183,8 +185,8 @@ struct huwekapo_reply huwekapo_store_root(size_t blocks, size_t width,
                                           uint16_t *waiting, size_t waiting_length,
                                           size_t r, size_t v);
 
-/* Stores v in cell j of the object at block `at`. The value is the number of blocks freed. Where the cell holds v already,
- * only the waiting list is written. Refusals: 1, 2, 6, 7, 8. */
+/* Stores v in cell j of the object at block `at`. The value is the number of blocks freed, `second` whether the object that v
+ * names became stuck. Where the cell holds v already, only the waiting list is written. Refusals: 1, 2, 6, 7, 8. */
 struct huwekapo_reply huwekapo_store_cell(size_t blocks, size_t width,
                                           uint8_t *a, size_t a_length,
                                           uint8_t *b, size_t b_length,

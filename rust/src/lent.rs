@@ -21,7 +21,8 @@ use crate::{foreign, Ref, SoFar};
 
 /// A number and its values. `number` is 0 where the call was accepted, else the first that applies of the refusals
 /// that the call names, in the order in which it names them. A refusal carries value 0, or the damage kind for
-/// number 2. `second` is 0 but for an accepted look.
+/// number 2. `second` is the count that a look finds; of an accepted allocation or store it is 1 where this call brought
+/// the count of the object that it stores to the capacity, at which the object is stuck, and 0 where not. Else it is 0.
 ///
 /// [`Refusal`](crate::Refusal) has the words of the numbers.
 #[repr(C)]
@@ -32,7 +33,7 @@ pub struct Reply {
     pub number: usize,
     /// What the call names as its value; of a refusal 0, or the damage kind.
     pub value: usize,
-    /// The count that a look finds.
+    /// The count that a look finds; 1 where an allocation or a store made an object stuck.
     pub second: usize,
 }
 
@@ -129,17 +130,20 @@ pub fn check(heap: Shared) -> Reply {
     lend!(huwekapo_check, heap, as_ptr, as_ptr)
 }
 
-/// Allocates n blocks into root r. The value is the first block. Refusals: 1, 2, 3, 4, 5.
+/// Allocates n blocks into root r. The value is the first block, `second` whether the new object is stuck, as it is at
+/// width 1. Refusals: 1, 2, 3, 4, 5.
 pub fn allocate(heap: Unique, n: usize, r: usize) -> Reply {
     lend!(huwekapo_allocate, heap, as_mut_ptr, as_mut_ptr, n, r)
 }
 
-/// Stores v in root r. The value is the number of blocks freed. Refusals: 1, 2, 4, 8.
+/// Stores v in root r. The value is the number of blocks freed, `second` whether the object that v names became stuck.
+/// Refusals: 1, 2, 4, 8.
 pub fn store_root(heap: Unique, r: usize, v: usize) -> Reply {
     lend!(huwekapo_store_root, heap, as_mut_ptr, as_mut_ptr, r, v)
 }
 
-/// Stores v in cell j of the object at block `at`. The value is the number of blocks freed. Refusals: 1, 2, 6, 7, 8.
+/// Stores v in cell j of the object at block `at`. The value is the number of blocks freed, `second` whether the object
+/// that v names became stuck. Refusals: 1, 2, 6, 7, 8.
 pub fn store_cell(heap: Unique, at: usize, j: usize, v: usize) -> Reply {
     lend!(huwekapo_store_cell, heap, as_mut_ptr, as_ptr, at, j, v)
 }

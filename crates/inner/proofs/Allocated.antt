@@ -99,13 +99,14 @@ module _ (N w : ℕ) (h : Memory) (n r : ℕ) where
       x h tested refl
 
   module _ (at : ℕ) (free : Found N (h .a) (length (h .roots)) n r at) where
-    pub allocate-answered : Healthy N w h → answer N w h (allocate n r) ≡ (reply 0 at (one (birthSticks w)), settled N (allocateIn N w h n r at))
+    pub allocate-answered :
+        Healthy N w h → answer N w h (allocate n r) ≡ (reply 0 at (one (birthSticks w)), settled N (allocateIn N w h n r at))
     unfolding answer require allocation
     allocate-answered healthy = on-undamaged N w h healthy _ ∙ rw (free .size-test, free .place-test, free .lowest)
 
     pub allocate-promised :
-        Usable N w h → (stuck : Bool) (x : Reply) (g : Memory) → g ≡ allocateIn N w h n r at → stuck ≡ birthSticks w → x ≡ reply 0 at (one stuck)
-        → Promise N w (allocate n r) h x g
+        Usable N w h → (stuck : Bool) (x : Reply) (g : Memory) → g ≡ allocateIn N w h n r at → stuck ≡ birthSticks w
+        → x ≡ reply 0 at (one stuck) → Promise N w (allocate n r) h x g
     allocate-promised usable stuck x g left told replied =
         promised N w h (allocate n r) (reply 0 at (one (birthSticks w)), settled N (allocateIn N w h n r at))
         (allocate-answered (usable-healthy N w h usable)) x g

@@ -60,7 +60,8 @@ module _ (N w : ℕ) (h : Memory) (usable : Usable N w h) (n r : ℕ) where
 
   pub allocate-accepting :
       (at : ℕ) → Found N (h .a) (length (h .roots)) n r at → (stuck : Bool) (done : Allocated) (g : Memory) → g ≡ allocateIn N w h n r at
-      → done .freed ≡ allocateBlocks N w h n r at → stuck ≡ birthSticks w → done .reply ≡ reply 0 at (one stuck) → Allocating N w n r h done g
+      → done .freed ≡ allocateBlocks N w h n r at → stuck ≡ birthSticks w → done .reply ≡ reply 0 at (one stuck)
+      → Allocating N w n r h done g
   allocate-accepting at free stuck done g left counted told replied =
       let promise = allocate-promised N w h n r at free usable stuck (done .reply) g left told replied in
       let healthy = usable-healthy N w h usable in

@@ -21,6 +21,13 @@ use Rattle.inner.specs.Usable.{Usable}
 use Rattle.inner.proofs.Idle.{settled-idle, usable-healthy, promised}
 use Rattle.inner.proofs.Passed.{RootPassed, CellPassed}
 
+-- whether the store makes an object stuck
+abbrev pub rootSticks : (N w : ℕ) → Memory → (r v : ℕ) → Bool
+rootSticks N w h r v = storeSticks N w (h .counts) (getD (h .roots) r 0) v
+
+abbrev pub cellSticks : (N w : ℕ) → Memory → (a j v : ℕ) → Bool
+cellSticks N w h a j v = storeSticks N w (h .counts) (getD (h .cells) (4 * a + j) 0) v
+
 -- an answer that frees, from the memory left and the number of blocks counted
 pub freeing-promised :
     (N w : ℕ) (h k : Memory) (second : ℕ) (c : Call) → answer N w h c ≡ freeing N h k second → (freed : ℕ) (x : Reply) (g : Memory)
@@ -30,10 +37,7 @@ freeing-promised N w h k second c e freed x g counted replied left =
     promised N w h c (freeing N h k second) e x g (replied ∙ ap (λ (n : ℕ). reply 0 n second) counted) left
 
 module _ (N w : ℕ) (h : Memory) (r v : ℕ) (passed : RootPassed N h r v) where
-  abbrev pub rootSticks : Bool
-  rootSticks = storeSticks N w (h .counts) (getD (h .roots) r 0) v
-
-  pub root-answered : Healthy N w h → answer N w h (storeRoot r v) ≡ freeing N h (storeRootIn N w h r v) (one rootSticks)
+  pub root-answered : Healthy N w h → answer N w h (storeRoot r v) ≡ freeing N h (storeRootIn N w h r v) (one (rootSticks N w h r v))
   unfolding answer
   root-answered healthy =
       on-undamaged N w h healthy _
@@ -42,10 +46,10 @@ module _ (N w : ℕ) (h : Memory) (r v : ℕ) (passed : RootPassed N h r v) wher
 
   pub root-promised :
       Usable N w h → (freed : ℕ) (stuck : Bool) (x : Reply) (g : Memory) → g ≡ storeRootIn N w h r v → freed ≡ storeRootBlocks N w h r v
-      → stuck ≡ rootSticks → x ≡ reply 0 freed (one stuck) → Promise N w (storeRoot r v) h x g
+      → stuck ≡ rootSticks N w h r v → x ≡ reply 0 freed (one stuck) → Promise N w (storeRoot r v) h x g
   root-promised usable freed stuck x g left counted told replied =
       let healthy = usable-healthy N w h usable in
-      freeing-promised N w h (storeRootIn N w h r v) (one rootSticks) (storeRoot r v) (root-answered healthy) freed x g
+      freeing-promised N w h (storeRootIn N w h r v) (one (rootSticks N w h r v)) (storeRoot r v) (root-answered healthy) freed x g
       (counted ∙ sym (store-root-freed N w h healthy r v (passed .place) (passed .ref)))
       (replied ∙ ap (λ (t : Bool). reply 0 freed (one t)) told)
       (left
@@ -53,10 +57,8 @@ module _ (N w : ℕ) (h : Memory) (r v : ℕ) (passed : RootPassed N h r v) wher
       ∙ store-root-waiting N w (replicate N 0) h r v)
 
 module _ (N w : ℕ) (h : Memory) (a j v : ℕ) (passed : CellPassed N h a j v) where
-  abbrev pub cellSticks : Bool
-  cellSticks = storeSticks N w (h .counts) (getD (h .cells) (4 * a + j) 0) v
-
-  pub cell-answered : Healthy N w h → answer N w h (storeCell a j v) ≡ freeing N h (storeCellIn N w h (4 * a + j) v) (one cellSticks)
+  pub cell-answered :
+      Healthy N w h → answer N w h (storeCell a j v) ≡ freeing N h (storeCellIn N w h (4 * a + j) v) (one (cellSticks N w h a j v))
   unfolding answer
   cell-answered healthy =
       on-undamaged N w h healthy _
@@ -66,11 +68,12 @@ module _ (N w : ℕ) (h : Memory) (a j v : ℕ) (passed : CellPassed N h a j v) 
 
   pub cell-promised :
       Usable N w h → (freed : ℕ) (stuck : Bool) (x : Reply) (g : Memory) → g ≡ storeCellIn N w h (4 * a + j) v
-      → freed ≡ storeCellBlocks N w h (4 * a + j) v → stuck ≡ cellSticks → x ≡ reply 0 freed (one stuck)
+      → freed ≡ storeCellBlocks N w h (4 * a + j) v → stuck ≡ cellSticks N w h a j v → x ≡ reply 0 freed (one stuck)
       → Promise N w (storeCell a j v) h x g
   cell-promised usable freed stuck x g left counted told replied =
       let healthy = usable-healthy N w h usable in
-      freeing-promised N w h (storeCellIn N w h (4 * a + j) v) (one cellSticks) (storeCell a j v) (cell-answered healthy) freed x g
+      freeing-promised N w h (storeCellIn N w h (4 * a + j) v) (one (cellSticks N w h a j v)) (storeCell a j v) (cell-answered healthy)
+      freed x g
       (counted ∙ sym (store-cell-freed N w h healthy a j v (passed .first) (passed .place) (passed .ref)))
       (replied ∙ ap (λ (t : Bool). reply 0 freed (one t)) told)
       (left

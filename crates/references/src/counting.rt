@@ -17,7 +17,9 @@ pub fn capacity_of(width: usize) -> u8
 // Counts up the object that v names, if any. Whether this very step brought its count to the capacity.
 pub fn count_up(blocks: usize, width: usize, counts: &mut [u8], v: Ref) -> bool
     requires { ⌜ Planes blocks width (now counts) × (v ≤ blocks) ⌝ }
-    ensures { λ stuck. ⌜ (now (counts .exit) ≡ countUp blocks width (now (counts .entry)) v) × (stuck ≡ sticks blocks width (now (counts .entry)) v) ⌝ }
+    ensures { λ stuck.
+        ⌜ (now (counts .exit) ≡ countUp blocks width (now (counts .entry)) v)
+        × (stuck ≡ sticks blocks width (now (counts .entry)) v) ⌝ }
 {
     if v == 0 {
         return false;

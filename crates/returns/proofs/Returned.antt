@@ -127,6 +127,7 @@ module _ (N w : ℕ) (start : Memory) (chosen : ℕ) where
       let end : Memory = returnIn N w start chosen (length (start .roots)) in
       let all : r ≡ length (start .roots) = omega (arith, p .made, p .roots-length) in
       let is : h ≡ end = p .after-is ∙ ap (returnIn N w start chosen) all in
-      freeing-promised N w start end 0 (returnRoots chosen) (return-answered N w start (usable-healthy N w start usable) chosen passes) freed x h
+      freeing-promised N w start end 0 (returnRoots chosen) (return-answered N w start (usable-healthy N w start usable) chosen passes)
+      freed x h
       (omega (arith, p .blocks, ap (λ (k : Memory). zeros (k .a)) is)) replied
       (sym (settled-idle N w h (p .usable)) ∙ ap (settled N) is)

@@ -144,24 +144,26 @@ moments =
     case 1 (fresh 1) 13 246 ((allocate 1 0, sticking 0) ∷ (allocate 2 0, sticking 2) ∷ (look 0, shows 1 1) ∷ [])
     -- the third reference, in a cell; a fourth; one of them stored over itself
     ∷ case 2 (fresh 2) 1 254
-    ((allocate 1 0, gives 0) ∷ (storeRoot 1 1, gives 0) ∷ (storeCell 0 0 1, sticking 0) ∷ (storeCell 0 1 1, gives 0) ∷ (storeRoot 2 1, gives 0)
-    ∷ (storeRoot 1 1, gives 0) ∷ [])
+    ((allocate 1 0, gives 0) ∷ (storeRoot 1 1, gives 0) ∷ (storeCell 0 0 1, sticking 0) ∷ (storeCell 0 1 1, gives 0)
+    ∷ (storeRoot 2 1, gives 0) ∷ (storeRoot 1 1, gives 0) ∷ [])
     -- a reference stored over itself, one below the capacity: in a root, in a cell
-    ∷ case 2 (fresh 2) 1 254 ((allocate 1 0, gives 0) ∷ (storeCell 0 3 1, gives 0) ∷ (storeRoot 0 1, gives 0) ∷ (storeCell 0 3 1, gives 0) ∷ [])
+    ∷ case 2 (fresh 2) 1 254
+    ((allocate 1 0, gives 0) ∷ (storeCell 0 3 1, gives 0) ∷ (storeRoot 0 1, gives 0) ∷ (storeCell 0 3 1, gives 0) ∷ [])
     -- a collection sticks none; the object comes to the capacity again
     ∷ case 2 (fresh 2) 1 254
-    ((allocate 1 0, gives 0) ∷ (storeRoot 1 1, gives 0) ∷ (storeRoot 2 1, sticking 0) ∷ (collect, gives 0) ∷ (storeRoot 2 0, gives 0) ∷ (collect, gives 0)
-    ∷ (look 0, shows 1 2) ∷ (storeRoot 3 1, sticking 0) ∷ [])
+    ((allocate 1 0, gives 0) ∷ (storeRoot 1 1, gives 0) ∷ (storeRoot 2 1, sticking 0) ∷ (collect, gives 0) ∷ (storeRoot 2 0, gives 0)
+    ∷ (collect, gives 0) ∷ (look 0, shows 1 2) ∷ (storeRoot 3 1, sticking 0) ∷ [])
     -- the object that is let go is one below the capacity, the new one is not
     ∷ case 2 (fresh 2) 3 252
     ((allocate 1 0, gives 0) ∷ (storeRoot 1 1, gives 0) ∷ (allocate 1 2, gives 1) ∷ (storeRoot 1 2, gives 0) ∷ (storeCell 0 0 1, gives 0)
     ∷ (storeCell 0 0 2, sticking 0) ∷ [])
     -- the new object comes to the capacity and the old one is freed
-    ∷ case 2 (fresh 2) 2 253 ((allocate 1 0, gives 0) ∷ (allocate 1 1, gives 1) ∷ (storeRoot 2 2, gives 0) ∷ (storeRoot 0 2, sticking 1) ∷ [])
+    ∷ case 2 (fresh 2) 2 253
+    ((allocate 1 0, gives 0) ∷ (allocate 1 1, gives 1) ∷ (storeRoot 2 2, gives 0) ∷ (storeRoot 0 2, sticking 1) ∷ [])
     -- "any further value of a reply is 0, or no, in every refusal"
     ∷ case 2 (fresh 2) 1 254
-    ((allocate 1 0, gives 0) ∷ (storeRoot 1 1, gives 0) ∷ (storeRoot 4 1, refuses 4) ∷ (storeCell 1 0 1, refuses 6) ∷ (storeCell 0 4 1, refuses 7)
-    ∷ (storeRoot 2 2, refuses 8) ∷ [])
+    ((allocate 1 0, gives 0) ∷ (storeRoot 1 1, gives 0) ∷ (storeRoot 4 1, refuses 4) ∷ (storeCell 1 0 1, refuses 6)
+    ∷ (storeCell 0 4 1, refuses 7) ∷ (storeRoot 2 2, refuses 8) ∷ [])
     ∷ case 1 (fresh 1) 0 255 ((allocate 9 0, refuses 3) ∷ (allocate 1 4, refuses 4) ∷ [])
     ∷ []
 

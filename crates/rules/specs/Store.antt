@@ -22,7 +22,7 @@ countUp N w counts v =
     let c = countAt (N / 8) w counts (v - 1) in
     elim (eqb v 0 || eqb c (capacity w)) [ true ↦ counts | false ↦ setCount (N / 8) w counts (v - 1) (c + 1) ]
 
--- request U5: "Counting up must say whether this very step brought the count to the capacity": v names an object, and its count is one below
+-- request U5: "Counting up must say whether this very step brought the count to the capacity": v names an object, whose count is one below
 unfoldable pub sticks : ℕ → ℕ → List ℕ → ℕ → Bool
 sticks N w counts v = not (eqb v 0) && eqb (countAt (N / 8) w counts (v - 1) + 1) (capacity w)
 

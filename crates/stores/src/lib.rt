@@ -1,5 +1,5 @@
-// The two stores and the placing of a new object. They ask for `Ready` lists (lengths, ranges, a cleared waiting list) and leave the waiting
-// list cleared.
+// The two stores and the placing of a new object. They ask for `Ready` lists (lengths, ranges, a cleared waiting list) and leave the
+// waiting list cleared.
 ghost use mathlib.Core.Path.{_≡_};
 ghost use Prim.Native.Nat.{_+_, _*_, _≤_, _<_};
 ghost use lib.ListN.{length, getD};

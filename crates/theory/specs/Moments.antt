@@ -56,8 +56,8 @@ pub record EachTells (N w : ℕ) (h : Memory) : Type 0 where
 abbrev pub StuckTold : Type 0
 StuckTold = (N w : ℕ) (h : Memory) → EachTells N w h
 
--- No moment goes untold: where an object stands before a call below the capacity and after it at the capacity, the second value is 1. The new
--- object of an allocation is in `StuckTold`.
+-- No moment goes untold: where an object stands before a call below the capacity and after it at the capacity, the second value is 1. The
+-- new object of an allocation is in `StuckTold`.
 abbrev pub NoneUntold : Type 0
 NoneUntold =
     (N w : ℕ) (h : Memory) → Undamaged N w h → (call : Call) (b n : ℕ) → let x = answer N w h call in

@@ -8,6 +8,19 @@ use Rattle.stores.proofs.Storing.{ready-placed, place-done, place-block
 use Rattle.stores.proofs.place.Statement.{statement}
 use Rattle.stores.proofs.place.Tie as tie
 
+-- the places: the extent marked, the count written, the cells cleared, the root written
+abbrev marked : tie.After-set-count → tie.After-mark-extent
+marked c = c .before .before .before .before .before .before
+
+abbrev counted : tie.After-clear-cells → tie.After-set-count
+counted c = c .before .before .before .before
+
+abbrev cleared : tie.After-put-root → tie.After-clear-cells
+cleared c = c .before .before .before .before .before .before .before .before .before
+
+abbrev put : tie.After-slice-known16 → tie.After-put-root
+put c = c .before .before .before .before .before .before .before .before .before .before .before .before
+
 capacity-of-requires : tie.Need-capacity-of-requires
 capacity-of-requires c κs = search needs
 
@@ -34,45 +47,25 @@ cast-put-root c = search needs
 
 put-root-requires : tie.Need-put-root-requires
 put-root-requires c κs =
-    let cleared = c .before .before .before .before .before .before .before .before in
-    let counted = cleared .before .before .before .before in
-    let marked = counted .before .before .before .before .before .before in
-    let pre = marked .before .before .before .before .before .before .before .before .before .before .pre in
-    let extent = marked .mark-extent .ensures in
-    let count = counted .set-count .ensures in
-    let cells = cleared .clear-cells .ensures in
-    (ready-placed _ _ _ _ _ _ _ _ _ _ _ _ _ _ (extent .0) (extent .1) count cells (pre .0), pre .3, omega arith)
-
-same-length : tie.Need-same-length
-same-length c = c .before .before .before .before .before .before .before .before .before .before .before .before .put-root .kept .1 .1 .0 ∙ c .before .before .before .before .before .before .before .before .before .before .before .before .before .before .before .before .before .before .before .before .before .before .before .before .before .before .before .before .before .before .before .mark-extent .kept .0
-
-same-length-2 : tie.Need-same-length-2
-same-length-2 c = c .before .before .before .before .before .before .before .before .before .before .before .before .put-root .kept .1 .1 .1 .0 ∙ c .before .before .before .before .before .before .before .before .before .before .before .before .before .before .before .before .before .before .before .before .before .before .before .before .before .before .before .before .before .before .before .mark-extent .kept .1 .0
-
-same-length-3 : tie.Need-same-length-3
-same-length-3 c = c .before .before .before .before .before .before .before .before .before .before .before .before .put-root .kept .1 .1 .1 .1 .0 ∙ c .before .before .before .before .before .before .before .before .before .before .before .before .before .before .before .before .before .before .before .before .before .before .before .before .before .set-count .kept .0
-
-same-length-4 : tie.Need-same-length-4
-same-length-4 c = c .before .before .before .before .before .before .before .before .before .before .before .before .put-root .kept .1 .1 .1 .1 .1 .0 ∙ c .before .before .before .before .before .before .before .before .before .before .before .before .before .before .before .before .before .before .before .before .before .clear-cells .kept .0
-
-same-length-5 : tie.Need-same-length-5
-same-length-5 c = c .before .before .before .before .before .before .before .before .before .before .before .before .put-root .kept .1 .1 .1 .1 .1 .1 .0
-
-same-length-6 : tie.Need-same-length-6
-same-length-6 c = c .before .before .before .before .before .before .before .before .before .before .before .before .put-root .kept .1 .1 .1 .1 .1 .1 .1 .0
+    let clear = c .before .before .before .before .before .before .before .before in
+    let count = counted clear in
+    let extent = marked count .mark-extent .ensures in
+    let pre = marked count .before .before .before .before .before .before .before .before .before .before .pre in (
+      ready-placed _ _ _ _ _ _ _ _ _ _ _ _ _ _ (extent .0) (extent .1) (count .set-count .ensures) (clear .clear-cells .ensures) (pre .0),
+      pre .3,
+      omega arith,
+    )
 
 returns : tie.Need-returns
 returns c =
-    let put = c .before .before .before .before .before .before .before .before .before .before .before .before in
-    let cleared = put .before .before .before .before .before .before .before .before .before in
-    let counted = cleared .before .before .before .before in
-    let marked = counted .before .before .before .before .before .before in
-    let extent = marked .mark-extent .ensures in
-    let count = counted .set-count .ensures in
-    let cells = cleared .clear-cells .ensures in (
-      place-done _ _ _ _ _ _ _ _ _ _ _ _ _ _ (extent .0) (extent .1) count cells _ _ (put .put-root .ensures .0),
-      place-blocks _ _ _ _ _ _ _ _ _ _ _ _ _ _ (extent .0) (extent .1) count cells _ _ (put .put-root .ensures .1),
-      ap (λ (most : ℕ). eqb most 1) (marked .before .before .before .capacity-of .ensures .0),
+    let clear = cleared (put c) in
+    let count = counted clear in
+    let extent = marked count .mark-extent .ensures in
+    let counts = count .set-count .ensures in
+    let cells = clear .clear-cells .ensures in (
+      place-done _ _ _ _ _ _ _ _ _ _ _ _ _ _ (extent .0) (extent .1) counts cells _ _ (put c .put-root .ensures .0),
+      place-blocks _ _ _ _ _ _ _ _ _ _ _ _ _ _ (extent .0) (extent .1) counts cells _ _ (put c .put-root .ensures .1),
+      ap (λ (most : ℕ). eqb most 1) (marked count .before .before .before .capacity-of .ensures .0),
     )
 
 pub place-spec : {M : Type 1} → statement M
@@ -88,10 +81,10 @@ place-spec =
     add-put-root
     cast-put-root
     put-root-requires
-    same-length
-    same-length-2
-    same-length-3
-    same-length-4
-    same-length-5
-    same-length-6
+    (λ c. put c .put-root .kept .1 .1 .0 ∙ marked (counted (cleared (put c))) .mark-extent .kept .0)
+    (λ c. put c .put-root .kept .1 .1 .1 .0 ∙ marked (counted (cleared (put c))) .mark-extent .kept .1 .0)
+    (λ c. put c .put-root .kept .1 .1 .1 .1 .0 ∙ counted (cleared (put c)) .set-count .kept .0)
+    (λ c. put c .put-root .kept .1 .1 .1 .1 .1 .0 ∙ cleared (put c) .clear-cells .kept .0)
+    (λ c. put c .put-root .kept .1 .1 .1 .1 .1 .1 .0)
+    (λ c. put c .put-root .kept .1 .1 .1 .1 .1 .1 .1 .0)
     returns)

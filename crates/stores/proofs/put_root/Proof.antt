@@ -7,6 +7,10 @@ use Rattle.references.proofs.Elsewhere.{let-go-roots, let-go-blocks-roots}
 use Rattle.stores.proofs.put_root.Statement.{statement}
 use Rattle.stores.proofs.put_root.Tie as tie
 
+-- the place where what stood there is let go
+abbrev gone : tie.After-slice-known12 → tie.After-let-go
+gone c = c .before .before .before .before .before .before .before .before .before .before
+
 mul-old : tie.Need-mul-old
 mul-old c = search needs
 
@@ -25,29 +29,14 @@ let-go-requires c κs =
     let ready = start .pre .0 in
     (ready .planes, ready .extents, ready .idle, omega (arith, ready .named (start .args .r)))
 
-same-length : tie.Need-same-length
-same-length c = c .before .before .before .before .before .before .before .before .before .before .let-go .kept .1 .1 .0
-
-same-length-2 : tie.Need-same-length-2
-same-length-2 c = c .before .before .before .before .before .before .before .before .before .before .let-go .kept .1 .1 .1 .0
-
-same-length-3 : tie.Need-same-length-3
-same-length-3 c = c .before .before .before .before .before .before .before .before .before .before .let-go .kept .1 .1 .1 .1 .0
-
-same-length-4 : tie.Need-same-length-4
-same-length-4 c = c .before .before .before .before .before .before .before .before .before .before .let-go .kept .1 .1 .1 .1 .1 .0
-
 same-length-5 : tie.Need-same-length-5
 same-length-5 c = search needs
-
-same-length-6 : tie.Need-same-length-6
-same-length-6 c = c .before .before .before .before .before .before .before .before .before .before .let-go .kept .1 .1 .1 .1 .1 .1 .0
 
 returns : tie.Need-returns
 unfolding putRoot putRootBlocks
 returns c =
-    let gone = c .before .before .before .before .before .before .before .before .before .before .let-go .ensures in
-    (let-go-roots _ _ _ _ _ _ _ _ _ _ _ _ _ _ (gone .0), let-go-blocks-roots _ _ _ _ _ _ _ _ _ _ (gone .1))
+    let left = gone c .let-go .ensures in
+    (let-go-roots _ _ _ _ _ _ _ _ _ _ _ _ _ _ (left .0), let-go-blocks-roots _ _ _ _ _ _ _ _ _ _ (left .1))
 
 pub put-root-spec : {M : Type 1} → statement M
 put-root-spec =
@@ -58,10 +47,10 @@ put-root-spec =
     mul-roots
     slice-write-roots
     let-go-requires
-    same-length
-    same-length-2
-    same-length-3
-    same-length-4
+    (λ c. gone c .let-go .kept .1 .1 .0)
+    (λ c. gone c .let-go .kept .1 .1 .1 .0)
+    (λ c. gone c .let-go .kept .1 .1 .1 .1 .0)
+    (λ c. gone c .let-go .kept .1 .1 .1 .1 .1 .0)
     same-length-5
-    same-length-6
+    (λ c. gone c .let-go .kept .1 .1 .1 .1 .1 .1 .0)
     returns)

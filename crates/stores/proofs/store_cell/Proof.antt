@@ -1,5 +1,5 @@
--- `stores::store_cell` meets its contract: letting go is the same beside the roots, with the counts counted up and the cell written; where the
--- value is present nothing is done.
+-- `stores::store_cell` meets its contract: letting go is the same beside the roots, with the counts counted up and the cell written; where
+-- the value is present nothing is done.
 use mathlib.Core.Path.{_∙_}
 use native.Mathlib.Omega.{arith}
 use lib.ListN.{length-set}
@@ -8,6 +8,13 @@ use Rattle.references.proofs.Shapes.{planes-same, extents-cell}
 use Rattle.stores.proofs.Storing.{cell-present, cell-changed, store-cell-done, store-cell-blocks}
 use Rattle.stores.proofs.store_cell.Statement.{statement}
 use Rattle.stores.proofs.store_cell.Tie as tie
+
+-- the places: counted up, and the old object let go
+abbrev up : tie.After-let-go → tie.After-count-up
+up c = c .before .before .before .before .before .before .before .before
+
+abbrev gone : tie.After-slice-known12 → tie.After-let-go
+gone c = c .before .before .before .before .before .before .before .before .before .before
 
 mul-old : tie.Need-mul-old
 mul-old c = search needs
@@ -37,31 +44,18 @@ let-go-requires c κs =
       ready .extents .named (start .args .c),
     )
 
-same-length : tie.Need-same-length
-same-length c = c .before .before .before .before .before .before .before .before .before .before .let-go .kept .1 .1 .0
-
-same-length-2 : tie.Need-same-length-2
-same-length-2 c = c .before .before .before .before .before .before .before .before .before .before .let-go .kept .1 .1 .1 .0
-
-same-length-3 : tie.Need-same-length-3
-same-length-3 c = c .before .before .before .before .before .before .before .before .before .before .let-go .kept .1 .1 .1 .1 .0 ∙ c .before .before .before .before .before .before .before .before .before .before .before .before .before .before .before .before .before .before .count-up .kept .1 .1 .0
-
 same-length-4 : tie.Need-same-length-4
 same-length-4 c =
     let args = c .before .before .before .before .before .before .before .before .before .before .before .before .before .before .before .before .before .before .before .before .before .before .before .before .before .before .before .before .args in
     omega (arith, length-set (args .cells .now) (args .c) (args .v))
 
-same-length-5 : tie.Need-same-length-5
-same-length-5 c = c .before .before .before .before .before .before .before .before .before .before .let-go .kept .1 .1 .1 .1 .1 .1 .0
-
 returns-2 : tie.Need-returns-2
 returns-2 c =
-    let gone = c .before .before .before .before .before .before .before .before .before .before in
-    let up = gone .before .before .before .before .before .before .before .before .count-up .ensures in
-    let changed = cell-changed _ _ _ _ _ (gone .before .before .before .before .before .before .before .before .before .before .if1 .left) in (
-      store-cell-done _ _ _ _ _ _ _ _ _ _ (up .0) _ _ _ _ _ _ (gone .let-go .ensures .0) ∙ changed .0,
-      store-cell-blocks _ _ _ _ _ _ _ _ _ _ (up .0) _ _ (gone .let-go .ensures .1) ∙ changed .1,
-      up .1 ∙ changed .2,
+    let counted = up (gone c) .count-up .ensures in
+    let changed = cell-changed _ _ _ _ _ (up (gone c) .before .before .if1 .left) in (
+      store-cell-done _ _ _ _ _ _ _ _ _ _ (counted .0) _ _ _ _ _ _ (gone c .let-go .ensures .0) ∙ changed .0,
+      store-cell-blocks _ _ _ _ _ _ _ _ _ _ (counted .0) _ _ (gone c .let-go .ensures .1) ∙ changed .1,
+      counted .1 ∙ changed .2,
     )
 
 pub store-cell-spec : {M : Type 1} → statement M
@@ -75,9 +69,9 @@ store-cell-spec =
     mul-cells
     slice-write-cells
     let-go-requires
-    same-length
-    same-length-2
-    same-length-3
+    (λ c. gone c .let-go .kept .1 .1 .0)
+    (λ c. gone c .let-go .kept .1 .1 .1 .0)
+    (λ c. gone c .let-go .kept .1 .1 .1 .1 .0 ∙ up (gone c) .count-up .kept .1 .1 .0)
     same-length-4
-    same-length-5
+    (λ c. gone c .let-go .kept .1 .1 .1 .1 .1 .1 .0)
     returns-2)

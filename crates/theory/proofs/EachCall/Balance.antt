@@ -218,7 +218,8 @@ module _ (N w : ℕ) (h : Memory) (healthy : Healthy N w h) where
 
   -- a store of the value present frees nothing
   unless-present :
-      (c : Call) (t : Bool) (g : Memory) (second : ℕ) → allocates c ≡ 0 → (t ≡ false → inUse N h ≡ freedBlocks N h (settled N g) + inUse N g)
+      (c : Call) (t : Bool) (g : Memory) (second : ℕ) → allocates c ≡ 0
+      → (t ≡ false → inUse N h ≡ freedBlocks N h (settled N g) + inUse N g)
       → Even N c h (freeing N h (elim t [ true ↦ h | false ↦ g ]) second)
   unfolding freeing
   unless-present c true g second e kept = plain c _ (settled N h) e (same-blocks (settled N h) refl refl)
@@ -411,6 +412,7 @@ blocks-add-up N w h =
           (freeing-grown N w h (returnIn N w h chosen (length (h .roots))) 0)))
           (accepted-healthy N w h _ e) e;
       collection = λ e.
-          freed-value N w h collect refl (on-undamaged-grown N w h (freeing-grown N w h (collected N w h) 0)) (accepted-healthy N w h _ e) e;
+          freed-value N w h collect refl (on-undamaged-grown N w h (freeing-grown N w h (collected N w h) 0))
+          (accepted-healthy N w h _ e) e;
       allocation = λ n r e. even-zeros N w h (allocate n r) (accepted-healthy N w h _ e) e;
     }

@@ -72,7 +72,8 @@ module _ (N w : ℕ) (h : Memory) (healthy : Healthy N w h) where
 
   module _ (v : ℕ) (ref : isRef N h v ≡ true) (i : ℕ) (slot-i : Place (length (h .roots)) (view N w h) i) (g : Memory)
       (shows : Shows N w (length (h .roots)) g (graph.store (capacity w) (length (h .roots)) (view N w h) i v))
-      (fine : Healthy N w (settled N g)) (call : Call) (x : Reply) (writing : writes call x ≡ v) (said : x .second ≡ one (sticks N w (h .counts) v)) where
+      (fine : Healthy N w (settled N g)) (call : Call) (x : Reply) (writing : writes call x ≡ v)
+      (said : x .second ≡ one (sticks N w (h .counts) v)) where
     abbrev up : Memory
     up = withCounts (countUp N w (h .counts) v) h
 
@@ -111,8 +112,8 @@ module _ (N w : ℕ) (h : Memory) (healthy : Healthy N w h) where
           (λ e. after ∙ ends .0 (sym before ∙ e), λ e. before ∙ ends .1 (sym after ∙ e))
 
       named-exactly :
-          (k : Memory) → (countOf N w up a ≡ capacity w) ↔ (countOf N w k a ≡ capacity w) → (countOf N w k a ≡ capacity w → isFirst N k a ≡ true)
-          → Exactly call x k
+          (k : Memory) → (countOf N w up a ≡ capacity w) ↔ (countOf N w k a ≡ capacity w)
+          → (countOf N w k a ≡ capacity w → isFirst N k a ≡ true) → Exactly call x k
       unfolding sticks
       named-exactly k same stands = go (eqb (countOf N w h a + 1) (capacity w)) refl
         where
@@ -227,7 +228,8 @@ module _ (N w : ℕ) (h : Memory) (healthy : Healthy N w h) where
     -- it wasn't there
     new : isFirst N h i ≡ false
     new = elim (test-cases (isFirst N h i)) [
-      | inl old ↦ absurd (omega (arith, first-facts N (h .a) (h .b) i old .used, room N (h .a) n i found .free i (omega arith) (omega arith)))
+      | inl old ↦
+          absurd (omega (arith, first-facts N (h .a) (h .b) i old .used, room N (h .a) n i found .free i (omega arith) (omega arith)))
       | inr gone ↦ gone
     ]
 
@@ -271,7 +273,8 @@ module _ (N w : ℕ) (h : Memory) (healthy : Healthy N w h) where
         ∙ getD-set-same (sizesOf N (h .a) (h .b)) i n 0 (omega (arith, within, length-sizes-of N (h .a) (h .b))) in
         let before = sym (view-count N w (placed N w h i n) i within) ∙ ap (λ (k : Graph). count k i) (shown .view-is) ∙ one-there in
         let ends =
-        finish-stuck cap pos roots (place (view N w h) i n) r (suc i) (placed-balanced cap pos roots (view N w h) (healthy .whole) i n r free l)
+        finish-stuck cap pos roots (place (view N w h) i n) r (suc i)
+        (placed-balanced cap pos roots (view N w h) (healthy .whole) i n r free l)
         (placed-waits cap pos roots (view N w h) (healthy .whole) i n r free l)
         (placed-shape cap pos roots (view N w h) (healthy .whole) i n r free l) (inl l) i in
         let after = sym (view-count N w (allocateIn N w h n r i) i within) ∙ ap (λ (k : Graph). count k i) (shows .view-is) in
@@ -391,7 +394,8 @@ module _ (N w : ℕ) (h : Memory) (healthy : Healthy N w h) where
             omega (
               arith,
               answered,
-              healthy-damage-free N w left (collect-served N w h healthy .keep) .no-count b (first-facts N (h .a) (h .b) b was .inside) gone,
+              healthy-damage-free N w left (collect-served N w h healthy .keep)
+                  .no-count b (first-facts N (h .a) (h .b) b was .inside) gone,
               positive N w h healthy,
             )
       ]

@@ -6,6 +6,10 @@ use borrow.Author.Needs.{needs}
 use Rattle.inner.proofs.acts.allocate.Statement.{statement}
 use Rattle.inner.proofs.acts.allocate.Tie as tie
 
+-- the place where the work is done
+abbrev done : tie.After-telling → tie.After-place
+done c = c .before .before .before .before .before .before .before .before .before .before .before .before .before
+
 place-requires : tie.Need-place-requires
 place-requires c κs =
     let pre = c .before .before .before .before .before .before .before .before .before .before .before .before .pre in
@@ -15,29 +19,12 @@ place-requires c κs =
 telling-requires : tie.Need-telling-requires
 telling-requires c κs = search needs
 
-same-length : tie.Need-same-length
-same-length c = c .before .before .before .before .before .before .before .before .before .before .before .before .before .place .kept .1 .1 .0
-
-same-length-2 : tie.Need-same-length-2
-same-length-2 c = c .before .before .before .before .before .before .before .before .before .before .before .before .before .place .kept .1 .1 .1 .0
-
-same-length-3 : tie.Need-same-length-3
-same-length-3 c = c .before .before .before .before .before .before .before .before .before .before .before .before .before .place .kept .1 .1 .1 .1 .0
-
-same-length-4 : tie.Need-same-length-4
-same-length-4 c = c .before .before .before .before .before .before .before .before .before .before .before .before .before .place .kept .1 .1 .1 .1 .1 .0
-
-same-length-5 : tie.Need-same-length-5
-same-length-5 c = c .before .before .before .before .before .before .before .before .before .before .before .before .before .place .kept .1 .1 .1 .1 .1 .1 .0
-
-same-length-6 : tie.Need-same-length-6
-same-length-6 c = c .before .before .before .before .before .before .before .before .before .before .before .before .before .place .kept .1 .1 .1 .1 .1 .1 .1 .0
-
 returns : tie.Need-returns
 returns c =
-    let pre = c .before .before .before .before .before .before .before .before .before .before .before .before .before .before .before .before .before .before .before .before .before .before .before .before .before .before .pre in
-    let placed = c .before .before .before .before .before .before .before .before .before .before .before .before .before .place .ensures in
-    allocate-accepting _ _ _ (pre .0) _ _ _ (allocate-passed _ _ _ _ _ _ (pre .1)) _ _ _ (placed .0) (placed .1) (placed .2) (c .telling .ensures)
+    let pre = done c .before .before .before .before .before .before .before .before .before .before .before .before .before .pre in
+    let placed = done c .place .ensures in
+    allocate-accepting _ _ _ (pre .0) _ _ _ (allocate-passed _ _ _ _ _ _ (pre .1)) _ _ _ (placed .0) (placed .1) (placed .2)
+    (c .telling .ensures)
 
 pub allocate-spec : {M : Type 1} → statement M
 allocate-spec =
@@ -45,10 +32,10 @@ allocate-spec =
     (tie.spec
     place-requires
     telling-requires
-    same-length
-    same-length-2
-    same-length-3
-    same-length-4
-    same-length-5
-    same-length-6
+    (λ c. done c .place .kept .1 .1 .0)
+    (λ c. done c .place .kept .1 .1 .1 .0)
+    (λ c. done c .place .kept .1 .1 .1 .1 .0)
+    (λ c. done c .place .kept .1 .1 .1 .1 .1 .0)
+    (λ c. done c .place .kept .1 .1 .1 .1 .1 .1 .0)
+    (λ c. done c .place .kept .1 .1 .1 .1 .1 .1 .1 .0)
     returns)

@@ -7,6 +7,10 @@ use borrow.Author.Needs.{needs}
 use Rattle.inner.proofs.acts.store_cell.Statement.{statement}
 use Rattle.inner.proofs.acts.store_cell.Tie as tie
 
+-- the place where the work is done
+abbrev done : tie.After-telling → tie.After-store-cell
+done c = c .before .before .before .before .before .before .before .before .before .before .before
+
 mul-store-cell : tie.Need-mul-store-cell
 mul-store-cell c =
     let pre = c .before .before .before .before .before .before .before .before .before .before .before .pre in
@@ -32,26 +36,11 @@ store-cell-requires c κs =
 telling-requires : tie.Need-telling-requires
 telling-requires c κs = search needs
 
-same-length : tie.Need-same-length
-same-length c = c .before .before .before .before .before .before .before .before .before .before .before .store-cell .kept .1 .1 .0
-
-same-length-2 : tie.Need-same-length-2
-same-length-2 c = c .before .before .before .before .before .before .before .before .before .before .before .store-cell .kept .1 .1 .1 .0
-
-same-length-3 : tie.Need-same-length-3
-same-length-3 c = c .before .before .before .before .before .before .before .before .before .before .before .store-cell .kept .1 .1 .1 .1 .0
-
-same-length-4 : tie.Need-same-length-4
-same-length-4 c = c .before .before .before .before .before .before .before .before .before .before .before .store-cell .kept .1 .1 .1 .1 .1 .0
-
-same-length-5 : tie.Need-same-length-5
-same-length-5 c = c .before .before .before .before .before .before .before .before .before .before .before .store-cell .kept .1 .1 .1 .1 .1 .1 .1 .0
-
 returns : tie.Need-returns
 returns c =
-    let pre = c .before .before .before .before .before .before .before .before .before .before .before .before .before .before .before .before .before .before .before .before .before .before .before .pre in
-    let done = c .before .before .before .before .before .before .before .before .before .before .before .store-cell .ensures in
-    cell-promised _ _ _ _ _ _ (cell-passed _ _ _ _ _ (pre .1)) (pre .0) _ _ _ _ (done .0) (done .1) (done .2) (c .telling .ensures)
+    let pre = done c .before .before .before .before .before .before .before .before .before .before .before .before .pre in
+    let stored = done c .store-cell .ensures in
+    cell-promised _ _ _ _ _ _ (cell-passed _ _ _ _ _ (pre .1)) (pre .0) _ _ _ _ (stored .0) (stored .1) (stored .2) (c .telling .ensures)
 
 pub store-cell-spec : {M : Type 1} → statement M
 store-cell-spec =
@@ -62,9 +51,9 @@ store-cell-spec =
     cast-store-cell
     store-cell-requires
     telling-requires
-    same-length
-    same-length-2
-    same-length-3
-    same-length-4
-    same-length-5
+    (λ c. done c .store-cell .kept .1 .1 .0)
+    (λ c. done c .store-cell .kept .1 .1 .1 .0)
+    (λ c. done c .store-cell .kept .1 .1 .1 .1 .0)
+    (λ c. done c .store-cell .kept .1 .1 .1 .1 .1 .0)
+    (λ c. done c .store-cell .kept .1 .1 .1 .1 .1 .1 .1 .0)
     returns)

@@ -7,6 +7,10 @@ use borrow.Author.Needs.{needs}
 use Rattle.inner.proofs.acts.store_root.Statement.{statement}
 use Rattle.inner.proofs.acts.store_root.Tie as tie
 
+-- the place where the work is done
+abbrev done : tie.After-telling → tie.After-store-root
+done c = c .before .before .before .before .before .before .before .before .before .before .before .before .before
+
 -- a reference is at most the number of blocks, so it fits a cell
 cast-store-root : tie.Need-cast-store-root
 cast-store-root c =
@@ -22,29 +26,11 @@ store-root-requires c κs =
 telling-requires : tie.Need-telling-requires
 telling-requires c κs = search needs
 
-same-length : tie.Need-same-length
-same-length c = c .before .before .before .before .before .before .before .before .before .before .before .before .before .store-root .kept .1 .1 .0
-
-same-length-2 : tie.Need-same-length-2
-same-length-2 c = c .before .before .before .before .before .before .before .before .before .before .before .before .before .store-root .kept .1 .1 .1 .0
-
-same-length-3 : tie.Need-same-length-3
-same-length-3 c = c .before .before .before .before .before .before .before .before .before .before .before .before .before .store-root .kept .1 .1 .1 .1 .0
-
-same-length-4 : tie.Need-same-length-4
-same-length-4 c = c .before .before .before .before .before .before .before .before .before .before .before .before .before .store-root .kept .1 .1 .1 .1 .1 .0
-
-same-length-5 : tie.Need-same-length-5
-same-length-5 c = c .before .before .before .before .before .before .before .before .before .before .before .before .before .store-root .kept .1 .1 .1 .1 .1 .1 .0
-
-same-length-6 : tie.Need-same-length-6
-same-length-6 c = c .before .before .before .before .before .before .before .before .before .before .before .before .before .store-root .kept .1 .1 .1 .1 .1 .1 .1 .0
-
 returns : tie.Need-returns
 returns c =
-    let pre = c .before .before .before .before .before .before .before .before .before .before .before .before .before .before .before .before .before .before .before .before .before .before .before .before .before .before .pre in
-    let done = c .before .before .before .before .before .before .before .before .before .before .before .before .before .store-root .ensures in
-    root-promised _ _ _ _ _ (root-passed _ _ _ _ (pre .1)) (pre .0) _ _ _ _ (done .0) (done .1) (done .2) (c .telling .ensures)
+    let pre = done c .before .before .before .before .before .before .before .before .before .before .before .before .before .pre in
+    let stored = done c .store-root .ensures in
+    root-promised _ _ _ _ _ (root-passed _ _ _ _ (pre .1)) (pre .0) _ _ _ _ (stored .0) (stored .1) (stored .2) (c .telling .ensures)
 
 pub store-root-spec : {M : Type 1} → statement M
 store-root-spec =
@@ -53,10 +39,10 @@ store-root-spec =
     cast-store-root
     store-root-requires
     telling-requires
-    same-length
-    same-length-2
-    same-length-3
-    same-length-4
-    same-length-5
-    same-length-6
+    (λ c. done c .store-root .kept .1 .1 .0)
+    (λ c. done c .store-root .kept .1 .1 .1 .0)
+    (λ c. done c .store-root .kept .1 .1 .1 .1 .0)
+    (λ c. done c .store-root .kept .1 .1 .1 .1 .1 .0)
+    (λ c. done c .store-root .kept .1 .1 .1 .1 .1 .1 .0)
+    (λ c. done c .store-root .kept .1 .1 .1 .1 .1 .1 .1 .0)
     returns)

@@ -8,13 +8,14 @@ use borrow.Author.Needs.{needs}
 use Rattle.inner.proofs.steps.allocate.Statement.{statement}
 use Rattle.inner.proofs.steps.allocate.Tie as tie
 
+-- the place where the work is done
+abbrev done : tie.After-slice-known12 → tie.After-allocate
+done c = c .before .before .before .before .before .before .before .before .before .before .before .before
+
 allocate-reply-requires : tie.Need-allocate-reply-requires
 allocate-reply-requires c κs =
     let healthy = usable-healthy _ _ _ (c .before .before .before .before .before .before .before .pre) in
     (healthy-blocks _ _ _ healthy, omega (arith, healthy .shape .length-a, healthy .shape .whole-bytes))
-
-same-length : tie.Need-same-length
-same-length c = refl
 
 returns : tie.Need-returns
 returns c =
@@ -27,24 +28,6 @@ allocate-requires c κs =
     let tested = c .before .before .before .before .before .before in
     (tested .before .before .before .before .before .before .before .before .before .pre, allocate-accepts _ _ _ _ _ _ (tested .before .allocate-reply .ensures) (tested .if1 .left))
 
-same-length-2 : tie.Need-same-length-2
-same-length-2 c = c .before .before .before .before .before .before .before .before .before .before .before .before .allocate .kept .1 .1 .0
-
-same-length-3 : tie.Need-same-length-3
-same-length-3 c = c .before .before .before .before .before .before .before .before .before .before .before .before .allocate .kept .1 .1 .1 .0
-
-same-length-4 : tie.Need-same-length-4
-same-length-4 c = c .before .before .before .before .before .before .before .before .before .before .before .before .allocate .kept .1 .1 .1 .1 .0
-
-same-length-5 : tie.Need-same-length-5
-same-length-5 c = c .before .before .before .before .before .before .before .before .before .before .before .before .allocate .kept .1 .1 .1 .1 .1 .0
-
-same-length-6 : tie.Need-same-length-6
-same-length-6 c = c .before .before .before .before .before .before .before .before .before .before .before .before .allocate .kept .1 .1 .1 .1 .1 .1 .0
-
-same-length-7 : tie.Need-same-length-7
-same-length-7 c = c .before .before .before .before .before .before .before .before .before .before .before .before .allocate .kept .1 .1 .1 .1 .1 .1 .1 .0
-
 returns-2 : tie.Need-returns-2
 returns-2 c = search needs
 
@@ -53,13 +36,13 @@ allocate-spec =
     tie.close
     (tie.spec
     allocate-reply-requires
-    same-length
+    (λ _. refl)
     returns
     allocate-requires
-    same-length-2
-    same-length-3
-    same-length-4
-    same-length-5
-    same-length-6
-    same-length-7
+    (λ c. done c .allocate .kept .1 .1 .0)
+    (λ c. done c .allocate .kept .1 .1 .1 .0)
+    (λ c. done c .allocate .kept .1 .1 .1 .1 .0)
+    (λ c. done c .allocate .kept .1 .1 .1 .1 .1 .0)
+    (λ c. done c .allocate .kept .1 .1 .1 .1 .1 .1 .0)
+    (λ c. done c .allocate .kept .1 .1 .1 .1 .1 .1 .1 .0)
     returns-2)

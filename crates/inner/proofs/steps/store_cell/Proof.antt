@@ -7,16 +7,14 @@ use borrow.Author.Needs.{needs}
 use Rattle.inner.proofs.steps.store_cell.Statement.{statement}
 use Rattle.inner.proofs.steps.store_cell.Tie as tie
 
+-- the place where the work is done
+abbrev done : tie.After-slice-known10 → tie.After-store-cell
+done c = c .before .before .before .before .before .before .before .before .before .before
+
 store-cell-test-requires : tie.Need-store-cell-test-requires
 store-cell-test-requires c κs =
     let shape = usable-healthy _ _ _ (c .before .before .before .before .before .before .before .before .pre) .shape in
     (omega (arith, shape .length-a, shape .whole-bytes), omega (arith, shape .length-b, shape .whole-bytes), shape .blocks-max)
-
-same-length : tie.Need-same-length
-same-length c = refl
-
-same-length-2 : tie.Need-same-length-2
-same-length-2 c = refl
 
 returns : tie.Need-returns
 returns c =
@@ -27,21 +25,6 @@ store-cell-requires c κs =
     let tested = c .before .before .before .before .before in
     (tested .before .before .before .before .before .before .before .before .before .before .pre, cell-goes-on _ _ _ _ _ _ (tested .before .store-cell-test .ensures) (tested .if1 .left))
 
-same-length-3 : tie.Need-same-length-3
-same-length-3 c = c .before .before .before .before .before .before .before .before .before .before .store-cell .kept .1 .1 .0
-
-same-length-4 : tie.Need-same-length-4
-same-length-4 c = c .before .before .before .before .before .before .before .before .before .before .store-cell .kept .1 .1 .1 .0
-
-same-length-5 : tie.Need-same-length-5
-same-length-5 c = c .before .before .before .before .before .before .before .before .before .before .store-cell .kept .1 .1 .1 .1 .0
-
-same-length-6 : tie.Need-same-length-6
-same-length-6 c = c .before .before .before .before .before .before .before .before .before .before .store-cell .kept .1 .1 .1 .1 .1 .0
-
-same-length-7 : tie.Need-same-length-7
-same-length-7 c = c .before .before .before .before .before .before .before .before .before .before .store-cell .kept .1 .1 .1 .1 .1 .1 .1 .0
-
 returns-2 : tie.Need-returns-2
 returns-2 c = search needs
 
@@ -50,13 +33,13 @@ store-cell-spec =
     tie.close
     (tie.spec
     store-cell-test-requires
-    same-length
-    same-length-2
+    (λ _. refl)
+    (λ _. refl)
     returns
     store-cell-requires
-    same-length-3
-    same-length-4
-    same-length-5
-    same-length-6
-    same-length-7
+    (λ c. done c .store-cell .kept .1 .1 .0)
+    (λ c. done c .store-cell .kept .1 .1 .1 .0)
+    (λ c. done c .store-cell .kept .1 .1 .1 .1 .0)
+    (λ c. done c .store-cell .kept .1 .1 .1 .1 .1 .0)
+    (λ c. done c .store-cell .kept .1 .1 .1 .1 .1 .1 .1 .0)
     returns-2)

@@ -21,8 +21,8 @@ same-length c = search needs
 
 returns-2 : tie.Need-returns-2
 returns-2 c =
-    up-stuck _ _ _ _ _ _ (c .before .before .before .before .if1 .left) (c .before .before .get-count .ensures .0) (c .before .capacity-of .ensures .0)
-    (c .if2 .taken)
+    up-stuck _ _ _ _ _ _ (c .before .before .before .before .if1 .left) (c .before .before .get-count .ensures .0)
+    (c .before .capacity-of .ensures .0) (c .if2 .taken)
 
 add-set-count : tie.Need-add-set-count
 add-set-count c = search needs
