@@ -39,7 +39,7 @@ show_and_compare() {
 }
 
 echo "This proves the program report and the libraries it rests on, a line for each crate, and builds it. On a clean clone"
-echo "that takes some five minutes on two cores; once it is built, a second. target/report.log keeps what the prover says."
+echo "that takes a few minutes on two cores; once it is built, a second. target/report.log keeps what the prover says."
 echo
 build report
 
