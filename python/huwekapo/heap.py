@@ -5,7 +5,6 @@ from __future__ import annotations
 import ctypes
 import operator
 import threading
-from dataclasses import dataclass
 from typing import Any, Iterable, NamedTuple, Sequence, Union
 
 from . import library
@@ -17,12 +16,11 @@ from .runs import Run
 Bytes = Union[bytes, bytearray, memoryview]
 
 
-@dataclass(frozen=True)
-class Look:
+class Look(NamedTuple):
     """What a look at an object finds: its size in blocks, and its count."""
 
     size: int
-    count: int
+    count: int  # type: ignore[assignment]
 
 
 class Reply(NamedTuple):

@@ -6,7 +6,6 @@ import ctypes
 import os
 import time
 from contextlib import contextmanager
-from pathlib import Path
 from typing import IO, Callable, Iterator, Optional, Union
 
 from .heap import Heap
@@ -37,10 +36,10 @@ class History:
     """
 
     def __init__(self, source: Union[str, os.PathLike[str], IO[bytes]]) -> None:
-        self._path: Optional[Path] = None
+        self._path: Optional[str] = None
         self._file: Optional[IO[bytes]] = None
         if isinstance(source, (str, os.PathLike)):
-            self._path = Path(source)
+            self._path = os.fspath(source)
         else:
             self._file = source
         self._start = _position(self._file) if self._file else 0
@@ -54,13 +53,13 @@ class History:
     @property
     def name(self) -> str:
         """The path, or the open file's name."""
-        return str(self._path) if self._path else str(getattr(self._file, "name", "a file"))
+        return self._path if self._path is not None else str(getattr(self._file, "name", "a file"))
 
     def size(self) -> Optional[int]:
         """The length in bytes, where it is known before it is read."""
         try:
-            if self._path:
-                return self._path.stat().st_size if self._path.is_file() else None
+            if self._path is not None:
+                return os.path.getsize(self._path) if os.path.isfile(self._path) else None
             assert self._file
             end = self._file.seek(0, os.SEEK_END)
             self._file.seek(self._start or 0)
@@ -70,7 +69,7 @@ class History:
 
     @contextmanager
     def _opened(self) -> Iterator[IO[bytes]]:
-        if self._path:
+        if self._path is not None:
             with open(self._path, "rb", buffering=0) as file:
                 yield file
             return

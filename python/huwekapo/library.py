@@ -9,7 +9,6 @@ from __future__ import annotations
 import ctypes
 import functools
 import os
-from pathlib import Path
 from typing import Any, Callable, Iterator, List, NamedTuple
 
 #: The version of the library that this package is for, and its own.
@@ -116,12 +115,12 @@ def places() -> Iterator[str]:
     the package; in target/install of the clone that the package stands in, where `bash install.sh` puts it; in the system."""
     named = os.environ.get(VARIABLE)
     if named:
-        path = Path(named)
-        yield str(path / FILE if path.is_dir() else path)
+        yield os.path.join(named, FILE) if os.path.isdir(named) else named
         return
-    package = Path(__file__).resolve().parent
-    yield str(package / FILE)
-    yield str(package.parent.parent / "target" / "install" / "lib" / FILE)
+    package = os.path.dirname(os.path.realpath(__file__))
+    yield os.path.join(package, FILE)
+    clone = os.path.dirname(os.path.dirname(package))
+    yield os.path.join(clone, "target", "install", "lib", FILE)
     # As the linker finds it; else by what ldconfig knows, which takes longer to ask.
     yield FILE
     from ctypes.util import find_library
