@@ -14,6 +14,7 @@ pub record Within (r : Run) : Type 0 where
   pub few : r .records ≤ mostRecords
   pub allocations-few : r .tally .allocations ≤ r .records
   pub blocks-few : r .tally .blocks ≤ maxBlocks * r .records
+  pub stuck-few : r .tally .stuck ≤ r .records
   pub collections-few : r .tally .collections ≤ mostCollections r
 
 module _ (r : Run) where
@@ -24,7 +25,8 @@ module _ (r : Run) where
         few = leb-true (r .records) mostRecords (all-at _ e 0);
         allocations-few = leb-true (r .tally .allocations) (r .records) (all-at _ e 1);
         blocks-few = leb-true (r .tally .blocks) (maxBlocks * r .records) (all-at _ e 2);
-        collections-few = leb-true (r .tally .collections) (mostCollections r) (all-at _ e 3);
+        stuck-few = leb-true (r .tally .stuck) (r .records) (all-at _ e 3);
+        collections-few = leb-true (r .tally .collections) (mostCollections r) (all-at _ e 4);
       }
 
   pub within-in-range : Within r → inRange r ≡ true
@@ -34,8 +36,9 @@ module _ (r : Run) where
       (also (le-leb (r .records) mostRecords (w .few))
       (also (le-leb (r .tally .allocations) (r .records) (w .allocations-few))
       (also (le-leb (r .tally .blocks) (maxBlocks * r .records) (w .blocks-few))
+      (also (le-leb (r .tally .stuck) (r .records) (w .stuck-few))
       (also (le-leb (r .tally .collections) (mostCollections r) (w .collections-few))
-      done))))
+      done)))))
 
   -- a run that goes on, and one that was stopped
   pub going-collections : r .number ≡ 0 → mostCollections r ≡ r .records
@@ -46,12 +49,13 @@ module _ (r : Run) where
   unfolding mostCollections
   stopped-collections stopped = rw (ne-eqb (r .number) 0 stopped, mostCollections)
 
-  -- past the first three tests the last one decides
+  -- past the first four tests the last one decides
   pub last-decides :
-      r .records ≤ mostRecords → r .tally .allocations ≤ r .records → r .tally .blocks ≤ maxBlocks * r .records → (most : ℕ)
+      r .records ≤ mostRecords → r .tally .allocations ≤ r .records → r .tally .blocks ≤ maxBlocks * r .records
+      → r .tally .stuck ≤ r .records → (most : ℕ)
       → mostCollections r ≡ most → leb (r .tally .collections) most ≡ inRange r
   unfolding inRange all
-  last-decides records allocations blocks most e =
+  last-decides records allocations blocks stuck most e =
       ap (leb (r .tally .collections)) (sym e)
       ∙ sym (all-one (leb (r .tally .collections) (mostCollections r)))
       ∙ sym
@@ -59,5 +63,6 @@ module _ (r : Run) where
         le-leb (r .records) mostRecords records,
         le-leb (r .tally .allocations) (r .records) allocations,
         le-leb (r .tally .blocks) (maxBlocks * r .records) blocks,
+        le-leb (r .tally .stuck) (r .records) stuck,
         all,
       ))

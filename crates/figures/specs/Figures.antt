@@ -1,33 +1,38 @@
--- Request U1: the five figures of a run, as they grow by each call as it was made and by each record.
+-- Requests U1 and U5: the six figures of a run, as they grow by each call as it was made and by each record.
 use Prim.Native.Nat.{ℕ, _+_, _*_, max}
 use mathlib.Core.Bool.{Bool, true, false}
 use mathlib.Core.List.{List, [], _∷_}
 use lib.Dec.{eqb, leb}
 use Rattle.rules.specs.Heap.{all, maxBlocks}
 use Rattle.rules.specs.Calls.{Call, format, check, collect, freeBlocks, allocate, storeRoot, storeCell, look, returnRoots}
+use Rattle.rules.specs.declared.Reply.{Reply}
 use Rattle.theory.specs.Words.{Made}
 use Rattle.figures.specs.declared.tally.Tally.{Tally}
 use Rattle.figures.specs.declared.tally.Run.{Run}
 
-abbrev pub tally : (allocations blocks largest collections peak : ℕ) → Tally
-tally allocations blocks largest collections peak =
-    record { allocations = allocations; blocks = blocks; largest = largest; collections = collections; peak = peak }
+abbrev pub tally : (allocations blocks largest collections peak stuck : ℕ) → Tally
+tally allocations blocks largest collections peak stuck =
+    record { allocations = allocations; blocks = blocks; largest = largest; collections = collections; peak = peak; stuck = stuck }
 
--- "an empty file gives five zeros"
+-- "an empty file gives five zeros", and 0 for U5's figure
 abbrev pub noFigures : Tally
-noFigures = tally 0 0 0 0 0
+noFigures = tally 0 0 0 0 0 0
 
 -- "accepted allocations, blocks allocated in all, largest accepted size": one of n blocks more
 abbrev pub allocated : (n : ℕ) → Tally → Tally
-allocated n t = tally (t .allocations + 1) (t .blocks + n) (max (t .largest) n) (t .collections) (t .peak)
+allocated n t = tally (t .allocations + 1) (t .blocks + n) (max (t .largest) n) (t .collections) (t .peak) (t .stuck)
 
 -- "full collections forced or recorded": one more
 abbrev pub collected : Tally → Tally
-collected t = tally (t .allocations) (t .blocks) (t .largest) (t .collections + 1) (t .peak)
+collected t = tally (t .allocations) (t .blocks) (t .largest) (t .collections + 1) (t .peak) (t .stuck)
 
 -- "most blocks in use after any record": n are in use after this one
 abbrev pub used : (n : ℕ) → Tally → Tally
-used n t = tally (t .allocations) (t .blocks) (t .largest) (t .collections) (max (t .peak) n)
+used n t = tally (t .allocations) (t .blocks) (t .largest) (t .collections) (max (t .peak) n) (t .stuck)
+
+-- request U5: "the number of such moments": one more
+abbrev pub becameStuck : Tally → Tally
+becameStuck t = tally (t .allocations) (t .blocks) (t .largest) (t .collections) (t .peak) (t .stuck + 1)
 
 -- what an accepted call adds
 unfoldable pub countedIn : Call → Tally → Tally
@@ -41,9 +46,24 @@ countedIn (storeCell a j v) t = t
 countedIn (look a) t = t
 countedIn (returnRoots chosen) t = t
 
+-- "Every store and allocation passes the fact on": it is their second value
+unfoldable pub sticks : Call → Reply → Bool
+sticks (allocate n r) x = eqb (x .second) 1
+sticks (storeRoot r v) x = eqb (x .second) 1
+sticks (storeCell a j v) x = eqb (x .second) 1
+sticks format x = false
+sticks check x = false
+sticks collect x = false
+sticks freeBlocks x = false
+sticks (look a) x = false
+sticks (returnRoots chosen) x = false
+
+unfoldable pub momentIn : Bool → Tally → Tally
+momentIn moment t = elim moment [ true ↦ becameStuck t | false ↦ t ]
+
 -- what a call as made adds: a refused one nothing
 unfoldable pub noted : Made → Tally → Tally
-noted m t = elim (eqb (m .reply .number) 0) [ true ↦ countedIn (m .call) t | false ↦ t ]
+noted m t = elim (eqb (m .reply .number) 0) [ true ↦ momentIn (sticks (m .call) (m .reply)) (countedIn (m .call) t) | false ↦ t ]
 
 unfoldable pub notedAll : List Made → Tally → Tally
 notedAll [] t = t
@@ -67,12 +87,14 @@ mostRecords = 4294967295
 unfoldable pub mostCollections : Run → ℕ
 mostCollections r = elim (eqb (r .number) 0) [ true ↦ r .records | false ↦ r .records + 1 ]
 
--- A run in range: no more records than there can be, and no more allocations, blocks and collections than these records can have made.
+-- A run in range: no more records than there can be, and no more allocations, blocks, collections and objects that became stuck than these
+-- records can have made.
 unfoldable pub inRange : Run → Bool
 inRange r =
     all
     (leb (r .records) mostRecords
     ∷ leb (r .tally .allocations) (r .records)
     ∷ leb (r .tally .blocks) (maxBlocks * r .records)
+    ∷ leb (r .tally .stuck) (r .records)
     ∷ leb (r .tally .collections) (mostCollections r)
     ∷ [])

@@ -26,14 +26,15 @@ abbrev pub item : ℕ → List ℕ → List ℕ
 item n behind = decimal n ++ behind
 
 -- "one line of five figures: accepted allocations, blocks allocated in all, largest accepted size, full collections forced or recorded,
--- most blocks in use after any record"
+-- most blocks in use after any record"; request U5: "U1's line gains a sixth figure"
 unfoldable pub figuresLine : Tally → List ℕ
 figuresLine t =
     item (t .allocations) space
     ++ item (t .blocks) space
     ++ item (t .largest) space
     ++ item (t .collections) space
-    ++ item (t .peak) lineEnd
+    ++ item (t .peak) space
+    ++ item (t .stuck) lineEnd
 
 -- "Otherwise it prints `refused 5 at record 7`, say, ended likewise, counting from 0"
 unfoldable pub refusalLine : (number records : ℕ) → List ℕ
@@ -42,6 +43,6 @@ refusalLine number records = refusedText ++ item number recordText ++ item recor
 unfoldable pub line : Run → List ℕ
 line r = elim (eqb (r .number) 0) [ true ↦ figuresLine (r .tally) | false ↦ refusalLine (r .number) (r .records) ]
 
--- no line is longer: five numbers of 20 digits, each with a byte behind it
+-- no line is longer: six numbers of 20 digits, each with a byte behind it
 abbrev pub longestLine : ℕ
-longestLine = 105
+longestLine = 126

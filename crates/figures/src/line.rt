@@ -8,8 +8,8 @@ ghost use Rattle.figures.specs.Line.{item, figuresLine, refusalLine, lin
 use crate::tally::Run;
 use crate::tally::Tally;
 
-// The longest line: five numbers of 20 digits, each with a byte behind it.
-pub const MAX_LINE: usize = 105;
+// The longest line: six numbers of 20 digits, each with a byte behind it.
+pub const MAX_LINE: usize = 126;
 
 // Writes a number, and what stands behind it, at place `at`. The place behind both.
 fn put_item(out: &mut [u8], at: usize, n: u64, behind: &[u8]) -> usize
@@ -21,7 +21,7 @@ fn put_item(out: &mut [u8], at: usize, n: u64, behind: &[u8]) -> usize
     text::put_text(out, to, behind)
 }
 
-// Writes the five figures.
+// Writes the six figures.
 fn put_figures(out: &mut [u8], t: Tally) -> usize
     requires { ⌜ longestLine ≤ length (now out) ⌝ }
     ensures { λ r. ⌜ Put (now (out .entry)) 0 (figuresLine t) (now (out .exit)) r × (r ≤ longestLine) ⌝ }
@@ -30,7 +30,8 @@ fn put_figures(out: &mut [u8], t: Tally) -> usize
     let to = put_item(out, to, t.blocks, b" ");
     let to = put_item(out, to, t.largest, b" ");
     let to = put_item(out, to, t.collections, b" ");
-    put_item(out, to, t.peak, b"\n")
+    let to = put_item(out, to, t.peak, b" ");
+    put_item(out, to, t.stuck, b"\n")
 }
 
 // Writes the line of a run that was stopped.

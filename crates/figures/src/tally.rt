@@ -1,14 +1,14 @@
 // Where a run stands: its figures go by value, and each record hands them back.
 ghost use mathlib.Core.Path.{_≡_};
 ghost use Prim.Native.Nat.{_+_, _<_, _^_};
-ghost use Rattle.figures.specs.Figures.{newRun, inRange, allocated as Figures·allocated, collected as Figures·collected, used as Figures·used};
+ghost use Rattle.figures.specs.Figures.{newRun, inRange, becameStuck, allocated as Figures·allocated, collected as Figures·collected, used as Figures·used};
 use blocks::MAX_BLOCKS;
 
 // The most records of a history.
 pub const MAX_RECORDS: usize = 4294967295;
 
 // Accepted allocations, blocks allocated in all, largest accepted size, full collections forced or recorded, most blocks in use after any
-// record. Laid out as in C, so that a run can be handed in and out there.
+// record, and how often an object became stuck. Laid out as in C, so that a run can be handed in and out there.
 #[repr(C)]
 pub struct Tally {
     pub allocations: u64,
@@ -16,6 +16,7 @@ pub struct Tally {
     pub largest: u64,
     pub collections: u64,
     pub peak: u64,
+    pub stuck: u64,
 }
 
 // A run so far: the number that stopped it or 0, the records run, the figures.
@@ -58,6 +59,15 @@ impl Tally {
         }
         self
     }
+
+    // With an object more that became stuck.
+    pub fn became_stuck(mut self) -> Tally
+        requires { ⌜ self .stuck + 1 < 2 ^ 64 ⌝ }
+        ensures { λ r. ⌜ r ≡ becameStuck self ⌝ }
+    {
+        self.stuck = self.stuck + 1;
+        self
+    }
 }
 
 // A run before its first record.
@@ -70,6 +80,7 @@ pub fn new_run() -> Run
         largest: 0,
         collections: 0,
         peak: 0,
+        stuck: 0,
     };
     Run {
         number: 0,
@@ -92,6 +103,9 @@ pub fn in_range(run: Run) -> bool
         return false;
     }
     if ((MAX_BLOCKS * records) as u64) < tally.blocks {
+        return false;
+    }
+    if (records as u64) < tally.stuck {
         return false;
     }
     if number == 0 {

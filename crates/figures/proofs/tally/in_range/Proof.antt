@@ -24,14 +24,28 @@ unfolding inRange
 returns-3 c = sym (all-failed _ 2 (lt-leb _ _ (c .if3 .taken)))
 
 returns-4 : tie.Need-returns-4
-returns-4 c = last-decides _ (c .before .before .before .before .before .before .before .if1 .left) (c .before .before .before .before .if2 .left) (c .before .before .if3 .left) _ (going-collections _ (c .before .if4 .taken))
+unfolding inRange
+returns-4 c = sym (all-failed _ 3 (lt-leb _ _ (c .if4 .taken)))
+
+returns-5 : tie.Need-returns-5
+returns-5 c =
+    let stuck = c .before .before in
+    let blocks = stuck .before .before in
+    let allocations = blocks .before .before in
+    last-decides _ (allocations .before .before .before .if1 .left) (allocations .if2 .left) (blocks .if3 .left) (stuck .if4 .left) _
+    (going-collections _ (c .before .if5 .taken))
 
 add-result : tie.Need-add-result
 add-result c = search needs
 
-returns-5 : tie.Need-returns-5
-returns-5 c = last-decides _ (c .before .before .before .before .before .before .before .if1 .left) (c .before .before .before .before .if2 .left) (c .before .before .if3 .left) _ (stopped-collections _ (c .before .if4 .left))
+returns-6 : tie.Need-returns-6
+returns-6 c =
+    let stuck = c .before .before in
+    let blocks = stuck .before .before in
+    let allocations = blocks .before .before in
+    last-decides _ (allocations .before .before .before .if1 .left) (allocations .if2 .left) (blocks .if3 .left) (stuck .if4 .left) _
+    (stopped-collections _ (c .before .if5 .left))
 
 pub in-range-spec : {M : Type 1} → statement M
 in-range-spec =
-    tie.close (tie.spec returns returns-2 mul-if3 returns-3 returns-4 add-result returns-5)
+    tie.close (tie.spec returns returns-2 mul-if3 returns-3 returns-4 returns-5 add-result returns-6)

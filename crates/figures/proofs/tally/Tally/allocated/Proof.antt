@@ -10,7 +10,7 @@ use Rattle.figures.proofs.tally.Tally.allocated.Tie as tie
 
 -- with an allocation of n blocks, and a largest size given
 with : Tally → (n largest : ℕ) → Tally
-with t n largest = tally (t .allocations + 1) (t .blocks + n) largest (t .collections) (t .peak)
+with t n largest = tally (t .allocations + 1) (t .blocks + n) largest (t .collections) (t .peak) (t .stuck)
 
 add-self : tie.Need-add-self
 add-self c = search needs

@@ -9,7 +9,7 @@ use Rattle.figures.proofs.tally.Tally.used.Tie as tie
 
 -- with a peak given
 with : Tally → (peak : ℕ) → Tally
-with t peak = tally (t .allocations) (t .blocks) (t .largest) (t .collections) peak
+with t peak = tally (t .allocations) (t .blocks) (t .largest) (t .collections) peak (t .stuck)
 
 returns : tie.Need-returns
 unfolding with
