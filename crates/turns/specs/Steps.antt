@@ -8,7 +8,7 @@ use Rattle.theory.specs.Balance.{inUse}
 use Rattle.inner.specs.declared.acts.Allocated.{Allocated}
 use Rattle.figures.specs.declared.tally.Tally.{Tally}
 use Rattle.figures.specs.declared.tally.Run.{Run}
-use Rattle.figures.specs.Figures.{allocated, collected, used, notedAll, run, mostRecords, inRange}
+use Rattle.figures.specs.Figures.{allocated, collected, used, momentIn, notedAll, run, mostRecords, inRange}
 use Rattle.turns.specs.declared.acts.Done.{Done}
 use Rattle.turns.specs.declared.noting.Running.{Running}
 use Rattle.turns.specs.Turns.{Turn, afterTurn}
@@ -16,15 +16,16 @@ use Rattle.turns.specs.Turns.{Turn, afterTurn}
 abbrev pub running : Run → (used : ℕ) → Running
 running r used = record { run = r; used = used }
 
-abbrev pub done : (number allocated : ℕ) → Bool → (freed : ℕ) → Done
-done number allocated collected freed = record { number = number; allocated = allocated; collected = collected; freed = freed }
+abbrev pub done : (number allocated : ℕ) → (collected : Bool) → (freed : ℕ) → (stuck : Bool) → Done
+done number allocated collected freed stuck =
+    record { number = number; allocated = allocated; collected = collected; freed = freed; stuck = stuck }
 
 -- what came of an allocation of n blocks: of its last try, and of a collection before that, if one was made, which freed so many blocks
 unfoldable pub doneAfter : Allocated → (n : ℕ) → (collected : Bool) → (freed : ℕ) → Done
 doneAfter last n collected freed =
     elim (eqb (last .reply .number) 0) [
-      | true ↦ done 0 n collected (freed + last .freed)
-      | false ↦ done (last .reply .number) 0 collected (freed + last .freed)
+      | true ↦ done 0 n collected (freed + last .freed) (eqb (last .reply .second) 1)
+      | false ↦ done (last .reply .number) 0 collected (freed + last .freed) false
     ]
 
 -- figures with a collection more, where one was made; with an allocation of n blocks more, where n is not 0
@@ -34,15 +35,19 @@ withCollection d t = elim (d .collected) [ true ↦ collected t | false ↦ t ]
 unfoldable pub withAllocation : Done → Tally → Tally
 withAllocation d t = elim (eqb (d .allocated) 0) [ true ↦ t | false ↦ allocated (d .allocated) t ]
 
+-- .. and with an object more that became stuck, where one did
+abbrev pub figuresOf : Done → Tally → Tally
+figuresOf d t = momentIn (d .stuck) (withAllocation d (withCollection d t))
+
 -- Calls of a record were made on h, as in turn x, and left g; `d` says what came of them: the number; the figures; and the blocks balance.
--- A record that is refused has allocated nothing.
+-- A record that is refused has allocated nothing, and nothing became stuck.
 pub record Acted (N : ℕ) (h : Memory) (x : Turn) (d : Done) (g : Memory) : Type 0 where
   pub number-is : d .number ≡ x .number
   pub after-is : g ≡ x .after
-  pub figures-are : (t : Tally) → withAllocation d (withCollection d t) ≡ notedAll (x .made) t
+  pub figures-are : (t : Tally) → figuresOf d t ≡ notedAll (x .made) t
   pub balance : inUse N h + d .allocated ≡ d .freed + inUse N g
   pub allocated-few : d .allocated ≤ N
-  pub refused-none : (d .number ≡ 0 → ⊥) → d .allocated ≡ 0
+  pub refused-none : (d .number ≡ 0 → ⊥) → (d .allocated ≡ 0) × (d .stuck ≡ false)
 
 -- a run under way on memory h: not stopped, in range, with room for n records more, and the blocks in use are known
 pub record Going (N : ℕ) (h : Memory) (n : ℕ) (now : Running) : Type 0 where
@@ -56,6 +61,7 @@ pub record CanNote (d : Done) (now : Running) : Type 0 where
   pub collections-fit : now .run .tally .collections + 1 < 2 ^ 64
   pub allocations-fit : now .run .tally .allocations + 1 < 2 ^ 64
   pub blocks-fit : now .run .tally .blocks + d .allocated < 2 ^ 64
+  pub stuck-fits : now .run .tally .stuck + 1 < 2 ^ 64
   pub records-fit : now .run .records + 1 < 2 ^ 64
   pub used-fits : now .used + d .allocated < 2 ^ 64
   pub freed-few : d .freed ≤ now .used + d .allocated
@@ -63,7 +69,7 @@ pub record CanNote (d : Done) (now : Running) : Type 0 where
 -- the run with what came of a record noted
 unfoldable pub notedBy : Done → Running → Running
 notedBy d now =
-    let figures = withAllocation d (withCollection d (now .run .tally)) in
+    let figures = figuresOf d (now .run .tally) in
     let blocks = now .used + d .allocated - d .freed in
     elim (eqb (d .number) 0) [
       | true ↦ running (run 0 (now .run .records + 1) (used blocks figures)) blocks

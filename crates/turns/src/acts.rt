@@ -14,12 +14,14 @@ use inner::acts::Allocated;
 use inner::steps;
 use records::Plan;
 
-// What came of a record's calls: the number that stops the run or 0, the blocks allocated, whether a collection was made, the blocks freed.
+// What came of a record's calls: the number that stops the run or 0, the blocks allocated, whether a collection was made, the blocks freed,
+// whether an object became stuck.
 pub struct Done {
     pub number: usize,
     pub allocated: usize,
     pub collected: bool,
     pub freed: usize,
+    pub stuck: bool,
 }
 
 // What came of an allocation of n blocks: of its last try, and of a collection before that, if one was made, which freed so many blocks.
@@ -35,6 +37,7 @@ fn done_after(last: Allocated, n: usize, collected: bool, freed: usize) -> Done
             allocated: 0,
             collected: collected,
             freed: freed,
+            stuck: false,
         };
     }
     Done {
@@ -42,6 +45,7 @@ fn done_after(last: Allocated, n: usize, collected: bool, freed: usize) -> Done
         allocated: n,
         collected: collected,
         freed: freed,
+        stuck: last.reply.second == 1,
     }
 }
 
@@ -97,6 +101,7 @@ pub(crate) fn act(
             allocated: 0,
             collected: false,
             freed: 0,
+            stuck: false,
         },
         Plan::Allocate { n, r } => allocate(
             blocks,
@@ -117,6 +122,7 @@ pub(crate) fn act(
                 allocated: 0,
                 collected: false,
                 freed: reply.value,
+                stuck: reply.second == 1,
             }
         }
         Plan::StoreCell { at, j, v } => {
@@ -138,6 +144,7 @@ pub(crate) fn act(
                 allocated: 0,
                 collected: false,
                 freed: reply.value,
+                stuck: reply.second == 1,
             }
         }
         Plan::Collect => {
@@ -147,6 +154,7 @@ pub(crate) fn act(
                 allocated: 0,
                 collected: true,
                 freed: reply.value,
+                stuck: false,
             }
         }
     }

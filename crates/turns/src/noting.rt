@@ -1,6 +1,7 @@
 // What a record adds to the run: its figures, which come and go by value, and the blocks in use.
 ghost use mathlib.Core.Path.{_≡_};
 ghost use Prim.Native.Nat.{_+_, _<_, _^_};
+ghost use Rattle.figures.specs.Figures.{momentIn};
 ghost use Rattle.turns.specs.Steps.{withCollection, withAllocation, CanNote, notedBy};
 use crate::acts::Done;
 use figures::tally::Run;
@@ -35,6 +36,17 @@ fn with_allocation(t: Tally, done: Done) -> Tally
     t.allocated(n as u64)
 }
 
+// The figures with an object more that became stuck, where one did.
+fn with_moment(t: Tally, done: Done) -> Tally
+    requires { ⌜ t .stuck + 1 < 2 ^ 64 ⌝ }
+    ensures { λ r. ⌜ r ≡ momentIn (done .stuck) t ⌝ }
+{
+    if done.stuck {
+        return t.became_stuck();
+    }
+    t
+}
+
 // The run with what came of a record noted.
 pub(crate) fn noted(state: Running, done: Done) -> Running
     requires { ⌜ CanNote done state ⌝ }
@@ -44,6 +56,7 @@ pub(crate) fn noted(state: Running, done: Done) -> Running
     let t = run.tally;
     let t = with_collection(t, done);
     let t = with_allocation(t, done);
+    let t = with_moment(t, done);
     let used = state.used + done.allocated - done.freed;
     let number = done.number;
     if number != 0 {
