@@ -1,6 +1,6 @@
 -- What came of a record, noted: nothing wraps, the run is the one after the turn, and it is in range.
 use mathlib.Core.Path.{_≡_, refl, sym, ap, _∙_, subst}
-use mathlib.Core.Bool.{Bool, true, false}
+use mathlib.Core.Bool.{Bool, true, false, true≢false}
 use Prim.Native.Nat.{ℕ, _+_, _-_, _≤_}
 use native.Mathlib.Decide.{ℕ-discrete}
 use native.Mathlib.Omega.{arith}
@@ -9,55 +9,67 @@ use Rattle.rules.specs.Heap.{Memory, maxBlocks}
 use Rattle.theory.specs.Balance.{inUse}
 use Rattle.figures.specs.declared.tally.Tally.{Tally}
 use Rattle.figures.specs.declared.tally.Run.{Run}
-use Rattle.figures.specs.Figures.{collected, used, run}
+use Rattle.figures.specs.Figures.{collected, used, momentIn, run}
 use Rattle.figures.proofs.Ranges.{Within, in-range-within, within-in-range, going-collections, stopped-collections}
 use Rattle.turns.specs.declared.acts.Done.{Done}
 use Rattle.turns.specs.declared.noting.Running.{Running}
 use Rattle.turns.specs.Turns.{Turn, afterTurn}
-use Rattle.turns.specs.Steps.{running, withCollection, withAllocation, Acted, Going, CanNote, notedBy, Stepped}
+use Rattle.turns.specs.Steps.{running, withCollection, withAllocation, figuresOf, Acted, Going, CanNote, notedBy, Stepped}
 
 -- ---- figures grow by little
 
--- at most one allocation and one collection more, and the blocks allocated
+-- at most one allocation, one collection and one object that became stuck more, and the blocks allocated
 record Grown (d : Done) (t is : Tally) : Type 0 where
   collections : is .collections ≤ t .collections + 1
   allocations : is .allocations ≤ t .allocations + 1
   no-allocation : d .allocated ≡ 0 → is .allocations ≡ t .allocations
   blocks : is .blocks ≡ t .blocks + d .allocated
+  stuck : is .stuck ≤ t .stuck + 1
+  none-stuck : d .stuck ≡ false → is .stuck ≡ t .stuck
 
 pub collection-grows : (d : Done) (t : Tally)
-    → let is = withCollection d t in (is .collections ≤ t .collections + 1) × (is .allocations ≡ t .allocations) × (is .blocks ≡ t .blocks)
+    → let is = withCollection d t in (is .collections ≤ t .collections + 1) × (is .allocations ≡ t .allocations) × (is .blocks ≡ t .blocks) × (is .stuck ≡ t .stuck)
 unfolding withCollection
 collection-grows d t = go (d .collected)
   where
     go : (b : Bool)
         → let is : Tally = elim b [ true ↦ collected t | false ↦ t ] in
-        (is .collections ≤ t .collections + 1) × (is .allocations ≡ t .allocations) × (is .blocks ≡ t .blocks)
-    go true = (omega arith, refl, refl)
-    go false = (omega arith, refl, refl)
+        (is .collections ≤ t .collections + 1) × (is .allocations ≡ t .allocations) × (is .blocks ≡ t .blocks) × (is .stuck ≡ t .stuck)
+    go true = (omega arith, refl, refl, refl)
+    go false = (omega arith, refl, refl, refl)
 
-figures-grow : (d : Done) (t : Tally) → Grown d t (withAllocation d (withCollection d t))
+-- an allocation adds to two figures
+pub allocation-grows : (d : Done) (t : Tally)
+    → let is = withAllocation d t in
+    (is .collections ≡ t .collections) × (is .allocations ≤ t .allocations + 1) × (d .allocated ≡ 0 → is .allocations ≡ t .allocations)
+    × (is .blocks ≡ t .blocks + d .allocated) × (is .stuck ≡ t .stuck)
 unfolding withAllocation
+allocation-grows d t = elim (ℕ-discrete (d .allocated) 0) [
+  | yes e ↦ rw (eq-eqb (d .allocated) 0 e, withAllocation) (refl, omega arith, λ _. refl, omega arith, refl)
+  | no e ↦ rw (ne-eqb (d .allocated) 0 e, withAllocation) (refl, omega arith, λ z. absurd (e z), refl, refl)
+]
+
+moment-grows : (s : Bool) (t : Tally)
+    → let is = momentIn s t in
+    (is .collections ≡ t .collections) × (is .allocations ≡ t .allocations) × (is .blocks ≡ t .blocks) × (is .stuck ≤ t .stuck + 1)
+    × (s ≡ false → is .stuck ≡ t .stuck)
+unfolding momentIn
+moment-grows true t = (refl, refl, refl, omega arith, λ e. absurd (true≢false e))
+moment-grows false t = (refl, refl, refl, omega arith, λ _. refl)
+
+figures-grow : (d : Done) (t : Tally) → Grown d t (figuresOf d t)
 figures-grow d t =
     let first = collection-grows d t in
-    elim (ℕ-discrete (d .allocated) 0) [
-      | yes e ↦
-          rw (eq-eqb (d .allocated) 0 e, withAllocation)
-          record {
-            collections = first .0;
-            allocations = omega (arith, first .1);
-            no-allocation = λ _. first .1;
-            blocks = omega (arith, first .2);
-          }
-      | no e ↦
-          rw (ne-eqb (d .allocated) 0 e, withAllocation)
-          record {
-            collections = first .0;
-            allocations = omega (arith, first .1);
-            no-allocation = λ z. absurd (e z);
-            blocks = omega (arith, first .2);
-          }
-    ]
+    let second = allocation-grows d (withCollection d t) in
+    let third = moment-grows (d .stuck) (withAllocation d (withCollection d t)) in
+    record {
+      collections = omega (arith, first .0, second .0, third .0);
+      allocations = omega (arith, first .1, second .1, third .1);
+      no-allocation = λ z. third .1 ∙ second .2 z ∙ first .1;
+      blocks = omega (arith, first .2, second .3, third .2);
+      stuck = omega (arith, first .3, second .4, third .3);
+      none-stuck = λ e. third .4 e ∙ second .4 ∙ first .3;
+    }
 
 -- ---- one record
 
@@ -75,6 +87,7 @@ module _ (N : ℕ) (small : N ≤ maxBlocks) (h : Memory) (state : Running) (goi
         collections-fit = omega (arith, few-collections, going .more);
         allocations-fit = omega (arith, within .allocations-few, going .more);
         blocks-fit = omega (arith, within .blocks-few, going .more, acted .allocated-few);
+        stuck-fits = omega (arith, within .stuck-few, going .more);
         records-fit = omega (arith, going .more);
         used-fits = omega (arith, going .used-is, acted .allocated-few);
         freed-few = omega (arith, going .used-is, acted .balance);
@@ -85,7 +98,7 @@ module _ (N : ℕ) (small : N ≤ maxBlocks) (h : Memory) (state : Running) (goi
   used-again = omega (arith, going .used-is, acted .balance)
 
   abbrev figures : Tally
-  figures = withAllocation d (withCollection d (state .run .tally))
+  figures = figuresOf d (state .run .tally)
 
   grown : Grown d (state .run .tally) figures
   grown = figures-grow d (state .run .tally)
@@ -97,16 +110,19 @@ module _ (N : ℕ) (small : N ≤ maxBlocks) (h : Memory) (state : Running) (goi
         few = omega (arith, going .more);
         allocations-few = omega (arith, grown .allocations, within .allocations-few);
         blocks-few = omega (arith, grown .blocks, within .blocks-few, acted .allocated-few);
+        stuck-few = omega (arith, grown .stuck, within .stuck-few);
         collections-few = omega (arith, grown .collections, few-collections, going-collections r refl);
       }
 
-  refused-within : (number : ℕ) → (number ≡ 0 → ⊥) → d .allocated ≡ 0 → Within (run number (state .run .records) figures)
-  refused-within number stopped none-new =
+  refused-within :
+      (number : ℕ) → (number ≡ 0 → ⊥) → (d .allocated ≡ 0) × (d .stuck ≡ false) → Within (run number (state .run .records) figures)
+  refused-within number stopped (none-new, none-stuck) =
       let r : Run = run number (state .run .records) figures in
       record {
         few = omega (arith, going .more);
         allocations-few = omega (arith, grown .no-allocation none-new, within .allocations-few);
         blocks-few = omega (arith, grown .blocks, within .blocks-few);
+        stuck-few = omega (arith, grown .none-stuck none-stuck, within .stuck-few);
         collections-few = omega (arith, grown .collections, few-collections, stopped-collections r stopped);
       }
 

@@ -1,4 +1,4 @@
--- A refused store on an undamaged heap changes no buffer, and its value is 0.
+-- A refused store on an undamaged heap changes no buffer, and its values are 0.
 use mathlib.Core.Path.{_≡_, refl, sym, subst}
 use mathlib.Core.Bool.{Bool, true, false}
 use Prim.Native.Nat.{ℕ, _+_, _*_}
@@ -11,7 +11,7 @@ use Rattle.theory.proofs.Memories.Healthy.{Healthy}
 use Rattle.theory.proofs.EachCall.Served.{on-undamaged}
 
 pub record Keeps (h : Memory) (x : Answer) : Type 0 where
-  pub kept : (x .0 .number ≡ 0 → ⊥) → (x .1 ≡ h) × (x .0 .value ≡ 0)
+  pub kept : (x .0 .number ≡ 0 → ⊥) → (x .1 ≡ h) × (x .0 .value ≡ 0) × (x .0 .second ≡ 0)
 
 module _ (N w : ℕ) (h : Memory) (healthy : Healthy N w h) where
   freeing-keeps : (g : Memory) (second : ℕ) → Keeps h (freeing N h g second)
@@ -21,7 +21,7 @@ module _ (N w : ℕ) (h : Memory) (healthy : Healthy N w h) where
   require-keeps : {next : Answer} (test : Bool) (number : ℕ) → Keeps h next → Keeps h (require test number h next)
   unfolding require
   require-keeps true number next = next
-  require-keeps false number next = record { kept = λ _. (refl, refl) }
+  require-keeps false number next = record { kept = λ _. (refl, refl, refl) }
 
   on-undamaged-keeps : {next : Answer} → Keeps h next → Keeps h (onUndamaged N w h next)
   on-undamaged-keeps {next} keeps = subst (λ (x : Answer). Keeps h x) (sym (on-undamaged N w h healthy next)) keeps

@@ -1,11 +1,11 @@
 -- What came of a record, from what its calls promise.
-use mathlib.Core.Path.{_≡_, refl, sym, ap, _∙_, subst}
+use mathlib.Core.Path.{_≡_, refl, sym, ap, ap₂, _∙_, subst}
 use mathlib.Core.Bool.{Bool, true, false, _&&_}
 use mathlib.Core.List.{[], _∷_}
 use Prim.Native.Nat.{ℕ, _+_, _^_, _≤_, _<_}
 use native.Mathlib.Decide.{ℕ-discrete}
 use native.Mathlib.Omega.{arith}
-use lib.Dec.{leb, ltb}
+use lib.Dec.{leb, ltb, eqb}
 use lib.ListN.{length}
 use borrow.Author.Tests.{eq-eqb, ne-eqb, leb-true}
 use Rattle.rules.specs.Heap.{Memory, exponent, lowestFree}
@@ -28,7 +28,7 @@ use Rattle.records.specs.declared.Plan.{Plan}
 use Rattle.records.specs.Meaning.{meaning}
 use Rattle.records.specs.Records.{makes, stops}
 use Rattle.figures.specs.declared.tally.Tally.{Tally}
-use Rattle.figures.specs.Figures.{allocated, collected, countedIn, noted, notedAll}
+use Rattle.figures.specs.Figures.{allocated, collected, countedIn, sticks, momentIn, noted, notedAll}
 use Rattle.turns.specs.declared.acts.Done.{Done}
 use Rattle.turns.specs.Turns.{madeOn, Turn, turn, triesAgain, triedAgain, turnOf}
 use Rattle.turns.specs.Steps.{done, doneAfter, withCollection, withAllocation, Acted}
@@ -51,13 +51,13 @@ noted-refused : (m : Made) (t : Tally) → (m .reply .number ≡ 0 → ⊥) → 
 unfolding noted
 noted-refused m t refused = rw (ne-eqb (m .reply .number) 0 refused, noted)
 
-noted-accepted : (m : Made) (t : Tally) → m .reply .number ≡ 0 → noted m t ≡ countedIn (m .call) t
+noted-accepted : (m : Made) (t : Tally) → m .reply .number ≡ 0 → noted m t ≡ momentIn (sticks (m .call) (m .reply)) (countedIn (m .call) t)
 unfolding noted
 noted-accepted m t accepted = rw (eq-eqb (m .reply .number) 0 accepted, noted)
 
-with-allocated : (n : ℕ) (c : Bool) (number freed : ℕ) (t : Tally) → 1 ≤ n → withAllocation (done number n c freed) t ≡ allocated n t
+with-allocated : (n : ℕ) (c : Bool) (number freed : ℕ) (s : Bool) (t : Tally) → 1 ≤ n → withAllocation (done number n c freed s) t ≡ allocated n t
 unfolding withAllocation
-with-allocated n c number freed t some = rw (ne-eqb n 0 (λ z. omega arith), withAllocation)
+with-allocated n c number freed s t some = rw (ne-eqb n 0 (λ z. omega arith), withAllocation)
 
 -- ---- a turn of one call, and of three
 
@@ -91,8 +91,8 @@ module _ (N w : ℕ) (h : Memory) (usable : Usable N w h) (c : Call) {x : Reply}
 
 -- ---- stores, and a number that stops the run
 
-pub acted-stop : (N w : ℕ) (h : Memory) (number : ℕ) → Acted N h (turnOf N w h (stops number)) (done number 0 false 0) h
-unfolding turnOf notedAll withCollection withAllocation
+pub acted-stop : (N w : ℕ) (h : Memory) (number : ℕ) → Acted N h (turnOf N w h (stops number)) (done number 0 false 0 false) h
+unfolding turnOf notedAll withCollection withAllocation momentIn
 acted-stop N w h number =
     record {
       number-is = refl;
@@ -100,34 +100,37 @@ acted-stop N w h number =
       figures-are = λ t. refl;
       balance = omega arith;
       allocated-few = omega arith;
-      refused-none = λ _. refl;
+      refused-none = λ _. (refl, refl);
     }
 
--- a call that is made once, allocates nothing, is counted in no figure, and whose value is the number of blocks freed
+-- a call that is made once, allocates nothing, is counted in no figure but the last, and whose value is the number of blocks freed
 record Plain (c : Call) : Type 0 where
   once : (x : Reply) → triesAgain c x ≡ false
   uncounted : (t : Tally) → countedIn c t ≡ t
+  told : (x : Reply) → sticks c x ≡ eqb (x .second) 1
   none-new : allocates c ≡ 0
   frees : (N w : ℕ) (h : Memory) → let x = answer N w h c in x .0 .number ≡ 0 → x .0 .value ≡ freedBlocks N h (x .1)
   keeps : (N w : ℕ) (h : Memory) → Healthy N w h → Keeps h (answer N w h c)
 
 store-root-plain : (r v : ℕ) → Plain (storeRoot r v)
-unfolding triesAgain countedIn allocates
+unfolding triesAgain countedIn sticks allocates
 store-root-plain r v =
     record {
       once = λ x. refl;
       uncounted = λ t. refl;
+      told = λ x. refl;
       none-new = refl;
       frees = λ N w h e. blocks-add-up N w h .store-root r v e .by-objects;
       keeps = λ N w h healthy. store-root-keeps N w h healthy r v;
     }
 
 store-cell-plain : (a j v : ℕ) → Plain (storeCell a j v)
-unfolding triesAgain countedIn allocates
+unfolding triesAgain countedIn sticks allocates
 store-cell-plain a j v =
     record {
       once = λ x. refl;
       uncounted = λ t. refl;
+      told = λ x. refl;
       none-new = refl;
       frees = λ N w h e. blocks-add-up N w h .store-cell a j v e .by-objects;
       keeps = λ N w h healthy. store-cell-keeps N w h healthy a j v;
@@ -136,17 +139,17 @@ store-cell-plain a j v =
 module _ (N w : ℕ) (h : Memory) (usable : Usable N w h) where
   acted-plain :
       (c : Call) → Plain c → {x : Reply} {g : Memory} → Promise N w c h x g
-      → Acted N h (turnOf N w h (makes c)) (done (x .number) 0 false (x .value)) g
+      → Acted N h (turnOf N w h (makes c)) (done (x .number) 0 false (x .value) (eqb (x .second) 1)) g
   unfolding notedAll withCollection withAllocation
   acted-plain c plain {x} {g} promise =
       acted-as (turn-once N w h c (plain .once (answer N w h c .0)))
       record {
         number-is = ap (λ (y : Reply). y .number) (promise .reply-is);
         after-is = promise .after-is;
-        figures-are = λ t. sym (uncounted t);
+        figures-are = λ t. sym (counted t);
         balance = balance;
         allocated-few = omega arith;
-        refused-none = λ _. refl;
+        refused-none = λ refused. (refl, untold refused);
       }
     where
       accepted-balance : x .number ≡ 0 → inUse N h + 0 ≡ x .value + inUse N g
@@ -169,20 +172,35 @@ module _ (N w : ℕ) (h : Memory) (usable : Usable N w h) where
             )
       ]
 
-      uncounted : (t : Tally) → noted (madeOn N w h c) t ≡ t
-      uncounted t = elim (ℕ-discrete (answer N w h c .0 .number) 0) [
-        | yes e ↦ noted-accepted (madeOn N w h c) t e ∙ plain .uncounted t
-        | no e ↦ noted-refused (madeOn N w h c) t e
+      second-is : answer N w h c .0 .second ≡ x .second
+      second-is = ap (λ (y : Reply). y .second) (sym (promise .reply-is))
+
+      -- a refused one sticks nothing
+      untold : (x .number ≡ 0 → ⊥) → eqb (x .second) 1 ≡ false
+      untold refused =
+          let kept =
+          plain .keeps N w h (usable-healthy N w h usable) .kept (λ z. refused (ap (λ (y : Reply). y .number) (promise .reply-is) ∙ z)) in
+          ne-eqb (x .second) 1 (λ e. omega (arith, kept .2, second-is))
+
+      counted : (t : Tally) → noted (madeOn N w h c) t ≡ momentIn (eqb (x .second) 1) t
+      unfolding momentIn
+      counted t = elim (ℕ-discrete (answer N w h c .0 .number) 0) [
+        | yes e ↦
+            noted-accepted (madeOn N w h c) t e
+            ∙ ap₂ momentIn (plain .told (answer N w h c .0) ∙ ap (λ (k : ℕ). eqb k 1) second-is) (plain .uncounted t)
+        | no e ↦
+            noted-refused (madeOn N w h c) t e
+            ∙ sym (ap (λ (s : Bool). momentIn s t) (untold (λ z. e (ap (λ (y : Reply). y .number) (sym (promise .reply-is)) ∙ z))))
       ]
 
   pub acted-root :
       (r v : ℕ) {x : Reply} {g : Memory} → Promise N w (storeRoot r v) h x g
-      → Acted N h (turnOf N w h (makes (storeRoot r v))) (done (x .number) 0 false (x .value)) g
+      → Acted N h (turnOf N w h (makes (storeRoot r v))) (done (x .number) 0 false (x .value) (eqb (x .second) 1)) g
   acted-root r v = acted-plain (storeRoot r v) (store-root-plain r v)
 
   pub acted-cell :
       (a j v : ℕ) {x : Reply} {g : Memory} → Promise N w (storeCell a j v) h x g
-      → Acted N h (turnOf N w h (makes (storeCell a j v))) (done (x .number) 0 false (x .value)) g
+      → Acted N h (turnOf N w h (makes (storeCell a j v))) (done (x .number) 0 false (x .value) (eqb (x .second) 1)) g
   acted-cell a j v = acted-plain (storeCell a j v) (store-cell-plain a j v)
 
   -- ---- a collection
@@ -192,7 +210,7 @@ module _ (N w : ℕ) (h : Memory) (usable : Usable N w h) where
   collect-accepted = ap (λ (y : Answer). y .0 .number) (collect-answered N w h (usable-healthy N w h usable))
 
   collect-noted : (t : Tally) → noted (madeOn N w h collect) t ≡ collected t
-  unfolding countedIn
+  unfolding countedIn sticks momentIn
   collect-noted t = noted-accepted (madeOn N w h collect) t collect-accepted
 
   collect-balance : {y : Reply} {k : Memory} → Promise N w collect h y k → inUse N h ≡ y .value + inUse N k
@@ -204,8 +222,8 @@ module _ (N w : ℕ) (h : Memory) (usable : Usable N w h) where
       omega (arith, call-balance N w h usable collect promise, accepted-allocates collect y number)
 
   pub acted-collect :
-      {x : Reply} {g : Memory} → Promise N w collect h x g → Acted N h (turnOf N w h (makes collect)) (done 0 0 true (x .value)) g
-  unfolding notedAll withCollection withAllocation triesAgain
+      {x : Reply} {g : Memory} → Promise N w collect h x g → Acted N h (turnOf N w h (makes collect)) (done 0 0 true (x .value) false) g
+  unfolding notedAll withCollection withAllocation triesAgain momentIn
   acted-collect {x} {g} promise =
       acted-as (turn-once N w h collect refl)
       record {
@@ -214,7 +232,7 @@ module _ (N w : ℕ) (h : Memory) (usable : Usable N w h) where
         figures-are = λ t. sym (collect-noted t);
         balance = omega (arith, collect-balance promise);
         allocated-few = omega arith;
-        refused-none = λ _. refl;
+        refused-none = λ _. (refl, refl);
       }
 
 -- ---- an allocation
@@ -236,6 +254,10 @@ module _ (N w : ℕ) (h : Memory) (usable : Usable N w h) (n r : ℕ) where
     reply-number : answer N w h (allocate n r) .0 .number ≡ done′ .reply .number
     reply-number = ap (λ (y : Reply). y .number) (sym (tried .promise .reply-is))
 
+    -- whether the new object is born stuck
+    abbrev born-stuck : Bool
+    born-stuck = eqb (done′ .reply .second) 1
+
     tried-balance : inUse N h + allocatedBy (allocate n r) (done′ .reply) ≡ done′ .freed + inUse N g
     tried-balance = omega (arith, call-balance N w h usable (allocate n r) (tried .promise), tried .freed-is)
 
@@ -252,9 +274,11 @@ module _ (N w : ℕ) (h : Memory) (usable : Usable N w h) (n r : ℕ) where
       size-fits : (1 ≤ n) × (n ≤ N)
       size-fits = accepted-size (reply-number ∙ accepted)
 
-      accepted-noted : (t : Tally) → noted (madeOn N w h (allocate n r)) t ≡ allocated n t
-      unfolding countedIn
-      accepted-noted t = noted-accepted (madeOn N w h (allocate n r)) t (reply-number ∙ accepted)
+      accepted-noted : (t : Tally) → noted (madeOn N w h (allocate n r)) t ≡ momentIn born-stuck (allocated n t)
+      unfolding countedIn sticks
+      accepted-noted t =
+          noted-accepted (madeOn N w h (allocate n r)) t (reply-number ∙ accepted)
+          ∙ ap (λ (x : Reply). momentIn (eqb (x .second) 1) (allocated n t)) (sym (tried .promise .reply-is))
 
       accepted-balance : inUse N h + n ≡ done′ .freed + inUse N g
       unfolding allocates
@@ -266,8 +290,8 @@ module _ (N w : ℕ) (h : Memory) (usable : Usable N w h) (n r : ℕ) where
 
     acted-refused :
         (done′ .reply .number ≡ 0 → ⊥) → (done′ .reply .number ≡ 5 → ⊥)
-        → Acted N h (turnOf N w h (makes (allocate n r))) (done (done′ .reply .number) 0 false (0 + done′ .freed)) g
-    unfolding notedAll withCollection withAllocation
+        → Acted N h (turnOf N w h (makes (allocate n r))) (done (done′ .reply .number) 0 false (0 + done′ .freed) false) g
+    unfolding notedAll withCollection withAllocation momentIn
     acted-refused refused other =
         acted-as (turn-once N w h (allocate n r) (once other))
         record {
@@ -276,18 +300,20 @@ module _ (N w : ℕ) (h : Memory) (usable : Usable N w h) (n r : ℕ) where
           figures-are = λ t. sym (refused-noted refused t);
           balance = omega (arith, refused-balance refused);
           allocated-few = omega arith;
-          refused-none = λ _. refl;
+          refused-none = λ _. (refl, refl);
         }
 
     acted-allocated :
-        done′ .reply .number ≡ 0 → Acted N h (turnOf N w h (makes (allocate n r))) (done 0 n false (0 + done′ .freed)) g
+        done′ .reply .number ≡ 0 → Acted N h (turnOf N w h (makes (allocate n r))) (done 0 n false (0 + done′ .freed) born-stuck) g
     unfolding notedAll withCollection
     acted-allocated accepted =
         acted-as (turn-once N w h (allocate n r) (once (λ e. omega arith)))
         record {
           number-is = sym (reply-number ∙ accepted);
           after-is = tried .promise .after-is;
-          figures-are = λ t. with-allocated n false 0 (0 + done′ .freed) t (size-fits accepted .0) ∙ sym (accepted-noted accepted t);
+          figures-are = λ t.
+              ap (momentIn born-stuck) (with-allocated n false 0 (0 + done′ .freed) born-stuck t (size-fits accepted .0))
+              ∙ sym (accepted-noted accepted t);
           balance = omega (arith, accepted-balance accepted);
           allocated-few = size-fits accepted .1;
           refused-none = λ some. absurd (some refl);
@@ -365,8 +391,8 @@ module _ (N w : ℕ) (h : Memory) (usable : Usable N w h) (n r : ℕ) (y : Reply
 
   again-refused :
       (second .reply .number ≡ 0 → ⊥)
-      → Acted N h (triedAgain N w h (allocate n r)) (done (second .reply .number) 0 true (y .value + second .freed)) g
-  unfolding withCollection withAllocation
+      → Acted N h (triedAgain N w h (allocate n r)) (done (second .reply .number) 0 true (y .value + second .freed) false) g
+  unfolding withCollection withAllocation momentIn
   again-refused refused =
       acted-as tried-again
       record {
@@ -376,11 +402,11 @@ module _ (N w : ℕ) (h : Memory) (usable : Usable N w h) (n r : ℕ) (y : Reply
         balance =
             omega (arith, collect-balance N w h usable forced, refused-balance N w k forced-usable n r second g tried refused);
         allocated-few = omega arith;
-        refused-none = λ _. refl;
+        refused-none = λ _. (refl, refl);
       }
 
   again-allocated :
-      second .reply .number ≡ 0 → Acted N h (triedAgain N w h (allocate n r)) (done 0 n true (y .value + second .freed)) g
+      second .reply .number ≡ 0 → Acted N h (triedAgain N w h (allocate n r)) (done 0 n true (y .value + second .freed) (eqb (second .reply .second) 1)) g
   unfolding withCollection
   again-allocated accepted =
       let size = size-fits N w k forced-usable n r second g tried accepted in
@@ -389,7 +415,8 @@ module _ (N w : ℕ) (h : Memory) (usable : Usable N w h) (n r : ℕ) (y : Reply
         number-is = sym (reply-number N w k forced-usable n r second g tried ∙ accepted);
         after-is = tried .promise .after-is;
         figures-are = λ t.
-            with-allocated n true 0 (y .value + second .freed) (collected t) (size .0)
+            ap (momentIn (eqb (second .reply .second) 1))
+            (with-allocated n true 0 (y .value + second .freed) (eqb (second .reply .second) 1) (collected t) (size .0))
             ∙ sym (both-noted t ∙ accepted-noted N w k forced-usable n r second g tried accepted (collected t));
         balance =
             omega (arith, collect-balance N w h usable forced, accepted-balance N w k forced-usable n r second g tried accepted);
