@@ -140,7 +140,7 @@ module _ (N w : ℕ) (h : Memory) (usable : Usable N w h) where
   acted-plain :
       (c : Call) → Plain c → {x : Reply} {g : Memory} → Promise N w c h x g
       → Acted N h (turnOf N w h (makes c)) (done (x .number) 0 false (x .value) (eqb (x .second) 1)) g
-  unfolding notedAll withCollection withAllocation
+  unfolding notedAll withCollection withAllocation momentIn
   acted-plain c plain {x} {g} promise =
       acted-as (turn-once N w h c (plain .once (answer N w h c .0)))
       record {
@@ -183,7 +183,6 @@ module _ (N w : ℕ) (h : Memory) (usable : Usable N w h) where
           ne-eqb (x .second) 1 (λ e. omega (arith, kept .2, second-is))
 
       counted : (t : Tally) → noted (madeOn N w h c) t ≡ momentIn (eqb (x .second) 1) t
-      unfolding momentIn
       counted t = elim (ℕ-discrete (answer N w h c .0 .number) 0) [
         | yes e ↦
             noted-accepted (madeOn N w h c) t e

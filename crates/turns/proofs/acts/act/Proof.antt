@@ -9,11 +9,11 @@ use Rattle.turns.proofs.acts.act.Tie as tie
 abbrev allocated : tie.After-slice-known12 → tie.After-allocate
 allocated c = c .before .before .before .before .before .before .before .before .before .before .before .before
 
-abbrev root-stored : tie.After-slice-known18 → tie.After-store-root
-root-stored c = c .before .before .before .before .before .before .before .before .before .before .before .before
+abbrev root-stored : tie.After-struct-known → tie.After-store-root
+root-stored c = c .before .before .before .before .before .before .before .before .before .before .before .before .before
 
-abbrev cell-stored : tie.After-slice-known23 → tie.After-store-cell
-cell-stored c = c .before .before .before .before .before .before .before .before .before .before
+abbrev cell-stored : tie.After-struct-known2 → tie.After-store-cell
+cell-stored c = c .before .before .before .before .before .before .before .before .before .before .before
 
 abbrev collected : tie.After-slice-known28 → tie.After-collect
 collected c = c .before .before .before .before .before .before .before .before .before .before

@@ -4,19 +4,20 @@ use Prim.Native.Nat.{ℕ, _+_, _-_}
 use native.Mathlib.Omega.{arith}
 use borrow.Author.Tests.{eq-eqb, ne-eqb}
 use Rattle.figures.specs.declared.tally.Tally.{Tally}
-use Rattle.figures.specs.Figures.{run, used}
-use Rattle.turns.specs.Steps.{running, withCollection, withAllocation, notedBy}
-use Rattle.turns.proofs.Notes.{collection-grows}
+use Rattle.figures.specs.Figures.{run, used, momentIn}
+use Rattle.turns.specs.Steps.{running, withAllocation, figuresOf, notedBy}
+use Rattle.turns.proofs.Notes.{collection-grows, allocation-grows}
 use borrow.Author.Needs.{needs}
 use Rattle.turns.proofs.noting.noted.Statement.{statement}
 use Rattle.turns.proofs.noting.noted.Tie as tie
 
 -- the figures with what came of the record
-figures : (c : tie.After-with-allocation) →
-    let args = c .before .before .before .before .args in
-    c .with-allocation .result ≡ withAllocation (args .done) (withCollection (args .done) (args .state .run .tally))
+figures : (c : tie.After-with-moment) →
+    let args = c .before .before .before .before .before .args in c .with-moment .result ≡ figuresOf (args .done) (args .state .run .tally)
 figures c =
-    c .with-allocation .ensures ∙ ap (withAllocation (c .before .before .before .before .args .done)) (c .before .with-collection .ensures)
+    let done = c .before .before .before .before .before .args .done in
+    c .with-moment .ensures
+    ∙ ap (momentIn (done .stuck)) (c .before .with-allocation .ensures ∙ ap (withAllocation done) (c .before .before .with-collection .ensures))
 
 with-collection-requires : tie.Need-with-collection-requires
 with-collection-requires c κs = search needs
@@ -25,9 +26,22 @@ with-allocation-requires : tie.Need-with-allocation-requires
 with-allocation-requires c κs =
     let start = c .before .before .before in
     let grown = collection-grows (start .args .done) (start .args .state .run .tally) in
-    let pre = start .pre in (
-      omega (arith, ap (λ (t : Tally). t .allocations) (c .with-collection .ensures), grown .1),
-      omega (arith, ap (λ (t : Tally). t .blocks) (c .with-collection .ensures), grown .2),
+    let pre = start .pre in
+    (omega (arith, ap (λ (t : Tally). t .allocations) (c .with-collection .ensures), grown .1), omega (arith, ap (λ (t : Tally). t .blocks) (c .with-collection .ensures), grown .2))
+
+with-moment-requires : tie.Need-with-moment-requires
+with-moment-requires c κs =
+    let start = c .before .before .before .before in
+    let done = start .args .done in
+    let first = collection-grows done (start .args .state .run .tally) in
+    let second = allocation-grows done (c .before .with-collection .result) in
+    let pre = start .pre in
+    omega (
+      arith,
+      ap (λ (t : Tally). t .stuck) (c .with-allocation .ensures),
+      second .4,
+      ap (λ (t : Tally). t .stuck) (c .before .with-collection .ensures),
+      first .3,
     )
 
 add-used : tie.Need-add-used
@@ -39,29 +53,29 @@ sub-used c = search needs
 returns : tie.Need-returns
 unfolding notedBy
 returns c =
-    let start = c .before .before .before .before .before .before .before .before in
+    let moment = c .before .before .before .before in
+    let start = moment .before .before .before .before .before in
     let done = start .args .done in
     let state = start .args .state in
     rw (ne-eqb _ 0 (c .if1 .taken), notedBy)
-    (ap (λ (t : Tally). running (run (done .number) (state .run .records) t) (state .used + done .allocated - done .freed))
-    (figures (c .before .before .before .before)))
+    (ap (λ (t : Tally). running (run (done .number) (state .run .records) t) (state .used + done .allocated - done .freed)) (figures moment))
 
 used-requires : tie.Need-used-requires
 used-requires c κs = search needs
 
-add-t10 : tie.Need-add-t10
-add-t10 c = search needs
+add-t11 : tie.Need-add-t11
+add-t11 c = search needs
 
 returns-2 : tie.Need-returns-2
 unfolding notedBy
 returns-2 c =
-    let start = c .before .before .before .before .before .before .before .before .before .before in
+    let moment = c .before .before .before .before .before .before in
+    let start = moment .before .before .before .before .before in
     let done = start .args .done in
     let state = start .args .state in
     let blocks : ℕ = state .used + done .allocated - done .freed in
     rw (eq-eqb _ 0 (c .before .before .if1 .left), notedBy)
-    (ap (λ (t : Tally). running (run 0 (state .run .records + 1) t) blocks)
-    (c .before .used .ensures ∙ ap (used blocks) (figures (c .before .before .before .before .before .before))))
+    (ap (λ (t : Tally). running (run 0 (state .run .records + 1) t) blocks) (c .before .used .ensures ∙ ap (used blocks) (figures moment)))
 
 pub noted-spec : {M : Type 1} → statement M
 noted-spec =
@@ -69,9 +83,10 @@ noted-spec =
     (tie.spec
     with-collection-requires
     with-allocation-requires
+    with-moment-requires
     add-used
     sub-used
     returns
     used-requires
-    add-t10
+    add-t11
     returns-2)
