@@ -66,6 +66,7 @@ ended-range size n r range = ended-keeps (λ s. inRange s ≡ true) size n r ran
           few = within .few;
           allocations-few = within .allocations-few;
           blocks-few = within .blocks-few;
+          stuck-few = within .stuck-few;
           collections-few =
               omega (
                 arith,

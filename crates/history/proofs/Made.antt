@@ -22,7 +22,7 @@ use Rattle.theory.proofs.Theorems.{theory}
 use Rattle.records.specs.Records.{Asked, makes, stops, asked, fieldsAt, recordLength}
 use Rattle.figures.specs.declared.tally.Tally.{Tally}
 use Rattle.figures.specs.declared.tally.Run.{Run}
-use Rattle.figures.specs.Figures.{countedIn, noted, notedAll, run}
+use Rattle.figures.specs.Figures.{countedIn, momentIn, sticks, noted, notedAll, run}
 use Rattle.turns.specs.Turns.{madeOn, Turn, triesAgain, triedAgain, turnOf, afterTurn}
 use Rattle.turns.proofs.Turns.{turn-once, turn-again}
 use Rattle.history.specs.Runs.{Came, came, recordAt, ranFrom, wholeRecords, ran}
@@ -60,13 +60,21 @@ counted-peak (storeCell a j v) p t = refl
 counted-peak (look a) p t = refl
 counted-peak (returnRoots chosen) p t = refl
 
+moment-peak : (s : Bool) (p : ℕ) (t : Tally) → momentIn s (withPeak p t) ≡ withPeak p (momentIn s t)
+unfolding momentIn
+moment-peak true p t = refl
+moment-peak false p t = refl
+
 noted-peak : (m : Made) (p : ℕ) (t : Tally) → noted m (withPeak p t) ≡ withPeak p (noted m t)
 unfolding noted
 noted-peak m p t = go (eqb (m .reply .number) 0)
   where
-    go : (b : Bool) → (elim b [ true ↦ countedIn (m .call) (withPeak p t) | false ↦ withPeak p t ])
-        ≡ withPeak p (elim b [ true ↦ countedIn (m .call) t | false ↦ t ])
-    go true = counted-peak (m .call) p t
+    stuck : Bool
+    stuck = sticks (m .call) (m .reply)
+
+    go : (b : Bool) → (elim b [ true ↦ momentIn stuck (countedIn (m .call) (withPeak p t)) | false ↦ withPeak p t ])
+        ≡ withPeak p (elim b [ true ↦ momentIn stuck (countedIn (m .call) t) | false ↦ t ])
+    go true = ap (momentIn stuck) (counted-peak (m .call) p t) ∙ moment-peak stuck p (countedIn (m .call) t)
     go false = refl
 
 noted-all-peak : (made : List Made) (p : ℕ) (t : Tally) → notedAll made (withPeak p t) ≡ withPeak p (notedAll made t)
@@ -86,10 +94,16 @@ counted-blocks (storeCell a j v) t = omega arith
 counted-blocks (look a) t = omega arith
 counted-blocks (returnRoots chosen) t = omega arith
 
+moment-blocks : (s : Bool) (t : Tally) → momentIn s t .blocks ≡ t .blocks
+unfolding momentIn
+moment-blocks true t = refl
+moment-blocks false t = refl
+
 noted-blocks : (m : Made) (t : Tally) → noted m t .blocks ≡ t .blocks + allocatedBy (m .call) (m .reply)
 unfolding noted allocatedBy
 noted-blocks m t = elim (ℕ-discrete (m .reply .number) 0) [
-  | yes e ↦ rw (eq-eqb (m .reply .number) 0 e, noted, allocatedBy) (counted-blocks (m .call) t)
+  | yes e ↦ rw (eq-eqb (m .reply .number) 0 e, noted, allocatedBy)
+      (moment-blocks (sticks (m .call) (m .reply)) (countedIn (m .call) t) ∙ counted-blocks (m .call) t)
   | no e ↦ rw (ne-eqb (m .reply .number) 0 e, noted, allocatedBy) (omega arith)
 ]
 

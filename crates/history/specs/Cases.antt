@@ -54,27 +54,33 @@ printsAfter records bytes text a = record { records = records; bytes = bytes; te
 
 unfoldable pub cases : List Case
 cases =
-    -- "Allocating 2, 1, 3 into roots 0, 1, 2 prints `3 6 3 0 6` and a line end (byte 10)."
-    prints (allocate 2 0 ++ allocate 1 1 ++ allocate 3 2) "3 6 3 0 6\n" 119
-    -- "an empty file gives five zeros"
-    ∷ prints [] "0 0 0 0 0\n" 0
+    -- "Allocating 2, 1, 3 into roots 0, 1, 2 prints `3 6 3 0 6` and a line end (byte 10)"; request U5: "its example becomes `3 6 3 0 6 0`"
+    prints (allocate 2 0 ++ allocate 1 1 ++ allocate 3 2) "3 6 3 0 6 0\n" 119
+    -- "an empty file gives five zeros", and since U5 six
+    ∷ prints [] "0 0 0 0 0 0\n" 0
     -- "most blocks in use after any record": in use after the last is 1
-    ∷ prints (allocate 5 0 ++ allocate 2 1 ++ clear 0 ++ allocate 1 1) "3 8 5 0 7\n" 1
+    ∷ prints (allocate 5 0 ++ allocate 2 1 ++ clear 0 ++ allocate 1 1) "3 8 5 0 7 0\n" 1
     -- "When allocation gives 5 the run collects and tries once more": the object of 1 block was in three roots, so its count is stuck
-    ∷ prints (allocate 1 0 ++ copy 0 1 ++ copy 0 2 ++ clear 0 ++ clear 1 ++ clear 2 ++ allocate 8 3) "2 9 8 1 8\n" 255
+    ∷ prints (allocate 1 0 ++ copy 0 1 ++ copy 0 2 ++ clear 0 ++ clear 1 ++ clear 2 ++ allocate 8 3) "2 9 8 1 8 1\n" 255
     -- two objects that name each other
-    ∷ prints (allocate 1 0 ++ allocate 1 1 ++ write 1 0 0 ++ write 0 0 1 ++ clear 0 ++ clear 1 ++ allocate 8 2) "3 10 8 1 8\n" 255
+    ∷ prints (allocate 1 0 ++ allocate 1 1 ++ write 1 0 0 ++ write 0 0 1 ++ clear 0 ++ clear 1 ++ allocate 8 2) "3 10 8 1 8 0\n" 255
     -- "Otherwise it prints `refused 5 at record 7`, say .. and the heap stands as before that record, save a forced collection": this one
     -- frees the stuck object, and 5 blocks stay in use
     ∷ prints (allocate 5 0 ++ allocate 1 1 ++ copy 1 2 ++ copy 1 3 ++ clear 1 ++ clear 2 ++ clear 3 ++ allocate 8 1)
     "refused 5 at record 7\n" 31
     -- "full collections forced or recorded": two recorded, one forced
-    ∷ prints (collect ++ allocate 1 0 ++ copy 0 1 ++ copy 0 2 ++ clear 0 ++ clear 1 ++ clear 2 ++ allocate 8 3 ++ collect) "2 9 8 3 8\n" 255
+    ∷ prints (collect ++ allocate 1 0 ++ copy 0 1 ++ copy 0 2 ++ clear 0 ++ clear 1 ++ clear 2 ++ allocate 8 3 ++ collect) "2 9 8 3 8 1\n" 255
+    -- "the number of such moments": a count comes to 3 with the second copy; a third one, and one over itself, bring none; a collection
+    -- counts anew, and two copies stick the object once more
+    ∷ prints (allocate 1 0 ++ copy 0 1 ++ copy 0 2 ++ copy 0 3 ++ copy 0 0) "1 1 1 0 1 1\n" 1
+    ∷ prints (allocate 1 0 ++ copy 0 1 ++ copy 0 2 ++ clear 1 ++ clear 2 ++ collect ++ copy 0 1 ++ copy 0 2) "1 1 1 1 1 2\n" 1
+    -- .. by a cell too
+    ∷ prints (allocate 1 0 ++ copy 0 1 ++ write 0 0 0) "1 1 1 0 1 1\n" 1
     -- "elsewhere an empty root is copied or written as 0": copied, it lets the object in root 0 go; written, the one in cell 7
-    ∷ prints (allocate 1 0 ++ copy 1 0 ++ allocate 8 0) "2 9 8 0 8\n" 255
-    ∷ prints (allocate 2 0 ++ allocate 1 1 ++ write 1 7 0 ++ clear 1 ++ write 2 7 0) "2 3 2 0 3\n" 3
+    ∷ prints (allocate 1 0 ++ copy 1 0 ++ allocate 8 0) "2 9 8 0 8 0\n" 255
+    ∷ prints (allocate 2 0 ++ allocate 1 1 ++ write 1 7 0 ++ clear 1 ++ write 2 7 0) "2 3 2 0 3 0\n" 3
     -- operation 4: root 2 holds what was read when the object it was read from is let go
-    ∷ prints (allocate 2 0 ++ allocate 1 1 ++ write 1 7 0 ++ clear 1 ++ read 7 0 2 ++ clear 0) "2 3 2 0 3\n" 4
+    ∷ prints (allocate 2 0 ++ allocate 1 1 ++ write 1 7 0 ++ clear 1 ++ read 7 0 2 ++ clear 0) "2 3 2 0 3 0\n" 4
     -- "9 for an unknown operation or a nonzero unused field, before all others of that record but 10": before 4, there being no root 4
     ∷ prints (allocate 1 0 ++ eight 7 4 0 0 0) "refused 9 at record 1\n" 1
     ∷ prints (eight 5 4 0 0 1) "refused 9 at record 0\n" 0
@@ -97,7 +103,7 @@ cases =
     ∷ prints (allocate 1 0 ++ (200 ∷ 1 ∷ 2 ∷ [])) "refused 10 at record 1\n" 1
     ∷ prints (eight 200 0 0 0 0 ++ (1 ∷ [])) "refused 9 at record 0\n" 0
     -- "or going on past 4,294,967,295 records": up to that number there is no error
-    ∷ printsAfter 4294967294 (allocate 1 0) "1 1 1 0 1\n" 1
+    ∷ printsAfter 4294967294 (allocate 1 0) "1 1 1 0 1 0\n" 1
     ∷ printsAfter 4294967294 (allocate 1 0 ++ allocate 1 1) "refused 10 at record 4294967295\n" 1
     ∷ []
 

@@ -16,7 +16,7 @@ use Rattle.history.specs.Runs.{Came, came, ran}
 
 -- figures with another peak
 abbrev pub withPeak : (peak : ℕ) → Tally → Tally
-withPeak peak t = tally (t .allocations) (t .blocks) (t .largest) (t .collections) peak
+withPeak peak t = tally (t .allocations) (t .blocks) (t .largest) (t .collections) peak (t .stuck)
 
 -- "a run of records counts as the calls it makes": what came of a run, stopped or not, is what came of the calls that it made, each on the
 -- heap that the one before it left. Demand 3 holds of these calls. The figures but the peak are those of these calls; and "blocks allocated

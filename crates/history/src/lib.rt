@@ -7,7 +7,6 @@ use blocks::Ref;
 use blocks::extents;
 use figures::tally;
 use figures::tally::Run;
-use figures::tally::Tally;
 use inner::tests;
 use rules::Reply;
 
@@ -24,18 +23,7 @@ pub struct Ran {
 fn refused(reply: Reply) -> Ran
     ensures { λ r. ⌜ r ≡ refusal reply ⌝ }
 {
-    let none = Tally {
-        allocations: 0,
-        blocks: 0,
-        largest: 0,
-        collections: 0,
-        peak: 0,
-    };
-    let run = Run {
-        number: 0,
-        records: 0,
-        tally: none,
-    };
+    let run = tally::new_run();
     Ran {
         reply: reply,
         run: run,
