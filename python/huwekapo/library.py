@@ -64,6 +64,8 @@ class Figures(NamedTuple):
     collections: int = 0
     #: most blocks in use after any record
     peak: int = 0
+    #: how often an object became stuck
+    stuck: int = 0
 
 
 class Reply(ctypes.Structure):

@@ -17,6 +17,8 @@ pub struct Tally {
     pub collections: u64,
     /// The most blocks in use after any record.
     pub peak: u64,
+    /// How often an object became stuck: a reference brought its count to the capacity.
+    pub stuck: u64,
 }
 
 /// Where a run stands. A new run is all 0, which is the default. As text it is the line that the program `report` prints,
@@ -79,8 +81,9 @@ impl fmt::Display for Tally {
             largest,
             collections,
             peak,
+            stuck,
         } = self;
-        write!(f, "{allocations} {blocks} {largest} {collections} {peak}")
+        write!(f, "{allocations} {blocks} {largest} {collections} {peak} {stuck}")
     }
 }
 

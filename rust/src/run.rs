@@ -24,7 +24,7 @@ const PIECE: usize = 1 << 20;
 /// ];
 /// let mut run = Run::new(Heap::new(8192, 3, 64)?);
 /// let so_far = run.read(history.as_flattened())?;
-/// assert_eq!(so_far.to_string(), "3 6 3 0 6");
+/// assert_eq!(so_far.to_string(), "3 6 3 0 6 0");
 /// assert_eq!(so_far.tally.blocks, 6);
 /// assert_eq!(run.heap().free_blocks()?, 8186);
 /// # Ok::<(), Box<dyn std::error::Error>>(())

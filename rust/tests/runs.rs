@@ -42,7 +42,7 @@ fn small_heap() -> Heap {
     Heap::new(8, 2, 4).expect("a good shape")
 }
 
-fn tally(figures: [u64; 5]) -> Tally {
+fn tally(figures: [u64; 6]) -> Tally {
     let mut tally = Tally::default();
     [
         tally.allocations,
@@ -50,11 +50,12 @@ fn tally(figures: [u64; 5]) -> Tally {
         tally.largest,
         tally.collections,
         tally.peak,
+        tally.stuck,
     ] = figures;
     tally
 }
 
-fn so_far(number: usize, records: usize, figures: [u64; 5]) -> SoFar {
+fn so_far(number: usize, records: usize, figures: [u64; 6]) -> SoFar {
     SoFar {
         number,
         records,
@@ -137,16 +138,16 @@ impl Read for Failing<'_> {
     }
 }
 
-/// "Allocating 2, 1, 3 into roots 0, 1, 2 prints `3 6 3 0 6`"; "an empty file gives five zeros".
+/// "Allocating 2, 1, 3 into roots 0, 1, 2 prints `3 6 3 0 6`", with U5 `3 6 3 0 6 0`; "an empty file gives five zeros", and now six.
 #[test]
 fn the_example() {
     let history = [allocate(2, 0), allocate(1, 1), allocate(3, 2)];
     let (so_far, heap) = run_on(report_heap(), history.as_flattened());
-    assert_eq!(so_far, self::so_far(0, 3, [3, 6, 3, 0, 6]));
-    assert_eq!(so_far.to_string(), "3 6 3 0 6");
-    assert_eq!(so_far.outcome(), Ok(tally([3, 6, 3, 0, 6])));
+    assert_eq!(so_far, self::so_far(0, 3, [3, 6, 3, 0, 6, 0]));
+    assert_eq!(so_far.to_string(), "3 6 3 0 6 0");
+    assert_eq!(so_far.outcome(), Ok(tally([3, 6, 3, 0, 6, 0])));
     assert_eq!(heap.free_blocks(), Ok(8186));
-    assert_eq!(line(&[]), "0 0 0 0 0");
+    assert_eq!(line(&[]), "0 0 0 0 0 0");
 }
 
 /// The same records on a heap of eight blocks: P1, P2 and the figures.
@@ -154,18 +155,18 @@ fn the_example() {
 fn another_heap() {
     let p1 = [allocate(2, 0), allocate(1, 1), allocate(3, 2)];
     let (run, heap) = run_on(small_heap(), p1.as_flattened());
-    assert_eq!(run.tally, tally([3, 6, 3, 0, 6]));
+    assert_eq!(run.tally, tally([3, 6, 3, 0, 6, 0]));
     assert_eq!((heap.buffers().a[0], heap.buffers().b[0]), (119, 185));
 
     // "Then allocate 2 into root 3: refused 5": after a collection that frees nothing.
     let (run, heap) = run_on(heap, &allocate(2, 3));
-    assert_eq!(run, so_far(5, 0, [0, 0, 0, 1, 0]));
+    assert_eq!(run, so_far(5, 0, [0, 0, 0, 1, 0, 0]));
     assert_eq!(heap.free_blocks(), Ok(2));
 
     // One root, and counts of one bit.
     let heap = Heap::new(8, 1, 1).expect("a good shape");
     let (run, heap) = run_on(heap, [allocate(1, 0), copy(0, 1)].as_flattened());
-    assert_eq!(run, so_far(4, 1, [1, 1, 1, 0, 1]));
+    assert_eq!(run, so_far(4, 1, [1, 1, 1, 0, 1, 0]));
     assert_eq!(heap.free_blocks(), Ok(7));
 }
 
@@ -184,7 +185,7 @@ fn every_operation() {
         COLLECT,
     ];
     let (run, heap) = run_on(small_heap(), history.as_flattened());
-    assert_eq!(run, so_far(0, 10, [2, 3, 2, 1, 3]));
+    assert_eq!(run, so_far(0, 10, [2, 3, 2, 1, 3, 0]));
     assert_eq!(heap, small_heap());
 }
 
@@ -207,7 +208,7 @@ fn stops() {
     ] {
         let history = [allocate(1, 0), record, COLLECT];
         let (run, heap) = run_on(report_heap(), history.as_flattened());
-        assert_eq!(run, so_far(number, 1, [1, 1, 1, 0, 1]));
+        assert_eq!(run, so_far(number, 1, [1, 1, 1, 0, 1, 0]));
         assert_eq!(run.to_string(), format!("refused {number} at record 1"));
         assert_eq!(run.outcome(), Err(Stopped { number, record: 1 }));
         assert_eq!(heap.free_blocks(), Ok(8191));
@@ -245,19 +246,19 @@ fn forced_collections() {
         clear(2),
     ];
     let (run, heap) = run_on(small_heap(), garbage.as_flattened());
-    assert_eq!(run, so_far(0, 6, [1, 5, 5, 0, 5]));
+    assert_eq!(run, so_far(0, 6, [1, 5, 5, 0, 5, 0]));
     assert_eq!(heap.free_blocks(), Ok(3));
 
     let mut heap_now = heap.clone();
     let helped = heap_now.run_records(run, &allocate(8, 0));
-    assert_eq!(helped, Ok(so_far(0, 7, [2, 13, 8, 1, 8])));
+    assert_eq!(helped, Ok(so_far(0, 7, [2, 13, 8, 1, 8, 0])));
 
     // A held block in the way: the garbage is gone all the same, and the figures have the collection.
     let mut heap_now = heap;
     let held = heap_now.run_records(run, &allocate(1, 3));
-    assert_eq!(held, Ok(so_far(0, 7, [2, 6, 5, 0, 6])));
+    assert_eq!(held, Ok(so_far(0, 7, [2, 6, 5, 0, 6, 0])));
     let refused = heap_now.run_records(held.expect("accepted"), &allocate(8, 0));
-    assert_eq!(refused, Ok(so_far(5, 7, [2, 6, 5, 1, 6])));
+    assert_eq!(refused, Ok(so_far(5, 7, [2, 6, 5, 1, 6, 0])));
     assert_eq!(heap_now.free_blocks(), Ok(7));
     assert_eq!(heap_now.roots(), [0, 0, 0, 6]);
 }
@@ -309,7 +310,7 @@ fn pieces_of_a_history_that_is_cut_off() {
         }
         assert_eq!(run.so_far().number, 0);
         let end = run.finish().expect("sound");
-        assert_eq!(end, so_far(10, 2, [2, 3, 2, 0, 3]));
+        assert_eq!(end, so_far(10, 2, [2, 3, 2, 0, 3, 0]));
     }
 }
 
@@ -322,7 +323,7 @@ fn short_and_interrupted_reads() {
         history.extend(copy(0, 1));
     }
     let whole = run_on(small_heap(), &history);
-    assert_eq!(whole.0, so_far(0, 250_000, [125_000, 375_000, 3, 0, 6]));
+    assert_eq!(whole.0, so_far(0, 250_000, [125_000, 375_000, 3, 0, 6, 0]));
     let mut run = Run::new(small_heap());
     let halting = Halting {
         bytes: &history,
@@ -351,7 +352,7 @@ fn a_failed_read() {
         }
         assert_eq!(run.so_far().records, bytes / 8);
         let end = run.read(&mut reader).expect("it fails once");
-        assert_eq!(end.to_string(), "3 6 3 0 6");
+        assert_eq!(end.to_string(), "3 6 3 0 6 0");
     }
 }
 
@@ -360,7 +361,7 @@ fn a_failed_read() {
 fn a_stopped_run_handed_in_again() {
     let history = [allocate(2, 0), allocate(0, 0), allocate(1, 1)];
     let (stopped, heap) = run_on(small_heap(), history.as_flattened());
-    assert_eq!(stopped, so_far(3, 1, [1, 2, 2, 0, 2]));
+    assert_eq!(stopped, so_far(3, 1, [1, 2, 2, 0, 2, 0]));
     for bytes in [history.as_flattened(), &[], &[9], &allocate(1, 1)] {
         let mut buffers = heap.buffers().clone();
         buffers.waiting.fill(99);
@@ -380,8 +381,8 @@ fn a_stopped_run_handed_in_again() {
 /// "met after the whole records up to that number": the last record that a run may have, and what stands behind it.
 #[test]
 fn the_limit() {
-    let near = so_far(0, MOST_RECORDS - 1, [0; 5]);
-    let last = so_far(0, MOST_RECORDS, [1, 2, 2, 0, 2]);
+    let near = so_far(0, MOST_RECORDS - 1, [0; 6]);
+    let last = so_far(0, MOST_RECORDS, [1, 2, 2, 0, 2, 0]);
     let past = SoFar { number: 10, ..last };
     let one = allocate(2, 0);
     let two = [one, allocate(1, 1)];
@@ -436,8 +437,8 @@ fn refusals() {
         second: 0,
     };
     let record = allocate(1, 0);
-    let good = so_far(0, 3, [3, 6, 3, 0, 6]);
-    let bad = so_far(0, 3, [4, 6, 3, 0, 6]);
+    let good = so_far(0, 3, [3, 6, 3, 0, 6, 0]);
+    let bad = so_far(0, 3, [4, 6, 3, 0, 6, 0]);
     let mut buffers = small_heap().into_buffers();
     buffers.waiting.fill(99);
     let mut damaged = buffers.clone();
@@ -467,29 +468,33 @@ fn runs_out_of_range() {
     const RECORDS: u64 = MOST_RECORDS as u64;
     let run_of = |run: SoFar| small_heap().run_records(run, &[]);
     for run in [
-        so_far(0, 0, [0; 5]),
-        so_far(0, 1, [1, 8192, u64::MAX, 1, u64::MAX]),
-        so_far(5, 1, [1, 8192, 8192, 2, 8192]),
-        so_far(77, 0, [0, 0, 0, 1, 0]),
-        so_far(0, MOST_RECORDS, [RECORDS, 8192 * RECORDS, 0, RECORDS, 0]),
-        so_far(10, MOST_RECORDS, [0, 0, 0, RECORDS + 1, 0]),
+        so_far(0, 0, [0; 6]),
+        so_far(0, 1, [1, 8192, u64::MAX, 1, u64::MAX, 0]),
+        so_far(5, 1, [1, 8192, 8192, 2, 8192, 0]),
+        so_far(77, 0, [0, 0, 0, 1, 0, 0]),
+        so_far(0, 1, [0, 0, 0, 0, 0, 1]),
+        so_far(0, MOST_RECORDS, [RECORDS, 8192 * RECORDS, 0, RECORDS, 0, 0]),
+        so_far(10, MOST_RECORDS, [0, 0, 0, RECORDS + 1, 0, 0]),
     ] {
         assert_eq!(run_of(run), Ok(run));
     }
     for run in [
-        so_far(0, MOST_RECORDS + 1, [0; 5]),
-        so_far(0, usize::MAX, [0; 5]),
-        so_far(10, MOST_RECORDS + 1, [0; 5]),
-        so_far(0, 0, [1, 0, 0, 0, 0]),
-        so_far(0, 1, [2, 0, 0, 0, 0]),
-        so_far(5, 1, [2, 0, 0, 0, 0]),
-        so_far(0, 0, [0, 1, 0, 0, 0]),
-        so_far(0, 1, [1, 8193, 0, 0, 0]),
-        so_far(0, 1, [0, 0, 0, 2, 0]),
-        so_far(5, 1, [0, 0, 0, 3, 0]),
-        so_far(0, 1, [u64::MAX, 0, 0, 0, 0]),
-        so_far(0, 1, [0, u64::MAX, 0, 0, 0]),
-        so_far(0, 1, [0, 0, 0, u64::MAX, 0]),
+        so_far(0, MOST_RECORDS + 1, [0; 6]),
+        so_far(0, usize::MAX, [0; 6]),
+        so_far(10, MOST_RECORDS + 1, [0; 6]),
+        so_far(0, 0, [1, 0, 0, 0, 0, 0]),
+        so_far(0, 1, [2, 0, 0, 0, 0, 0]),
+        so_far(5, 1, [2, 0, 0, 0, 0, 0]),
+        so_far(0, 0, [0, 1, 0, 0, 0, 0]),
+        so_far(0, 1, [1, 8193, 0, 0, 0, 0]),
+        so_far(0, 1, [0, 0, 0, 2, 0, 0]),
+        so_far(5, 1, [0, 0, 0, 3, 0, 0]),
+        so_far(0, 1, [0, 0, 0, 0, 0, 2]),
+        so_far(5, 1, [0, 0, 0, 0, 0, 2]),
+        so_far(0, 1, [0, 0, 0, 0, 0, u64::MAX]),
+        so_far(0, 1, [u64::MAX, 0, 0, 0, 0, 0]),
+        so_far(0, 1, [0, u64::MAX, 0, 0, 0, 0]),
+        so_far(0, 1, [0, 0, 0, u64::MAX, 0, 0]),
     ] {
         assert_eq!(run_of(run), Err(Refusal::BadRun), "{run:?}");
         match Run::resume(small_heap(), run).read(io::empty()) {

@@ -1,10 +1,11 @@
-//! The five figures of a run.
+//! The six figures of a run.
 
 use crate::rules::answers::Reply;
 use crate::rules::calls::Call;
 
 /// "The report is one line of five figures: accepted allocations, blocks allocated in all, largest accepted size, full
-/// collections forced or recorded, most blocks in use after any record"
+/// collections forced or recorded, most blocks in use after any record"; U5: "U1's line gains a sixth figure, the number of
+/// such moments"
 #[derive(Clone, Copy, Debug, Default, PartialEq, Eq)]
 pub struct Figures {
     pub allocations: u64,
@@ -12,6 +13,7 @@ pub struct Figures {
     pub largest: u64,
     pub collections: u64,
     pub most_in_use: u64,
+    pub became_stuck: u64,
 }
 
 impl Figures {
@@ -27,6 +29,11 @@ impl Figures {
             Call::Collect => self.collections += 1,
             _ => {}
         }
+        // "Every store and allocation passes the fact on"
+        let tells = matches!(call, Call::Allocate { .. } | Call::StoreRoot { .. } | Call::StoreCell { .. });
+        if reply.number == 0 && tells && reply.second == 1 {
+            self.became_stuck += 1;
+        }
     }
 
     /// "most blocks in use after any record"
@@ -35,13 +42,14 @@ impl Figures {
     }
 
     /// In the order of the line.
-    pub fn in_order(&self) -> [u64; 5] {
+    pub fn in_order(&self) -> [u64; 6] {
         [
             self.allocations,
             self.blocks,
             self.largest,
             self.collections,
             self.most_in_use,
+            self.became_stuck,
         ]
     }
 }

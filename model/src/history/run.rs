@@ -88,7 +88,7 @@ fn run_record(
 }
 
 impl Run {
-    /// "`3 6 3 0 6` and a line end (byte 10). Otherwise it prints `refused 5 at record 7`, say, ended likewise, counting
+    /// "`3 6 3 0 6` and a line end (byte 10)" (U5: "`3 6 3 0 6 0`"). "Otherwise it prints `refused 5 at record 7`, say, ended likewise, counting
     /// from 0"
     pub fn line(&self) -> String {
         match self.number {

@@ -27,7 +27,7 @@ fn cycle(size: u16, d: u8) -> [Operation; 2] {
 /// "elsewhere an empty root is copied or written as 0"
 fn empty_roots(shelf: &mut Shelf) {
     let copied = [allocate(5, 0), copy(1, 0), EVERYTHING];
-    shelf.operations("prints-2-8197-8192-0-8192-empty-copied", &copied);
+    shelf.operations("prints-2-8197-8192-0-8192-0-empty-copied", &copied);
     let written = [
         allocate(5, 0),
         allocate(3, 1),
@@ -37,7 +37,7 @@ fn empty_roots(shelf: &mut Shelf) {
         clear(0),
         EVERYTHING,
     ];
-    shelf.operations("prints-3-8200-8192-0-8192-empty-written", &written);
+    shelf.operations("prints-3-8200-8192-0-8192-0-empty-written", &written);
     let read_into = [
         allocate(5, 0),
         allocate(3, 1),
@@ -45,9 +45,9 @@ fn empty_roots(shelf: &mut Shelf) {
         clear(0),
         EVERYTHING,
     ];
-    shelf.operations("prints-3-8200-8192-0-8192-empty-cell-read", &read_into);
+    shelf.operations("prints-3-8200-8192-0-8192-0-empty-cell-read", &read_into);
     let nothing = [copy(0, 0), copy(0, 1), clear(0), clear(63), COLLECT];
-    shelf.operations("prints-0-0-0-1-0-nothing-there", &nothing);
+    shelf.operations("prints-0-0-0-1-0-0-nothing-there", &nothing);
 }
 
 /// Copies, writes and reads count; clears and what is overwritten let go.
@@ -56,7 +56,7 @@ fn letting_go(shelf: &mut Shelf) {
     let still_held = [&copied[..], &[EVERYTHING]].concat();
     shelf.operations("gives-5-held-by-a-copy", &still_held);
     let cleared = [&copied[..], &[clear(1), EVERYTHING]].concat();
-    shelf.operations("prints-2-8197-8192-0-8192-copies-cleared", &cleared);
+    shelf.operations("prints-2-8197-8192-0-8192-0-copies-cleared", &cleared);
     // A read counts as a copy does.
     let read_out = [
         allocate(2, 0),
@@ -69,7 +69,7 @@ fn letting_go(shelf: &mut Shelf) {
     let still_held = [&read_out[..], &[EVERYTHING]].concat();
     shelf.operations("gives-5-held-by-a-read", &still_held);
     let cleared = [&read_out[..], &[clear(2), EVERYTHING]].concat();
-    shelf.operations("prints-3-8197-8192-0-8192-reads-cleared", &cleared);
+    shelf.operations("prints-3-8197-8192-0-8192-0-reads-cleared", &cleared);
     // The owner of the written cell is freed by the write: d's own object, held by its own cell alone.
     let owner = [
         allocate(2, 0),
@@ -83,7 +83,7 @@ fn letting_go(shelf: &mut Shelf) {
         clear(2),
         EVERYTHING,
     ];
-    shelf.operations("prints-3-8196-8192-0-8192-owner", &owner);
+    shelf.operations("prints-3-8196-8192-0-8192-0-owner", &owner);
     let both_ways = [
         allocate(2, 0),
         allocate(2, 1),
@@ -91,12 +91,12 @@ fn letting_go(shelf: &mut Shelf) {
         write(0, 0, 1),
     ];
     let garbage = [&both_ways[..], &[clear(0), clear(1), EVERYTHING]].concat();
-    shelf.operations("prints-3-8196-8192-1-8192-cycle", &garbage);
+    shelf.operations("prints-3-8196-8192-1-8192-0-cycle", &garbage);
     let collected = [&both_ways[..], &[clear(0), clear(1), COLLECT, EVERYTHING]].concat();
-    shelf.operations("prints-3-8196-8192-1-8192-cycle-collected", &collected);
+    shelf.operations("prints-3-8196-8192-1-8192-0-cycle-collected", &collected);
     // A new object lets go of what its root held, after the search.
     let over = [allocate(4096, 0), allocate(4096, 0), allocate(4096, 1)];
-    shelf.operations("prints-3-12288-4096-0-8192-over-the-old-one", &over);
+    shelf.operations("prints-3-12288-4096-0-8192-0-over-the-old-one", &over);
     let same_root = [allocate(8192, 0), allocate(8192, 0)];
     shelf.operations("gives-5-over-the-old-one", &same_root);
 }
@@ -106,10 +106,10 @@ fn forced_collections(shelf: &mut Shelf) {
     let halves = [cycle(4096, 0), cycle(4096, 1)].concat();
     let garbage = [&halves[..], &[clear(0)]].concat();
     let helps = [&garbage[..], &[allocate(4096, 2)]].concat();
-    shelf.operations("prints-3-12288-4096-1-8192-forced-helps", &helps);
+    shelf.operations("prints-3-12288-4096-1-8192-0-forced-helps", &helps);
     // The object in root 1 becomes garbage by the first of the two.
     let in_a_row = [&garbage[..], &[allocate(4096, 1), allocate(4096, 2)]].concat();
-    shelf.operations("prints-4-16384-4096-2-8192-two-in-a-row", &in_a_row);
+    shelf.operations("prints-4-16384-4096-2-8192-0-two-in-a-row", &in_a_row);
     let thrice = [&in_a_row[..], &[allocate(4096, 3)]].concat();
     shelf.operations("gives-5-third-in-a-row", &thrice);
     let no_help = [&halves[..], &[allocate(1, 2)]].concat();
@@ -117,10 +117,10 @@ fn forced_collections(shelf: &mut Shelf) {
     let too_little = [&garbage[..], &[allocate(4097, 2)]].concat();
     shelf.operations("gives-5-forced-is-too-little", &too_little);
     let then_fits = [&garbage[..], &[COLLECT, allocate(4096, 2)]].concat();
-    shelf.operations("prints-3-12288-4096-1-8192-recorded-helps", &then_fits);
+    shelf.operations("prints-3-12288-4096-1-8192-0-recorded-helps", &then_fits);
     let recorded_too = [&helps[..], &[COLLECT, clear(1), COLLECT]].concat();
     shelf.operations(
-        "prints-3-12288-4096-3-8192-forced-and-recorded",
+        "prints-3-12288-4096-3-8192-0-forced-and-recorded",
         &recorded_too,
     );
     // 8,191 blocks are free, but not the one chunk of 8,192.
@@ -134,7 +134,7 @@ fn forced_collections(shelf: &mut Shelf) {
     let rest_of_a_chunk = [allocate(4097, 0), allocate(4096, 1)];
     shelf.operations("gives-5-rest-of-a-chunk", &rest_of_a_chunk);
     let smaller = [allocate(4097, 0), allocate(2048, 1), allocate(1024, 2)];
-    shelf.operations("prints-3-7169-4097-0-7169-rest-of-a-chunk", &smaller);
+    shelf.operations("prints-3-7169-4097-0-7169-0-rest-of-a-chunk", &smaller);
     // Only 5 is tried again.
     let not_for_3 = [&garbage[..], &[allocate(8193, 2)]].concat();
     shelf.operations("gives-3-no-collection", &not_for_3);
@@ -142,7 +142,7 @@ fn forced_collections(shelf: &mut Shelf) {
     shelf.operations("gives-4-no-collection", &not_for_4);
     // The most in use is lower after the forced collection than before it.
     let falls = [&cycle(6000, 0)[..], &[clear(0), allocate(8000, 1)]].concat();
-    shelf.operations("prints-2-14000-8000-1-8000-falls", &falls);
+    shelf.operations("prints-2-14000-8000-1-8000-0-falls", &falls);
 }
 
 /// "A count at capacity is stuck", the capacity being 7: only a collection frees what it held.
@@ -151,8 +151,9 @@ fn stuck(shelf: &mut Shelf) {
         let mut history = vec![allocate(1, 0)];
         history.extend((1..references).map(|d| copy(0, d)));
         history.extend((0..references).map(clear));
-        let collections = usize::from(references >= 7);
-        let figures = format!("2-8193-8192-{collections}-8192");
+        // One forced collection, and one moment, where it is stuck.
+        let is_stuck = usize::from(references >= 7);
+        let figures = format!("2-8193-8192-{is_stuck}-8192-{is_stuck}");
         history.push(EVERYTHING);
         let name = format!("prints-{figures}-with-{references}-references");
         shelf.operations(name, &history);
@@ -161,19 +162,33 @@ fn stuck(shelf: &mut Shelf) {
     let mut by_cells = vec![allocate(2, 0), allocate(3, 1)];
     by_cells.extend((0..6).map(|c| write(1, c, 0)));
     by_cells.extend([clear(1), clear(0), EVERYTHING]);
-    shelf.operations("prints-3-8197-8192-1-8192-stuck-by-cells", &by_cells);
+    shelf.operations("prints-3-8197-8192-1-8192-1-stuck-by-cells", &by_cells);
     // A collection counts anew, and then the last reference frees it.
     let mut counted_anew = vec![allocate(1, 0)];
     counted_anew.extend((1..10).map(|d| copy(0, d)));
     counted_anew.extend((2..10).map(clear));
     counted_anew.push(COLLECT);
     counted_anew.extend([clear(0), clear(1), EVERYTHING]);
-    shelf.operations("prints-2-8193-8192-1-8192-counted-anew", &counted_anew);
+    shelf.operations("prints-2-8193-8192-1-8192-1-counted-anew", &counted_anew);
     // Document 02, U2: the value present is no further reference.
     let mut over_itself = vec![allocate(1, 0), copy(0, 1), write(0, 2, 0)];
     over_itself.extend([copy(0, 1), copy(0, 0), write(1, 2, 1), read(2, 0, 1)].repeat(3));
     over_itself.extend([write(5, 2, 0), clear(0), clear(1), EVERYTHING]);
-    shelf.operations("prints-2-8193-8192-0-8192-over-itself", &over_itself);
+    shelf.operations("prints-2-8193-8192-0-8192-0-over-itself", &over_itself);
+    // U5: moments are counted, not objects: after a collection, recorded or forced, an object can become stuck again.
+    let copies: Vec<Operation> = (1..7).map(|d| copy(0, d)).collect();
+    let clears: Vec<Operation> = (1..7).map(clear).collect();
+    let stick = [&[allocate(1, 0)], &copies[..]].concat();
+    shelf.operations("prints-1-1-1-0-1-1-stuck", &stick);
+    let more = [&stick[..], &[copy(0, 7), copy(0, 8), write(0, 0, 0), copy(0, 0)]].concat();
+    shelf.operations("prints-1-1-1-0-1-1-more-than-stuck", &more);
+    let again = [&stick[..], &clears, &[COLLECT], &copies].concat();
+    shelf.operations("prints-1-1-1-1-1-2-stuck-again", &again);
+    let not_again = [&stick[..], &[COLLECT], &copies].concat();
+    shelf.operations("prints-1-1-1-1-1-1-stuck-through-a-collection", &not_again);
+    let no_room = [&cycle(4096, 10)[..], &[clear(10), allocate(4096, 11)]].concat();
+    let forced = [&stick[..], &clears, &no_room, &copies].concat();
+    shelf.operations("prints-3-8193-4096-1-4097-2-stuck-again-after-a-forced-one", &forced);
     // Stuck garbage fills the heap: the forced collection frees all of it.
     let mut full = Vec::new();
     for _ in 0..8 {
@@ -182,9 +197,9 @@ fn stuck(shelf: &mut Shelf) {
         full.extend((0..8).map(clear));
     }
     let one_more = [&full[..], &[allocate(1, 0)]].concat();
-    shelf.operations("prints-9-8193-1024-1-8192-stuck-garbage", &one_more);
+    shelf.operations("prints-9-8193-1024-1-8192-8-stuck-garbage", &one_more);
     let all_of_it = [&full[..], &[EVERYTHING]].concat();
-    shelf.operations("prints-9-16384-8192-1-8192-stuck-garbage", &all_of_it);
+    shelf.operations("prints-9-16384-8192-1-8192-8-stuck-garbage", &all_of_it);
 }
 
 /// Much is let go by one record.
@@ -196,15 +211,15 @@ fn at_once(shelf: &mut Shelf) {
     }
     chain.push(clear(1));
     let cleared = [&chain[..], &[clear(0), EVERYTHING]].concat();
-    shelf.operations("prints-8192-16383-8192-0-8192-chain", &cleared);
+    shelf.operations("prints-8192-16383-8192-0-8192-0-chain", &cleared);
     let by_allocation = [&chain[..], &[allocate(1, 0), clear(0), EVERYTHING]].concat();
     shelf.operations(
-        "prints-8193-16384-8192-0-8192-chain-by-allocation",
+        "prints-8193-16384-8192-0-8192-0-chain-by-allocation",
         &by_allocation,
     );
     let by_collection = [&chain[..], &[write(0, 0, 0), clear(0), EVERYTHING]].concat();
     shelf.operations(
-        "prints-8192-16383-8192-1-8192-chain-by-collection",
+        "prints-8192-16383-8192-1-8192-0-chain-by-collection",
         &by_collection,
     );
     // One object names all others.
@@ -213,26 +228,26 @@ fn at_once(shelf: &mut Shelf) {
         star.extend([allocate(1, 1), write(1, c, 0)]);
     }
     let cleared = [&star[..], &[clear(1), clear(0), EVERYTHING]].concat();
-    shelf.operations("prints-6146-16384-8192-0-8192-star", &cleared);
+    shelf.operations("prints-6146-16384-8192-0-8192-0-star", &cleared);
 }
 
 /// Figures that can be taken for one another, or by the chunk, or inside a record.
 fn figures(shelf: &mut Shelf) {
     let not_the_last = [allocate(3, 0), allocate(7, 1), allocate(5, 2)];
-    shelf.operations("prints-3-15-7-0-15-largest-in-the-middle", &not_the_last);
+    shelf.operations("prints-3-15-7-0-15-0-largest-in-the-middle", &not_the_last);
     let not_refused = [allocate(3, 0), allocate(8192, 1)];
     shelf.operations("gives-5-largest-is-accepted", &not_refused);
     let fell = [allocate(100, 0), clear(0), allocate(60, 0)];
-    shelf.operations("prints-2-160-100-0-100-most-in-the-middle", &fell);
+    shelf.operations("prints-2-160-100-0-100-0-most-in-the-middle", &fell);
     // 8,000 are in use inside the last record, and never after one.
     let inside = [allocate(4000, 0), allocate(4000, 0)];
-    shelf.operations("prints-2-8000-4000-0-4000-most-after-a-record", &inside);
+    shelf.operations("prints-2-8000-4000-0-4000-0-most-after-a-record", &inside);
     let collects = [COLLECT; 5];
-    shelf.operations("prints-0-0-0-5-0-collections", &collects);
+    shelf.operations("prints-0-0-0-5-0-0-collections", &collects);
     let by_the_block = [allocate(5, 0), allocate(9, 1), allocate(1025, 2)];
-    shelf.operations("prints-3-1039-1025-0-1039-by-the-block", &by_the_block);
+    shelf.operations("prints-3-1039-1025-0-1039-0-by-the-block", &by_the_block);
     let mut many = [allocate(8192, 0), clear(0)].repeat(600);
-    shelf.operations("prints-600-4915200-8192-0-8192-many", &many);
+    shelf.operations("prints-600-4915200-8192-0-8192-0-many", &many);
     many.push(clear(64));
     shelf.operations("gives-4-behind-many", &many);
 }
@@ -241,8 +256,8 @@ fn figures(shelf: &mut Shelf) {
 fn lengths(shelf: &mut Shelf) {
     let clears = |count| bytes(&vec![clear(0); count]);
     let at = |count: usize, behind: &[u8]| [&clears(count), behind].concat();
-    shelf.add("prints-0-0-0-0-0-65536-bytes", clears(8192));
-    shelf.add("prints-0-0-0-0-0-131072-bytes", clears(16_384));
+    shelf.add("prints-0-0-0-0-0-0-65536-bytes", clears(8192));
+    shelf.add("prints-0-0-0-0-0-0-131072-bytes", clears(16_384));
     for count in [8190, 8191, 8192, 8193, 16_383, 16_384] {
         let file = at(count, &clear(64).record().bytes());
         shelf.add(format!("gives-4-at-{count}"), file);
@@ -250,7 +265,7 @@ fn lengths(shelf: &mut Shelf) {
     let example = bytes(&[allocate(2, 0), allocate(1, 1), allocate(3, 2)]);
     for count in [511, 512, 4095, 8189, 8190, 8191, 8192] {
         let file = at(count, &example);
-        shelf.add(format!("prints-3-6-3-0-6-behind-{count}"), file);
+        shelf.add(format!("prints-3-6-3-0-6-0-behind-{count}"), file);
     }
     for tail in [1, 4, 7] {
         let unknown = [255; 7];

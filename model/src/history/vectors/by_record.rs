@@ -5,9 +5,9 @@ use crate::history::record::short::{allocate, clear, copy, read, write, COLLECT}
 use crate::history::record::{bytes, Operation, Record};
 
 pub fn histories(shelf: &mut Shelf) {
-    shelf.add("prints-0-0-0-0-0-empty", Vec::new());
+    shelf.add("prints-0-0-0-0-0-0-empty", Vec::new());
     let three = [allocate(2, 0), allocate(1, 1), allocate(3, 2)];
-    shelf.operations("prints-3-6-3-0-6-document-02", &three);
+    shelf.operations("prints-3-6-3-0-6-0-document-02", &three);
     cut_off(shelf);
     unknown_operations(shelf);
     unnamed_fields(shelf);
@@ -169,7 +169,7 @@ fn roots(shelf: &mut Shelf) {
 /// "3 if n is 0 or above N", and which byte is the low one.
 fn sizes(shelf: &mut Shelf) {
     for size in [1, 2, 3, 255, 256, 257, 258, 4095, 4096, 4097, 8191, 8192] {
-        let name = format!("prints-1-{size}-{size}-0-{size}-size");
+        let name = format!("prints-1-{size}-{size}-0-{size}-0-size");
         shelf.operations(name, &[allocate(size, 0)]);
     }
     for size in [0, 8193, 16_384, 32_768, 65_535] {

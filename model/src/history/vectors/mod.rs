@@ -1,7 +1,7 @@
 //! Some 340 histories that the program `report` is tested with. What must be printed for each is `report`'s line.
 //!
 //! A name that begins `gives-N` says, from the documents, that the run stops with N at the last record, whole or cut off;
-//! one that begins `prints-A-B-C-D-E` has the line.
+//! one that begins `prints-A-B-C-D-E-F` has the line.
 
 mod at_random;
 mod by_heap;

@@ -20,6 +20,7 @@ pub struct Tally {
     pub largest: u64,
     pub collections: u64,
     pub peak: u64,
+    pub stuck: u64,
 }
 
 /// Where a run stands.
@@ -53,6 +54,7 @@ struct Done {
     allocated: usize,
     collected: bool,
     freed: usize,
+    stuck: bool,
 }
 
 fn fields_at(bytes: &[u8], at: usize) -> Fields {
@@ -114,12 +116,13 @@ fn plan_of(blocks: usize, m: &Lent, f: &Fields) -> Plan {
     }
 }
 
-fn done(number: usize, freed: usize) -> Done {
+fn done(number: usize, freed: usize, second: usize) -> Done {
     Done {
         number,
         allocated: 0,
         collected: false,
         freed,
+        stuck: second == 1,
     }
 }
 
@@ -136,24 +139,25 @@ fn allocate_or_collect(blocks: usize, width: usize, m: &mut Lent, n: usize, r: u
         allocated: if answer.number == 0 { n } else { 0 },
         collected,
         freed,
+        stuck: answer.second == 1,
     }
 }
 
 fn act(blocks: usize, width: usize, m: &mut Lent, plan: Plan) -> Done {
     match plan {
-        Plan::Stop(number) => done(number, 0),
+        Plan::Stop(number) => done(number, 0, 0),
         Plan::Allocate { n, r } => allocate_or_collect(blocks, width, m, n, r),
         Plan::StoreRoot { r, v } => {
             let answer = put_in_root(blocks, width, m, r, v);
-            done(answer.number, answer.value)
+            done(answer.number, answer.value, answer.second)
         }
         Plan::StoreCell { at, j, v } => {
             let answer = put_in_cell(blocks, width, m, at, j, v);
-            done(answer.number, answer.value)
+            done(answer.number, answer.value, answer.second)
         }
         Plan::Collect => Done {
             collected: true,
-            ..done(0, collect(blocks, width, m))
+            ..done(0, collect(blocks, width, m), 0)
         },
     }
 }
@@ -169,6 +173,9 @@ fn note(run: &mut SoFar, used: &mut usize, done: &Done) {
         tally.blocks += n;
         tally.largest = tally.largest.max(n);
     }
+    if done.stuck {
+        tally.stuck += 1;
+    }
     *used = *used + done.allocated - done.freed;
     run.number = done.number;
     if done.number == 0 {
@@ -183,6 +190,7 @@ fn in_range(run: &SoFar) -> bool {
     run.records <= MAX_RECORDS
         && run.tally.allocations <= records
         && run.tally.blocks <= MAX_BLOCKS * records
+        && run.tally.stuck <= records
         && run.tally.collections <= records + forced
 }
 
@@ -230,9 +238,10 @@ impl fmt::Display for SoFar {
             largest,
             collections,
             peak,
+            stuck,
         } = self.tally;
         match self.number {
-            0 => writeln!(to, "{allocations} {blocks} {largest} {collections} {peak}"),
+            0 => writeln!(to, "{allocations} {blocks} {largest} {collections} {peak} {stuck}"),
             number => writeln!(to, "refused {number} at record {}", self.records),
         }
     }
