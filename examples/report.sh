@@ -12,6 +12,7 @@ names=(
     "largest accepted size"
     "full collections, forced or recorded"
     "most blocks in use after any record"
+    "moments at which an object became stuck"
 )
 
 # The program's line for a history, with each figure named.
