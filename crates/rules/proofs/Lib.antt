@@ -6,6 +6,7 @@ pub mod Tabulate
 pub mod Shape
 pub mod Objects
 pub mod Chunks
+pub mod Figures
 pub mod Sections
 pub mod Replies
 pub mod Counting

@@ -17,7 +17,7 @@ use Rattle.rules.specs.Heap.{chunkFree}
 use Rattle.rules.specs.Damage.{someBelow}
 use Rattle.rules.specs.Sections.{largestFree}
 use Rattle.rules.proofs.Tests.{test-cases, some-false}
-use Rattle.rules.proofs.Sections.{figure-of-halves, figure-le}
+use Rattle.rules.proofs.Figures.{figure-of-halves, figure-le}
 use Rattle.sections.specs.Figures.{byteFigure}
 
 -- ---- the figure depends on the blocks' bits alone

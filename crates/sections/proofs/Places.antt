@@ -10,7 +10,8 @@ use lib.Pow.{pow-pos, pow-lt, pow-add}
 use Rattle.rules.specs.Heap.{isBlocks, exponent}
 use Rattle.rules.specs.Sections.{sectionLength, sectionCount, largestFree, figure}
 use Rattle.rules.proofs.Shape.{blocks-facts, blocks-le, blocks-power}
-use Rattle.rules.proofs.Sections.{divided, figure-le}
+use Rattle.rules.proofs.Figures.{figure-le}
+use Rattle.rules.proofs.Sections.{divided}
 use Rattle.blocks.specs.Search.{Part}
 use Rattle.sections.proofs.Figures.{whole-bytes}
 

@@ -8,7 +8,8 @@ use native.Mathlib.Omega.{arith}
 use lib.Pow.{pow-add, pow-pos}
 use Rattle.rules.specs.Heap.{isBlocks, exponent, chunkFree}
 use Rattle.rules.specs.Sections.{sectionLength, largestFree, figure}
-use Rattle.rules.proofs.Sections.{Divided, divided, exponents, there-is, none-larger}
+use Rattle.rules.proofs.Figures.{there-is, none-larger}
+use Rattle.rules.proofs.Sections.{Divided, divided, exponents}
 use Rattle.theory.specs.Sections.{FreeWithin, FiguresAreLargest}
 
 module _ (N : ℕ) (a : List ℕ) (d : Divided N) (s t k : ℕ) (sum : t + k ≡ exponent (sectionLength N)) where
