@@ -55,7 +55,7 @@ fn port_hands_runs_in_and_out() {
     let mut lent = lend(&mut memory);
     let mut run = |so_far, bytes: &[u8]| port::run_records(8, 2, &mut lent, so_far, bytes);
     let first = run(SoFar::default(), &history[..8]).expect("accepted");
-    assert_eq!(first.to_string(), "1 2 2 0 2\n");
+    assert_eq!(first.to_string(), "1 2 2 0 2 0\n");
     let stopped = run(first, &history[8..]).expect("accepted");
     assert_eq!(stopped.to_string(), "refused 3 at record 1\n");
     assert_eq!(run(stopped, &history), Ok(stopped));

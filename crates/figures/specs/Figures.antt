@@ -47,23 +47,23 @@ countedIn (look a) t = t
 countedIn (returnRoots chosen) t = t
 
 -- "Every store and allocation passes the fact on": it is their second value
-unfoldable pub sticks : Call → Reply → Bool
-sticks (allocate n r) x = eqb (x .second) 1
-sticks (storeRoot r v) x = eqb (x .second) 1
-sticks (storeCell a j v) x = eqb (x .second) 1
-sticks format x = false
-sticks check x = false
-sticks collect x = false
-sticks freeBlocks x = false
-sticks (look a) x = false
-sticks (returnRoots chosen) x = false
+unfoldable pub toldStuck : Call → Reply → Bool
+toldStuck (allocate n r) x = eqb (x .second) 1
+toldStuck (storeRoot r v) x = eqb (x .second) 1
+toldStuck (storeCell a j v) x = eqb (x .second) 1
+toldStuck format x = false
+toldStuck check x = false
+toldStuck collect x = false
+toldStuck freeBlocks x = false
+toldStuck (look a) x = false
+toldStuck (returnRoots chosen) x = false
 
 unfoldable pub momentIn : Bool → Tally → Tally
 momentIn moment t = elim moment [ true ↦ becameStuck t | false ↦ t ]
 
 -- what a call as made adds: a refused one nothing
 unfoldable pub noted : Made → Tally → Tally
-noted m t = elim (eqb (m .reply .number) 0) [ true ↦ momentIn (sticks (m .call) (m .reply)) (countedIn (m .call) t) | false ↦ t ]
+noted m t = elim (eqb (m .reply .number) 0) [ true ↦ momentIn (toldStuck (m .call) (m .reply)) (countedIn (m .call) t) | false ↦ t ]
 
 unfoldable pub notedAll : List Made → Tally → Tally
 notedAll [] t = t

@@ -22,7 +22,7 @@ use Rattle.theory.proofs.Theorems.{theory}
 use Rattle.records.specs.Records.{Asked, makes, stops, asked, fieldsAt, recordLength}
 use Rattle.figures.specs.declared.tally.Tally.{Tally}
 use Rattle.figures.specs.declared.tally.Run.{Run}
-use Rattle.figures.specs.Figures.{countedIn, momentIn, sticks, noted, notedAll, run}
+use Rattle.figures.specs.Figures.{countedIn, momentIn, toldStuck, noted, notedAll, run}
 use Rattle.turns.specs.Turns.{madeOn, Turn, triesAgain, triedAgain, turnOf, afterTurn}
 use Rattle.turns.proofs.Turns.{turn-once, turn-again}
 use Rattle.history.specs.Runs.{Came, came, recordAt, ranFrom, wholeRecords, ran}
@@ -70,7 +70,7 @@ unfolding noted
 noted-peak m p t = go (eqb (m .reply .number) 0)
   where
     stuck : Bool
-    stuck = sticks (m .call) (m .reply)
+    stuck = toldStuck (m .call) (m .reply)
 
     go : (b : Bool) → (elim b [ true ↦ momentIn stuck (countedIn (m .call) (withPeak p t)) | false ↦ withPeak p t ])
         ≡ withPeak p (elim b [ true ↦ momentIn stuck (countedIn (m .call) t) | false ↦ t ])
@@ -103,7 +103,7 @@ noted-blocks : (m : Made) (t : Tally) → noted m t .blocks ≡ t .blocks + allo
 unfolding noted allocatedBy
 noted-blocks m t = elim (ℕ-discrete (m .reply .number) 0) [
   | yes e ↦ rw (eq-eqb (m .reply .number) 0 e, noted, allocatedBy)
-      (moment-blocks (sticks (m .call) (m .reply)) (countedIn (m .call) t) ∙ counted-blocks (m .call) t)
+      (moment-blocks (toldStuck (m .call) (m .reply)) (countedIn (m .call) t) ∙ counted-blocks (m .call) t)
   | no e ↦ rw (ne-eqb (m .reply .number) 0 e, noted, allocatedBy) (omega arith)
 ]
 

@@ -28,7 +28,7 @@ use Rattle.records.specs.declared.Plan.{Plan}
 use Rattle.records.specs.Meaning.{meaning}
 use Rattle.records.specs.Records.{makes, stops}
 use Rattle.figures.specs.declared.tally.Tally.{Tally}
-use Rattle.figures.specs.Figures.{allocated, collected, countedIn, sticks, momentIn, noted, notedAll}
+use Rattle.figures.specs.Figures.{allocated, collected, countedIn, toldStuck, momentIn, noted, notedAll}
 use Rattle.turns.specs.declared.acts.Done.{Done}
 use Rattle.turns.specs.Turns.{madeOn, Turn, turn, triesAgain, triedAgain, turnOf}
 use Rattle.turns.specs.Steps.{done, doneAfter, withCollection, withAllocation, Acted}
@@ -51,7 +51,7 @@ noted-refused : (m : Made) (t : Tally) → (m .reply .number ≡ 0 → ⊥) → 
 unfolding noted
 noted-refused m t refused = rw (ne-eqb (m .reply .number) 0 refused, noted)
 
-noted-accepted : (m : Made) (t : Tally) → m .reply .number ≡ 0 → noted m t ≡ momentIn (sticks (m .call) (m .reply)) (countedIn (m .call) t)
+noted-accepted : (m : Made) (t : Tally) → m .reply .number ≡ 0 → noted m t ≡ momentIn (toldStuck (m .call) (m .reply)) (countedIn (m .call) t)
 unfolding noted
 noted-accepted m t accepted = rw (eq-eqb (m .reply .number) 0 accepted, noted)
 
@@ -107,13 +107,13 @@ acted-stop N w h number =
 record Plain (c : Call) : Type 0 where
   once : (x : Reply) → triesAgain c x ≡ false
   uncounted : (t : Tally) → countedIn c t ≡ t
-  told : (x : Reply) → sticks c x ≡ eqb (x .second) 1
+  told : (x : Reply) → toldStuck c x ≡ eqb (x .second) 1
   none-new : allocates c ≡ 0
   frees : (N w : ℕ) (h : Memory) → let x = answer N w h c in x .0 .number ≡ 0 → x .0 .value ≡ freedBlocks N h (x .1)
   keeps : (N w : ℕ) (h : Memory) → Healthy N w h → Keeps h (answer N w h c)
 
 store-root-plain : (r v : ℕ) → Plain (storeRoot r v)
-unfolding triesAgain countedIn sticks allocates
+unfolding triesAgain countedIn toldStuck allocates
 store-root-plain r v =
     record {
       once = λ x. refl;
@@ -125,7 +125,7 @@ store-root-plain r v =
     }
 
 store-cell-plain : (a j v : ℕ) → Plain (storeCell a j v)
-unfolding triesAgain countedIn sticks allocates
+unfolding triesAgain countedIn toldStuck allocates
 store-cell-plain a j v =
     record {
       once = λ x. refl;
@@ -209,7 +209,7 @@ module _ (N w : ℕ) (h : Memory) (usable : Usable N w h) where
   collect-accepted = ap (λ (y : Answer). y .0 .number) (collect-answered N w h (usable-healthy N w h usable))
 
   collect-noted : (t : Tally) → noted (madeOn N w h collect) t ≡ collected t
-  unfolding countedIn sticks momentIn
+  unfolding countedIn toldStuck momentIn
   collect-noted t = noted-accepted (madeOn N w h collect) t collect-accepted
 
   collect-balance : {y : Reply} {k : Memory} → Promise N w collect h y k → inUse N h ≡ y .value + inUse N k
@@ -274,7 +274,7 @@ module _ (N w : ℕ) (h : Memory) (usable : Usable N w h) (n r : ℕ) where
       size-fits = accepted-size (reply-number ∙ accepted)
 
       accepted-noted : (t : Tally) → noted (madeOn N w h (allocate n r)) t ≡ momentIn born-stuck (allocated n t)
-      unfolding countedIn sticks
+      unfolding countedIn toldStuck
       accepted-noted t =
           noted-accepted (madeOn N w h (allocate n r)) t (reply-number ∙ accepted)
           ∙ ap (λ (x : Reply). momentIn (eqb (x .second) 1) (allocated n t)) (sym (tried .promise .reply-is))
