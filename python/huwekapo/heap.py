@@ -68,6 +68,7 @@ class Heap:
         self._functions = library.load()
         self._lock = threading.Lock()
         self._blocks, self._width = blocks, width
+        self._became_stuck = False
         self._arrays = {buffer.name: (buffer.number * lengths[buffer.name])() for buffer in library.BUFFERS}
         self._heap: list[Any] = [blocks, width]
         for array in self._arrays.values():
@@ -79,6 +80,11 @@ class Heap:
 
     def _value(self, name: str, *arguments: int) -> int:
         return int(_accepted(self._call(name, *map(_word, arguments))).value)
+
+    def _stored(self, name: str, *arguments: int) -> int:
+        reply = _accepted(self._call(name, *map(_word, arguments)))
+        self._became_stuck = bool(reply.second)
+        return int(reply.value)
 
     def _view(self, name: str) -> memoryview:
         view = memoryview(self._arrays[name]).cast("B").toreadonly()
@@ -98,6 +104,11 @@ class Heap:
     def capacity(self) -> int:
         """The largest count, at which an object is stuck."""
         return (1 << self._width) - 1
+
+    @property
+    def became_stuck(self) -> bool:
+        """Whether the last accepted allocation or store brought the count of the object that it stored to the capacity."""
+        return self._became_stuck
 
     @property
     def a(self) -> memoryview:
@@ -139,15 +150,15 @@ class Heap:
 
     def allocate(self, n: int, r: int) -> int:
         """Allocates n blocks into root r. The value is the first block. Refusals: 1, 2, 3, 4, 5."""
-        return self._value("allocate", n, r)
+        return self._stored("allocate", n, r)
 
     def store_root(self, r: int, v: int) -> int:
         """Stores v in root r. The value is the number of blocks freed. Refusals: 1, 2, 4, 8."""
-        return self._value("store_root", r, v)
+        return self._stored("store_root", r, v)
 
     def store_cell(self, at: int, j: int, v: int) -> int:
         """Stores v in cell j of the object at block `at`. The value is the number of blocks freed. Refusals: 1, 2, 6, 7, 8."""
-        return self._value("store_cell", at, j, v)
+        return self._stored("store_cell", at, j, v)
 
     def return_roots(self, chosen: int) -> int:
         """Clears the roots of a set, bit r of `chosen` for root r. The value is the number of blocks freed in all. Refusals: 1, 2, 4."""

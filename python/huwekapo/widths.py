@@ -6,7 +6,6 @@ import csv
 from typing import Iterable, Iterator, Optional, Sequence, TextIO
 
 from .history import History, Progress, Source
-from .library import Figures
 from .measures import COLUMNS, Measured, measure
 
 
@@ -35,14 +34,13 @@ def write_csv(measures: Iterable[Measured], file: TextIO) -> None:
 
 
 def text(measures: Iterable[Measured]) -> str:
-    """The table for reading. A column that nothing stands in is left out."""
-    has_stuck = "stuck" in Figures._fields
+    """The table for reading. The column of stops is left out where nothing stopped."""
     heads = [
         ("", "blocks"),
         ("", "width"),
         ("full", "collections"),
         ("most blocks", "in use"),
-        *([("stuck", "moments")] if has_stuck else []),
+        ("stuck", "moments"),
         ("garbage held", "by stuck counts"),
         ("garbage held", "by cycles"),
         ("", "stopped"),
@@ -50,8 +48,7 @@ def text(measures: Iterable[Measured]) -> str:
     rows: list[tuple[str, ...]] = [tuple(head[line] for head in heads) for line in range(2)]
     for measured in measures:
         figures = measured.run.figures
-        numbers = [measured.blocks, measured.width, figures.collections, figures.peak]
-        numbers += [getattr(figures, "stuck")] if has_stuck else []
+        numbers = [measured.blocks, measured.width, figures.collections, figures.peak, figures.stuck]
         numbers += [measured.garbage.stuck.blocks, measured.garbage.cycles.blocks]
         rows.append((*(f"{number:,}" for number in numbers), measured.stop()))
     if not any(row[-1] for row in rows[2:]):

@@ -63,6 +63,28 @@ class Calls(unittest.TestCase):
         self.assertEqual(heap.free_blocks(), 8)
         self.assertEqual(list(heap.roots), [0, 0, 0, 0])
 
+    def test_became_stuck(self) -> None:
+        heap = Heap(8, 2, 4)
+        told = []
+        for call in [
+            lambda: heap.allocate(1, 0),
+            lambda: heap.store_root(1, 1),
+            lambda: heap.store_cell(0, 0, 1),
+            lambda: heap.store_cell(0, 1, 1),
+            lambda: heap.store_root(1, 0),
+        ]:
+            call()
+            told.append(heap.became_stuck)
+        self.assertEqual(told, [False, False, True, False, False])
+        heap = Heap(8, 1, 4)
+        heap.allocate(1, 0)
+        self.assertTrue(heap.became_stuck)
+        # A refusal and other calls leave it.
+        with self.refused(3, 0, "BAD_SIZE"):
+            heap.allocate(9, 0)
+        heap.look(0)
+        self.assertTrue(heap.became_stuck)
+
     def test_replay(self) -> None:
         heap = Heap(8, 2, 4)
         replies = heap.replay([(2, 2, 0), (2, 1, 1), (2, 3, 2), (6, 4), (2, 9, 0), (8, 5)])

@@ -25,17 +25,17 @@ def line(history: bytes) -> str:
 
 class Lines(unittest.TestCase):
     def test_document_02(self) -> None:
-        rest = len(Figures._fields) - 5
-        self.assertEqual(line(b""), " ".join((5 + rest) * ["0"]) + "\n")
-        self.assertEqual(line(THREE), " ".join(["3", "6", "3", "0", "6"] + rest * ["0"]) + "\n")
+        self.assertEqual(line(b""), "0 0 0 0 0 0\n")
+        self.assertEqual(line(THREE), "3 6 3 0 6 0\n")
 
     def test_figures(self) -> None:
         cycle = allocate(2, 0) + write(0, 0, 0) + clear(0) + COLLECT + allocate(4, 0)
         run = huwekapo.run(io.BytesIO(cycle))
         self.assertEqual((run.number, run.records, run.stopped), (0, 5, False))
-        figures = run.figures
-        found = (figures.allocations, figures.blocks, figures.largest, figures.collections, figures.peak)
-        self.assertEqual(found, (2, 6, 4, 1, 4))
+        self.assertEqual(run.figures, Figures(allocations=2, blocks=6, largest=4, collections=1, peak=4, stuck=0))
+        # At width 1 every object is born stuck; one more reference is no moment.
+        run = huwekapo.run(io.BytesIO(cycle), 8, 1)
+        self.assertEqual(run.figures, Figures(allocations=2, blocks=6, largest=4, collections=1, peak=4, stuck=2))
 
     def test_stops(self) -> None:
         for number, history in [

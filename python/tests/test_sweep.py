@@ -186,10 +186,25 @@ class Killed(Case):
 
     def start(self, *words: str) -> subprocess.Popen[bytes]:
         command = [sys.executable, "-m", "huwekapo", "sweep", str(self.histories), "-o", str(self.table), *words]
-        return subprocess.Popen(command, env={**os.environ, "PYTHONPATH": str(PYTHON)}, stderr=subprocess.PIPE)
+        # A file, and no pipe: a worker process that stayed behind would keep that open.
+        with open(self.top / "said", "wb") as said:
+            return subprocess.Popen(command, env={**os.environ, "PYTHONPATH": str(PYTHON)}, stderr=said)
+
+    def kill(self, sweeping: subprocess.Popen[bytes]) -> int:
+        """Kills a sweep, and sees that its processes end with it. How many these were."""
+        children = [int(pid) for pid in Path(f"/proc/{sweeping.pid}/task/{sweeping.pid}/children").read_text().split()]
+        self.assertIsNone(sweeping.poll(), "it ended before it could be killed")
+        sweeping.send_signal(signal.SIGKILL)
+        sweeping.wait()
+        try:
+            self.wait_for(lambda: not any(_lives(pid) for pid in children))
+        finally:
+            for pid in filter(_lives, children):
+                os.kill(pid, signal.SIGKILL)
+        return len(children)
 
     def wait_for(self, what: Callable[[], bool]) -> None:
-        end = time.monotonic() + 60
+        end = time.monotonic() + 30
         while not what():
             self.assertLess(time.monotonic(), end)
             time.sleep(0.001)
@@ -212,13 +227,7 @@ class Killed(Case):
                 for least in [10, 60]:
                     sweeping = self.start("--jobs", jobs, *words)
                     self.wait_for(lambda: len(self.finished()) >= least or sweeping.poll() is not None)
-                    children = [int(pid) for pid in Path(f"/proc/{sweeping.pid}/task/{sweeping.pid}/children").read_text().split()]
-                    self.assertIsNone(sweeping.poll(), "it ended before it could be killed")
-                    sweeping.send_signal(signal.SIGKILL)
-                    sweeping.communicate()
-                    self.assertEqual(len(children) > 1, jobs == "2")
-                    # Its worker processes end with it.
-                    self.wait_for(lambda: not any(_lives(pid) for pid in children))
+                    self.assertEqual(self.kill(sweeping) > 1, jobs == "2")
                     rows = [row for row in self.finished() if row.endswith("\n")]
                     # No finished row was lost.
                     self.assertLessEqual(set(kept), set(rows))
@@ -226,8 +235,8 @@ class Killed(Case):
                     kept = rows
                     runs.append(len(rows))
                 sweeping = self.start("--jobs", jobs, *words)
-                said = sweeping.communicate()[1].decode()
-                self.assertEqual(sweeping.returncode, 0, said)
+                self.assertEqual(sweeping.wait(), 0)
+                said = (self.top / "said").read_text()
                 self.assertIn(f"120 rows, {120 - runs[-1]} of them run now", said)
                 self.assertEqual(self.table.read_bytes(), expected)
 
@@ -237,8 +246,7 @@ class Killed(Case):
         self.wait_for(lambda: len(self.finished()) >= 2)
         with self.assertRaisesRegex(SweepError, "another sweep writes"):
             sweep(self.histories, self.table, [1, 2, 3, 4], [8192])
-        first.send_signal(signal.SIGKILL)
-        first.communicate()
+        self.kill(first)
         self.assertGreater(sweep(self.histories, self.table, [1, 2, 3, 4], [8192]).kept, 0)
 
 

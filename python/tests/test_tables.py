@@ -32,12 +32,13 @@ class Widths(unittest.TestCase):
         held = [(row.garbage.stuck.blocks, row.garbage.cycles.blocks) for row in rows]
         self.assertEqual(held, 2 * [(3, 0), (2, 1), (0, 1)])
         self.assertEqual([row.run.figures.peak for row in rows], 2 * [7, 7, 5])
+        self.assertEqual([row.run.figures.stuck for row in rows], 2 * [3, 1, 0])
 
     def test_text(self) -> None:
         shown = text(widths(io.BytesIO(HISTORY), [16], [1, 2, 3], 4)).splitlines()
         self.assertEqual(shown[1].split()[:4], ["blocks", "width", "collections", "in"])
-        self.assertEqual([int(line.split()[-1]) for line in shown[2:]], [0, 1, 1])
-        self.assertEqual([line.split()[:4] for line in shown[2:]], [["16", "1", "0", "7"], ["16", "2", "0", "7"], ["16", "3", "0", "5"]])
+        rows = [list(map(int, line.split())) for line in shown[2:]]
+        self.assertEqual(rows, [[16, 1, 0, 7, 3, 3, 0], [16, 2, 0, 7, 1, 2, 1], [16, 3, 0, 5, 0, 0, 1]])
         # A column for where runs stopped, where one did.
         self.assertNotIn("stopped", shown[1])
         stopped = text(widths(io.BytesIO(HISTORY + b"\x09"), [16], [2, 3], 4)).splitlines()
@@ -60,14 +61,14 @@ class Widths(unittest.TestCase):
             "largest_size": "4",
             "collections": "0",
             "peak": "7",
+            "stuck_moments": "1",
             "garbage_stuck": "2",
             "garbage_cycles": "1",
         }
-        self.assertEqual({name: row[name] for name in expected}, expected)
-        self.assertEqual(len(row), len(expected) + len(Figures._fields) - 5)
+        self.assertEqual(row, expected)
 
     def test_every_figure_has_words(self) -> None:
-        self.assertLessEqual(set(Figures._fields), set(FIGURE_WORDS))
+        self.assertEqual(list(Figures._fields), list(FIGURE_WORDS))
 
 
 class Courses(unittest.TestCase):
