@@ -177,9 +177,11 @@ class Calls(unittest.TestCase):
 
 
 class Library(unittest.TestCase):
+    environment = {**os.environ, "PYTHONPATH": str(PYTHON)}
+
     def start(self, **environment: str) -> subprocess.CompletedProcess[str]:
         command = [sys.executable, "-c", "from huwekapo import Heap; print(Heap(8).free_blocks())"]
-        environment = {**os.environ, "PYTHONPATH": str(PYTHON), **environment}
+        environment = {**self.environment, **environment}
         return subprocess.run(command, env=environment, capture_output=True, text=True, check=False)
 
     def test_named_by_the_variable(self) -> None:
@@ -193,6 +195,11 @@ class Library(unittest.TestCase):
         done = self.start(HUWEKAPO_LIBRARY="/nowhere/libhuwekapo.so")
         self.assertEqual(done.returncode, 1)
         self.assertIn("LibraryMissing: libhuwekapo.so was not found: looked for /nowhere/libhuwekapo.so.", done.stderr)
+
+    def test_another_version(self) -> None:
+        command = "from huwekapo import library; library.VERSION = '99.0.0'; library.load()"
+        done = subprocess.run([sys.executable, "-c", command], env=self.environment, capture_output=True, text=True, check=False)
+        self.assertRegex(done.stderr, rf"is version {huwekapo.__version__}; this package is for 99\.0\.0\n$")
 
     def test_another_library(self) -> None:
         maps = Path("/proc/self/maps").read_text()

@@ -10,6 +10,7 @@ import tempfile
 import threading
 import unittest
 from pathlib import Path
+from unittest import mock
 
 import huwekapo
 from huwekapo import Figures, Heap, History, Refused, Run, examples
@@ -158,9 +159,13 @@ class Files(unittest.TestCase):
         history = self.history[: 8 * 500]
         for cut, end in [(0, b""), (1, b"\x00"), (7, b"1234567")]:
             expected = line(history + end)
-            for length in [1, 3, 7, 8, 9]:
-                with self.subTest(cut=cut, length=length):
-                    self.assertEqual(huwekapo.run(Slow(history + end, length)).line(), expected)  # type: ignore[arg-type]
+            # Bytes that come slowly are held back for a while; without that, each is run as soon as it makes a record.
+            for length, patience in [(length, patience) for length in (1, 3, 7, 8, 9) for patience in (0, 0.1)]:
+                with self.subTest(cut=cut, length=length, patience=patience), mock.patch("huwekapo.history._PATIENCE", patience):
+                    told: list[int] = []
+                    run = huwekapo.run(Slow(history + end, length), progress=told.append)  # type: ignore[arg-type]
+                    self.assertEqual(run.line(), expected)
+                    self.assertEqual(len(told) > 400, patience == 0)
 
     def test_pipe(self) -> None:
         reading, writing = os.pipe()

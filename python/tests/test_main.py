@@ -4,9 +4,11 @@ from __future__ import annotations
 
 import os
 import pty
+import select
 import subprocess
 import sys
 import tempfile
+import time
 import unittest
 from pathlib import Path
 
@@ -122,35 +124,43 @@ class Commands(unittest.TestCase):
         self.assertEqual((done.returncode, done.stderr), (1, b""))
 
     def test_progress_bar(self) -> None:
-        # Only on a terminal, and only for what takes a while: a history that comes slowly.
+        # For what takes a while, as a history that comes slowly. On a terminal it is drawn, and taken away at the end ..
         reading, writing = pty.openpty()
+        shown = self.slowly(reading, writing, until=b"records ")
+        self.assertTrue(shown.endswith(b"\r\x1b[K"), shown)
+        # .. and nowhere else.
+        self.assertEqual(self.slowly(*os.pipe(), until=b"never"), b"")
+
+    def slowly(self, reading: int, writing: int, until: bytes) -> bytes:
+        """Reports a history that comes for a second, or until this is on standard error. All that is there in the end."""
         given, giving = os.pipe()
         command = self.command("report", "--line", "-")
         with subprocess.Popen(command, env=self.environment, stdin=given, stdout=subprocess.PIPE, stderr=writing) as running:
             os.close(writing)
             os.close(given)
             assert running.stdout
+            shown = b""
+            end = time.monotonic() + (20 if until == b"records " else 1)
             with open(giving, "wb", buffering=0) as file:
-                shown = b""
-                while b"records " not in shown:
+                while until not in shown and time.monotonic() < end:
                     file.write(allocate(1, 0))
                     if _readable(reading, 0.02):
                         shown += os.read(reading, 1000)
             self.assertTrue(running.stdout.read().endswith(b"\n"))
-        while _readable(reading, 0.2):
-            try:
-                shown += os.read(reading, 1000)
-            except OSError:
-                break
+        # What is left. A terminal whose other side is closed can't be read.
+        try:
+            while _readable(reading, 0.2):
+                more = os.read(reading, 1000)
+                if not more:
+                    break
+                shown += more
+        except OSError:
+            pass
         os.close(reading)
-        # It is taken away at the end.
-        self.assertTrue(shown.endswith(b"\r\x1b[K"), shown)
-        self.assertEqual(self.start("report", "--line", self.three)[1], "")
+        return shown
 
 
 def _readable(file: int, seconds: float) -> bool:
-    import select
-
     return bool(select.select([file], [], [], seconds)[0])
 
 
