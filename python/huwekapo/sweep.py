@@ -158,7 +158,10 @@ class _Table:
         if _line(TABLE_COLUMNS).startswith(text):
             return []
         if not text.startswith(_line(TABLE_COLUMNS)):
-            raise SweepError(f"{self._path} is no table of a sweep: its first line is another")
+            raise SweepError(
+                f"{self._path} is no table of a sweep, or one of another version: its first line is another. Name another table, or "
+                "delete this one"
+            )
         rows = list(csv.reader(io.StringIO(text, newline="")))[1:]
         if not text.endswith("\n"):
             rows.pop()
