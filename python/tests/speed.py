@@ -1,8 +1,7 @@
 """The time of a run from Python against that of the program `report`, on one history: `speed.py REPORT HISTORY`.
 
-Processor time, the least of nine turns each, taken one after the other; where the run in Python takes more than 1.2 times the
-program's, nine more, and then nine more. Ends with status 1 where it still does. What the whole command takes, with the start of
-Python, is shown beside it.
+Processor time, the least of nine turns each, taken one after the other. What the whole command takes, with the start of Python, is shown
+beside it. It is for reading: no time fails it. It ends with status 1 where the lines differ.
 """
 
 from __future__ import annotations
@@ -19,8 +18,6 @@ sys.path.insert(0, str(Path(__file__).resolve().parent.parent))
 import huwekapo
 
 TURNS = 9
-ROUNDS = 3
-MOST = 1.2
 
 
 def child(command: list[str], history: str) -> tuple[float, str]:
@@ -43,19 +40,15 @@ def main() -> int:
     report, history = sys.argv[1:]
     os.environ["PYTHONPATH"] = sys.path[0]
     command = [sys.executable, "-m", "huwekapo", "report", "--line", "-"]
-    turns: list[list[tuple[float, str]]] = []
-    for _ in range(ROUNDS):
-        turns += [[child([report], history), here(history), child(command, history)] for _ in range(TURNS)]
-        program, run, whole = [min(turn[k][0] for turn in turns) for k in range(3)]
-        if run <= MOST * program:
-            break
+    turns = [[child([report], history), here(history), child(command, history)] for _ in range(TURNS)]
+    program, run, whole = [min(turn[k][0] for turn in turns) for k in range(3)]
     lines = {line for turn in turns for _, line in turn}
     if len(lines) != 1:
         print(f"different lines: {sorted(lines)}")
         return 1
     print(f"{os.path.getsize(history) // 8:,} records: report {program:.3f} s; from Python {run:.3f} s, ratio {run / program:.2f}", end="")
     print(f"; the whole command {whole:.3f} s, ratio {whole / program:.2f}")
-    return 1 if run > MOST * program else 0
+    return 0
 
 
 if __name__ == "__main__":
