@@ -1,16 +1,37 @@
 // Entries of the file: four little-endian words of eight bytes each.
 ghost use Prim.Native.Nat.{_+_, _^_, _<_, _≤_};
-ghost use lib.ListN.{length};
+use libc::STDIN_FILENO;
 
-// The bytes of an entry.
-pub const ENTRY: usize = 32;
+// The kinds of entries: the calls are those from 0 to LAST_CALL, and what is no call stands at the end of a byte's numbers, out of the way
+// of calls to come.
+pub const LAST_CALL: usize = 8;
 
-// The four words of an entry: which it is, and its numbers.
+pub const LOAD: usize = 253;
+
+pub const LENGTH: usize = 254;
+
+pub const NEW: usize = 255;
+
+// What is left of an entry after which nothing follows; in a file this kind is unknown.
+pub const END: usize = 256;
+
+// An entry: how many of its bytes were read, its kind, its numbers (of a call its arguments, of a heap its blocks, width and roots), and the
+// number of the next one.
 pub struct Entry {
+    pub bytes: usize,
     pub kind: usize,
     pub x: usize,
     pub y: usize,
     pub z: usize,
+    pub next: usize,
+}
+
+impl Entry {
+    // The same, as another kind.
+    pub fn with_kind(mut self, kind: usize) -> Entry {
+        self.kind = kind;
+        self
+    }
 }
 
 fn wide(byte: u8) -> usize
@@ -20,8 +41,8 @@ fn wide(byte: u8) -> usize
 }
 
 // The number of four bytes, the lowest first.
-fn half(bytes: &[u8], at: usize) -> usize
-    requires { ⌜ (at + 4 ≤ length (now bytes)) × (at + 4 < 2 ^ 64) ⌝ }
+fn half(bytes: &[u8; 32], at: usize) -> usize
+    requires { ⌜ at + 4 ≤ 32 ⌝ }
     ensures { λ r. ⌜ r < 2 ^ 32 ⌝ }
 {
     wide(bytes[at])
@@ -31,20 +52,24 @@ fn half(bytes: &[u8], at: usize) -> usize
 }
 
 // The word at a place.
-pub fn word(bytes: &[u8], at: usize) -> usize
-    requires { ⌜ (at + 8 ≤ length (now bytes)) × (at + 8 < 2 ^ 64) ⌝ }
+fn word(bytes: &[u8; 32], at: usize) -> usize
+    requires { ⌜ at + 8 ≤ 32 ⌝ }
 {
     half(bytes, at) + half(bytes, at + 4) * 4294967296
 }
 
-// The entry at a place.
-pub fn entry_at(bytes: &[u8], at: usize) -> Entry
-    requires { ⌜ (at + 32 ≤ length (now bytes)) × (at + 32 < 2 ^ 64) ⌝ }
+// Reads an entry from byte `start` of its 32 on; a header is an entry without the eight bytes of its kind.
+pub fn read_entry(start: usize, next: usize) -> Entry
+    requires { ⌜ start ≤ 32 ⌝ }
 {
+    let mut bytes = [0u8; 32];
+    let n = io::read_full(STDIN_FILENO, &mut bytes[start..]);
     Entry {
-        kind: word(bytes, at),
-        x: word(bytes, at + 8),
-        y: word(bytes, at + 16),
-        z: word(bytes, at + 24),
+        bytes: n,
+        kind: word(&bytes, 0),
+        x: word(&bytes, 8),
+        y: word(&bytes, 16),
+        z: word(&bytes, 24),
+        next: next,
     }
 }

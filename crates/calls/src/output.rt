@@ -1,109 +1,54 @@
-// Standard output by way of a buffer. `place` is the number of bytes that wait in it; each function gives the new one.
-ghost use Prim.Native.Nat.{_≤_};
-ghost use lib.ListN.{length};
+// Standard output. A failed write is said on standard error. A function says whether its last write was made.
 use blocks::Ref;
+use libc::STDERR_FILENO;
 use libc::STDOUT_FILENO;
 use rules::Reply;
 
-// The length of the buffer.
-pub const OUT: usize = 4096;
-
-// Writes what waits.
-pub fn flush(out: &[u8], place: usize)
-    requires { ⌜ place ≤ length (now out) ⌝ }
-{
-    io::write_all(STDOUT_FILENO, &out[..place]);
-}
-
-// A byte more. A full buffer is written first.
-fn put_byte(out: &mut [u8; OUT], place: usize, byte: u8) -> usize
-    ensures { λ r. ⌜ r ≤ 4096 ⌝ }
-{
-    if place < OUT {
-        out[place] = byte;
-        return place + 1;
+pub fn say(text: &[u8]) -> bool {
+    if io::write_all(STDOUT_FILENO, text) {
+        return true;
     }
-    io::write_all(STDOUT_FILENO, out);
-    out[0] = byte;
-    1
+    io::write_all(STDERR_FILENO, b"calls: a write to standard output failed\n");
+    false
 }
 
-pub fn put_text(out: &mut [u8; OUT], place: usize, text: &[u8]) -> usize
-    requires { ⌜ place ≤ 4096 ⌝ }
-    ensures { λ r. ⌜ r ≤ 4096 ⌝ }
-{
-    let mut to = place;
-    let mut i = 0;
-    while i < text.len() {
-        to = put_byte(out, to, text[i]);
-        i += 1;
-    }
-    to
+fn end_line() -> bool {
+    say(b"\n")
 }
 
-pub fn put_number(out: &mut [u8; OUT], place: usize, number: usize) -> usize
-    requires { ⌜ place ≤ 4096 ⌝ }
-    ensures { λ r. ⌜ r ≤ 4096 ⌝ }
-{
+fn say_number(number: usize) -> bool {
     let mut digits = [0u8; 20];
     let n = io::decimal(number as u64, &mut digits);
-    put_text(out, place, &digits[..n])
+    say(&digits[..n])
 }
 
-// `number value second`.
-pub fn put_reply(out: &mut [u8; OUT], place: usize, reply: Reply) -> usize
-    requires { ⌜ place ≤ 4096 ⌝ }
-    ensures { λ r. ⌜ r ≤ 4096 ⌝ }
-{
-    let to = put_number(out, place, reply.number);
-    let to = put_byte(out, to, b' ');
-    let to = put_number(out, to, reply.value);
-    let to = put_byte(out, to, b' ');
-    let to = put_number(out, to, reply.second);
-    put_byte(out, to, b'\n')
-}
-
-// The start of a line that says what is wrong with an entry.
-fn put_call(out: &mut [u8; OUT], place: usize, call: usize) -> usize
-    requires { ⌜ place ≤ 4096 ⌝ }
-    ensures { λ r. ⌜ r ≤ 4096 ⌝ }
-{
-    let to = put_text(out, place, b"call ");
-    let to = put_number(out, to, call);
-    put_text(out, to, b": ")
-}
-
-// A line that says what is wrong with an entry.
-pub fn put_complaint(out: &mut [u8; OUT], place: usize, call: usize, text: &[u8]) -> usize
-    requires { ⌜ place ≤ 4096 ⌝ }
-    ensures { λ r. ⌜ r ≤ 4096 ⌝ }
-{
-    let to = put_call(out, place, call);
-    let to = put_text(out, to, text);
-    put_byte(out, to, b'\n')
-}
-
-// The line of an entry of unknown kind.
-pub fn put_unknown(out: &mut [u8; OUT], place: usize, call: usize, kind: usize) -> usize
-    requires { ⌜ place ≤ 4096 ⌝ }
-    ensures { λ r. ⌜ r ≤ 4096 ⌝ }
-{
-    let to = put_call(out, place, call);
-    let to = put_text(out, to, b"unknown call ");
-    let to = put_number(out, to, kind);
-    put_byte(out, to, b'\n')
-}
-
-// A number of a line, with a space before it unless it is the first.
-fn put_item(out: &mut [u8; OUT], place: usize, i: usize, number: usize) -> usize
-    requires { ⌜ place ≤ 4096 ⌝ }
-    ensures { λ r. ⌜ r ≤ 4096 ⌝ }
-{
-    if i == 0 {
-        return put_number(out, place, number);
+// Number i of a line.
+fn say_item(i: usize, number: usize) -> bool {
+    if i > 0 {
+        say(b" ");
     }
-    let to = put_byte(out, place, b' ');
-    put_number(out, to, number)
+    say_number(number)
+}
+
+pub fn say_reply(reply: Reply) -> bool {
+    say_item(0, reply.number);
+    say_item(1, reply.value);
+    say_item(2, reply.second);
+    end_line()
+}
+
+// What is wrong with an entry.
+pub fn say_wrong(call: usize, text: &[u8]) -> bool {
+    say(b"call ");
+    say_number(call);
+    say(b": ");
+    say(text)
+}
+
+pub fn say_unknown(call: usize, kind: usize) {
+    say_wrong(call, b"unknown call ");
+    say_number(kind);
+    end_line();
 }
 
 fn wide_byte(byte: u8) -> usize {
@@ -115,51 +60,25 @@ fn wide_ref(number: Ref) -> usize {
 }
 
 // The line of a buffer of bytes.
-fn put_bytes(out: &mut [u8; OUT], place: usize, list: &[u8]) -> usize
-    requires { ⌜ place ≤ 4096 ⌝ }
-    ensures { λ r. ⌜ r ≤ 4096 ⌝ }
-{
-    let mut to = place;
+pub fn say_bytes(list: &[u8]) -> bool {
     let mut i = 0;
     while i < list.len() {
-        to = put_item(out, to, i, wide_byte(list[i]));
+        if !say_item(i, wide_byte(list[i])) {
+            return false;
+        }
         i += 1;
     }
-    put_byte(out, to, b'\n')
+    end_line()
 }
 
 // The line of a buffer of references.
-fn put_refs(out: &mut [u8; OUT], place: usize, list: &[Ref]) -> usize
-    requires { ⌜ place ≤ 4096 ⌝ }
-    ensures { λ r. ⌜ r ≤ 4096 ⌝ }
-{
-    let mut to = place;
+pub fn say_refs(list: &[Ref]) -> bool {
     let mut i = 0;
     while i < list.len() {
-        to = put_item(out, to, i, wide_ref(list[i]));
+        if !say_item(i, wide_ref(list[i])) {
+            return false;
+        }
         i += 1;
     }
-    put_byte(out, to, b'\n')
-}
-
-// The six buffers, a line each.
-pub fn put_buffers(
-    out: &mut [u8; OUT],
-    place: usize,
-    a: &[u8],
-    b: &[u8],
-    counts: &[u8],
-    cells: &[Ref],
-    roots: &[Ref],
-    waiting: &[Ref],
-) -> usize
-    requires { ⌜ place ≤ 4096 ⌝ }
-    ensures { λ r. ⌜ r ≤ 4096 ⌝ }
-{
-    let to = put_bytes(out, place, a);
-    let to = put_bytes(out, to, b);
-    let to = put_bytes(out, to, counts);
-    let to = put_refs(out, to, cells);
-    let to = put_refs(out, to, roots);
-    put_refs(out, to, waiting)
+    end_line()
 }

@@ -1,12 +1,14 @@
-// One entry on the lent buffers: a call, or a number written into a buffer.
+// What is done with the lent buffers. Where a function prints, it says whether its last write was made.
+use crate::entries;
 use crate::entries::Entry;
+use crate::output;
 use blocks::Ref;
 use rules::Reply;
 
 // A call that only reads: look, free blocks, and check for every other kind.
 fn read_call(
-    blocks: usize,
-    width: usize,
+    n: usize,
+    w: usize,
     a: &[u8],
     b: &[u8],
     counts: &[u8],
@@ -16,19 +18,16 @@ fn read_call(
     e: Entry,
 ) -> Reply {
     let kind = e.kind;
-    if kind == 6 {
-        return inspect::look(blocks, width, a, b, counts, cells, roots, waiting, e.x);
+    match kind {
+        6 => inspect::look(n, w, a, b, counts, cells, roots, waiting, e.x),
+        7 => inspect::free_blocks(n, w, a, b, counts, cells, roots, waiting),
+        _ => inspect::check(n, w, a, b, counts, cells, roots, waiting),
     }
-    if kind == 7 {
-        return inspect::free_blocks(blocks, width, a, b, counts, cells, roots, waiting);
-    }
-    inspect::check(blocks, width, a, b, counts, cells, roots, waiting)
 }
 
-// A store in a cell where the kind says so, else a store in a root.
-fn store_call(
-    blocks: usize,
-    width: usize,
+// A call, by the kinds 0 to LAST_CALL.
+fn call(
+    heap: Entry,
     a: &mut [u8],
     b: &mut [u8],
     counts: &mut [u8],
@@ -37,84 +36,43 @@ fn store_call(
     waiting: &mut [Ref],
     e: Entry,
 ) -> Reply {
-    let kind = e.kind;
-    if kind == 4 {
-        return mutate::store_cell(
-            blocks,
-            width,
-            a,
-            b,
-            counts,
-            cells,
-            roots,
-            waiting,
-            e.x,
-            e.y,
-            e.z,
-        );
-    }
-    mutate::store_root(blocks, width, a, b, counts, cells, roots, waiting, e.x, e.y)
-}
-
-// A call, by the kinds 0 to 8.
-pub fn call(
-    blocks: usize,
-    width: usize,
-    a: &mut [u8],
-    b: &mut [u8],
-    counts: &mut [u8],
-    cells: &mut [Ref],
-    roots: &mut [Ref],
-    waiting: &mut [Ref],
-    e: Entry,
-) -> Reply {
+    let n = heap.x;
+    let w = heap.y;
     let kind = e.kind;
     match kind {
-        0 => mutate::format(blocks, width, a, b, counts, cells, roots, waiting),
-        2 => mutate::allocate(blocks, width, a, b, counts, cells, roots, waiting, e.x, e.y),
-        3 | 4 => store_call(blocks, width, a, b, counts, cells, roots, waiting, e),
-        5 => mutate::collect(blocks, width, a, b, counts, cells, roots, waiting),
-        8 => mutate::return_roots(
-            blocks,
-            width,
-            a,
-            b,
-            counts,
-            cells,
-            roots,
-            waiting,
-            e.x as u64,
-        ),
-        _ => read_call(blocks, width, a, b, counts, cells, roots, waiting, e),
+        0 => mutate::format(n, w, a, b, counts, cells, roots, waiting),
+        2 => mutate::allocate(n, w, a, b, counts, cells, roots, waiting, e.x, e.y),
+        3 => mutate::store_root(n, w, a, b, counts, cells, roots, waiting, e.x, e.y),
+        4 => mutate::store_cell(n, w, a, b, counts, cells, roots, waiting, e.x, e.y, e.z),
+        5 => mutate::collect(n, w, a, b, counts, cells, roots, waiting),
+        8 => mutate::return_roots(n, w, a, b, counts, cells, roots, waiting, e.x as u64),
+        _ => read_call(n, w, a, b, counts, cells, roots, waiting, e),
     }
 }
 
-// Writes a number into a buffer of bytes; false where the place or the number is out of range.
-fn load_byte(list: &mut [u8], i: usize, number: usize) -> bool {
-    if list.len() <= i {
-        return false;
+// Entry number k, a load into a buffer of bytes.
+fn load_byte(list: &mut [u8], e: Entry, k: usize) -> bool {
+    let i = e.y;
+    if i < list.len() && e.z < 256 {
+        list[i] = (e.z % 256) as u8;
+        return true;
     }
-    if 255 < number {
-        return false;
-    }
-    list[i] = (number % 256) as u8;
-    true
+    output::say_wrong(k, b"load out of range\n")
 }
 
-// Writes a number into a buffer of references; false where the place or the number is out of range.
-fn load_ref(list: &mut [Ref], i: usize, number: usize) -> bool {
-    if list.len() <= i {
-        return false;
+// Entry number k, a load into a buffer of references.
+fn load_ref(list: &mut [Ref], e: Entry, k: usize) -> bool {
+    let i = e.y;
+    if i < list.len() && e.z < 65536 {
+        list[i] = (e.z % 65536) as Ref;
+        return true;
     }
-    if 65535 < number {
-        return false;
-    }
-    list[i] = (number % 65536) as Ref;
-    true
+    output::say_wrong(k, b"load out of range\n")
 }
 
-// Writes a number into a buffer; false where the buffer, the place or the number is out of range.
-pub fn load(
+// Entry number k: a call or a load; of a length nothing is left to do; at the end of a heap the buffers are shown, a line each.
+pub fn perform(
+    heap: Entry,
     a: &mut [u8],
     b: &mut [u8],
     counts: &mut [u8],
@@ -122,15 +80,31 @@ pub fn load(
     roots: &mut [Ref],
     waiting: &mut [Ref],
     e: Entry,
+    k: usize,
 ) -> bool {
-    let buffer = e.x;
-    match buffer {
-        0 => load_byte(a, e.y, e.z),
-        1 => load_byte(b, e.y, e.z),
-        2 => load_byte(counts, e.y, e.z),
-        3 => load_ref(cells, e.y, e.z),
-        4 => load_ref(roots, e.y, e.z),
-        5 => load_ref(waiting, e.y, e.z),
-        _ => false,
+    let kind = e.kind;
+    let x = e.x;
+    if kind <= entries::LAST_CALL {
+        return output::say_reply(call(heap, a, b, counts, cells, roots, waiting, e));
+    }
+    if kind >= entries::NEW {
+        output::say_bytes(a);
+        output::say_bytes(b);
+        output::say_bytes(counts);
+        output::say_refs(cells);
+        output::say_refs(roots);
+        return output::say_refs(waiting);
+    }
+    if kind == entries::LENGTH {
+        return true;
+    }
+    match x {
+        0 => load_byte(a, e, k),
+        1 => load_byte(b, e, k),
+        2 => load_byte(counts, e, k),
+        3 => load_ref(cells, e, k),
+        4 => load_ref(roots, e, k),
+        5 => load_ref(waiting, e, k),
+        _ => output::say_wrong(k, b"load out of range\n"),
     }
 }

@@ -1,5 +1,5 @@
 -- `tests::replay_reply` meets its contract.
-use mathlib.Core.Path.{_≡_, refl, sym, _∙_}
+use mathlib.Core.Path.{_≡_, sym, _∙_}
 use mathlib.Core.Bool.{true}
 use Prim.Native.Nat.{_*_, _/_}
 use native.Mathlib.Omega.{arith}

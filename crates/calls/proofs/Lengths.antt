@@ -1,0 +1,44 @@
+-- Laws of lists of lengths that are within the largest ones.
+use mathlib.Core.Path.{_≡_}
+use mathlib.Core.List.{List, [], _∷_}
+use Prim.Native.Nat.{ℕ, zero, suc, _≤_, _*_, _/_}
+use native.Mathlib.Nat.{mul-le-mul}
+use native.Mathlib.Omega.{arith}
+use lib.ListN.{length, getD, set}
+use Rattle.calls.specs.Within.{Within}
+
+-- the one product is at most that of the largest numbers
+pub product : (width blocks : ℕ) → width ≤ 5 → blocks ≤ 8192 → width * blocks ≤ 40960
+product width blocks w b = mul-le-mul w b
+
+-- the lengths that belong to a heap's numbers
+pub within-heap :
+    (n w r : ℕ) → n ≤ 8192 → w ≤ 5 → r ≤ 65 → Within (n / 8 ∷ n / 8 ∷ w * n / 8 ∷ 4 * n ∷ r ∷ n ∷ [])
+within-heap n w r n-max w-max r-max zero = omega arith
+within-heap n w r n-max w-max r-max (suc zero) = omega arith
+within-heap n w r n-max w-max r-max (suc (suc zero)) = omega (arith, product w n w-max n-max)
+within-heap n w r n-max w-max r-max (suc (suc (suc zero))) = omega arith
+within-heap n w r n-max w-max r-max (suc (suc (suc (suc zero)))) = r-max
+within-heap n w r n-max w-max r-max (suc (suc (suc (suc (suc zero))))) = n-max
+within-heap n w r n-max w-max r-max (suc (suc (suc (suc (suc (suc i)))))) = omega arith
+
+-- another length of one buffer
+pub within-set :
+    (lengths largest : List ℕ) (k v : ℕ) → ((i : ℕ) → getD lengths i 0 ≤ getD largest i 0) → v ≤ getD largest k 0
+    → (i : ℕ) → getD (set lengths k v) i 0 ≤ getD largest i 0
+within-set [] ys k v b l i = b i
+within-set (x ∷ xs) ys zero v b l zero = l
+within-set (x ∷ xs) ys zero v b l (suc i) = b (suc i)
+within-set (x ∷ xs) ys (suc k) v b l zero = b zero
+within-set (x ∷ xs) [] (suc k) v b l (suc i) = within-set xs [] k v (λ j. b (suc j)) l i
+within-set (x ∷ xs) (y ∷ ys) (suc k) v b l (suc i) = within-set xs ys k v (λ j. b (suc j)) l i
+
+-- the buffers are of the largest lengths, and the lent lengths within them
+pub record Held (a b counts cells roots waiting lengths : List ℕ) : Type 0 where
+  pub length-a : length a ≡ 1024
+  pub length-b : length b ≡ 1024
+  pub length-counts : length counts ≡ 5120
+  pub length-cells : length cells ≡ 32768
+  pub length-roots : length roots ≡ 65
+  pub length-waiting : length waiting ≡ 8192
+  pub within : Within lengths

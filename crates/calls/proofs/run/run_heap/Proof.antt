@@ -1,0 +1,133 @@
+-- The parts that are lent are within their buffers, and come back as long as they were. The measure is what is left of all entries.
+use mathlib.Core.Path.{refl, sym, _∙_}
+use Prim.Native.Nat.{_-_, _≤_}
+use native.Mathlib.Omega.{arith}
+use lib.ListN.{length, getD}
+use lib.Seq.{length-front, length-take-le}
+use borrow.Author.Needs.{needs}
+use Rattle.calls.proofs.Lengths.{Held}
+use Rattle.calls.proofs.run.run_heap.Statement.{statement}
+use Rattle.calls.proofs.run.run_heap.Tie as tie
+
+abbrev Inv-loop : tie.InvT-loop
+Inv-loop heap a₀ b₀ counts₀ cells₀ roots₀ waiting₀ lengths₀ k₀ a b counts cells roots waiting lengths k =
+    Held a b counts cells roots waiting lengths
+
+abbrev μ-loop : tie.MeasureT-loop
+μ-loop heap a₀ b₀ counts₀ cells₀ roots₀ waiting₀ lengths₀ k₀ a b counts cells roots waiting lengths k =
+    1152921504606846976 - k
+
+-- the places: a turn's beginning, and the entry performed
+abbrev turn : tie.After-next-entry Inv-loop μ-loop → tie.In-loop Inv-loop μ-loop
+turn c = c .before .before
+
+abbrev performed : tie.Else2 Inv-loop μ-loop → tie.After-perform Inv-loop μ-loop
+performed c = c .before .before .before .before .before .before .before .before .before
+
+abbrev entry : tie.After-perform Inv-loop μ-loop → tie.After-next-entry Inv-loop μ-loop
+entry c = c .before .before .before .before .before .before .before
+
+-- each lent length is within its buffer
+fits-a : (c : tie.After-next-entry Inv-loop μ-loop) → getD (c .next-entry .last .0) 0 0 ≤ length (turn c .before .loop .a)
+fits-a c = omega (arith, turn c .before .loop .inv .length-a, c .next-entry .ensures 0)
+
+fits-b : (c : tie.After-next-entry Inv-loop μ-loop) → getD (c .next-entry .last .0) 1 0 ≤ length (turn c .before .loop .b)
+fits-b c = omega (arith, turn c .before .loop .inv .length-b, c .next-entry .ensures 1)
+
+fits-counts : (c : tie.After-next-entry Inv-loop μ-loop) → getD (c .next-entry .last .0) 2 0 ≤ length (turn c .before .loop .counts)
+fits-counts c = omega (arith, turn c .before .loop .inv .length-counts, c .next-entry .ensures 2)
+
+fits-cells : (c : tie.After-next-entry Inv-loop μ-loop) → getD (c .next-entry .last .0) 3 0 ≤ length (turn c .before .loop .cells)
+fits-cells c = omega (arith, turn c .before .loop .inv .length-cells, c .next-entry .ensures 3)
+
+fits-roots : (c : tie.After-next-entry Inv-loop μ-loop) → getD (c .next-entry .last .0) 4 0 ≤ length (turn c .before .loop .roots)
+fits-roots c = omega (arith, turn c .before .loop .inv .length-roots, c .next-entry .ensures 4)
+
+fits-waiting : (c : tie.After-next-entry Inv-loop μ-loop) → getD (c .next-entry .last .0) 5 0 ≤ length (turn c .before .loop .waiting)
+fits-waiting c = omega (arith, turn c .before .loop .inv .length-waiting, c .next-entry .ensures 5)
+
+lengths-requires : tie.Need-lengths-requires Inv-loop μ-loop
+lengths-requires c κs = search needs
+
+loop-holds : tie.Need-loop-holds Inv-loop μ-loop
+loop-holds c =
+    record {
+      length-a = refl;
+      length-b = refl;
+      length-counts = refl;
+      length-cells = refl;
+      length-roots = refl;
+      length-waiting = refl;
+      within = c .lengths .ensures;
+    }
+
+next-entry-requires : tie.Need-next-entry-requires Inv-loop μ-loop
+next-entry-requires c κs = (c .before .before .loop .inv .within, omega arith)
+
+perform-requires : tie.Need-perform-requires Inv-loop μ-loop
+perform-requires c κs = search needs
+
+returns : tie.Need-returns Inv-loop μ-loop
+returns c = search needs
+
+add-k : tie.Need-add-k Inv-loop μ-loop
+add-k c = omega (arith, turn (entry (performed c)) .loop-test .taken)
+
+loop-less : tie.Need-loop-less Inv-loop μ-loop
+loop-less c = omega (arith, turn (entry (performed c)) .loop-test .taken)
+
+loop-again : tie.Need-loop-again Inv-loop μ-loop
+loop-again c =
+    let done = performed c .perform in
+    let read = entry (performed c) in
+    let l = turn read .before .loop in
+    record {
+      length-a = length-front (l .a) (done .last .1 .0) (getD (read .next-entry .last .0) 0 0) (done .kept .1 .0) ∙ l .inv .length-a;
+      length-b = length-front (l .b) (done .last .1 .1 .0) (getD (read .next-entry .last .0) 1 0) (done .kept .1 .1 .0) ∙ l .inv .length-b;
+      length-counts = length-front (l .counts) (done .last .1 .1 .1 .0) (getD (read .next-entry .last .0) 2 0) (done .kept .1 .1 .1 .0) ∙ l .inv .length-counts;
+      length-cells = length-front (l .cells) (done .last .1 .1 .1 .1 .0) (getD (read .next-entry .last .0) 3 0) (done .kept .1 .1 .1 .1 .0) ∙ l .inv .length-cells;
+      length-roots = length-front (l .roots) (done .last .1 .1 .1 .1 .1 .0) (getD (read .next-entry .last .0) 4 0) (done .kept .1 .1 .1 .1 .1 .0) ∙ l .inv .length-roots;
+      length-waiting = length-front (l .waiting) (done .last .1 .1 .1 .1 .1 .1 .0) (getD (read .next-entry .last .0) 5 0) (done .kept .1 .1 .1 .1 .1 .1 .0) ∙ l .inv .length-waiting;
+      within = read .next-entry .ensures;
+    }
+
+with-kind-requires : tie.Need-with-kind-requires Inv-loop μ-loop
+with-kind-requires c κs = search needs
+
+returns-2 : tie.Need-returns-2 Inv-loop μ-loop
+returns-2 c = search needs
+
+pub run-heap-spec : {M : Type 1} → statement M
+run-heap-spec =
+    tie.close
+    (tie.spec
+    Inv-loop
+    μ-loop
+    lengths-requires
+    loop-holds
+    next-entry-requires
+    (λ _. search needs)
+    (λ _. search needs)
+    (λ _. search needs)
+    (λ _. search needs)
+    (λ _. search needs)
+    (λ _. search needs)
+    fits-a
+    (λ c. sym (length-take-le _ _ (fits-a (c .before))))
+    (λ c. fits-b (c .before))
+    (λ c. sym (length-take-le _ _ (fits-b (c .before .before))))
+    (λ c. fits-counts (c .before .before))
+    (λ c. sym (length-take-le _ _ (fits-counts (c .before .before .before))))
+    (λ c. fits-cells (c .before .before .before))
+    (λ c. sym (length-take-le _ _ (fits-cells (c .before .before .before .before))))
+    (λ c. fits-roots (c .before .before .before .before))
+    (λ c. sym (length-take-le _ _ (fits-roots (c .before .before .before .before .before))))
+    (λ c. fits-waiting (c .before .before .before .before .before))
+    (λ c. sym (length-take-le _ _ (fits-waiting (c .before .before .before .before .before .before))))
+    perform-requires
+    returns
+    add-k
+    loop-less
+    loop-again
+    with-kind-requires
+    returns-2)
