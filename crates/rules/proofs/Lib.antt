@@ -3,6 +3,7 @@ pub mod WrongAnswers
 pub mod Tests
 pub mod Searches
 pub mod Tabulate
+pub mod TrueList
 pub mod Shape
 pub mod Objects
 pub mod Chunks

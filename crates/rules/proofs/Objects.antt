@@ -12,7 +12,8 @@ use lib.ListN.{length, getD}
 use borrow.Author.Tests.{ltb-true, lt-ltb, eqb-true, eqb-false, eq-eqb, ne-eqb, not-true}
 use Rattle.bitmap.specs.Bit.{bitAt, one, countBelow}
 use Rattle.bitmap.proofs.Maps.{bit-at-lt}
-use Rattle.rules.specs.Heap.{isFree, isLast, firstIn, sizeFrom, refIn, holding}
+use Rattle.rules.specs.Tools.{holding}
+use Rattle.rules.specs.Heap.{isFree, isLast, firstIn, sizeFrom, refIn}
 use Rattle.rules.proofs.Tests.{and-true, true-and, or-true, true-or}
 
 -- ---- a bit and its test

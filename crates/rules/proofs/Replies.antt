@@ -1,46 +1,55 @@
--- Laws of the two refusals that stand before all others: what passes numbers 1 and 2 has the right shape and is undamaged, and is then
--- answered as the call itself says; what does not is refused as the check refuses it.
+-- Laws of the refusals that stand before all others: what passes numbers 1, 2 and 11 has the right shape, is undamaged and has a true list of
+-- sections, and is then answered as the call itself says; what does not is refused as the check refuses it.
 use mathlib.Core.Path.{_≡_, refl}
-use mathlib.Core.Bool.{Bool, true, false}
+use mathlib.Core.Bool.{Bool, true, false, not}
 use Prim.Native.Nat.{ℕ}
 use native.Mathlib.Omega.{arith}
 use lib.Dec.{eqb}
 use borrow.Author.Tests.{eq-eqb, eqb-true}
 use Rattle.rules.specs.Heap.{Memory, shaped}
 use Rattle.rules.specs.Damage.{damage}
-use Rattle.rules.specs.Calls.{Answer, reply, refused, require, onUndamaged}
-use Rattle.rules.proofs.Tests.{require-passed}
+use Rattle.rules.specs.Sections.{staleFigures}
+use Rattle.rules.specs.Calls.{Answer, reply, require, onUndamaged}
 
 module _ (N w : ℕ) (h : Memory) where
-  undamaged-passed : (next : Answer) (t : Bool) → eqb (damage N w h) 0 ≡ t
-      → (elim t as (λ (_ : Bool). Answer) [ true ↦ next | false ↦ (reply 2 (damage N w h) 0, h) ]) .0 .number ≡ 0 → damage N w h ≡ 0
-  undamaged-passed next true e p = eqb-true (damage N w h) 0 e
-  undamaged-passed next false e p = absurd (omega arith)
+  -- the three tests, by what each gives
+  tested : (shape undamaged stale : Bool) → Answer → Answer
+  tested s t u x =
+      require s 1 h (elim t [ true ↦ require (not u) 11 h x | false ↦ (reply 2 (damage N w h) 0, h) ])
 
-  pub on-undamaged-shaped : (next : Answer) → onUndamaged N w h next .0 .number ≡ 0 → shaped N w h ≡ true
-  unfolding onUndamaged
-  on-undamaged-shaped next p = require-passed (shaped N w h) 1 h _ (omega arith) p
+  stale : Bool
+  stale = staleFigures N (h .a) (h .sections)
 
-  pub on-undamaged-no-damage : (next : Answer) → onUndamaged N w h next .0 .number ≡ 0 → damage N w h ≡ 0
+  passed : (s t u : Bool) (x : Answer) → tested s t u x .0 .number ≡ 0 → (s ≡ true) × (t ≡ true) × (u ≡ false)
+  unfolding tested require
+  passed true true false x p = (refl, refl, refl)
+  passed true true true x p = absurd (omega arith)
+  passed true false u x p = absurd (omega arith)
+  passed false t u x p = absurd (omega arith)
+
+  -- what passed them
+  pub on-undamaged-passed :
+      (next : Answer) → onUndamaged N w h next .0 .number ≡ 0
+      → (shaped N w h ≡ true) × (damage N w h ≡ 0) × (staleFigures N (h .a) (h .sections) ≡ false)
+  unfolding onUndamaged tested stale
+  on-undamaged-passed next p =
+      let all = passed (shaped N w h) (eqb (damage N w h) 0) stale next p in
+      (all .0, eqb-true (damage N w h) 0 (all .1), all .2)
+
+  -- a heap that passes all is answered by the call itself
+  pub on-undamaged-next :
+      (next : Answer) → shaped N w h ≡ true → damage N w h ≡ 0 → staleFigures N (h .a) (h .sections) ≡ false → onUndamaged N w h next ≡ next
   unfolding onUndamaged require
-  on-undamaged-no-damage next p =
-      undamaged-passed next (eqb (damage N w h) 0) refl (rw (on-undamaged-shaped next p) at p)
+  on-undamaged-next next shape undamaged fresh = rw (shape, eq-eqb (damage N w h) 0 undamaged, fresh)
 
-  -- a heap that passes both is answered by the call itself
-  pub on-undamaged-next : (next : Answer) → shaped N w h ≡ true → damage N w h ≡ 0 → onUndamaged N w h next ≡ next
-  unfolding onUndamaged require
-  on-undamaged-next next shape undamaged = rw (shape, eq-eqb (damage N w h) 0 undamaged)
-
-  -- a heap that fails one is refused alike by every call that tests for both
+  -- a heap that fails one is refused alike by every call that tests for them
   pub on-undamaged-refused :
       (next other : Answer) → next .0 .number ≡ 0 → (onUndamaged N w h next .0 .number ≡ 0 → ⊥) → onUndamaged N w h other ≡ onUndamaged N w h next
-  unfolding onUndamaged require
-  on-undamaged-refused next other accepted fails = go (shaped N w h) (eqb (damage N w h) 0) fails
+  unfolding onUndamaged tested stale require
+  on-undamaged-refused next other accepted fails = go (shaped N w h) (eqb (damage N w h) 0) stale fails
     where
-      tested : Bool → Bool → Answer → Answer
-      tested s t x = elim s [ true ↦ elim t [ true ↦ x | false ↦ (reply 2 (damage N w h) 0, h) ] | false ↦ refused h 1 ]
-
-      go : (s t : Bool) → (tested s t next .0 .number ≡ 0 → ⊥) → tested s t other ≡ tested s t next
-      go true true p = absurd (p accepted)
-      go true false p = refl
-      go false t p = refl
+      go : (s t u : Bool) → (tested s t u next .0 .number ≡ 0 → ⊥) → tested s t u other ≡ tested s t u next
+      go true true false p = absurd (p accepted)
+      go true true true p = refl
+      go true false u p = refl
+      go false t u p = refl

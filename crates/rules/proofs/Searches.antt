@@ -3,7 +3,7 @@ use mathlib.Core.Path.{_≡_, refl, sym, ap, _∙_}
 use mathlib.Core.Bool.{Bool, true, false}
 use Prim.Native.Nat.{ℕ, _+_, _≤_, _<_}
 use native.Mathlib.Omega.{arith}
-use Rattle.rules.specs.Damage.{someBelow}
+use Rattle.rules.specs.Tools.{someBelow}
 use Rattle.rules.proofs.Tests.{true-some, some-next}
 
 -- the search has come to i: the test fails at each number before it

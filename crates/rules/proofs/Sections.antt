@@ -4,16 +4,16 @@ use mathlib.Core.Logic.{_⊎_, inl, inr}
 use mathlib.Core.Bool.{Bool, true, false, _||_, true≢false}
 use mathlib.Core.List.{List}
 use mathlib.Core.Option.{Option, none, some}
-use Prim.Native.Nat.{ℕ, zero, suc, _+_, _*_, _/_, _^_, _≤_, _<_, _-_, min, max}
+use Prim.Native.Nat.{ℕ, zero, suc, _+_, _*_, _/_, _^_, _≤_, _<_, _-_, max}
 use native.Mathlib.Nat.{zero-add, suc-add, zero-mul, suc-mul, mul-assoc, pow-suc, div-self, div-eq-of-eq-mul-left}
 use native.Mathlib.Decide.{decLe}
 use native.Mathlib.Omega.{arith}
 use lib.Dec.{leb}
 use lib.ListN.{getD}
 use lib.Pow.{pow-mono, pow-lt, pow-add, pow-pos}
-use borrow.Author.Tests.{leb-true, le-leb, lt-leb}
-use Rattle.rules.specs.Heap.{exponent, chunkFree, lowestFrom, lowestFree, isBlocks}
-use Rattle.rules.specs.Sections.{sectionLength, sectionCount, largestFree, figure, figures, sufficesFrom, lowestInSection, lowestBySections}
+use borrow.Author.Tests.{le-leb, lt-leb}
+use Rattle.rules.specs.Heap.{sectionLength, sectionCount, exponent, chunkFree, lowestFrom, lowestFree, isBlocks}
+use Rattle.rules.specs.Sections.{largestFree, figure, figures, sufficesFrom, lowestInSection, lowestBySections}
 use Rattle.rules.proofs.Tests.{test-cases}
 use Rattle.rules.proofs.Figures.{figure-free, figure-halves, figure-le, halves-free}
 use Rattle.rules.proofs.Tabulate.{getD-tabulate}

@@ -8,12 +8,13 @@ use native.Mathlib.Nat.{mul-assoc, pow-succ'}
 use native.Mathlib.Decide.{decLt}
 use native.Mathlib.Omega.{arith}
 use lib.Dec.{leb, eqb}
-use lib.ListN.{length, getD, length-replicate}
+use lib.ListN.{length, getD, length-replicate, replicate}
 use lib.Pow.{pow-add, pow-mono, pow-lt}
 use borrow.Author.Tests.{leb-true, le-leb, eqb-true, eq-eqb}
-use Rattle.rules.specs.Heap.{Memory, isPowerFrom, isBlocks, shape, shaped, maxBlocks}
+use Rattle.rules.specs.Heap.{Memory, isPowerFrom, isBlocks, shape, shaped, maxBlocks, sectionCount}
 use Rattle.rules.specs.Store.{formatted}
 use Rattle.rules.proofs.Tests.{test-cases, done, also, all-at, all-passed}
+use Rattle.rules.proofs.TrueList.{length-figures}
 
 pub record Shaped (N w : ℕ) (h : Memory) : Type 0 where
   pub power : (k : ℕ) × (N ≡ 2 ^ k)
@@ -29,6 +30,7 @@ pub record Shaped (N w : ℕ) (h : Memory) : Type 0 where
   pub length-counts : length (h .counts) ≡ w * (N / 8)
   pub length-cells : length (h .cells) ≡ 4 * N
   pub length-waiting : length (h .waiting) ≡ N
+  pub length-sections : length (h .sections) ≡ sectionCount N
 
 -- ---- a power of two
 
@@ -83,7 +85,7 @@ abbrev tests : ℕ → ℕ → Memory → List Bool
 tests N w h =
     isBlocks N ∷ leb 1 w ∷ leb w 4 ∷ leb 1 (length (h .roots)) ∷ leb (length (h .roots)) 64
     ∷ eqb (length (h .a)) (N / 8) ∷ eqb (length (h .b)) (N / 8) ∷ eqb (length (h .counts)) (w * (N / 8))
-    ∷ eqb (length (h .cells)) (4 * N) ∷ eqb (length (h .waiting)) N ∷ []
+    ∷ eqb (length (h .cells)) (4 * N) ∷ eqb (length (h .waiting)) N ∷ eqb (length (h .sections)) (sectionCount N) ∷ []
 
 pub shape-facts : (N w : ℕ) (h : Memory) → shaped N w h ≡ true → Shaped N w h
 unfolding shape
@@ -101,6 +103,7 @@ shape-facts N w h e = record {
   length-counts = eqb-true (length (h .counts)) (w * (N / 8)) (at 7);
   length-cells = eqb-true (length (h .cells)) (4 * N) (at 8);
   length-waiting = eqb-true (length (h .waiting)) N (at 9);
+  length-sections = eqb-true (length (h .sections)) (sectionCount N) (at 10);
 }
   where
     at : (i : ℕ) → getD (tests N w h) i true ≡ true
@@ -128,7 +131,11 @@ shape-test N w h s =
     (also (eq-eqb (length (h .b)) (N / 8) (s .length-b))
     (also (eq-eqb (length (h .counts)) (w * (N / 8)) (s .length-counts))
     (also (eq-eqb (length (h .cells)) (4 * N) (s .length-cells))
-    (also (eq-eqb (length (h .waiting)) N (s .length-waiting)) done))))))))))
+    (also (eq-eqb (length (h .waiting)) N (s .length-waiting))
+    (also (eq-eqb (length (h .sections)) (sectionCount N) (s .length-sections)) done)))))))))))
+
+pub shaped-blocks : (N w : ℕ) (h : Memory) → Shaped N w h → isBlocks N ≡ true
+shaped-blocks N w h s = blocks-test N (s .power .0) (s .power .1) (s .blocks-min) (s .blocks-max)
 
 -- a formatted heap has the shape of the lent one
 pub formatted-shaped : (N w : ℕ) (h : Memory) → Shaped N w h → Shaped N w (formatted N w (length (h .roots)))
@@ -147,4 +154,5 @@ formatted-shaped N w h s = record {
   length-counts = length-replicate (w * (N / 8)) 0;
   length-cells = length-replicate (4 * N) 0;
   length-waiting = length-replicate N 0;
+  length-sections = length-figures N (replicate (N / 8) 0);
 }

@@ -8,8 +8,8 @@ use native.Mathlib.Numerals.{add-one}
 use native.Mathlib.Decide.{ℕ-discrete}
 use native.Mathlib.Omega.{arith}
 use lib.ListN.{getD}
-use Rattle.rules.specs.Heap.{Memory, all}
-use Rattle.rules.specs.Damage.{someBelow, firstKind}
+use Rattle.rules.specs.Tools.{all, someBelow, firstKind}
+use Rattle.rules.specs.Heap.{Memory}
 use Rattle.rules.specs.Calls.{Answer, refused, require}
 
 -- ---- one test

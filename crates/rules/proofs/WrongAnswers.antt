@@ -1,4 +1,4 @@
--- No wrong answer of the list is promised: each differs from the rules' answer in a number of the reply or in one of the six lists.
+-- No wrong answer of the list is promised: each differs from the rules' answer in a number of the reply or in one of the seven lists.
 use mathlib.Core.Path.{_≡_, refl, sym, ap, subst, _∙_}
 use mathlib.Core.Logic.{_≢_}
 use mathlib.Core.Bool.{Bool, true, false, not, _&&_, false≢true}
@@ -12,7 +12,7 @@ use Rattle.rules.specs.Store.{formatted}
 use Rattle.rules.specs.Calls.{Answer, answer}
 use Rattle.rules.specs.Cases.{fresh, freshBut}
 use Rattle.rules.specs.Distinctions.{lent, cellHolding, rootHolding}
-use Rattle.rules.specs.WrongAnswers.{Question, Promised, used, chained, shared, stuck, alone, cyclic, collectedCyclic}
+use Rattle.rules.specs.WrongAnswers.{Question, Promised, used, listed, chained, stale, shared, stuck, alone, cyclic, collectedCyclic, unreached}
 use Rattle.rules.specs.WrongAnswers.{allocatedTwo, allocatedThree, allocatedOver, wrongAnswers}
 use Rattle.rules.specs.declared.Reply.{Reply}
 use Rattle.rules.proofs.Cases.{computed}
@@ -33,6 +33,7 @@ sameMemory : Memory → Memory → Bool
 sameMemory h g =
     sameNumbers (h .a) (g .a) && sameNumbers (h .b) (g .b) && sameNumbers (h .counts) (g .counts) && sameNumbers (h .cells) (g .cells)
     && sameNumbers (h .roots) (g .roots) && sameNumbers (h .waiting) (g .waiting)
+    && sameNumbers (h .sections) (g .sections)
 
 sameAnswer : Answer → Answer → Bool
 sameAnswer x y = sameReply (x .0) (y .0) && sameMemory (x .1) (y .1)
@@ -55,6 +56,7 @@ one-answer (r, h) =
       one-numbers (h .cells),
       one-numbers (h .roots),
       one-numbers (h .waiting),
+      one-numbers (h .sections),
     )
 
 differ : (x y : Answer) → not (sameAnswer x y) ≡ true → x ≢ y
@@ -107,7 +109,7 @@ each-told (q ∷ qs) rights differs =
 
 -- to unfold this is to open the list and its heaps
 opened : List Question
-unfolding formatted fresh freshBut lent cellHolding rootHolding used chained shared stuck alone cyclic collectedCyclic allocatedTwo allocatedThree allocatedOver wrongAnswers
+unfolding formatted fresh freshBut lent cellHolding rootHolding used listed chained stale unreached shared stuck alone cyclic collectedCyclic allocatedTwo allocatedThree allocatedOver wrongAnswers
 opened = wrongAnswers
 
 rights-hold : map asked wrongAnswers ≡ map (λ q. q .right) wrongAnswers
@@ -115,7 +117,7 @@ unfolding computed asked opened
 rights-hold = refl
 
 wrong-differ : wrongDiffer wrongAnswers ≡ true
-unfolding sameNumbers sameReply sameMemory sameAnswer noneIs wrongDiffer opened
+unfolding computed sameNumbers sameReply sameMemory sameAnswer noneIs wrongDiffer opened
 wrong-differ = refl
 
 -- of each question: the right answer is promised and none of the wrong ones is

@@ -1,13 +1,14 @@
 -- Document 01, "Replies, operation by operation": the calls, and what each answers on every memory and every argument.
 use Prim.Native.Nat.{ℕ, _+_, _-_, _*_}
-use mathlib.Core.Bool.{Bool, true, false, _&&_}
+use mathlib.Core.Bool.{Bool, true, false, not, _&&_}
 use mathlib.Core.List.{List, [], _∷_}
 use mathlib.Core.Option.{Option, none, some}
 use lib.ListN.{length, getD, replicate}
 use lib.Dec.{leb, ltb, eqb}
 use Rattle.bitmap.specs.Bit.{one, zeros}
-use Rattle.rules.specs.Heap.{Memory, withWaiting, shaped, countOf, isFirst, sizeAt, exponent, lowestFree, isRef}
+use Rattle.rules.specs.Heap.{Memory, withWaiting, withSections, shaped, countOf, isFirst, sizeAt, exponent, lowestFree, isRef}
 use Rattle.rules.specs.Damage.{damage}
+use Rattle.rules.specs.Sections.{figures, staleFigures}
 use Rattle.rules.specs.Store.{formatted, storeRootIn, storeCellIn, storeSticks, chosenBelow, returnIn, birthSticks, allocateIn}
 use Rattle.rules.specs.Collection.{collected}
 use Rattle.rules.specs.declared.Reply.{Reply}
@@ -40,15 +41,21 @@ refused h number = (reply number 0 0, h)
 unfoldable pub require : Bool → ℕ → Memory → Answer → Answer
 require test number h next = elim test [ true ↦ next | false ↦ refused h number ]
 
--- "1 as before; 2 if the heap is damaged", with the damage kind as its value; then what the call itself answers
+-- "1 as before; 2 if the heap is damaged", with the damage kind as its value; request U4: "11, the list doesn't match the maps, next after
+-- 2"; then what the call itself answers
 unfoldable pub onUndamaged : ℕ → ℕ → Memory → Answer → Answer
 onUndamaged N w h next =
     let kind = damage N w h in
-    require (shaped N w h) 1 h (elim (eqb kind 0) [ true ↦ next | false ↦ (reply 2 kind 0, h) ])
+    require (shaped N w h) 1 h
+    (elim (eqb kind 0) [
+      | true ↦ require (not (staleFigures N (h .a) (h .sections))) 11 h next
+      | false ↦ (reply 2 kind 0, h)
+    ])
 
--- "each accepted call that allocates, stores a reference or may free an object .. leave it all 0": the waiting list
+-- "each accepted call that allocates, stores a reference or may free an object .. leave it all 0": the waiting list. Request U4: "every
+-- accepted call .. leaves the list true".
 abbrev pub settled : ℕ → Memory → Memory
-settled N h = withWaiting (replicate N 0) h
+settled N h = withSections (figures N (h .a)) (withWaiting (replicate N 0) h)
 
 -- "The value is the number of blocks freed": 0 bits of the A-map after the call less those before. The second value of a store is 1 where
 -- an object became stuck and 0 where not (request U5); that of another call is 0.

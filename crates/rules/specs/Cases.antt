@@ -2,8 +2,9 @@
 -- decimal." That each case gives what it says is one lemma, in proofs/.
 use Prim.Native.Nat.{ℕ}
 use mathlib.Core.List.{List, [], _∷_, map}
-use lib.ListN.{getD}
+use lib.ListN.{getD, set, replicate}
 use Rattle.rules.specs.Heap.{Memory, withA, withB}
+use Rattle.rules.specs.Sections.{figures}
 use Rattle.rules.specs.Store.{formatted}
 use Rattle.rules.specs.Calls.{Call, check, collect, freeBlocks, allocate, storeRoot, storeCell, look, returnRoots, reply, run, lastMemory}
 use Rattle.rules.specs.declared.Reply.{Reply}
@@ -177,3 +178,23 @@ outcome c =
 -- what the case says
 unfoldable pub expected : Case → List Reply × ℕ × ℕ
 expected c = (map (λ s. s .1) (c .steps), c .a, c .b)
+
+-- ---- request U4
+
+-- A byte of the A-map, and the figure of its eight blocks: "the size of its largest free aligned chunk, 0 if none"
+unfoldable pub figuresOfBytes : List (ℕ × ℕ)
+figuresOfBytes =
+    (0, 8) ∷ (255, 0) ∷ (1, 4) ∷ (128, 4) ∷ (17, 2)
+    -- blocks 1 to 6 are free, in no chunk of four
+    ∷ (129, 2)
+    -- blocks 3 and 4, or 0 and 7, are free, in no chunk of two
+    ∷ (231, 1) ∷ (126, 1) ∷ []
+
+-- a heap of two sections as it is formatted, and with one block used at each end
+unfoldable pub figuresOfSections : List (List ℕ)
+figuresOfSections =
+    figures 512 (replicate 64 0) ∷ figures 512 (set (replicate 64 0) 0 1) ∷ figures 512 (set (replicate 64 0) 63 128) ∷ figures 512 (replicate 64 255)
+    ∷ figures 128 (replicate 16 0) ∷ []
+
+unfoldable pub expectedOfSections : List (List ℕ)
+expectedOfSections = (256 ∷ 256 ∷ []) ∷ (128 ∷ 256 ∷ []) ∷ (256 ∷ 128 ∷ []) ∷ (0 ∷ 0 ∷ []) ∷ (128 ∷ []) ∷ []

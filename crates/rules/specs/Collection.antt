@@ -1,13 +1,13 @@
 -- Document 01, "Collect": what is reached, what is freed, and the counts afterwards.
 use Prim.Native.Nat.{ℕ, zero, suc, _+_, _*_, _/_, min}
 use mathlib.Core.Bool.{Bool, true, false, not, _&&_}
-use mathlib.Core.List.{List, [], _∷_}
+use mathlib.Core.List.{List}
 use lib.ListN.{getD, replicate}
 use lib.Dec.{leb, ltb, eqb}
 use Rattle.bitmap.specs.Bit.{countBelow}
 use Rattle.planes.specs.Plane.{setCount}
-use Rattle.rules.specs.Heap.{Memory, withCounts, capacity, isFirst, sizeAt, holding}
-use Rattle.rules.specs.Damage.{someBelow}
+use Rattle.rules.specs.Tools.{holding, someBelow, tabulate}
+use Rattle.rules.specs.Heap.{Memory, withCounts, capacity, isFirst, sizeAt}
 use Rattle.rules.specs.Store.{freed}
 
 -- "cells 4i to 4i + 3 for block i": cell number j of all cells is one of the object at block i
@@ -22,11 +22,6 @@ cellOfChosen N h chosen j = someBelow (λ i. isFirst N h i && chosen i && isCell
 unfoldable pub referencesFrom : (N : ℕ) → Memory → (chosen : ℕ → Bool) → (i : ℕ) → ℕ
 referencesFrom N h chosen i =
     holding (i + 1) (h .roots) + countBelow (λ j. elim (eqb (getD (h .cells) j 0) (i + 1)) [ true ↦ cellOfChosen N h chosen j | false ↦ false ]) (4 * N)
-
--- the list of what f gives at the numbers below n
-unfoldable pub tabulate : {A : Type 0} → (n : ℕ) → (ℕ → A) → List A
-tabulate zero f = []
-tabulate (suc n) f = f 0 ∷ tabulate n (λ i. f (suc i))
 
 -- a set of blocks as a list of N marks
 abbrev pub marked : List Bool → ℕ → Bool

@@ -1,15 +1,11 @@
 -- Document 01, "Damage kinds". "Each is tested over the whole heap before the next; the first found is reported."
-use Prim.Native.Nat.{ℕ, zero, suc, _+_, _*_, _/_, _%_, _^_}
+use Prim.Native.Nat.{ℕ, _+_, _*_, _/_, _%_, _^_}
 use mathlib.Core.Bool.{Bool, true, false, not, _&&_, _||_}
-use mathlib.Core.List.{List, [], _∷_}
+use mathlib.Core.List.{[], _∷_}
 use lib.ListN.{length, getD}
 use lib.Dec.{leb, ltb, eqb}
+use Rattle.rules.specs.Tools.{someBelow, firstKind}
 use Rattle.rules.specs.Heap.{Memory, capacity, countOf, isFree, isLast, isFirst, sizeAt, exponent, isRef, references}
-
--- the test passes at some number below n
-unfoldable pub someBelow : (ℕ → Bool) → ℕ → Bool
-someBelow test zero = false
-someBelow test (suc n) = elim (someBelow test n) [ true ↦ true | false ↦ test n ]
 
 -- 1. "A 0 in the B-map on a free block."
 unfoldable pub endOnFree : Memory → ℕ → Bool
@@ -42,11 +38,6 @@ badCount N w h i =
 
 -- Kind 6, "The number of objects differs from the number of 0 bits in the B-map", went with request U9: where kinds 1 and 2 are absent the
 -- numbers are equal (`ObjectsAreEnds`, theory/specs/Statements.antt). Its number stays unused.
-
--- the number of the first test that passes, or 0
-unfoldable pub firstKind : List (ℕ × Bool) → ℕ
-firstKind [] = 0
-firstKind (k ∷ ks) = elim (k .1) [ true ↦ k .0 | false ↦ firstKind ks ]
 
 -- the damage kind that is reported, or 0 for a heap that is not damaged
 unfoldable pub damage : ℕ → ℕ → Memory → ℕ

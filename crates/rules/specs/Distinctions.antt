@@ -3,13 +3,15 @@
 use Prim.Native.Nat.{ℕ}
 use mathlib.Core.List.{List, [], _∷_}
 use lib.ListN.{set, replicate}
-use Rattle.rules.specs.Heap.{Memory, memory, withRoots}
+use Rattle.rules.specs.Heap.{Memory, lentMemory, withRoots}
+use Rattle.rules.specs.Sections.{figures}
 use Rattle.rules.specs.Calls.{format, check, collect, freeBlocks, allocate, storeRoot, storeCell, look}
 use Rattle.rules.specs.Cases.{Case, case, fresh, freshBut, gives, sticking, shows, refuses, damaged}
 
--- a heap of 8 blocks and width 2: the byte of each of the four maps, the cells and the roots
+-- a heap of 8 blocks and width 2, its list of sections true: the byte of each of the four maps, the cells and the roots
 unfoldable pub lent : (a b low high : ℕ) → (cells roots : List ℕ) → Memory
-lent a b low high cells roots = memory (a ∷ []) (b ∷ []) (low ∷ high ∷ []) cells roots (replicate 8 0)
+lent a b low high cells roots =
+    lentMemory (a ∷ []) (b ∷ []) (low ∷ high ∷ []) cells roots (replicate 8 0) (figures 8 (a ∷ []))
 
 -- the 32 cells, all 0 but number j
 unfoldable pub cellHolding : (j v : ℕ) → List ℕ

@@ -1,15 +1,17 @@
 -- Document 01, "The lent heap": the lists of numbers that the caller lends, and what is read off them. N is the number of blocks
 -- and w the count width, as in the document. Definitions that code cites take the lists they read; the others take the whole memory.
-use Prim.Native.Nat.{ℕ, zero, suc, _+_, _-_, _*_, _/_, _^_}
+use Prim.Native.Nat.{ℕ, zero, suc, _+_, _-_, _*_, _/_, _^_, min}
 use mathlib.Core.Bool.{Bool, true, false, not, _&&_, _||_}
 use mathlib.Core.List.{List, [], _∷_}
 use mathlib.Core.Option.{Option, none, some}
-use lib.ListN.{length, getD}
+use lib.ListN.{length}
 use lib.Dec.{leb, ltb, eqb}
-use Rattle.bitmap.specs.Bit.{bitAt, countBelow}
+use Rattle.bitmap.specs.Bit.{bitAt}
 use Rattle.planes.specs.Plane.{countAt}
+use Rattle.rules.specs.Tools.{all, holding}
 
--- the six lent buffers; the last is the "Waiting list: N unsigned 16-bit numbers of working space."
+-- the seven lent buffers; `waiting` is the "Waiting list: N unsigned 16-bit numbers of working space", `sections` request U4's "added lent
+-- list of 16-bit numbers, one for each section"
 pub record Memory : Type 0 where
   pub a : List ℕ
   pub b : List ℕ
@@ -17,29 +19,37 @@ pub record Memory : Type 0 where
   pub cells : List ℕ
   pub roots : List ℕ
   pub waiting : List ℕ
+  pub sections : List ℕ
 
+abbrev pub lentMemory : (a b counts cells roots waiting sections : List ℕ) → Memory
+lentMemory a b counts cells roots waiting sections =
+    record { a = a; b = b; counts = counts; cells = cells; roots = roots; waiting = waiting; sections = sections }
+
+-- document 01's six lists, for contracts of code that leaves the list of sections alone
 abbrev pub memory : (a b counts cells roots waiting : List ℕ) → Memory
-memory a b counts cells roots waiting =
-    record { a = a; b = b; counts = counts; cells = cells; roots = roots; waiting = waiting }
+memory a b counts cells roots waiting = lentMemory a b counts cells roots waiting []
 
 -- a memory with one buffer replaced
 abbrev pub withA : List ℕ → Memory → Memory
-withA x h = memory x (h .b) (h .counts) (h .cells) (h .roots) (h .waiting)
+withA x h = lentMemory x (h .b) (h .counts) (h .cells) (h .roots) (h .waiting) (h .sections)
 
 abbrev pub withB : List ℕ → Memory → Memory
-withB x h = memory (h .a) x (h .counts) (h .cells) (h .roots) (h .waiting)
+withB x h = lentMemory (h .a) x (h .counts) (h .cells) (h .roots) (h .waiting) (h .sections)
 
 abbrev pub withCounts : List ℕ → Memory → Memory
-withCounts x h = memory (h .a) (h .b) x (h .cells) (h .roots) (h .waiting)
+withCounts x h = lentMemory (h .a) (h .b) x (h .cells) (h .roots) (h .waiting) (h .sections)
 
 abbrev pub withCells : List ℕ → Memory → Memory
-withCells x h = memory (h .a) (h .b) (h .counts) x (h .roots) (h .waiting)
+withCells x h = lentMemory (h .a) (h .b) (h .counts) x (h .roots) (h .waiting) (h .sections)
 
 abbrev pub withRoots : List ℕ → Memory → Memory
-withRoots x h = memory (h .a) (h .b) (h .counts) (h .cells) x (h .waiting)
+withRoots x h = lentMemory (h .a) (h .b) (h .counts) (h .cells) x (h .waiting) (h .sections)
 
 abbrev pub withWaiting : List ℕ → Memory → Memory
-withWaiting x h = memory (h .a) (h .b) (h .counts) (h .cells) (h .roots) x
+withWaiting x h = lentMemory (h .a) (h .b) (h .counts) (h .cells) (h .roots) x (h .sections)
+
+abbrev pub withSections : List ℕ → Memory → Memory
+withSections x h = lentMemory (h .a) (h .b) (h .counts) (h .cells) (h .roots) (h .waiting) x
 
 -- ---- sizes
 
@@ -60,21 +70,24 @@ isPowerFrom (suc k) p n = elim (eqb n p) [ true ↦ true | false ↦ isPowerFrom
 abbrev pub isBlocks : ℕ → Bool
 isBlocks n = isPowerFrom doublings 8 n
 
--- every test passes
-unfoldable pub all : List Bool → Bool
-all [] = true
-all (t ∷ ts) = elim t [ true ↦ all ts | false ↦ false ]
+-- request U4: "Sections are 256 blocks, or N if N is smaller."
+abbrev pub sectionLength : ℕ → ℕ
+sectionLength N = min N 256
+
+abbrev pub sectionCount : ℕ → ℕ
+sectionCount N = N / sectionLength N
 
 -- N, w ("1 to 4 bits"), the number of roots ("1 to 64") and each buffer's length are as they have to be
-unfoldable pub shape : (N w a b counts cells roots waiting : ℕ) → Bool
-shape N w a b counts cells roots waiting =
+unfoldable pub shape : (N w a b counts cells roots waiting sections : ℕ) → Bool
+shape N w a b counts cells roots waiting sections =
     all
     (isBlocks N ∷ leb 1 w ∷ leb w 4 ∷ leb 1 roots ∷ leb roots 64
-    ∷ eqb a (N / 8) ∷ eqb b (N / 8) ∷ eqb counts (w * (N / 8)) ∷ eqb cells (4 * N) ∷ eqb waiting N ∷ [])
+    ∷ eqb a (N / 8) ∷ eqb b (N / 8) ∷ eqb counts (w * (N / 8)) ∷ eqb cells (4 * N) ∷ eqb waiting N ∷ eqb sections (sectionCount N) ∷ [])
 
 abbrev pub shaped : ℕ → ℕ → Memory → Bool
 shaped N w h =
     shape N w (length (h .a)) (length (h .b)) (length (h .counts)) (length (h .cells)) (length (h .roots)) (length (h .waiting))
+    (length (h .sections))
 
 -- "The capacity is 2^w − 1."
 abbrev pub capacity : ℕ → ℕ
@@ -142,10 +155,6 @@ refIn N a b v = eqb v 0 || firstIn N a b (v - 1)
 
 abbrev pub isRef : ℕ → Memory → ℕ → Bool
 isRef N h v = refIn N (h .a) (h .b) v
-
--- the number of places of a list that hold v
-unfoldable pub holding : ℕ → List ℕ → ℕ
-holding v l = countBelow (λ j. eqb (getD l j 0) v) (length l)
 
 -- "the number of all cells and roots naming the object" at block i
 abbrev pub references : Memory → ℕ → ℕ

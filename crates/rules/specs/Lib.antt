@@ -1,9 +1,10 @@
+pub mod Tools
 pub mod Heap
 pub mod Lent
 pub mod Damage
+pub mod Sections
 pub mod Store
 pub mod Collection
-pub mod Sections
 pub mod Calls
 pub mod Promise
 pub mod Cases

@@ -5,16 +5,8 @@ use mathlib.Core.List.{List}
 use mathlib.Core.Option.{Option, none, some}
 use lib.ListN.{getD}
 use lib.Dec.{leb, eqb}
-use Rattle.rules.specs.Heap.{exponent, chunkFree, lowestFrom}
-use Rattle.rules.specs.Damage.{someBelow}
-use Rattle.rules.specs.Collection.{tabulate}
-
--- "Sections are 256 blocks, or N if N is smaller."
-abbrev pub sectionLength : ℕ → ℕ
-sectionLength N = min N 256
-
-abbrev pub sectionCount : ℕ → ℕ
-sectionCount N = N / sectionLength N
+use Rattle.rules.specs.Heap.{sectionLength, sectionCount, exponent, chunkFree, lowestFrom}
+use Rattle.rules.specs.Tools.{someBelow, tabulate}
 
 -- "the size of its largest free aligned chunk, 0 if none": of the 2 ^ k blocks from block i on. They are one chunk themselves; where it is
 -- not free, every smaller one lies in one of its halves.

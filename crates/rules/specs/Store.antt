@@ -6,13 +6,15 @@ use lib.ListN.{getD, set, replicate}
 use lib.Dec.{eqb}
 use Rattle.bitmap.specs.Bit.{bitOf, setBit, fillBits}
 use Rattle.planes.specs.Plane.{countAt, setCount}
-use Rattle.rules.specs.Heap.{Memory, memory, withA, withB, withCounts, withCells, withRoots, capacity, sizeAt}
+use Rattle.rules.specs.Heap.{Memory, lentMemory, withA, withB, withCounts, withCells, withRoots, capacity, sizeAt}
+use Rattle.rules.specs.Sections.{figures}
 
--- "A-map 0, B-map all ones, everything else 0."
+-- "A-map 0, B-map all ones, everything else 0." And request U4: "every accepted call, format too, leaves the list true".
 unfoldable pub formatted : (N w roots : ℕ) → Memory
 formatted N w roots =
-    memory (replicate (N / 8) 0) (replicate (N / 8) 255) (replicate (w * (N / 8)) 0) (replicate (4 * N) 0) (replicate roots 0)
-    (replicate N 0)
+    let a : List ℕ = replicate (N / 8) 0 in
+    lentMemory a (replicate (N / 8) 255) (replicate (w * (N / 8)) 0) (replicate (4 * N) 0) (replicate roots 0) (replicate N 0)
+    (figures N a)
 
 -- ---- counting
 

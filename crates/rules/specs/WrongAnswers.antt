@@ -4,7 +4,7 @@
 use Prim.Native.Nat.{ℕ}
 use mathlib.Core.List.{List, [], _∷_}
 use lib.ListN.{set, replicate}
-use Rattle.rules.specs.Heap.{Memory, withA, withB, withCounts, withCells, withRoots, withWaiting}
+use Rattle.rules.specs.Heap.{Memory, withA, withB, withCounts, withCells, withRoots, withWaiting, withSections}
 use Rattle.rules.specs.Calls.{Call, format, check, collect, freeBlocks, allocate, storeRoot, storeCell, look, returnRoots, Answer, reply}
 use Rattle.rules.specs.Promise.{Promise}
 use Rattle.rules.specs.Cases.{fresh, freshBut, gives, sticking, shows, refuses, damaged}
@@ -31,9 +31,17 @@ Promised q x = Promise 8 (q .width) (q .call) (q .before) (x .0) (x .1)
 unfoldable pub used : Memory → Memory
 used h = withWaiting (set (replicate 8 0) 0 7) h
 
+-- with another figure in the list of sections, which has one number
+unfoldable pub listed : ℕ → Memory → Memory
+listed figure h = withSections (figure ∷ []) h
+
 -- P8's: X of 2 blocks at 0, in root 0; its cell 7 alone names Y of 1 block at 2
 unfoldable pub chained : Memory
 chained = lent 7 249 5 0 (cellHolding 7 3) (rootHolding 0 1)
+
+-- the same with a figure that is wrong by one: blocks 4 to 7 are the largest free chunk
+unfoldable pub stale : Memory
+stale = listed 3 chained
 
 -- the same with Y in root 1 too
 unfoldable pub shared : Memory
@@ -67,6 +75,10 @@ allocatedThree = lent 119 185 21 0 (cellHolding 7 3) (1 ∷ 5 ∷ 0 ∷ 0 ∷ []
 unfoldable pub allocatedOver : Memory
 allocatedOver = lent 48 223 16 0 (replicate 32 0) (rootHolding 0 5)
 
+-- an object of 5 blocks at 0 that is stuck, and no root names it
+unfoldable pub unreached : Memory
+unreached = lent 31 239 1 1 (replicate 32 0) (replicate 4 0)
+
 -- ---- the questions, call by call
 
 unfoldable pub wrongAnswers : List Question
@@ -80,7 +92,9 @@ wrongAnswers =
     ∷ (gives 8, fresh 2) ∷ (gives 3, fresh 2)
     -- a buffer forgotten, or the B-map made 0
     ∷ (gives 0, withA (7 ∷ []) (fresh 2)) ∷ (gives 0, withB (249 ∷ []) (fresh 2)) ∷ (gives 0, withB (0 ∷ []) (fresh 2))
-    ∷ (gives 0, withCells (cellHolding 7 3) (fresh 2)) ∷ (gives 0, withRoots (rootHolding 0 1) (fresh 2)) ∷ (gives 0, used (fresh 2)) ∷ [])
+    ∷ (gives 0, withCells (cellHolding 7 3) (fresh 2)) ∷ (gives 0, withRoots (rootHolding 0 1) (fresh 2)) ∷ (gives 0, used (fresh 2))
+    -- the list of sections 0, or left as it was
+    ∷ (gives 0, listed 0 (fresh 2)) ∷ (gives 0, listed 4 (fresh 2)) ∷ [])
     -- a count width that is not 1 to 4
     ∷ question 5 (used chained) format (refuses 1, used chained)
     -- replies 0 always; another number; writes in a refusal
@@ -108,7 +122,9 @@ wrongAnswers =
     ∷ (gives 4, withRoots (rootHolding 0 1) allocatedTwo) ∷ (gives 4, withRoots (1 ∷ 0 ∷ 5 ∷ 0 ∷ []) allocatedTwo)
     ∷ (gives 4, withRoots (1 ∷ 4 ∷ 0 ∷ 0 ∷ []) allocatedTwo) ∷ (gives 4, used allocatedTwo)
     -- a birth at width 2 told as one that sticks
-    ∷ (sticking 4, allocatedTwo) ∷ [])
+    ∷ (sticking 4, allocatedTwo)
+    -- the list of sections left as it was, or a figure one too large, or unknown
+    ∷ (gives 4, listed 4 allocatedTwo) ∷ (gives 4, listed 3 allocatedTwo) ∷ (gives 4, listed 65535 allocatedTwo) ∷ [])
     -- a birth at width 1
     ∷ question 1 (fresh 1) (allocate 1 0) (sticking 0, withCounts (1 ∷ []) (lent 1 254 0 0 (replicate 32 0) (rootHolding 0 1)))
     -- not told; told in the value
@@ -291,4 +307,24 @@ wrongAnswers =
     ∷ question 2 (freshBut 6 251) freeBlocks (damaged 3, freshBut 6 251)
     -- replies 0 always; not tested; no kind
     ((gives 0, freshBut 6 251) ∷ (gives 6, freshBut 6 251) ∷ (refuses 2, freshBut 6 251) ∷ [])
+    -- request U4: a collection that leaves the list as it was
+    ∷ question 2 unreached collect (gives 5, fresh 2) ((gives 5, listed 2 (fresh 2)) ∷ (gives 5, unreached) ∷ (gives 0, unreached) ∷ [])
+    -- "11, the list doesn't match the maps, next after 2": passed over; another number; the list repaired
+    ∷ question 2 stale check (refuses 11, stale)
+    ((gives 0, stale) ∷ (gives 0, chained) ∷ (refuses 11, chained) ∷ (refuses 1, stale) ∷ (refuses 2, stale) ∷ (damaged 4, stale)
+    ∷ (reply 11 3 0, stale) ∷ [])
+    -- before all refusals of a call's own, and in every call but format
+    ∷ question 2 stale freeBlocks (refuses 11, stale) ((gives 5, stale) ∷ [])
+    ∷ question 2 stale (look 1) (refuses 11, stale) ((refuses 6, stale) ∷ [])
+    ∷ question 2 stale collect (refuses 11, stale) ((gives 0, chained) ∷ [])
+    ∷ question 2 stale (allocate 2 1) (refuses 11, stale) ((gives 4, allocatedTwo) ∷ [])
+    ∷ question 2 stale (allocate 0 9) (refuses 11, stale) ((refuses 3, stale) ∷ (refuses 4, stale) ∷ [])
+    ∷ question 2 stale (storeRoot 9 9) (refuses 11, stale) ((refuses 4, stale) ∷ (refuses 8, stale) ∷ [])
+    ∷ question 2 stale (storeCell 1 9 9) (refuses 11, stale) ((refuses 6, stale) ∷ (refuses 7, stale) ∷ (refuses 8, stale) ∷ [])
+    ∷ question 2 stale (returnRoots 16) (refuses 11, stale) ((refuses 4, stale) ∷ [])
+    ∷ question 2 stale format (gives 0, fresh 2) ((refuses 11, stale) ∷ (gives 0, listed 3 (fresh 2)) ∷ [])
+    -- a damaged heap with a wrong list, and a list of another length
+    ∷ question 2 (listed 7 (freshBut 6 251)) check (damaged 3, listed 7 (freshBut 6 251)) ((refuses 11, listed 7 (freshBut 6 251)) ∷ [])
+    ∷ question 2 (withSections (4 ∷ 4 ∷ []) chained) check (refuses 1, withSections (4 ∷ 4 ∷ []) chained)
+    ((gives 0, withSections (4 ∷ 4 ∷ []) chained) ∷ (refuses 11, withSections (4 ∷ 4 ∷ []) chained) ∷ [])
     ∷ []
