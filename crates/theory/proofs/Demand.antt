@@ -1,11 +1,10 @@
 -- Demand 3, from what is asked of one call: the induction over the list of calls. And that every list of calls can be made, so that the
 -- claim is about every list.
 use mathlib.Core.Path.{_≡_, refl, sym, ap, ap₂, _∙_, subst}
-use mathlib.Core.List.{List, [], _∷_, _++_, map}
+use mathlib.Core.List.{List, [], _∷_, _++_}
 use Prim.Native.Nat.{ℕ, _+_, _/_, _<_}
 use native.Mathlib.Decide.{decLt}
 use native.Mathlib.Omega.{arith}
-use lib.ListN.{length}
 use Rattle.planes.proofs.Counts.{count-lt}
 use Rattle.rules.specs.Heap.{Memory, withWaiting, capacity, countOf}
 use Rattle.rules.specs.Calls.{Call, Answer, answer, run, lastMemory}
@@ -16,27 +15,30 @@ use Rattle.theory.specs.Stuck.{LivesOn, SomeWrote}
 use Rattle.theory.specs.Demand.{Finds, Chain, Holds, Claim, Demand3}
 use Rattle.theory.specs.Statements.{ChainsAppend, EveryListHasAChain}
 use Rattle.theory.specs.Balance.{inUse, blocksAllocated, blocksFreed}
-use Rattle.theory.proofs.Memories.Healthy.{Healthy}
-use Rattle.theory.proofs.Memories.Formatted.{formatted-healthy}
+use Rattle.theory.proofs.Memories.Fit.{Fit, formatted-fit}
 use Rattle.theory.proofs.Memories.ViewRelease.{reshaped}
 use Rattle.theory.proofs.Memories.Soundness.{healthy-sound}
 use Rattle.theory.proofs.EachCall.AnyWaiting.{waiting-unread}
 use Rattle.theory.proofs.EachCall.Served.{Served}
 use Rattle.theory.proofs.EachCall.Balance.{answer-even}
-use Rattle.theory.proofs.EachCall.Answers.{answer-served}
+use Rattle.theory.proofs.EachCall.Answers.{answer-served, answer-fit}
 
 -- ---- one call
 
--- what a call finds is healthy if what the one before it left is
-finds-healthy : (N w : ℕ) {h g : Memory} → Finds N h g → Healthy N w h → Healthy N w g
-finds-healthy N w {h} {g} finds healthy =
-    subst (λ (k : Memory). Healthy N w k) (ap (withWaiting (g .waiting)) (sym (finds .same-heap)))
+-- what a call finds is fit if what the one before it left is
+finds-fit : (N w : ℕ) {h g : Memory} → Finds N h g → Fit N w h → Fit N w g
+finds-fit N w {h} {g} finds fit =
+    let healthy = fit .healthy in
+    subst (λ (k : Memory). Fit N w k) (ap (withWaiting (g .waiting)) (sym (finds .same-heap)))
     (record {
-      shape = reshaped N w h (withWaiting (g .waiting) h) (healthy .shape) refl refl refl refl refl
-          (finds .space ∙ sym (healthy .shape .length-waiting));
-      represents = healthy .represents;
-      whole = healthy .whole;
-      aligned = healthy .aligned;
+      healthy = record {
+        shape = reshaped N w h (withWaiting (g .waiting) h) (healthy .shape) refl refl refl refl refl
+            (finds .space ∙ sym (healthy .shape .length-waiting)) refl;
+        represents = healthy .represents;
+        whole = healthy .whole;
+        aligned = healthy .aligned;
+      };
+      listed = fit .listed;
     })
 
 -- a call that kept its promise was answered as the rules say
@@ -47,58 +49,65 @@ promised N w m promise = λ i. (promise .reply-is i, promise .after-is i)
 
 -- what is asked of one call, of a call that kept its promise
 serves :
-    (N w : ℕ) {h : Memory} → Healthy N w h → (m : Made) → Finds N h (m .before) → Promise N w (m .call) (m .before) (m .reply) (m .after)
+    (N w : ℕ) {h : Memory} → Fit N w h → (m : Made) → Finds N h (m .before) → Promise N w (m .call) (m .before) (m .reply) (m .after)
     → Served N w (m .call) (m .before) (m .reply, m .after)
-serves N w healthy m finds promise =
+serves N w fit m finds promise =
     subst (λ (x : Answer). Served N w (m .call) (m .before) x) (sym (promised N w m promise))
-    (answer-served N w (m .before) (finds-healthy N w finds healthy) (m .call))
+    (answer-served N w (m .before) (finds-fit N w finds fit) (m .call))
+
+-- and it leaves a fit memory
+stays-fit :
+    (N w : ℕ) {h : Memory} → Fit N w h → (m : Made) → Finds N h (m .before) → Promise N w (m .call) (m .before) (m .reply) (m .after)
+    → Fit N w (m .after)
+stays-fit N w fit m finds promise =
+    subst (λ (k : Memory). Fit N w k) (sym (promise .after-is)) (answer-fit N w (m .before) (finds-fit N w finds fit) (m .call))
 
 -- ---- the plain machine
 
 -- the calls as made are the plain machine's, whatever waiting lists they were lent
 as-machine :
-    (N w : ℕ) {h k : Memory} {made : List Made} → Healthy N w h → Healthy N w k → heapOf h ≡ heapOf k → Chain N w h made
+    (N w : ℕ) {h k : Memory} {made : List Made} → Fit N w h → Fit N w k → heapOf h ≡ heapOf k → Chain N w h made
     → compared (answersOf made) ≡ compared (run N w k (callsOf made))
 unfolding run
 as-machine N w sound right same Chain.none = refl
-as-machine N w {h} {k} healthy right same (Chain.next {m} {ms} finds promise rest) =
+as-machine N w {h} {k} fit right same (Chain.next {m} {ms} finds promise rest) =
     let met : heapOf (m .before) ≡ heapOf k = finds .same-heap ∙ same in
     let alike =
-    waiting-unread N w (m .before) k met (finds .space ∙ sym (right .shape .length-waiting)) (m .call) in
+    waiting-unread N w (m .before) k met (finds .space ∙ sym (right .healthy .shape .length-waiting)) (m .call) in
     let reply-is = promise .reply-is ∙ alike .0 in
     let heap-is = ap (λ (g : Memory). heapOf g) (promise .after-is) ∙ alike .1 in
-    let served = serves N w healthy m finds promise in
     ap₂ {C = List Answer} (λ x xs. x ∷ xs) (λ i. (reply-is i, heap-is i))
-    (as-machine N w (served .keep) (answer-served N w k right (m .call) .keep) heap-is rest)
+    (as-machine N w (stays-fit N w fit m finds promise) (answer-fit N w k right (m .call)) heap-is rest)
 
 -- ---- every moment and every call
 
-holds : (N w : ℕ) {h : Memory} {made : List Made} → Healthy N w h → Chain N w h made → Holds N w h made
-holds N w {h} healthy Chain.none = Holds.none (healthy-sound N w h healthy)
-holds N w healthy (Chain.next {h} {m} {ms} finds promise rest) =
-    let s = serves N w healthy m finds promise in
-    Holds.next (healthy-sound N w h healthy) (s .no-early-free) (s .collects) (holds N w (s .keep) rest)
+holds : (N w : ℕ) {h : Memory} {made : List Made} → Fit N w h → Chain N w h made → Holds N w h made
+holds N w {h} fit Chain.none = Holds.none (healthy-sound N w h (fit .healthy) (fit .listed))
+holds N w fit (Chain.next {h} {m} {ms} finds promise rest) =
+    let s = serves N w fit m finds promise in
+    Holds.next (healthy-sound N w h (fit .healthy) (fit .listed)) (s .no-early-free) (s .collects)
+    (holds N w (stays-fit N w fit m finds promise) rest)
 
 -- ---- request U2
 
 -- calls that were made after others were made on the memory that those left
 made-after :
-    (N w : ℕ) {h : Memory} (earlier : List Made) {rest : List Made} → Healthy N w h → Chain N w h (earlier ++ rest)
-    → Healthy N w (leftBy h earlier) × Chain N w (leftBy h earlier) rest
+    (N w : ℕ) {h : Memory} (earlier : List Made) {rest : List Made} → Fit N w h → Chain N w h (earlier ++ rest)
+    → Fit N w (leftBy h earlier) × Chain N w (leftBy h earlier) rest
 unfolding lastMemory
-made-after N w [] healthy chain = (healthy, chain)
-made-after N w (m ∷ earlier) healthy (Chain.next finds promise rest) = made-after N w earlier (serves N w healthy m finds promise .keep) rest
+made-after N w [] fit chain = (fit, chain)
+made-after N w (m ∷ earlier) fit (Chain.next finds promise rest) = made-after N w earlier (stays-fit N w fit m finds promise) rest
 
 -- the first of the calls after which the count is at the capacity wrote the reference
 some-wrote :
-    (N w b n : ℕ) {h : Memory} (between others : List Made) → Healthy N w h → Chain N w h (between ++ others)
+    (N w b n : ℕ) {h : Memory} (between others : List Made) → Fit N w h → Chain N w h (between ++ others)
     → LivesOn N b n h between → countOf N w h b < capacity w → countOf N w (leftBy h between) b ≡ capacity w → SomeWrote N w b between
 unfolding lastMemory
-some-wrote N w b n [] others healthy chain lives low top = absurd (omega arith)
-some-wrote N w b n {h} (m ∷ between) others healthy (Chain.next finds promise rest) (LivesOn.next was lives) low top =
-    let served = serves N w healthy m finds promise in
+some-wrote N w b n [] others fit chain lives low top = absurd (omega arith)
+some-wrote N w b n {h} (m ∷ between) others fit (Chain.next finds promise rest) (LivesOn.next was lives) low top =
+    let served = serves N w fit m finds promise in
     elim (decLt (countOf N w (m .after) b) (capacity w)) [
-      | yes l ↦ SomeWrote.later (some-wrote N w b n between others (served .keep) rest lives l top)
+      | yes l ↦ SomeWrote.later (some-wrote N w b n between others (stays-fit N w fit m finds promise) rest lives l top)
       | no l ↦
           SomeWrote.here
           (served .sticks b n found (stands lives) still (omega (arith, count-lt (N / 8) w (m .after .counts) b)))
@@ -120,18 +129,18 @@ some-wrote N w b n {h} (m ∷ between) others healthy (Chain.next finds promise 
 
 -- ---- the claim
 
-pub claim : (N w : ℕ) (h : Memory) → Healthy N w h → (made : List Made) → Chain N w h made → Claim N w h made
-claim N w h healthy made chain =
+pub claim : (N w : ℕ) (h : Memory) → Fit N w h → (made : List Made) → Chain N w h made → Claim N w h made
+claim N w h fit made chain =
     record {
-      machine = as-machine N w healthy healthy refl chain;
-      holds = holds N w healthy chain;
+      machine = as-machine N w fit fit refl chain;
+      holds = holds N w fit chain;
       stuck = λ earlier between others e b n lives low top.
-          let from = made-after N w earlier healthy (subst (λ (l : List Made). Chain N w h l) e chain) in
+          let from = made-after N w earlier fit (subst (λ (l : List Made). Chain N w h l) e chain) in
           some-wrote N w b n between others (from .0) (from .1) lives low top;
     }
 
 pub demand3 : Demand3
-demand3 N w lent fits made chain = claim N w _ (formatted-healthy N w lent (shape-facts N w lent fits)) made chain
+demand3 N w lent fits made chain = claim N w _ (formatted-fit N w lent (shape-facts N w lent fits)) made chain
 
 -- ---- lists of calls
 
@@ -157,11 +166,11 @@ every-list N w h ((c, (waiting, long)) ∷ lent) =
 
 -- freed is what stood in the heap, whatever the waiting list
 pub balance :
-    (N w : ℕ) {h : Memory} {made : List Made} → Healthy N w h → Chain N w h made
+    (N w : ℕ) {h : Memory} {made : List Made} → Fit N w h → Chain N w h made
     → inUse N h + blocksAllocated made ≡ blocksFreed N made + inUse N (leftBy h made)
 unfolding blocksAllocated blocksFreed lastMemory
-balance N w healthy Chain.none = omega arith
-balance N w {h} healthy (Chain.next {m} finds promise rest) =
-    let even = rw (← promise .reply-is, ← promise .after-is) at (answer-even N w (m .before) (finds-healthy N w finds healthy) (m .call) .kept) in
+balance N w fit Chain.none = omega arith
+balance N w {h} fit (Chain.next {m} finds promise rest) =
+    let even = rw (← promise .reply-is, ← promise .after-is) at (answer-even N w (m .before) (finds-fit N w finds fit) (m .call) .kept) in
     let found : inUse N (m .before) ≡ inUse N h = ap (λ (g : Memory). inUse N g) (finds .same-heap) in
-    omega (arith, even, found, balance N w (serves N w healthy m finds promise .keep) rest)
+    omega (arith, even, found, balance N w (stays-fit N w fit m finds promise) rest)

@@ -6,6 +6,7 @@ pub mod Clearing
 pub mod ReturnsServed
 pub mod ReturnOrders
 pub mod CollectionServed
+pub mod TrueList
 pub mod Answers
 pub mod Balance
 pub mod Moments

@@ -3,6 +3,7 @@ pub mod View
 pub mod Slots
 pub mod Healthy
 pub mod Formatted
+pub mod Fit
 pub mod Leads
 pub mod Soundness
 pub mod ViewMoves

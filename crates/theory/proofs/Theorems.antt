@@ -18,11 +18,11 @@ use Rattle.rules.specs.declared.Reply.{Reply}
 use Rattle.rules.specs.Promise.{Promise}
 use Rattle.rules.specs.Calls.{Call, format, allocate, Answer, accepted, require, onUndamaged, allocation, answer}
 use Rattle.theory.specs.Demand.{Demand3}
-use Rattle.rules.proofs.Replies.{on-undamaged-shaped, on-undamaged-no-damage, on-undamaged-next}
+use Rattle.rules.proofs.Replies.{on-undamaged-passed, on-undamaged-next}
 use Rattle.rules.proofs.Tests.{true-and, require-true, require-passed}
 use Rattle.rules.proofs.Shape.{shape-facts}
 use Rattle.rules.proofs.Chunks.{exponent-covers, exponent-least}
-use Rattle.theory.specs.Statements.{Undamaged, CallsKeepUndamaged, FormatMakesUndamaged, RefusedExactly, Lowest, LowestTaken}
+use Rattle.theory.specs.Statements.{Intact, Undamaged, CallsKeepUndamaged, FormatMakesUndamaged, RefusedExactly, Lowest, LowestTaken}
 use Rattle.theory.specs.Statements.{LeastPower, NStepsSuffice, ReachedIsLed, ObjectsAreEnds, EndsOnLast}
 use Rattle.theory.specs.Statements.{ClaimFromUndamaged, ClaimFromFormat}
 use Rattle.theory.specs.Words.{Object}
@@ -38,14 +38,15 @@ use Rattle.theory.proofs.Maps.LowestChunk.{lowest-some, room, refused-n
 use Rattle.theory.proofs.Maps.Parse.{parse}
 use Rattle.theory.proofs.Maps.Totals.{objects-ends}
 use Rattle.theory.proofs.Maps.Undamaged.{kinds-delimited}
-use Rattle.theory.proofs.Memories.Healthy.{Healthy, healthy-facts, healthy-shaped, healthy-no-damage}
-use Rattle.theory.proofs.Memories.Formatted.{formatted-healthy}
+use Rattle.theory.proofs.Memories.Healthy.{Healthy, healthy-facts}
+use Rattle.theory.proofs.Memories.Fit.{undamaged-fit, fit-undamaged, formatted-fit}
 use Rattle.theory.proofs.Memories.Fuel.{steps-suffice}
 use Rattle.theory.proofs.Memories.Orders.{one-end}
 use Rattle.theory.proofs.Memories.Stores.{store-root, store-cell, allocate-root}
 use Rattle.theory.proofs.Memories.Rounds.{reached-led, led-reached}
 use Rattle.theory.proofs.EachCall.Served.{on-undamaged}
-use Rattle.theory.proofs.EachCall.Answers.{answer-served}
+use Rattle.theory.proofs.EachCall.Answers.{answer-fit}
+use Rattle.theory.proofs.EachCall.TrueList.{list-left-true}
 use Rattle.theory.proofs.Memories.Leads.{object-size, size-object}
 use Rattle.theory.proofs.EachCall.AnyWaiting.{waiting-unread}
 use Rattle.theory.proofs.EachCall.ReturnOrders.{same-as-singly, return-refused}
@@ -53,17 +54,14 @@ use Rattle.theory.proofs.Demand.{every-list, chains-append, claim, dema
 use Rattle.theory.proofs.EachCall.Balance.{blocks-add-up}
 use Rattle.theory.proofs.EachCall.Moments as moments
 
-healthy-undamaged : (N w : ℕ) (h : Memory) → Healthy N w h → Undamaged N w h
-healthy-undamaged N w h healthy = record { right-shape = healthy-shaped N w h healthy; no-damage = healthy-no-damage N w h healthy }
-
-undamaged-healthy : (N w : ℕ) (h : Memory) → Undamaged N w h → Healthy N w h
-undamaged-healthy N w h u = healthy-facts N w h (u .right-shape) (u .no-damage)
+intact-healthy : (N w : ℕ) (h : Memory) → Intact N w h → Healthy N w h
+intact-healthy N w h u = healthy-facts N w h (u .right-shape) (u .undamaged)
 
 pub calls-keep-undamaged : CallsKeepUndamaged
-calls-keep-undamaged N w h u call = healthy-undamaged N w (answer N w h call .1) (answer-served N w h (undamaged-healthy N w h u) call .keep)
+calls-keep-undamaged N w h u call = fit-undamaged N w (answer N w h call .1) (answer-fit N w h (undamaged-fit N w h u) call)
 
 pub format-makes-undamaged : FormatMakesUndamaged
-format-makes-undamaged N w h fits = healthy-undamaged N w _ (formatted-healthy N w h (shape-facts N w h fits))
+format-makes-undamaged N w h fits = fit-undamaged N w _ (formatted-fit N w h (shape-facts N w h fits))
 
 pub least-power : LeastPower
 least-power n = (exponent-covers n, λ k l. pow-mono {i = exponent n} {j = k} (exponent-least n k l))
@@ -75,7 +73,7 @@ allocation-answer :
 unfolding answer
 allocation-answer N w h u n r low high inside =
     let found : Answer = allocation N w h n r (lowestFree N (exponent n) (h .a)) in
-    on-undamaged N w h (undamaged-healthy N w h u) _
+    on-undamaged N w h (undamaged-fit N w h u) _
     ∙ require-true (leb 1 n && leb n N) 3 h _ (true-and (leb 1 n) (leb n N) (le-leb 1 n low) (le-leb n N high))
     ∙ require-true (ltb r (length (h .roots))) 4 h found (lt-ltb r (length (h .roots)) inside)
 
@@ -98,7 +96,7 @@ lowest-taken N w h n r accepted =
     let placed : Answer = require (ltb r (length (h .roots))) 4 h found in
     let sized : Answer = require (leb 1 n && leb n N) 3 h placed in
     let passed : onUndamaged N w h sized ≡ sized =
-    on-undamaged-next N w h sized (on-undamaged-shaped N w h sized accepted) (on-undamaged-no-damage N w h sized accepted) in
+    let tests = on-undamaged-passed N w h sized accepted in on-undamaged-next N w h sized (tests .0) (tests .1) (tests .2) in
     let size = require-passed (leb 1 n && leb n N) 3 h placed (omega arith) (rw passed at accepted) in
     let at-root : sized ≡ placed = require-true (leb 1 n && leb n N) 3 h placed size in
     let root = require-passed (ltb r (length (h .roots))) 4 h found (omega arith) (rw (passed, at-root) at accepted) in
@@ -114,7 +112,7 @@ reached-is-led N h b = (reached-led N h b, led-reached N h b)
 pub n-steps-suffice : NStepsSuffice
 unfolding changeRoot changeCell allocateIn placed putRoot putCell letGo
 n-steps-suffice N w h u steps enough =
-    let fine = undamaged-healthy N w h u in
+    let fine = intact-healthy N w h u in
     record {
       in-root = λ r v l ref. steps-suffice N w steps _ _ (store-root N w h fine v ref r l .releasing) enough;
       in-cell = λ a j v first l ref. steps-suffice N w steps _ _ (store-cell N w h fine v ref a j first l .releasing) enough;
@@ -127,7 +125,7 @@ n-steps-suffice N w h u steps enough =
 pub order-unseen : OrderUnseen
 unfolding changeRoot changeCell allocateIn placed putRoot putCell letGo
 order-unseen N w h u =
-    let fine = undamaged-healthy N w h u in
+    let fine = intact-healthy N w h u in
     record {
       in-root = λ r v l ref. one-end N w _ _ (store-root N w h fine v ref r l .releasing);
       in-cell = λ a j v first l ref. one-end N w _ _ (store-cell N w h fine v ref a j first l .releasing);
@@ -137,10 +135,10 @@ order-unseen N w h u =
 
 -- request U10
 pub return-in-any-order : ReturnInAnyOrder
-return-in-any-order N w h u = same-as-singly N w h (undamaged-healthy N w h u)
+return-in-any-order N w h u = same-as-singly N w h (undamaged-fit N w h u)
 
 pub return-refused-exactly : ReturnRefusedExactly
-return-refused-exactly N w h u = return-refused N w h (undamaged-healthy N w h u)
+return-refused-exactly N w h u = return-refused N w h (undamaged-fit N w h u)
 
 pub objects-are-ends : ObjectsAreEnds
 objects-are-ends N w h fits one two =
@@ -154,7 +152,7 @@ pub demand-3 : Demand3
 demand-3 = demand3
 
 pub claim-from-undamaged : ClaimFromUndamaged
-claim-from-undamaged N w h u made chain = claim N w h (undamaged-healthy N w h u) made chain
+claim-from-undamaged N w h u made chain = claim N w h (undamaged-fit N w h u) made chain
 
 -- an accepted format was not refused with 1, so it left a formatted heap
 accepted-format :
@@ -203,18 +201,18 @@ ends-represent N h sizes represents i l = (object, λ o. last (o .0) (o .1) (o .
         ]
 
 pub ends-on-last : EndsOnLast
-ends-on-last N w h u i l = ends-represent N h (sizesOf N (h .a) (h .b)) (undamaged-healthy N w h u .represents) i l
+ends-on-last N w h u i l = ends-represent N h (sizesOf N (h .a) (h .b)) (intact-healthy N w h u .represents) i l
 
 -- request U1
 pub blocks-balance : BlocksBalance
-blocks-balance N w h u made chain = balance N w (undamaged-healthy N w h u) chain
+blocks-balance N w h u made chain = balance N w (undamaged-fit N w h u) chain
 
 -- request U5
 pub none-untold : NoneUntold
-none-untold N w h u call b n = moments.none-untold N w h (undamaged-healthy N w h u) call b n
+none-untold N w h u call b n = moments.none-untold N w h (undamaged-fit N w h u) call b n
 
 pub collection-sticks-none : CollectionSticksNone
-collection-sticks-none N w h u = moments.collection-sticks-none N w h (undamaged-healthy N w h u)
+collection-sticks-none N w h u = moments.collection-sticks-none N w h (undamaged-fit N w h u)
 
 pub theory : Theory
 theory =
@@ -241,6 +239,7 @@ theory =
       return-refused-exactly = return-refused-exactly;
       sections-find-lowest = sections-find-lowest;
       figures-are-largest = figures-are-largest;
+      list-left-true = list-left-true;
       stuck-told = moments.stuck-told;
       none-untold = none-untold;
       collection-sticks-none = collection-sticks-none;

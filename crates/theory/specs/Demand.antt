@@ -7,6 +7,7 @@ use mathlib.Core.List.{List, [], _∷_}
 use lib.ListN.{length, getD}
 use Rattle.bitmap.specs.Bit.{bitAt}
 use Rattle.rules.specs.Heap.{Memory, shaped, capacity, countOf, isFirst, exponent}
+use Rattle.rules.specs.Sections.{figures}
 use Rattle.rules.specs.Store.{formatted}
 use Rattle.rules.specs.Collection.{referencesFrom}
 use Rattle.rules.specs.Calls.{Call, format, check, collect, freeBlocks, allocate, storeRoot, storeCell, look, returnRoots, run}
@@ -30,6 +31,8 @@ pub record Sound (N w : ℕ) (h : Memory) : Type 0 where
   pub aligned : (b n : ℕ) → Object N h b n → b % 2 ^ exponent n ≡ 0
   -- the cells of free blocks are 0, so that no cell but those of objects holds anything
   pub cleared : (j : ℕ) → j < 4 * N → bitAt (h .a) (j / 4) ≡ 0 → getD (h .cells) j 0 ≡ 0
+  -- request U4: "every accepted call, format too, leaves the list true"
+  pub listed : h .sections ≡ figures N (h .a)
 
 -- ---- at each call
 

@@ -1,6 +1,6 @@
 -- Request U7: "Implementers differ in the order of taking the objects waiting to be freed. Show that from an undamaged heap each order ends
 -- in the same maps, cells, counts and freed blocks."
-use Prim.Native.Nat.{ℕ, zero, suc, _+_, _-_, _*_, _≤_, _<_}
+use Prim.Native.Nat.{ℕ, suc, _+_, _-_, _*_, _≤_, _<_}
 use mathlib.Core.Path.{_≡_}
 use mathlib.Core.Bool.{true}
 use mathlib.Core.List.{List, [], _∷_, _++_}
@@ -9,7 +9,7 @@ use lib.ListN.{length, getD, set}
 use Rattle.bitmap.specs.Bit.{zeros}
 use Rattle.rules.specs.Heap.{Memory, withCounts, withCells, withRoots, isFirst, sizeAt, isRef, exponent, lowestFree}
 use Rattle.rules.specs.Store.{work, countUp, countDown, workAfter, memoryAfter, changeRoot, changeCell, placed, allocateIn}
-use Rattle.theory.specs.Statements.{Undamaged}
+use Rattle.theory.specs.Statements.{Intact}
 
 -- An order, step by step. In memory h the objects of `waiting` wait. k of them, or of those that come to wait on the way, are taken one
 -- after another, at each step any one that waits then, and freed as the rules free one (`workAfter`, `memoryAfter`). They have n blocks in
@@ -53,4 +53,4 @@ pub record AnyOrder (N w : ℕ) (h : Memory) : Type 0 where
 
 -- the order can't be seen
 abbrev pub OrderUnseen : Type 0
-OrderUnseen = (N w : ℕ) (h : Memory) → Undamaged N w h → AnyOrder N w h
+OrderUnseen = (N w : ℕ) (h : Memory) → Intact N w h → AnyOrder N w h

@@ -4,10 +4,11 @@ use Prim.Native.Nat.{ℕ, _+_, _≤_}
 use mathlib.Core.Path.{_≡_}
 use mathlib.Core.Logic.{_↔_}
 use mathlib.Core.List.{List, [], _∷_, map}
-use lib.ListN.{length}
+use lib.ListN.{length, replicate}
 use Rattle.bitmap.specs.Bit.{bitOf}
-use Rattle.rules.specs.Heap.{Memory, holding}
-use Rattle.rules.specs.Calls.{storeRoot, returnRoots, Answer, answer, run, lastMemory, settled}
+use Rattle.rules.specs.Tools.{holding}
+use Rattle.rules.specs.Heap.{Memory, withWaiting}
+use Rattle.rules.specs.Calls.{storeRoot, returnRoots, Answer, answer, run, lastMemory}
 use Rattle.theory.specs.Statements.{Undamaged}
 
 -- "clearing them singly": the roots of a list, each cleared by a call of its own
@@ -26,7 +27,7 @@ EachOnce chosen order = (r : ℕ) → holding r order ≡ bitOf chosen r
 -- The return leaves the heap that the single calls leave, and its value is the sum of theirs. "Where two heaps .. are compared, the waiting
 -- list is left out": here it is cleared on both sides.
 pub record SameAsSingly (N w : ℕ) (h : Memory) (chosen : ℕ) (order : List ℕ) : Type 0 where
-  pub heap : settled N (lastMemory h (clearedSingly N w h order)) ≡ answer N w h (returnRoots chosen) .1
+  pub heap : withWaiting (replicate N 0) (lastMemory h (clearedSingly N w h order)) ≡ answer N w h (returnRoots chosen) .1
   pub value : freedInAll (clearedSingly N w h order) ≡ answer N w h (returnRoots chosen) .0 .value
 
 -- every accepted set, in every order of its roots

@@ -1,11 +1,12 @@
--- Request U4: what is proved of the figures of sections.
+-- Request U4: what is proved of the figures of sections, and of the lent list that holds them.
 use Prim.Native.Nat.{ℕ, _+_, _*_, _^_, _≤_}
 use mathlib.Core.Path.{_≡_}
 use mathlib.Core.Logic.{_≢_}
 use mathlib.Core.Bool.{true}
 use mathlib.Core.List.{List}
-use Rattle.rules.specs.Heap.{isBlocks, chunkFree, lowestFree}
-use Rattle.rules.specs.Sections.{sectionLength, figure, lowestBySections}
+use Rattle.rules.specs.Heap.{Memory, isBlocks, chunkFree, lowestFree, sectionLength}
+use Rattle.rules.specs.Sections.{figure, figures, lowestBySections}
+use Rattle.rules.specs.Calls.{Call, answer}
 
 -- "For every heap the address, or the lack of one, must be that of document 01": the lowest section whose figure suffices has the heap's
 -- lowest free chunk, and there is no such section where no chunk is free
@@ -26,3 +27,9 @@ pub record Largest (N : ℕ) (a : List ℕ) (s : ℕ) : Type 0 where
 
 abbrev pub FiguresAreLargest : Type 0
 FiguresAreLargest = (N : ℕ) (a : List ℕ) → isBlocks N ≡ true → (s : ℕ) → Largest N a s
+
+-- "every accepted call, format too, leaves the list true": whatever the memory held
+abbrev pub ListLeftTrue : Type 0
+ListLeftTrue =
+    (N w : ℕ) (h : Memory) (call : Call) → answer N w h call .0 .number ≡ 0
+    → (answer N w h call .1) .sections ≡ figures N ((answer N w h call .1) .a)

@@ -8,7 +8,9 @@ use mathlib.Core.Option.{some}
 use lib.ListN.{length, getD, set}
 use Rattle.bitmap.specs.Bit.{bitAt, countBelow, zeros}
 use Rattle.rules.specs.Heap.{Memory, withCounts, withCells, withRoots, shaped, isFirst, sizeAt, isRef, exponent, lowestFree}
-use Rattle.rules.specs.Damage.{someBelow, endOnFree, openEnd, damage}
+use Rattle.rules.specs.Tools.{someBelow}
+use Rattle.rules.specs.Damage.{endOnFree, openEnd, damage}
+use Rattle.rules.specs.Sections.{staleFigures}
 use Rattle.rules.specs.Store.{formatted, countUp, letGoIn, changeRoot, changeCell, placed, allocateIn}
 use Rattle.rules.specs.Calls.{Call, format, allocate, answer}
 use Rattle.rules.specs.Collection.{marked, reached}
@@ -17,10 +19,16 @@ use Rattle.rules.specs.declared.Reply.{Reply}
 use Rattle.theory.specs.Words.{Object, Leads, heapOf, Made, leftBy}
 use Rattle.theory.specs.Demand.{Chain, Claim}
 
--- right shape and no damage: refused with neither 1 nor 2
+-- right shape and no damage, whatever the list of sections holds: refused with neither 1 nor 2
+pub record Intact (N w : ℕ) (h : Memory) : Type 0 where
+  pub right-shape : shaped N w h ≡ true
+  pub undamaged : damage N w h ≡ 0
+
+-- right shape, no damage and a true list of sections: refused with none of 1, 2 and 11
 pub record Undamaged (N w : ℕ) (h : Memory) : Type 0 where
   pub right-shape : shaped N w h ≡ true
   pub no-damage : damage N w h ≡ 0
+  pub true-list : staleFigures N (h .a) (h .sections) ≡ false
 
 -- "the proved fact that calls keep a heap undamaged"; a format makes one
 abbrev pub CallsKeepUndamaged : Type 0
@@ -29,10 +37,10 @@ CallsKeepUndamaged = (N w : ℕ) (h : Memory) → Undamaged N w h → (call : Ca
 abbrev pub FormatMakesUndamaged : Type 0
 FormatMakesUndamaged = (N w : ℕ) (h : Memory) → shaped N w h ≡ true → Undamaged N w (formatted N w (length (h .roots)))
 
--- "0 stands on the last block of each object and 1 everywhere else": of every undamaged heap. A bit is 0 or 1.
+-- "0 stands on the last block of each object and 1 everywhere else": of every heap without damage. A bit is 0 or 1.
 abbrev pub EndsOnLast : Type 0
 EndsOnLast =
-    (N w : ℕ) (h : Memory) → Undamaged N w h → (i : ℕ) → i < N
+    (N w : ℕ) (h : Memory) → Intact N w h → (i : ℕ) → i < N
     → (bitAt (h .b) i ≡ 0) ↔ ((b : ℕ) × (n : ℕ) × Object N h b n × (i + 1 ≡ b + n))
 
 -- 2 ^ exponent n is "the least power of two that is n or more"
@@ -111,7 +119,7 @@ pub record StepsSuffice (N w : ℕ) (h : Memory) (steps : ℕ) : Type 0 where
       letGoIn steps N w written (getD (h .roots) r 0) ≡ allocateIn N w h n r i
 
 abbrev pub NStepsSuffice : Type 0
-NStepsSuffice = (N w : ℕ) (h : Memory) → Undamaged N w h → (steps : ℕ) → N ≤ steps → StepsSuffice N w h steps
+NStepsSuffice = (N w : ℕ) (h : Memory) → Intact N w h → (steps : ℕ) → N ≤ steps → StepsSuffice N w h steps
 
 -- Request U9: "Show that a heap passing kinds 1 and 2 has as many objects as 0 bits in the B-map. Then drop the kind". Kind 6 asked for just
 -- this equality, after kinds 1 and 2, so no heap could have it as the first kind found, and it could go.

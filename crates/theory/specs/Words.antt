@@ -7,7 +7,8 @@ use lib.ListN.{length, getD, set, replicate}
 use lib.Dec.{eqb}
 use Rattle.rules.specs.Heap.{Memory, withCells, withRoots, withWaiting, isFirst, sizeAt}
 use Rattle.rules.specs.Store.{isChosen}
-use Rattle.rules.specs.Collection.{referencesFrom, tabulate}
+use Rattle.rules.specs.Tools.{tabulate}
+use Rattle.rules.specs.Collection.{referencesFrom}
 use Rattle.rules.specs.Calls.{Call, format, check, collect, freeBlocks, allocate, storeRoot, storeCell, look, returnRoots, Answer, lastMemory}
 use Rattle.rules.specs.declared.Reply.{Reply}
 

@@ -1,7 +1,7 @@
 -- No answer depends on the waiting list: with another one of the same length each call, on whatever memory and arguments, gives the same
--- reply, and the same five other lists.
+-- reply, and the same other lists.
 use mathlib.Core.Path.{_≡_, refl, sym, ap, subst}
-use mathlib.Core.Bool.{Bool, true, false, _&&_}
+use mathlib.Core.Bool.{Bool, true, false, not, _&&_}
 use mathlib.Core.List.{List}
 use mathlib.Core.Option.{Option, none, some}
 use Prim.Native.Nat.{ℕ, _+_, _*_}
@@ -10,6 +10,7 @@ use lib.ListN.{length}
 use Rattle.bitmap.specs.Bit.{one, zeros}
 use Rattle.rules.specs.Heap.{Memory, withWaiting, shape, shaped, countOf, isFirst, sizeAt, exponent, lowestFree, isRef}
 use Rattle.rules.specs.Damage.{endOnFree, openEnd, unaligned, badCell, badRoot, badCount, damage}
+use Rattle.rules.specs.Sections.{staleFigures}
 use Rattle.rules.specs.Store.{storeRootIn, storeCellIn, chosenBelow, returnIn, birthSticks, allocateIn}
 use Rattle.rules.specs.Collection.{collected}
 use Rattle.rules.specs.Calls.{Call, format, check, collect, freeBlocks, allocate, storeRoot, storeCell, look, returnRoots, Answer, require, onUndamaged}
@@ -30,7 +31,7 @@ module _ (N w : ℕ) (h : Memory) (x : List ℕ) (same-length : length x ≡ len
 
   same-shape : shaped N w g ≡ shaped N w h
   same-shape =
-      ap (λ (n : ℕ). shape N w (length (h .a)) (length (h .b)) (length (h .counts)) (length (h .cells)) (length (h .roots)) n) same-length
+      ap (λ (n : ℕ). shape N w (length (h .a)) (length (h .b)) (length (h .counts)) (length (h .cells)) (length (h .roots)) n (length (h .sections))) same-length
 
   same-damage : damage N w g ≡ damage N w h
   unfolding damage endOnFree openEnd unaligned badCell badRoot badCount
@@ -47,7 +48,8 @@ module _ (N w : ℕ) (h : Memory) (x : List ℕ) (same-length : length x ≡ len
 
   on-undamaged-alike : {p q : Answer} → Alike p q → Alike (onUndamaged N w g p) (onUndamaged N w h q)
   unfolding onUndamaged damage endOnFree openEnd unaligned badCell badRoot badCount
-  on-undamaged-alike alike = rw (same-shape, same-damage) (require-alike (shaped N w h) 1 (go (eqb (damage N w h) 0) alike))
+  on-undamaged-alike alike = rw (same-shape, same-damage) (require-alike (shaped N w h) 1
+      (go (eqb (damage N w h) 0) (require-alike (not (staleFigures N (h .a) (h .sections))) 11 alike)))
     where
       go :
           (t : Bool) {p q : Answer} → Alike p q

@@ -1,7 +1,7 @@
 -- Blocks allocated and freed: each call keeps the balance, so every list of calls does.
 use mathlib.Core.Path.{_≡_, refl, sym, ap, _∙_, subst}
 use mathlib.Core.Logic.{_≢_, _⊎_, inl, inr}
-use mathlib.Core.Bool.{Bool, true, false, _&&_}
+use mathlib.Core.Bool.{Bool, true, false, _&&_, not}
 use mathlib.Core.List.{List, [], _∷_}
 use mathlib.Core.Option.{Option, none, some}
 use Prim.Native.Nat.{ℕ, zero, suc, _+_, _-_, _*_, _≤_, _<_}
@@ -10,9 +10,9 @@ use native.Mathlib.Omega.{arith}
 use lib.ListN.{length, getD, set, replicate, length-set}
 use lib.Seq.{getD-set-same, getD-set-other}
 use lib.Dec.{leb, ltb, eqb}
-use borrow.Author.Tests.{eq-eqb, ne-eqb, leb-true, ltb-true, eqb-false}
+use borrow.Author.Tests.{eq-eqb, ne-eqb, leb-true, ltb-true}
 use Rattle.bitmap.specs.Bit.{zeros}
-use Rattle.rules.specs.Heap.{Memory, shaped, capacity, countOf, isFirst, sizeAt, exponent, lowestFree, isRef}
+use Rattle.rules.specs.Heap.{Memory, shaped, capacity, isFirst, sizeAt, exponent, lowestFree, isRef}
 use Rattle.rules.specs.Damage.{damage}
 use Rattle.rules.specs.Store.{formatted, placed, putRoot, putCell, changeRoot, changeCell, storeRootIn, storeCellIn, allocateIn}
 use Rattle.rules.specs.Store.{chosenBelow, returnIn}
@@ -20,7 +20,9 @@ use Rattle.rules.specs.Collection.{collected}
 use Rattle.rules.specs.Calls.{Call, format, check, collect, freeBlocks, allocate, storeRoot, storeCell, look, returnRoots, Answer, reply, accepted, refused}
 use Rattle.rules.specs.Calls.{require, onUndamaged, freeing, allocation, settled, answer}
 use Rattle.rules.specs.declared.Reply.{Reply}
-use Rattle.rules.proofs.Replies.{on-undamaged-shaped, on-undamaged-no-damage}
+use Rattle.rules.specs.Sections.{staleFigures}
+use Rattle.rules.proofs.Replies.{on-undamaged-passed}
+use Rattle.theory.proofs.Memories.Fit.{Fit, undamaged-fit}
 use Rattle.rules.proofs.Tests.{test-cases, and-true}
 use Rattle.rules.proofs.Objects.{first-facts}
 use Rattle.theory.specs.Balance.{sumBelow, freedAt, freedBlocks, inUse, allocates, allocatedBy, FreedValue, BlocksAddUp}
@@ -30,13 +32,13 @@ use Rattle.theory.proofs.Maps.LowestChunk.{Room, room}
 use Rattle.theory.proofs.Maps.Totals.{sum, sum-set, free-and-sizes}
 use Rattle.theory.proofs.Graphs.Graph as graph
 use Rattle.theory.proofs.Graphs.Graph.{Graph, size, raise, place}
-use Rattle.theory.proofs.Graphs.Keep.{Reach, root}
+use Rattle.theory.proofs.Graphs.Keep.{root}
 use Rattle.theory.proofs.Graphs.Order.{runs-leave}
 use Rattle.theory.proofs.Graphs.Collection.{collected-or-gone}
 use Rattle.theory.proofs.Graphs.Calls.{Place, finish-ends, finish-keeps}
 use Rattle.theory.proofs.Graphs.Calls.{raised-balanced, raised-waits, raised-shape, placed-balanced, placed-waits, placed-shape}
 use Rattle.theory.proofs.Memories.View.{view}
-use Rattle.theory.proofs.Memories.Healthy.{Healthy, healthy-facts}
+use Rattle.theory.proofs.Memories.Healthy.{Healthy}
 use Rattle.theory.proofs.Memories.Formatted.{zeros-at}
 use Rattle.theory.proofs.Memories.ViewRelease.{Shows}
 use Rattle.theory.proofs.Memories.ViewCollection.{is-collected, collected-shows}
@@ -157,7 +159,10 @@ module _ (N : ℕ) (h g : Memory) (s t : List ℕ) (before : Represents N (h .a)
 pub record Even (N : ℕ) (c : Call) (h : Memory) (x : Answer) : Type 0 where
   pub kept : inUse N h + allocatedBy c (x .0) ≡ freedBlocks N h (x .1) + inUse N (x .1)
 
-module _ (N w : ℕ) (h : Memory) (healthy : Healthy N w h) where
+module _ (N w : ℕ) (h : Memory) (fit : Fit N w h) where
+  abbrev healthy : Healthy N w h
+  healthy = fit .healthy
+
   abbrev pub sizes : List ℕ
   sizes = sizesOf N (h .a) (h .b)
 
@@ -190,7 +195,7 @@ module _ (N w : ℕ) (h : Memory) (healthy : Healthy N w h) where
   require-even {c} false number nonzero even = refused-even c number nonzero
 
   on-undamaged-even : {c : Call} {next : Answer} → Even N c h next → Even N c h (onUndamaged N w h next)
-  on-undamaged-even {c} {next} even = subst (λ (x : Answer). Even N c h x) (sym (on-undamaged N w h healthy next)) even
+  on-undamaged-even {c} {next} even = subst (λ (x : Answer). Even N c h x) (sym (on-undamaged N w h fit next)) even
 
   -- g shows a graph in which each object stands or is gone
   shown-even :
@@ -359,33 +364,37 @@ module _ (N w : ℕ) (h : Memory) where
 
   on-undamaged-grown : {next : Answer} → Grown h next → Grown h (onUndamaged N w h next)
   unfolding onUndamaged
-  on-undamaged-grown next = require-grown (shaped N w h) 1 (omega arith) (go (eqb (damage N w h) 0) next)
+  on-undamaged-grown next =
+      require-grown (shaped N w h) 1 (omega arith)
+      (go (eqb (damage N w h) 0) (require-grown (not (staleFigures N (h .a) (h .sections))) 11 (omega arith) next))
     where
       go : (t : Bool) {next : Answer} → Grown h next → Grown h (elim t [ true ↦ next | false ↦ (reply 2 (damage N w h) 0, h) ])
       go true next = next
       go false next = record { grown = λ e. absurd (omega (arith, e)) }
 
   -- what is accepted was found undamaged
-  pub accepted-healthy : (next : Answer) → onUndamaged N w h next .0 .number ≡ 0 → Healthy N w h
-  accepted-healthy next e = healthy-facts N w h (on-undamaged-shaped N w h next e) (on-undamaged-no-damage N w h next e)
+  pub accepted-fit : (next : Answer) → onUndamaged N w h next .0 .number ≡ 0 → Fit N w h
+  accepted-fit next e =
+      let passed = on-undamaged-passed N w h next e in
+      undamaged-fit N w h (record { right-shape = passed .0; no-damage = passed .1; true-list = passed .2 })
 
   zeros-within : {g : Memory} → Healthy N w g → zeros (g .a) ≤ N
   zeros-within {g} healthy = omega (arith, free-and-sizes N (g .a) (g .b) (sizesOf N (g .a) (g .b)) (healthy .represents))
 
   -- the balance in zeros
-  even-zeros : (c : Call) → Healthy N w h → answer N w h c .0 .number ≡ 0
+  even-zeros : (c : Call) → Fit N w h → answer N w h c .0 .number ≡ 0
       → zeros (h .a) + freedBlocks N h (answer N w h c .1) ≡ zeros (answer N w h c .1 .a) + allocates c
   unfolding allocatedBy
-  even-zeros c healthy e =
+  even-zeros c fit e =
       let all : allocatedBy c (answer N w h c .0) ≡ allocates c = rw (eq-eqb (answer N w h c .0 .number) 0 e, allocatedBy) in
-      omega (arith, answer-even N w h healthy c .kept, all, zeros-within healthy, zeros-within (answer-served N w h healthy c .keep))
+      omega (arith, answer-even N w h fit c .kept, all, zeros-within (fit .healthy), zeros-within (answer-served N w h fit c .keep))
 
   freed-value :
-      (c : Call) → allocates c ≡ 0 → Grown h (answer N w h c) → Healthy N w h → answer N w h c .0 .number ≡ 0
+      (c : Call) → allocates c ≡ 0 → Grown h (answer N w h c) → Fit N w h → answer N w h c .0 .number ≡ 0
       → FreedValue N h (answer N w h c .0) (answer N w h c .1)
-  freed-value c nothing value healthy e =
+  freed-value c nothing value fit e =
       let grown = value .grown e in
-      let even = even-zeros c healthy e in
+      let even = even-zeros c fit e in
       record { by-objects = omega (arith, grown, even, nothing); by-zeros = omega (arith, grown, even, nothing) }
 
 pub blocks-add-up : BlocksAddUp
@@ -397,22 +406,22 @@ blocks-add-up N w h =
           (on-undamaged-grown N w h
           (require-grown N w h (ltb r (length (h .roots))) 4 (omega arith)
           (require-grown N w h (isRef N h v) 8 (omega arith) (freeing-grown N w h (storeRootIn N w h r v) _))))
-          (accepted-healthy N w h _ e) e;
+          (accepted-fit N w h _ e) e;
       store-cell = λ a j v e.
           freed-value N w h (storeCell a j v) refl
           (on-undamaged-grown N w h
           (require-grown N w h (isFirst N h a) 6 (omega arith)
           (require-grown N w h (ltb j (4 * sizeAt N h a)) 7 (omega arith)
           (require-grown N w h (isRef N h v) 8 (omega arith) (freeing-grown N w h (storeCellIn N w h (4 * a + j) v) _)))))
-          (accepted-healthy N w h _ e) e;
+          (accepted-fit N w h _ e) e;
       return-roots = λ chosen e.
           freed-value N w h (returnRoots chosen) refl
           (on-undamaged-grown N w h
           (require-grown N w h (chosenBelow chosen (length (h .roots))) 4 (omega arith)
           (freeing-grown N w h (returnIn N w h chosen (length (h .roots))) 0)))
-          (accepted-healthy N w h _ e) e;
+          (accepted-fit N w h _ e) e;
       collection = λ e.
           freed-value N w h collect refl (on-undamaged-grown N w h (freeing-grown N w h (collected N w h) 0))
-          (accepted-healthy N w h _ e) e;
-      allocation = λ n r e. even-zeros N w h (allocate n r) (accepted-healthy N w h _ e) e;
+          (accepted-fit N w h _ e) e;
+      allocation = λ n r e. even-zeros N w h (allocate n r) (accepted-fit N w h _ e) e;
     }

@@ -21,7 +21,7 @@ use Rattle.theory.proofs.Graphs.Sweep as graph
 use Rattle.theory.proofs.Graphs.Calls.{collect-whole}
 use Rattle.theory.proofs.Memories.View.{view}
 use Rattle.theory.proofs.Memories.Healthy.{Aligned, Healthy, view-count}
-use Rattle.theory.proofs.Memories.Soundness.{healthy-sound}
+use Rattle.theory.proofs.Memories.Soundness.{healthy-counted}
 use Rattle.theory.proofs.Memories.Leads.{object-size, size-object, leads-reach}
 use Rattle.theory.proofs.EachCall.Served.{Served}
 use Rattle.theory.proofs.Memories.Stores.{positive}
@@ -130,7 +130,7 @@ module _ (N w : ℕ) (h : Memory) (healthy : Healthy N w h) where
       (b : ℕ) → isFirst N h b ≡ true → isFirst N (settled N (collected N w h)) b ≡ true → countOf N w h b < capacity w
       → countOf N w (settled N (collected N w h)) b ≡ capacity w → ⊥
   unstuck b was is low top =
-      elim (healthy-sound N w h healthy .counted b was) [
+      elim (healthy-counted N w h healthy b was) [
         | inl e ↦ omega arith
         | inr e ↦ omega (arith, recounted-first b is, references-le N h (marked (reached N h)) b)
       ]

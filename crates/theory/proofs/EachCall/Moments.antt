@@ -41,11 +41,12 @@ use Rattle.theory.proofs.Memories.Healthy.{Healthy, view-count, healthy
 use Rattle.theory.proofs.Memories.ViewRelease.{Shows}
 use Rattle.theory.proofs.Memories.Stores.{positive, ref-object, raised-shows, store-root, cell-place, store-cell}
 use Rattle.theory.proofs.Memories.Stores.{room-vacant, placed-shows, allocate-root}
+use Rattle.theory.proofs.Memories.Fit.{Fit}
 use Rattle.theory.proofs.EachCall.Served.{on-undamaged}
 use Rattle.theory.proofs.EachCall.StoresServed.{store-healthy, allocate-served}
 use Rattle.theory.proofs.EachCall.CollectionServed.{unstuck, collect-served}
 use Rattle.theory.proofs.EachCall.Answers.{answer-served}
-use Rattle.theory.proofs.EachCall.Balance.{accepted-healthy}
+use Rattle.theory.proofs.EachCall.Balance.{accepted-fit}
 
 one-or-none : (t : Bool) → (one t ≡ 1) ⊎ (one t ≡ 0)
 one-or-none true = inl refl
@@ -315,8 +316,8 @@ module _ (N w : ℕ) (h : Memory) where
   on-undamaged-tells {call} {next} tells =
       record {
         told = λ e.
-            let healthy = accepted-healthy N w h next e in
-            subst (λ (x : Answer). TellsIf N w call h x) (sym (on-undamaged N w h healthy next)) (tells healthy) .told e;
+            let fit = accepted-fit N w h next e in
+            subst (λ (x : Answer). TellsIf N w call h x) (sym (on-undamaged N w h fit next)) (tells (fit .healthy)) .told e;
       }
 
 pub stuck-told : StuckTold
@@ -350,12 +351,15 @@ stuck-told N w h =
 
 -- ---- no moment goes untold
 
-module _ (N w : ℕ) (h : Memory) (healthy : Healthy N w h) where
+module _ (N w : ℕ) (h : Memory) (fit : Fit N w h) where
+  abbrev healthy : Healthy N w h
+  healthy = fit .healthy
+
   pub none-untold :
       (call : Call) (b n : ℕ) → let x = answer N w h call in
       Object N h b n → Object N (x .1) b n → countOf N w h b < capacity w → countOf N w (x .1) b ≡ capacity w → x .0 .second ≡ 1
   unfolding writes
-  none-untold call b n was is low top = go call was is low top (answer-served N w h healthy call .sticks b n was is low top)
+  none-untold call b n was is low top = go call was is low top (answer-served N w h fit call .sticks b n was is low top)
     where
       go : (c : Call) → let x = answer N w h c in
           Object N h b n → Object N (x .1) b n → countOf N w h b < capacity w → countOf N w (x .1) b ≡ capacity w
@@ -383,7 +387,7 @@ module _ (N w : ℕ) (h : Memory) (healthy : Healthy N w h) where
   unfolding answer freeing
   collection-sticks-none b was low =
       let left : Memory = settled N (collected N w h) in
-      let answered = ap (λ (x : Answer). countOf N w (x .1) b) (on-undamaged N w h healthy (freeing N h (collected N w h) 0)) in
+      let answered = ap (λ (x : Answer). countOf N w (x .1) b) (on-undamaged N w h fit (freeing N h (collected N w h) 0)) in
       let bounded = count-lt (N / 8) w (left .counts) b in
       elim (test-cases (isFirst N left b)) [
         | inl is ↦ elim (ℕ-discrete (countOf N w left b) (capacity w)) [

@@ -8,11 +8,12 @@ use Prim.Native.Nat.{ℕ, _+_, _-_, _/_, _^_, _≤_, _<_}
 use native.Mathlib.Decide.{decLt}
 use native.Mathlib.Omega.{arith}
 use lib.Dec.{ltb}
-use lib.ListN.{length, getD}
+use lib.ListN.{length, getD, replicate}
 use borrow.Author.Tests.{lt-ltb, eqb-true, eqb-false}
 use Rattle.bitmap.specs.Bit.{bitOf, one, zeros}
 use Rattle.bitmap.proofs.Bits.{bit-lt, bits-past, some-bit-past}
-use Rattle.rules.specs.Heap.{Memory, capacity, isRef}
+use Rattle.rules.specs.Heap.{Memory, capacity, isRef, withWaiting, withSections}
+use Rattle.rules.specs.Sections.{figures}
 use Rattle.rules.specs.Store.{storeRootIn, storeSticks, chosenBelow, returnIn}
 use Rattle.rules.specs.Calls.{storeRoot, returnRoots, Answer, require, settled, freeing, answer, run, lastMemory}
 use Rattle.rules.proofs.Tests.{require-true, require-passed}
@@ -22,6 +23,7 @@ use Rattle.theory.proofs.Graphs.Order.{same-end}
 use Rattle.theory.proofs.Memories.View.{view}
 use Rattle.theory.proofs.Memories.Slots.{occurrences-holding}
 use Rattle.theory.proofs.Memories.Healthy.{Healthy}
+use Rattle.theory.proofs.Memories.Fit.{Listed, Fit}
 use Rattle.theory.proofs.Memories.SameView.{same-memory}
 use Rattle.theory.proofs.Memories.Stores.{positive}
 use Rattle.theory.proofs.EachCall.Served.{on-undamaged}
@@ -30,57 +32,63 @@ use Rattle.theory.proofs.EachCall.Clearing.{none-ref, Cleared, cleared-
 -- ---- roots cleared singly
 
 clear-answered :
-    (N w : ℕ) (g : Memory) → Healthy N w g → (r : ℕ) → r < length (g .roots)
+    (N w : ℕ) (g : Memory) → Fit N w g → (r : ℕ) → r < length (g .roots)
     → answer N w g (storeRoot r 0) ≡ freeing N g (storeRootIn N w g r 0) (one (storeSticks N w (g .counts) (getD (g .roots) r 0) 0))
 unfolding answer
-clear-answered N w g healthy r l =
-    on-undamaged N w g healthy _
+clear-answered N w g fit r l =
+    on-undamaged N w g fit _
     ∙ require-true (ltb r (length (g .roots))) 4 g _ (lt-ltb r (length (g .roots)) l)
     ∙ require-true (isRef N g 0) 8 g _ (none-ref N g)
 
 -- root i stands in the list
-abbrev Listed : List ℕ → ℕ → Type 0
-Listed order i = 1 ≤ occurrences i order
+abbrev Ordered : List ℕ → ℕ → Type 0
+Ordered order i = 1 ≤ occurrences i order
 
 -- the roots of the list, cleared in g by the answers: g′ is the memory after the last, and their values add up to what they freed
 record ClearedBy (N w : ℕ) (S : ℕ → Type 0) (order : List ℕ) (g g′ : Memory) (answers : List Answer) : Type 0 where
-  cleared : Cleared N w S (Listed order) g g′
+  cleared : Cleared N w S (Ordered order) g g′
   blocks : zeros (g′ .a) ≡ zeros (g .a) + freedInAll answers
+  listed : Listed N g′
 
 singly :
-    (N w : ℕ) (S : ℕ → Type 0) (order : List ℕ) (g : Memory) → Healthy N w g
-    → ((i : ℕ) → Listed order i → (i < length (g .roots)) × S i)
+    (N w : ℕ) (S : ℕ → Type 0) (order : List ℕ) (g : Memory) → Fit N w g
+    → ((i : ℕ) → Ordered order i → (i < length (g .roots)) × S i)
     → ClearedBy N w S order g (lastMemory g (clearedSingly N w g order)) (clearedSingly N w g order)
 unfolding run lastMemory freedInAll freeing
-singly N w S [] g healthy each =
-    let none = cleared-none N w S g healthy in
+singly N w S [] g fit each =
+    let none = cleared-none N w S g (fit .healthy) in
     record {
-      cleared = cleared-then N w S (λ i. ⊥) (λ i. ⊥) (Listed []) g g g none none (λ i o. absurd (omega (arith, occurrences-nil i)));
+      cleared = cleared-then N w S (λ i. ⊥) (λ i. ⊥) (Ordered []) g g g none none (λ i o. absurd (omega (arith, occurrences-nil i)));
       blocks = omega arith;
+      listed = fit .listed;
     }
-singly N w S (r ∷ order) g healthy each =
+singly N w S (r ∷ order) g fit each =
     let here = each r (omega (arith, occurrences-cons r r order, equals-same r r refl)) in
-    let one = root-cleared N w S g healthy r (here .0) (here .1) in
+    let one = root-cleared N w S g (fit .healthy) r (here .0) (here .1) in
     let next : Memory = settled N (storeRootIn N w g r 0) in
     let first = cleared-settled N w S (λ i. i ≡ r) g (storeRootIn N w g r 0) one in
     let more =
-    singly N w S order next (first .healthy)
+    singly N w S order next (record { healthy = first .healthy; listed = refl })
     (λ i o. let at = each i (omega (arith, occurrences-cons i r order)) in (omega (arith, first .roots-are, at .0), at .1)) in
     subst
     (λ (x : Answer). ClearedBy N w S (r ∷ order) g (lastMemory (x .1) (clearedSingly N w (x .1) order)) (x ∷ clearedSingly N w (x .1) order))
-    (sym (clear-answered N w g healthy r (here .0)))
+    (sym (clear-answered N w g fit r (here .0)))
     (record {
       cleared =
-          cleared-then N w S (λ i. i ≡ r) (Listed order) (Listed (r ∷ order)) g next (lastMemory next (clearedSingly N w next order)) first
+          cleared-then N w S (λ i. i ≡ r) (Ordered order) (Ordered (r ∷ order)) g next (lastMemory next (clearedSingly N w next order)) first
           (more .cleared)
           (λ i o. elim (equals-cases r i) [ inl c ↦ inl (sym (c .0)) | inr c ↦ inr (omega (arith, occurrences-cons i r order, c .1)) ]);
       blocks = omega (arith, more .blocks, one .grows);
+      listed = more .listed;
     })
 
 -- ---- the return
 
-module _ (N w : ℕ) (h : Memory) (healthy : Healthy N w h) (chosen : ℕ) (passed : chosen / 2 ^ length (h .roots) ≡ 0) (order : List ℕ)
+module _ (N w : ℕ) (h : Memory) (fit : Fit N w h) (chosen : ℕ) (passed : chosen / 2 ^ length (h .roots) ≡ 0) (order : List ℕ)
     (each : EachOnce chosen order) where
+  abbrev healthy : Healthy N w h
+  healthy = fit .healthy
+
   abbrev Chosen : ℕ → Type 0
   Chosen i = InSet chosen (length (h .roots)) i
 
@@ -94,7 +102,7 @@ module _ (N w : ℕ) (h : Memory) (healthy : Healthy N w h) (chosen : ℕ) (pass
   all = returned N w h healthy chosen (length (h .roots)) (omega arith)
 
   -- what stands in the list is a root of the set, and each root of the set stands in it
-  listed-chosen : (i : ℕ) → Listed order i → Chosen i
+  listed-chosen : (i : ℕ) → Ordered order i → Chosen i
   listed-chosen i o =
       let bit : bitOf chosen i ≡ 1 = omega (arith, each i, occurrences-holding i order, bit-lt chosen i) in (
         elim (decLt i (length (h .roots))) [
@@ -104,11 +112,11 @@ module _ (N w : ℕ) (h : Memory) (healthy : Healthy N w h) (chosen : ℕ) (pass
         bit,
       )
 
-  chosen-listed : (i : ℕ) → Chosen i → Listed order i
+  chosen-listed : (i : ℕ) → Chosen i → Ordered order i
   chosen-listed i s = omega (arith, each i, occurrences-holding i order, s .1)
 
   ran : ClearedBy N w Chosen order h last (clearedSingly N w h order)
-  ran = singly N w Chosen order h healthy (λ i o. (listed-chosen i o .0, listed-chosen i o))
+  ran = singly N w Chosen order h fit (λ i o. (listed-chosen i o .0, listed-chosen i o))
 
   same-view : view N w last ≡ view N w end
   same-view =
@@ -123,10 +131,10 @@ module _ (N w : ℕ) (h : Memory) (healthy : Healthy N w h) (chosen : ℕ) (pass
 
   same-heap : settled N last ≡ settled N end
   same-heap =
-      let singles = cleared-settled N w Chosen (Listed order) h last (ran .cleared) in
+      let singles = cleared-settled N w Chosen (Ordered order) h last (ran .cleared) in
       let together = cleared-settled N w Chosen Chosen h end all in
       same-memory N w h (singles .healthy .shape) (singles .healthy .represents) (together .healthy .represents)
-      (singles .rewrites) (together .rewrites) (singles .roots-are ∙ sym (together .roots-are)) refl same-view
+      (singles .rewrites) (together .rewrites) (singles .roots-are ∙ sym (together .roots-are)) refl (ap (figures N)) same-view
 
   same-blocks : freedInAll (clearedSingly N w h order) ≡ zeros (end .a) - zeros (h .a)
   same-blocks = omega (arith, ran .blocks, ap (λ (m : Memory). zeros (m .a)) same-heap)
@@ -135,11 +143,14 @@ module _ (N w : ℕ) (h : Memory) (healthy : Healthy N w h) (chosen : ℕ) (pass
       answer N w h (returnRoots chosen) ≡ freeing N h end 0 → SameAsSingly N w h chosen order
   unfolding freeing
   return-is is =
-      record { heap = same-heap ∙ sym (ap (λ (x : Answer). x .1) is); value = same-blocks ∙ sym (ap (λ (x : Answer). x .0 .value) is) }
+      record {
+        heap = ap (λ (l : List ℕ). withSections l (withWaiting (replicate N 0) last)) (ran .listed) ∙ same-heap ∙ sym (ap (λ (x : Answer). x .1) is);
+        value = same-blocks ∙ sym (ap (λ (x : Answer). x .0 .value) is);
+      }
 
 -- ---- accepted and refused
 
-module _ (N w : ℕ) (h : Memory) (healthy : Healthy N w h) (chosen : ℕ) where
+module _ (N w : ℕ) (h : Memory) (fit : Fit N w h) (chosen : ℕ) where
   abbrev done : Answer
   done = freeing N h (returnIn N w h chosen (length (h .roots))) 0
 
@@ -148,13 +159,13 @@ module _ (N w : ℕ) (h : Memory) (healthy : Healthy N w h) (chosen : ℕ) where
 
   tested : answer N w h (returnRoots chosen) ≡ require test 4 h done
   unfolding answer
-  tested = on-undamaged N w h healthy (require test 4 h done)
+  tested = on-undamaged N w h fit (require test 4 h done)
 
   pub same-as-singly :
       answer N w h (returnRoots chosen) .0 .number ≡ 0 → (order : List ℕ) → EachOnce chosen order → SameAsSingly N w h chosen order
   same-as-singly accepted order each =
       let passes : test ≡ true = require-passed test 4 h done (omega arith) (ap (λ (x : Answer). x .0 .number) (sym tested) ∙ accepted) in
-      return-is N w h healthy chosen (eqb-true (chosen / 2 ^ length (h .roots)) 0 passes) order each
+      return-is N w h fit chosen (eqb-true (chosen / 2 ^ length (h .roots)) 0 passes) order each
       (tested ∙ require-true test 4 h done passes)
 
   pub return-refused : (answer N w h (returnRoots chosen) .0 .number ≡ 4) ↔ ((r : ℕ) × (length (h .roots) ≤ r) × (bitOf chosen r ≡ 1))

@@ -14,7 +14,9 @@ use Rattle.theory.specs.Stuck.{Wrote}
 use Rattle.theory.specs.Demand.{NoEarlyFree, Collects}
 use Rattle.rules.specs.declared.Reply.{Reply}
 use Rattle.rules.proofs.Replies.{on-undamaged-next}
-use Rattle.theory.proofs.Memories.Healthy.{Healthy, healthy-shaped, healthy-no-damage}
+use Rattle.rules.proofs.TrueList.{length-figures}
+use Rattle.theory.proofs.Memories.Healthy.{Healthy}
+use Rattle.theory.proofs.Memories.Fit.{Fit, fit-undamaged}
 use Rattle.theory.proofs.Memories.ViewRelease.{reshaped}
 use Rattle.theory.proofs.Memories.Formatted.{zeros-at, no-object, formatted-healthy}
 
@@ -30,12 +32,12 @@ pub record Served (N w : ℕ) (c : Call) (h : Memory) (x : Answer) : Type 0 wher
   pub collects : Collects N w c h (x .0) (x .1)
   pub sticks : Sticks N w c h (x .0) (x .1)
 
--- a healthy memory stays so when its waiting list is cleared
+-- a healthy memory stays so when its waiting list is cleared and its list of sections is true
 pub settled-healthy : (N w : ℕ) (h : Memory) → Healthy N w h → Healthy N w (settled N h)
 settled-healthy N w h healthy =
     record {
       shape = reshaped N w h (settled N h) (healthy .shape) refl refl refl refl refl
-          (length-replicate N 0 ∙ sym (healthy .shape .length-waiting));
+          (length-replicate N 0 ∙ sym (healthy .shape .length-waiting)) (length-figures N (h .a) ∙ sym (healthy .shape .length-sections));
       represents = healthy .represents;
       whole = healthy .whole;
       aligned = healthy .aligned;
@@ -77,13 +79,6 @@ module _ (N w : ℕ) (h : Memory) (healthy : Healthy N w h) where
   require-served true number nonzero served = served refl
   require-served {c} false number nonzero served = refused-served c number nonzero
 
-  -- a healthy memory is not refused for its shape or for damage
-  pub on-undamaged : (next : Answer) → onUndamaged N w h next ≡ next
-  on-undamaged next = on-undamaged-next N w h next (healthy-shaped N w h healthy) (healthy-no-damage N w h healthy)
-
-  pub on-undamaged-served : {c : Call} {next : Answer} → Served N w c h next → Served N w c h (onUndamaged N w h next)
-  on-undamaged-served {c} {next} served = subst (λ (x : Answer). Served N w c h x) (sym (on-undamaged next)) served
-
   -- ---- the format
 
   pub format-served : Served N w format h (accepted (formatted N w (length (h .roots))) 0)
@@ -96,3 +91,15 @@ module _ (N w : ℕ) (h : Memory) (healthy : Healthy N w h) where
         collects = tt;
         sticks = λ b n was is low top. absurd (no-object N w h (healthy .shape) b (is .first));
       }
+
+-- ---- the tests of the heap
+
+-- a fit memory is refused by none of them
+pub on-undamaged : (N w : ℕ) (h : Memory) → Fit N w h → (next : Answer) → onUndamaged N w h next ≡ next
+on-undamaged N w h fit next =
+    let u = fit-undamaged N w h fit in
+    on-undamaged-next N w h next (u .right-shape) (u .no-damage) (u .true-list)
+
+pub on-undamaged-served :
+    (N w : ℕ) (h : Memory) → Fit N w h → {c : Call} {next : Answer} → Served N w c h next → Served N w c h (onUndamaged N w h next)
+on-undamaged-served N w h fit {c} {next} served = subst (λ (x : Answer). Served N w c h x) (sym (on-undamaged N w h fit next)) served

@@ -38,6 +38,7 @@ use Rattle.theory.proofs.Memories.Slots.{slotsIn, root-slot, cell-slot,
 use Rattle.theory.proofs.Memories.Healthy.{Aligned, Healthy, view-count, healthy-damage-free}
 use Rattle.theory.proofs.Memories.Soundness.{all-references}
 use Rattle.theory.proofs.Memories.Leads.{object-size, size-object, leads-reach}
+use Rattle.rules.proofs.TrueList.{length-figures}
 use Rattle.theory.proofs.EachCall.Served.{Served, settled-healthy}
 use Rattle.theory.proofs.Memories.ViewMoves.{set-append-right}
 use Rattle.theory.proofs.Memories.ViewRelease.{reshaped, Shows}
@@ -48,7 +49,8 @@ use Rattle.theory.proofs.Memories.Stores.{positive, slots-length, ref-o
 pub healthy-after :
     (N w r : ℕ) (g : Memory) (k : Graph) → Shows N w r g k → Whole (capacity w) r k → Aligned (k .sizes) → Healthy N w (settled N g)
 healthy-after N w r g k shows whole aligned = record {
-  shape = reshaped N w g (settled N g) (shows .shape) refl refl refl refl refl (length-replicate N 0 ∙ sym (shows .shape .length-waiting));
+  shape = reshaped N w g (settled N g) (shows .shape) refl refl refl refl refl (length-replicate N 0 ∙ sym (shows .shape .length-waiting))
+      (length-figures N (g .a) ∙ sym (shows .shape .length-sections));
   represents = shows .represents;
   whole = subst (λ (m : Graph). Whole (capacity w) (length (g .roots)) m) (sym (shows .view-is)) (rw (shows .roots-are) whole);
   aligned = subst (λ (m : Graph). Aligned (m .sizes)) (sym (shows .view-is)) aligned;

@@ -1,10 +1,10 @@
 -- What the two maps stand for: a list of sizes, at each first block the size of its object and elsewhere 0. `Represents` says which
 -- maps a list of sizes has; first blocks and sizes can be read off either; maps and sizes determine each other.
-use mathlib.Core.Path.{_≡_, refl, sym, ap, _∙_}
+use mathlib.Core.Path.{_≡_, sym, ap, _∙_}
 use mathlib.Core.Logic.{_≢_, _⊎_, inl, inr}
 use mathlib.Core.Bool.{true, false, true≢false}
 use mathlib.Core.List.{List}
-use Prim.Native.Nat.{ℕ, zero, suc, _+_, _-_, _*_, _/_, _≤_, _<_}
+use Prim.Native.Nat.{ℕ, suc, _+_, _-_, _*_, _/_, _≤_, _<_}
 use native.Mathlib.Decide.{ℕ-discrete, decLt}
 use native.Mathlib.Omega.{arith}
 use lib.ListN.{length, getD, replicate, length-replicate, getD-replicate, List·getD-eq-default}
@@ -12,7 +12,7 @@ use lib.Seq.{ext-getD}
 use Rattle.bitmap.specs.Bit.{bitAt, Bytes}
 use Rattle.bitmap.proofs.Maps.{bit-all-zero, bit-all-one, map-ext}
 use Rattle.rules.specs.Heap.{firstIn, sizeFrom}
-use Rattle.rules.specs.Collection.{tabulate}
+use Rattle.rules.specs.Tools.{tabulate}
 use Rattle.rules.proofs.Tabulate.{length-tabulate, getD-tabulate}
 use Rattle.rules.proofs.Tests.{test-cases}
 use Rattle.rules.proofs.Objects.{bit-cases, Starts, first-facts, first-test, size-is}

@@ -6,8 +6,8 @@ use Prim.Native.Nat.{ℕ, _+_, _-_, _*_, _^_, _≤_, _<_}
 use native.Mathlib.Nat.{mul-assoc, mul-le-mul-right, le-of-mul-le-mul-right}
 use native.Mathlib.Omega.{arith}
 use lib.Pow.{pow-add, pow-pos}
-use Rattle.rules.specs.Heap.{isBlocks, exponent, chunkFree}
-use Rattle.rules.specs.Sections.{sectionLength, largestFree, figure}
+use Rattle.rules.specs.Heap.{exponent, chunkFree, sectionLength}
+use Rattle.rules.specs.Sections.{largestFree, figure}
 use Rattle.rules.proofs.Figures.{there-is, none-larger}
 use Rattle.rules.proofs.Sections.{Divided, divided, exponents}
 use Rattle.theory.specs.Sections.{FreeWithin, FiguresAreLargest}

@@ -12,7 +12,8 @@ use borrow.Author.Tests.{leb-false, lt-leb, lt-ltb, ltb-true, eqb-true, eqb-fals
 use Rattle.bitmap.specs.Bit.{bitAt}
 use Rattle.planes.proofs.Counts.{count-lt}
 use Rattle.rules.specs.Heap.{Memory, capacity, countOf, isFree, isLast, isFirst, sizeAt, exponent, isRef, references}
-use Rattle.rules.specs.Damage.{someBelow, endOnFree, openEnd, unaligned, badCell, badRoot, badCount, damage}
+use Rattle.rules.specs.Tools.{someBelow}
+use Rattle.rules.specs.Damage.{endOnFree, openEnd, unaligned, badCell, badRoot, badCount, damage}
 use Rattle.rules.proofs.Tests.{test-cases, and-true, true-and, and-false, false-and, or-false, false-or, some-false, false-some}
 use Rattle.rules.proofs.Tests.{done, also, kind-at, kinds-absent}
 use Rattle.rules.proofs.Shape.{Shaped}

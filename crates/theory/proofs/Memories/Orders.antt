@@ -60,6 +60,7 @@ record Carried (N w k n : ℕ) (h : Memory) (g : Memory) (left : List ℕ) : Typ
   written : Rewrites h g
   same-roots : g .roots ≡ h .roots
   same-waiting : g .waiting ≡ h .waiting
+  same-sections : g .sections ≡ h .sections
   blocks : zeros (g .a) ≡ zeros (h .a) + n
   objects : k + occurrences 0 (sizesOf N (h .a) (h .b)) ≡ occurrences 0 (sizesOf N (g .a) (g .b))
 
@@ -74,6 +75,7 @@ carried N w Taken.none before =
       written = rewrites-same _;
       same-roots = refl;
       same-waiting = refl;
+      same-sections = refl;
       blocks = omega arith;
       objects = omega arith;
     }
@@ -90,6 +92,7 @@ carried N w (Taken.next {k} {n} {total} {h} {g} {waiting} {left} front i back e 
       written = rewrites-trans (step-rewrites N w h i (front ++ back)) (more .written);
       same-roots = more .same-roots;
       same-waiting = more .same-waiting;
+      same-sections = more .same-sections;
       blocks = omega (arith, more .blocks, freed-zeros N w h i (front ++ back) first, t);
       objects = omega (arith, more .objects, fewer-objects N w h i (front ++ back) first);
     }
@@ -132,6 +135,7 @@ module _ (N w : ℕ) (h : Memory) (waiting : List ℕ) (before : Releasing N w h
       let d = carried N w u before in
       same-memory N w h (c .releasing .shape) (c .releasing .represents) (d .releasing .represents) (c .written) (d .written)
       (ap length (c .same-roots ∙ sym (d .same-roots))) (c .same-waiting ∙ sym (d .same-waiting))
+      (λ e. c .same-sections ∙ sym (d .same-sections))
       (same-end (capacity w) (before .positive) (length (h .roots)) (λ j. ⊥) (view N w h) (before .balanced) (view N w g) (view N w end)
       (end-of k n g t) (end-of l m end u))
 

@@ -12,8 +12,8 @@ use lib.ListN.{length, getD, replicate, length-replicate, getD-replicate, List·
 use lib.Dec.{leb, ltb, eqb}
 use borrow.Author.Tests.{leb-true, le-leb, ltb-true, lt-ltb, eqb-true, eq-eqb, not-true, not-false}
 use Rattle.bitmap.specs.Bit.{countBelow}
-use Rattle.rules.specs.Heap.{Memory, isFirst, sizeAt, holding}
-use Rattle.rules.specs.Damage.{someBelow}
+use Rattle.rules.specs.Tools.{holding, someBelow}
+use Rattle.rules.specs.Heap.{Memory, isFirst, sizeAt}
 use Rattle.rules.specs.Collection.{isCellOf, cellOfChosen, referencesFrom, marked, reachedNext, reachedIn, reached}
 use Rattle.theory.specs.Words.{Leads, root, cell}
 use Rattle.rules.proofs.Tests.{test-cases, and-true, true-and, and-false, some-true, true-some, some-false}

@@ -75,7 +75,8 @@ same-parts l m back after n e = (
 
 module _ (N w : ℕ) (h : Memory) {g k : Memory} (shape : Shaped N w g) (p : Represents N (g .a) (g .b) (sizesOf N (g .a) (g .b)))
     (q : Represents N (k .a) (k .b) (sizesOf N (k .a) (k .b))) (from-g : Rewrites h g) (from-k : Rewrites h k)
-    (roots-length : length (g .roots) ≡ length (k .roots)) (same-waiting : g .waiting ≡ k .waiting) (one : view N w g ≡ view N w k) where
+    (roots-length : length (g .roots) ≡ length (k .roots)) (same-waiting : g .waiting ≡ k .waiting)
+    (same-sections : g .a ≡ k .a → g .sections ≡ k .sections) (one : view N w g ≡ view N w k) where
   pub same-memory : g ≡ k
   same-memory =
       λ i.
@@ -86,6 +87,7 @@ module _ (N w : ℕ) (h : Memory) {g k : Memory} (shape : Shaped N w g) (p : Rep
         cells = parts .1 i;
         roots = parts .0 i;
         waiting = same-waiting i;
+        sections = same-sections maps-a i;
       }
     where
       also : Represents N (k .a) (k .b) (sizesOf N (g .a) (g .b))

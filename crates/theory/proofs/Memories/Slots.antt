@@ -13,7 +13,8 @@ use lib.ListN.{length, getD, List·getD-append}
 use lib.Seq.{getD-append-add}
 use borrow.Author.Tests.{eqb-true, eqb-false}
 use Rattle.bitmap.specs.Bit.{one}
-use Rattle.rules.specs.Heap.{Memory, isFirst, isRef, holding, references}
+use Rattle.rules.specs.Tools.{holding}
+use Rattle.rules.specs.Heap.{Memory, isFirst, isRef, references}
 use Rattle.rules.proofs.Tests.{test-cases}
 use Rattle.rules.proofs.Objects.{ref-facts, holding-nil, holding-cons}
 use Rattle.theory.proofs.Graphs.Occurrences.{equals, equals-same, equals-other, occurrences, occurrences-nil, occurrences-cons, occurrences-append}

@@ -1,7 +1,7 @@
--- A healthy memory is sound in the words of demand 3. Most of that is read off the two maps. The number of references takes a step: the
+-- A healthy memory with a true list of sections is sound in the words of demand 3. Most of that is read off the two maps. The number of references takes a step: the
 -- words count the cells of objects, the damage test counts all cells, and every cell that is not 0 is one of an object.
 use mathlib.Core.Path.{_≡_, refl, sym, ap, _∙_}
-use mathlib.Core.Logic.{inl, inr}
+use mathlib.Core.Logic.{_⊎_, inl, inr}
 use mathlib.Core.Bool.{Bool, true, false, _&&_}
 use Prim.Native.Nat.{ℕ, _+_, _*_, _/_, _%_, _^_, _≤_, _<_}
 use native.Mathlib.Decide.{decLt}
@@ -11,7 +11,9 @@ use lib.ListN.{length, getD}
 use borrow.Author.Tests.{eqb-true, lt-ltb, le-leb}
 use Rattle.bitmap.specs.Bit.{bitAt, countBelow}
 use Rattle.bitmap.proofs.Zeros.{count-same}
-use Rattle.rules.specs.Heap.{Memory, isFirst, sizeAt, exponent, holding, references}
+use Rattle.rules.specs.Tools.{holding}
+use Rattle.rules.specs.Heap.{Memory, capacity, countOf, isFirst, sizeAt, exponent, references}
+use Rattle.rules.specs.Sections.{figures}
 use Rattle.rules.specs.Collection.{isCellOf, cellOfChosen, referencesFrom}
 use Rattle.theory.specs.Words.{Object, Names, by-root, by-cell, numberOfReferences, InExtent}
 use Rattle.theory.specs.Demand.{Sound}
@@ -105,12 +107,18 @@ module _ (N w : ℕ) (h : Memory) (healthy : Healthy N w h) where
       let inside = healthy .represents .inside a (λ z. same .1 (sym (same .0) ∙ z)) in
       ref-first N h (getD (h .cells) (4 * a + j) 0) b (undamaged .cell-refs (4 * a + j) (omega (arith, same .0))) (omega arith)
 
-  pub healthy-sound : Sound N w h
-  healthy-sound =
+  pub healthy-counted : (b : ℕ) → isFirst N h b ≡ true → (countOf N w h b ≡ capacity w) ⊎ (countOf N w h b ≡ numberOfReferences N h b)
+  healthy-counted b f =
+      elim (undamaged .counted b f) [
+        | inl e ↦ inl e
+        | inr e ↦ inr (e ∙ sym (all-references N h (healthy .represents) (healthy .shape .length-cells) (undamaged .free-cells) b))
+      ]
+
+  pub healthy-sound : h .sections ≡ figures N (h .a) → Sound N w h
+  healthy-sound listed =
       record {
         named = named;
-        counted = λ b f.
-            elim (undamaged .counted b f) [ inl e ↦ inl e | inr e ↦ inr (e ∙ sym (all-references N h (healthy .represents) (healthy .shape .length-cells) (undamaged .free-cells) b)) ];
+        counted = healthy-counted;
         covered = λ i l u. let o = healthy .represents .owner i u in (o .0, covers N h (healthy .represents) (healthy .shape .length-cells) (undamaged .free-cells) (o .0) i (o .1) (o .2));
         disjoint = λ i x y p q.
             elim (decLt x y) [
@@ -123,4 +131,5 @@ module _ (N w : ℕ) (h : Memory) (healthy : Healthy N w h) where
             (omega (arith, healthy .represents .inside x (omega (arith, e .from)), e .from), healthy .represents .used x i (e .from) l);
         aligned = λ x n object. ap (λ (m : ℕ). x % 2 ^ exponent m) (sym (object .size)) ∙ undamaged .aligned x (object .first);
         cleared = undamaged .free-cells;
+        listed = listed;
       }

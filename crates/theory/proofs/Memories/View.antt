@@ -3,7 +3,7 @@
 use Prim.Native.Nat.{ℕ}
 use mathlib.Core.List.{_++_}
 use Rattle.rules.specs.Heap.{Memory, countOf}
-use Rattle.rules.specs.Collection.{tabulate}
+use Rattle.rules.specs.Tools.{tabulate}
 use Rattle.theory.proofs.Maps.Extents.{sizesOf}
 use Rattle.theory.proofs.Graphs.Graph.{Graph}
 

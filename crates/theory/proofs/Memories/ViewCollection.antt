@@ -12,8 +12,9 @@ use lib.Dec.{eqb}
 use borrow.Author.Tests.{eqb-false, ne-eqb, not-true}
 use Rattle.bitmap.specs.Bit.{countBelow}
 use Rattle.bitmap.proofs.Zeros.{count-same}
-use Rattle.rules.specs.Heap.{Memory, capacity, countOf, isFirst, holding}
-use Rattle.rules.specs.Collection.{cellOfChosen, referencesFrom, marked, reached, swept, collected, tabulate}
+use Rattle.rules.specs.Tools.{holding, tabulate}
+use Rattle.rules.specs.Heap.{Memory, capacity, countOf, isFirst}
+use Rattle.rules.specs.Collection.{cellOfChosen, referencesFrom, marked, reached, swept, collected}
 use Rattle.rules.proofs.Tests.{test-cases, true-and}
 use Rattle.rules.proofs.Counting.{then-all, then-none}
 use Rattle.rules.proofs.Tabulate.{length-tabulate, getD-tabulate}
@@ -210,6 +211,7 @@ module _ (N w : ℕ) (h : Memory) (healthy : Healthy N w h) where
         shape =
             reshaped N w left (collected N w h) (collect-swept .shape) refl refl
             (recounted-length N w (healthy .shape .whole-bytes) h marks (left .counts) N)
+            refl
             refl
             refl
             refl;

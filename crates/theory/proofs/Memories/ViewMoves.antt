@@ -13,7 +13,7 @@ use borrow.Author.Tests.{eq-eqb, ne-eqb}
 use Rattle.planes.specs.Plane.{countAt, setCount}
 use Rattle.planes.proofs.Counts.{count-lt, count-set-same, count-set-other, length-set-count}
 use Rattle.rules.specs.Heap.{capacity}
-use Rattle.rules.specs.Collection.{tabulate}
+use Rattle.rules.specs.Tools.{tabulate}
 use Rattle.rules.specs.Store.{Work, work, countUp, countDown, countDownEach, clearCells}
 use Rattle.theory.proofs.Graphs.Stretch.{stretch, clear}
 use Rattle.rules.proofs.Tabulate.{length-tabulate, getD-tabulate}

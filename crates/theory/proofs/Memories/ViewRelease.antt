@@ -30,8 +30,8 @@ use Rattle.theory.proofs.Memories.ViewMoves.{WorkShows, each-shows, len
 pub reshaped :
     (N w : ℕ) (h g : Memory) → Shaped N w h → length (g .a) ≡ length (h .a) → length (g .b) ≡ length (h .b)
     → length (g .counts) ≡ length (h .counts) → length (g .cells) ≡ length (h .cells) → length (g .roots) ≡ length (h .roots)
-    → length (g .waiting) ≡ length (h .waiting) → Shaped N w g
-reshaped N w h g s a b counts cells roots waiting = record {
+    → length (g .waiting) ≡ length (h .waiting) → length (g .sections) ≡ length (h .sections) → Shaped N w g
+reshaped N w h g s a b counts cells roots waiting sections = record {
   power = s .power;
   blocks-min = s .blocks-min;
   blocks-max = s .blocks-max;
@@ -45,6 +45,7 @@ reshaped N w h g s a b counts cells roots waiting = record {
   length-counts = counts ∙ s .length-counts;
   length-cells = cells ∙ s .length-cells;
   length-waiting = waiting ∙ s .length-waiting;
+  length-sections = sections ∙ s .length-sections;
 }
 
 -- the memory h is as its shape demands, has r roots and shows the graph k
@@ -142,7 +143,7 @@ module _ (N w : ℕ) (h : Memory) (x : ℕ) (rest : List ℕ) (before : Releasin
       record {
         shape = reshaped N w h (memoryAfter N w h x rest) shape (length-fill (h .a) x (sizeAt N h x) 0)
             (length-set-bit (h .b) (x + sizeAt N h x - 1) 1) (work-after .length-is ∙ sym (shape .length-counts))
-            (length-clear-cells (h .cells) (4 * x) (4 * sizeAt N h x)) refl refl;
+            (length-clear-cells (h .cells) (4 * x) (4 * sizeAt N h x)) refl refl refl;
         represents = rw (← sizes-after) maps-after;
         positive = before .positive;
         balanced =

@@ -34,6 +34,7 @@ pub record Swept (N w : ℕ) (h g : Memory) (k : Graph) : Type 0 where
   pub represents : Represents N (g .a) (g .b) (k .sizes)
   pub same-roots : g .roots ≡ h .roots
   pub same-waiting : g .waiting ≡ h .waiting
+  pub same-sections : g .sections ≡ h .sections
   pub slots-are : slotsIn g ≡ k .slots
 
 -- ---- one object
@@ -51,10 +52,12 @@ freed-swept N w h g k p x n e some =
           (length-set-count (N / 8) w (g .counts) x 0)
           (length-clear-cells (g .cells) (4 * x) (4 * n))
           refl
+          refl
           refl;
       represents = freed-represents N (g .a) (g .b) (k .sizes) (p .represents) x n e some;
       same-roots = p .same-roots;
       same-waiting = p .same-waiting;
+      same-sections = p .same-sections;
       slots-are = rw (e, ← p .slots-are, ← p .same-roots) (clear-behind (g .roots) (g .cells) (4 * x) (4 * n));
     }
 
@@ -156,5 +159,5 @@ module _ (N w : ℕ) (h : Memory) (shape : Shaped N w h) (represents : Represent
 
   pub sweep-swept : (n : ℕ) → n ≤ N → Swept N w h (swept N w h marks n) (sweep r before n)
   unfolding sweep swept
-  sweep-swept zero l = record { shape = shape; represents = represents; same-roots = refl; same-waiting = refl; slots-are = refl }
+  sweep-swept zero l = record { shape = shape; represents = represents; same-roots = refl; same-waiting = refl; same-sections = refl; slots-are = refl }
   sweep-swept (suc n) l = one-more n l (sweep-swept n (omega arith))
