@@ -1,6 +1,5 @@
 pub mod Cells
 pub mod Firsts
-pub mod FreeChunks
 pub mod LowestChunk
 pub mod Parts
 pub mod Powers

@@ -1,8 +1,8 @@
-// Free chunks of the A-map: the size of chunk that an object asks for, whether one is free (the or-tree), and the search for the lowest.
+// Free chunks of the A-map: the size of chunk that an object asks for, and the search for the lowest.
 ghost use mathlib.Core.Path.{_≡_};
 ghost use Prim.Native.Nat.{ℕ, _+_, _*_, _^_, _<_, _≤_};
 ghost use lib.ListN.{length};
-ghost use Rattle.rules.specs.Heap.{exponent, chunkFree};
+ghost use Rattle.rules.specs.Heap.{exponent};
 ghost use Rattle.blocks.specs.Search.{judgedFree, Part, lowestIn, Search};
 
 // The least power of two that is n or more.
@@ -15,24 +15,6 @@ pub fn chunk_size(n: usize) -> usize
         size = size * 2;
     }
     size
-}
-
-// Whether the chunk of `size` blocks from block `at` is free: of one block where its A bit is 0, of more where both of its
-// halves are.
-pub fn chunk_is_free(a: &[u8], at: usize, size: usize) -> bool
-    requires { ⌜ ((k : ℕ) × (size ≡ 2 ^ k)) ⌝ }
-    requires { ⌜ (at + size ≤ 8 * length (now a)) × (at + size < 2 ^ 64) ⌝ }
-    ensures { λ r. ⌜ ((k : ℕ) → size ≡ 2 ^ k → r ≡ chunkFree k (now (a .entry)) at) ⌝ }
-{
-    if size == 1 {
-        return bitmap::get_bit(a, at) == 0;
-    }
-    let half = size / 2;
-    if chunk_is_free(a, at, half) {
-        chunk_is_free(a, at + half, half)
-    } else {
-        false
-    }
 }
 
 // What a search found: the first block of a chunk, or the end of the part searched, and how many blocks it looked at.

@@ -9,7 +9,8 @@ use lib.Dec.{eqb}
 use lib.ListN.{length, getD, List·getD-eq-default}
 use borrow.Author.Tests.{ne-eqb, not-false}
 use Rattle.rules.specs.Heap.{Memory, isFree, refIn}
-use Rattle.rules.specs.Damage.{someBelow, badCell, badRoot}
+use Rattle.rules.specs.Tools.{someBelow}
+use Rattle.rules.specs.Damage.{badCell, badRoot}
 use Rattle.blocks.proofs.Firsts.{first-past}
 use Rattle.rules.proofs.Tests.{some-false}
 

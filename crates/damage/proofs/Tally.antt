@@ -11,7 +11,8 @@ use lib.Seq.{getD-set-same, getD-set-other}
 use borrow.Author.Tests.{eq-eqb, ne-eqb}
 use Rattle.bitmap.specs.Bit.{countBelow}
 use Rattle.bitmap.proofs.Zeros.{count-le}
-use Rattle.rules.specs.Heap.{Memory, maxBlocks, holding, isFirst, countOf, capacity, references}
+use Rattle.rules.specs.Tools.{holding}
+use Rattle.rules.specs.Heap.{Memory, maxBlocks, isFirst, countOf, capacity, references}
 use Rattle.rules.specs.Damage.{badCount}
 use Rattle.damage.proofs.Counting.{count-passed, count-failed}
 

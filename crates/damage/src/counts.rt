@@ -6,8 +6,9 @@ ghost use mathlib.Core.List.{[]};
 ghost use Prim.Native.Nat.{ℕ, _+_, _*_, _/_, _≤_, _<_};
 ghost use lib.Dec.{eqb, ltb};
 ghost use lib.ListN.{length, getD};
-ghost use Rattle.rules.specs.Heap.{memory, maxBlocks, holding};
-ghost use Rattle.rules.specs.Damage.{someBelow, badCount};
+ghost use Rattle.rules.specs.Tools.{holding, someBelow};
+ghost use Rattle.rules.specs.Heap.{memory, maxBlocks};
+ghost use Rattle.rules.specs.Damage.{badCount};
 use blocks::MAX_BLOCKS;
 use blocks::Ref;
 

@@ -16,11 +16,12 @@ pub fn damage_kind(
     cells: &[Ref],
     roots: &[Ref],
     waiting: &[Ref],
+    sections: &[Ref],
 ) -> usize
-    requires { ⌜ shaped blocks width (lent a b counts cells roots waiting) ≡ true ⌝ }
+    requires { ⌜ shaped blocks width (lent a b counts cells roots waiting sections) ≡ true ⌝ }
     ensures { λ r.
         ⌜ r ≡ damage blocks width
-        (before a b counts cells roots waiting) ⌝ }
+        (before a b counts cells roots waiting sections) ⌝ }
 {
     if crate::maps::has_end_on_free(blocks, a, b) {
         return 1;

@@ -6,7 +6,8 @@ ghost use Prim.Native.Nat.{_*_, _≤_};
 ghost use lib.Dec.{leb};
 ghost use lib.ListN.{length};
 ghost use Rattle.rules.specs.Heap.{memory, maxBlocks, isFree};
-ghost use Rattle.rules.specs.Damage.{someBelow, endOnFree, openEnd, unaligned};
+ghost use Rattle.rules.specs.Tools.{someBelow};
+ghost use Rattle.rules.specs.Damage.{endOnFree, openEnd, unaligned};
 
 // Kind 1: a 0 in the B-map on a free block.
 pub fn has_end_on_free(blocks: usize, a: &[u8], b: &[u8]) -> bool

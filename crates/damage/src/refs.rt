@@ -4,7 +4,8 @@ ghost use mathlib.Core.List.{[]};
 ghost use Prim.Native.Nat.{_*_, _≤_};
 ghost use lib.ListN.{length};
 ghost use Rattle.rules.specs.Heap.{memory, maxBlocks};
-ghost use Rattle.rules.specs.Damage.{someBelow, badCell, badRoot};
+ghost use Rattle.rules.specs.Tools.{someBelow};
+ghost use Rattle.rules.specs.Damage.{badCell, badRoot};
 use blocks::Ref;
 
 // Kind 4 of the cells.

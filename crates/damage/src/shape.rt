@@ -29,8 +29,9 @@ pub fn is_shaped(
     cells: usize,
     roots: usize,
     waiting: usize,
+    sections: usize,
 ) -> bool
-    ensures { λ r. ⌜ r ≡ shape blocks width a b counts cells roots waiting ⌝ }
+    ensures { λ r. ⌜ r ≡ shape blocks width a b counts cells roots waiting sections ⌝ }
 {
     if !is_blocks(blocks) {
         return false;
@@ -59,5 +60,8 @@ pub fn is_shaped(
     if cells != 4 * blocks {
         return false;
     }
-    waiting == blocks
+    if waiting != blocks {
+        return false;
+    }
+    sections == sections::section_count(blocks)
 }

@@ -1,17 +1,16 @@
 -- The search by sections, as its loop goes, and what the search of one section answers for the heap.
 use mathlib.Core.Path.{_≡_, refl, sym, ap, ap₂, _∙_}
 use mathlib.Core.Logic.{_≢_}
-use mathlib.Core.Bool.{true, false}
+use mathlib.Core.Bool.{true}
 use mathlib.Core.List.{List}
 use mathlib.Core.Option.{Option, none, some}
 use Prim.Native.Nat.{ℕ, suc, _+_, _-_, _*_, _/_, _^_, _≤_, _<_}
 use native.Mathlib.Nat.{sub-zero}
 use native.Mathlib.Omega.{arith}
-use lib.Dec.{leb}
 use lib.ListN.{length, getD}
 use borrow.Author.Tests.{le-leb, lt-leb}
-use Rattle.rules.specs.Heap.{isBlocks, lowestFrom, lowestFree}
-use Rattle.rules.specs.Sections.{sectionLength, sectionCount, figure, figures, sufficesFrom, lowestInSection, lowestBySections}
+use Rattle.rules.specs.Heap.{isBlocks, lowestFrom, lowestFree, sectionLength, sectionCount}
+use Rattle.rules.specs.Sections.{figure, figures, sufficesFrom, lowestInSection, lowestBySections}
 use Rattle.rules.proofs.Tabulate.{length-tabulate}
 use Rattle.rules.proofs.Sections.{sections-find-lowest, section-has, suffices-facts}
 use Rattle.blocks.specs.Search.{orElse, looksFor, lowestIn, Search}

@@ -1,26 +1,28 @@
--- The list of figures, as the loop that finds the unknown ones goes.
-use mathlib.Core.Path.{_≡_, refl, sym, ap, _∙_}
+-- The list of figures, as the loop that finds the unknown ones goes; and that the true list is coherent.
+use mathlib.Core.Path.{_≡_, sym, ap, _∙_}
 use mathlib.Core.Logic.{_≢_, _⊎_, inl, inr}
+use mathlib.Core.Bool.{true}
 use mathlib.Core.List.{List}
 use Prim.Native.Nat.{ℕ, _+_, _≤_, _<_}
 use native.Mathlib.Decide.{ℕ-discrete}
 use native.Mathlib.Omega.{arith}
 use lib.ListN.{length, getD, set, length-set}
-use lib.Seq.{ext-getD, getD-set-same, getD-set-other}
-use Rattle.rules.specs.Sections.{sectionCount, figure, figures}
-use Rattle.rules.proofs.Tabulate.{length-tabulate, getD-tabulate}
-use Rattle.sections.specs.Figures.{Spoilt}
+use lib.Seq.{getD-set-same, getD-set-other}
+use Rattle.rules.specs.Heap.{isBlocks, sectionCount}
+use Rattle.rules.specs.Sections.{figure, figures}
+use Rattle.rules.proofs.TrueList.{length-figures, figure-at, true-list}
+use Rattle.sections.specs.Figures.{Coherent}
 
 -- the figures before number s are known, the others are known or unknown
 pub record Renewed (N : ℕ) (a sections : List ℕ) (s : ℕ) : Type 0 where
   pub length-is : length sections ≡ sectionCount N
   pub within : s ≤ sectionCount N
   pub known : (j : ℕ) → j < s → getD sections j 0 ≡ figure N a j
-  pub rest : Spoilt N a sections
+  pub rest : Coherent N a sections
 
 module _ (N : ℕ) (a sections : List ℕ) where
-  pub renewed-start : length sections ≡ sectionCount N → Spoilt N a sections → Renewed N a sections 0
-  renewed-start e spoilt = record { length-is = e; within = omega arith; known = λ j l. absurd (omega arith); rest = spoilt }
+  pub renewed-start : Coherent N a sections → Renewed N a sections 0
+  renewed-start rest = record { length-is = rest .length-is; within = omega arith; known = λ j l. absurd (omega arith); rest = rest }
 
   -- one that is known stays
   pub renewed-kept : (s : ℕ) → Renewed N a sections s → s < sectionCount N → getD sections s 0 ≢ 65535 → Renewed N a sections (s + 1)
@@ -48,6 +50,8 @@ module _ (N : ℕ) (a sections : List ℕ) where
       | no m ↦ getD-set-other sections s j v 0 m ∙ r .known j (omega arith)
     ];
     rest = record {
+      blocks = r .rest .blocks;
+      length-is = length-set sections s v ∙ r .rest .length-is;
       each = λ j l. elim (ℕ-discrete j s) [
         | yes e ↦ inl (same j e)
         | no m ↦ kept j m (r .rest .each j l)
@@ -65,8 +69,12 @@ module _ (N : ℕ) (a sections : List ℕ) where
       kept j m (inr e) = inr (getD-set-other sections s j v 0 m ∙ e)
 
   pub renewed-all : (s : ℕ) → Renewed N a sections s → sectionCount N ≤ s → sections ≡ figures N a
-  unfolding figures
-  renewed-all s r end =
-      ext-getD 0 sections (figures N a)
-      (r .length-is ∙ sym (length-tabulate (sectionCount N) (figure N a)))
-      (λ j l. r .known j (omega (arith, r .within, r .length-is)) ∙ sym (getD-tabulate 0 (sectionCount N) (figure N a) j (omega (arith, r .length-is))))
+  renewed-all s r end = true-list N a sections (r .length-is) (λ j l. r .known j (omega (arith, r .within)))
+
+-- the true list is coherent
+pub coherent-true : (N : ℕ) (a sections : List ℕ) → isBlocks N ≡ true → sections ≡ figures N a → Coherent N a sections
+coherent-true N a sections blocks e = record {
+  blocks = blocks;
+  length-is = ap length e ∙ length-figures N a;
+  each = λ s l. inl (ap (λ (x : List ℕ). getD x s 0) e ∙ figure-at N a s l);
+}

@@ -2,13 +2,13 @@
 use mathlib.Core.Path.{_≡_, sym, ap, ap₂, _∙_}
 use mathlib.Core.Bool.{true}
 use mathlib.Core.List.{List}
-use Prim.Native.Nat.{ℕ, _+_, _-_, _*_, _%_, _^_, _≤_, _<_}
-use native.Mathlib.Nat.{mul-comm, mul-assoc, mul-le-mul-right, zero-mod, mul-mod-left}
+use Prim.Native.Nat.{ℕ, _+_, _-_, _*_, _/_, _%_, _^_, _≤_, _<_}
+use native.Mathlib.Nat.{mul-comm, mul-assoc, mul-le-mul-right, zero-mod, mul-mod-left, div-self}
 use native.Mathlib.Decide.{decLt}
 use native.Mathlib.Omega.{arith}
 use lib.Pow.{pow-pos, pow-lt, pow-add}
-use Rattle.rules.specs.Heap.{isBlocks, exponent}
-use Rattle.rules.specs.Sections.{sectionLength, sectionCount, largestFree, figure}
+use Rattle.rules.specs.Heap.{isBlocks, exponent, sectionLength, sectionCount}
+use Rattle.rules.specs.Sections.{largestFree, figure}
 use Rattle.rules.proofs.Shape.{blocks-facts, blocks-le, blocks-power}
 use Rattle.rules.proofs.Figures.{figure-le}
 use Rattle.rules.proofs.Sections.{divided}
@@ -34,6 +34,16 @@ section-size N blocks =
       bytes = (2 ^ bytes .0, bytes .2);
       whole = d .whole;
     }
+
+-- a heap of less than 256 blocks is one section
+pub small-count : (N : ℕ) → isBlocks N ≡ true → N < 256 → 1 ≡ sectionCount N
+small-count N blocks small =
+    let facts = blocks-facts N blocks in
+    let one : sectionLength N ≡ N = omega arith in
+    sym (ap (λ (x : ℕ). N / x) one ∙ div-self {n = N} (omega (arith, facts .2, pow-pos (facts .0))))
+
+pub large-count : (N : ℕ) → 256 ≤ N → N / 256 ≡ sectionCount N
+large-count N large = ap (λ (x : ℕ). N / x) (omega arith)
 
 -- section number s, whose length is `size`
 pub record Place (N s size : ℕ) : Type 0 where

@@ -1,15 +1,33 @@
 -- What the code of the figures computes, for contracts of inner functions.
-use Prim.Native.Nat.{ℕ, _+_, _<_}
+use Prim.Native.Nat.{ℕ, _+_, _*_, _≤_, _<_}
 use mathlib.Core.Path.{_≡_}
+use mathlib.Core.Bool.{true, false}
 use mathlib.Core.Logic.{_⊎_}
 use mathlib.Core.List.{List, [], _∷_}
-use lib.ListN.{getD}
-use Rattle.rules.specs.Sections.{sectionCount, largestFree, figure}
+use lib.ListN.{length, getD}
+use lib.Dec.{ltb, eqb}
+use Rattle.rules.specs.Heap.{isBlocks, sectionLength, sectionCount}
+use Rattle.rules.specs.Sections.{largestFree, figure}
 
 -- the figure of a byte's eight blocks
 unfoldable pub byteFigure : ℕ → ℕ
 byteFigure byte = largestFree 3 (byte ∷ []) 0
 
--- every number of the list is its section's figure, or says that it has to be found anew
-pub record Spoilt (N : ℕ) (a sections : List ℕ) : Type 0 where
+-- the figure of a chunk from those of its halves, of `half` blocks each
+unfoldable pub ofHalves : (half lower upper : ℕ) → ℕ
+ofHalves half lower upper =
+    elim (ltb lower upper) [ true ↦ upper | false ↦ elim (eqb upper half) [ true ↦ half + half | false ↦ lower ] ]
+
+-- every number of the list is its section's figure, or says that it has to be found anew: 65,535, which no section has
+pub record Coherent (N : ℕ) (a sections : List ℕ) : Type 0 where
+  pub blocks : isBlocks N ≡ true
+  pub length-is : length sections ≡ sectionCount N
   pub each : (s : ℕ) → s < sectionCount N → (getD sections s 0 ≡ figure N a s) ⊎ (getD sections s 0 ≡ 65535)
+
+-- the figures of the sections in which the n blocks from block i on lie are unknown, and all others are as they were
+pub record Forgotten (N i n : ℕ) (sections after : List ℕ) : Type 0 where
+  pub same-length : length after ≡ length sections
+  pub each :
+      (s : ℕ) → s < sectionCount N
+      → (getD after s 0 ≡ 65535)
+      ⊎ ((getD after s 0 ≡ getD sections s 0) × (((s + 1) * sectionLength N ≤ i) ⊎ (i + n ≤ s * sectionLength N)))

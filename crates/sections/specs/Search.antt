@@ -5,8 +5,8 @@ use mathlib.Core.Bool.{true, false}
 use mathlib.Core.List.{List}
 use mathlib.Core.Option.{Option, none, some}
 use lib.Dec.{leb}
-use Rattle.rules.specs.Heap.{lowestFree}
-use Rattle.rules.specs.Sections.{sectionLength, sectionCount, figures, sufficesFrom, lowestInSection}
+use Rattle.rules.specs.Heap.{lowestFree, sectionLength, sectionCount}
+use Rattle.rules.specs.Sections.{figures, sufficesFrom, lowestInSection}
 use Rattle.blocks.specs.Search.{orElse, looksFor}
 
 -- in a section the count begins at its first block; where no figure suffices nothing is searched

@@ -1,15 +1,13 @@
 -- Laws of decimal numbers: the digits that the kit writes are those of `decimal`, and how many there are.
-use mathlib.Core.Path.{_≡_, ap, _∙_}
-use mathlib.Core.Bool.{Bool, true, false}
-use mathlib.Core.List.{List, [], _∷_, _++_}
-use Prim.Native.Nat.{ℕ, zero, suc, _+_, _-_, _*_, _/_, _%_, _^_, _≤_, _<_}
+use mathlib.Core.Path.{_≡_}
+use Prim.Native.Nat.{ℕ, zero, suc, _-_, _*_, _/_, _%_, _^_, _≤_, _<_}
 use native.Mathlib.Nat.{pow-suc, mod-eq-of-lt, one-le-pow}
 use native.Mathlib.Decide.{decLt}
 use native.Mathlib.Omega.{arith}
 use lib.ListN.{length, length-append}
 use borrow.Author.Tests.{lt-ltb, le-ltb}
 use Rattle.io.specs.Digits.{digits, Fewest}
-use Rattle.text.specs.Text.{digit, decimalIn, decimal}
+use Rattle.text.specs.Text.{decimalIn, decimal}
 
 -- the fewest digits are those of `decimal`
 fewest-digits : (k f n : ℕ) → n < f → Fewest 10 1 n k → digits 10 k n ≡ decimalIn f n

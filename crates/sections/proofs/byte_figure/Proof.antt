@@ -1,54 +1,54 @@
--- `byte_figure` meets its contract: the table of four blocks is right, which is computed at each byte.
+-- `byte_figure` meets its contract: the number of four blocks is right, which is computed at each byte.
 use mathlib.Core.Path.{sym, ap, _∙_}
-use Prim.Native.Nat.{ℕ, _/_, _%_, _<_, max}
+use Prim.Native.Nat.{ℕ}
 use native.Mathlib.Omega.{arith}
 use borrow.Author.Needs.{needs}
 use Rattle.sections.specs.Figures.{byteFigure}
-use Rattle.sections.proofs.Figures.{free-byte, used-byte, four-le}
+use Rattle.sections.proofs.Figures.{free-byte, used-byte}
 use Rattle.sections.proofs.byte_figure.Statement.{statement}
 use Rattle.sections.proofs.byte_figure.Tie as tie
 
 returns : tie.Need-returns
 returns c = sym (ap byteFigure (c .if1 .taken) ∙ free-byte)
 
+mul-lower : tie.Need-mul-lower
+mul-lower c = search needs
+
 cast-lower : tie.Need-cast-lower
 cast-lower c = search needs
 
-array-read-lower : tie.Need-array-read-lower
-array-read-lower c = search needs
+shr-lower : tie.Need-shr-lower
+shr-lower c = search needs
+
+mul-upper : tie.Need-mul-upper
+mul-upper c = search needs
 
 cast-upper : tie.Need-cast-upper
 cast-upper c = search needs
 
-array-read-upper : tie.Need-array-read-upper
-array-read-upper c = search needs
-
-cast-result : tie.Need-cast-result
-cast-result c = let b : ℕ = c .before .before .args .byte in omega (arith, four-le (b / 16) (omega arith))
+shr-upper : tie.Need-shr-upper
+shr-upper c = search needs
 
 returns-2 : tie.Need-returns-2
 returns-2 c =
-    let b : ℕ = c .before .before .args .byte in
-    omega (arith, used-byte b (c .before .if1 .left) (omega arith))
-
-cast-result-2 : tie.Need-cast-result-2
-cast-result-2 c = let b : ℕ = c .before .before .args .byte in omega (arith, four-le (b % 16) (omega arith))
+    let byte : ℕ = c .before .before .args .byte in
+    omega (arith, used-byte byte (c .before .if1 .left) (omega arith))
 
 returns-3 : tie.Need-returns-3
 returns-3 c =
-    let b : ℕ = c .before .before .args .byte in
-    omega (arith, used-byte b (c .before .if1 .left) (omega arith))
+    let byte : ℕ = c .before .before .args .byte in
+    omega (arith, used-byte byte (c .before .if1 .left) (omega arith))
 
 pub byte-figure-spec : {M : Type 1} → statement M
 byte-figure-spec =
     tie.close
     (tie.spec
     returns
+    mul-lower
     cast-lower
-    array-read-lower
+    shr-lower
+    mul-upper
     cast-upper
-    array-read-upper
-    cast-result
+    shr-upper
     returns-2
-    cast-result-2
     returns-3)

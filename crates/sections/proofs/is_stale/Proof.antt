@@ -1,12 +1,13 @@
 -- `is_stale` meets its contract: every figure before number s is the A-map's. The measure is what is left of the list.
-use mathlib.Core.Path.{sym, ap, ap₂, _∙_}
+use mathlib.Core.Path.{sym, ap, _∙_}
 use mathlib.Core.Bool.{Bool, not}
 use Prim.Native.Nat.{ℕ, _-_}
 use native.Mathlib.Omega.{arith}
 use lib.Dec.{eqb}
 use lib.ListN.{length, getD}
 use borrow.Author.Tests.{ne-eqb, eq-eqb}
-use Rattle.rules.specs.Sections.{sectionCount, figure, staleFigures}
+use Rattle.rules.specs.Heap.{sectionCount}
+use Rattle.rules.specs.Sections.{figure, staleFigures}
 use Rattle.rules.proofs.Searches.{Searched, searched-start, searched-next, searched-all, searched-hit}
 use Rattle.sections.proofs.is_stale.Statement.{statement}
 use Rattle.sections.proofs.is_stale.Tie as tie

@@ -5,7 +5,6 @@ use mathlib.Core.List.{List}
 use Prim.Native.Nat.{ℕ, _+_, _-_}
 use native.Mathlib.Omega.{arith}
 use lib.ListN.{length, length-set}
-use Rattle.rules.specs.Sections.{sectionCount}
 use Rattle.sections.proofs.Lists.{Renewed, renewed-start, renewed-kept, renewed-found, renewed-all}
 use Rattle.sections.proofs.renew.Statement.{statement}
 use Rattle.sections.proofs.renew.Tie as tie
@@ -19,7 +18,7 @@ abbrev μ-loop : tie.MeasureT-loop
 loop-holds : tie.Need-loop-holds Inv-loop μ-loop
 loop-holds c =
     let s = c .before .before in
-    (renewed-start (s .args .blocks) (s .args .a .now) (s .args .sections .now) (s .pre .2) (s .pre .3), refl)
+    (renewed-start (s .args .blocks) (s .args .a .now) (s .args .sections .now) (s .pre .0), refl)
 
 mul-if1 : tie.Need-mul-if1 Inv-loop μ-loop
 mul-if1 c = omega arith
@@ -30,7 +29,7 @@ slice-read-if1 c = omega arith
 section-figure-requires : tie.Need-section-figure-requires Inv-loop μ-loop
 section-figure-requires c κs =
     let s = c .before .before .before .before .before .before in
-    (s .pre .0, s .pre .1, omega arith)
+    (s .pre .0 .blocks, s .pre .1, omega arith)
 
 cast-sections : tie.Need-cast-sections Inv-loop μ-loop
 cast-sections c = omega (arith, c .section-figure .ensures .1)

@@ -1,10 +1,9 @@
 -- `text::put_decimal` meets its contract: the digits are those of `decimal`.
-use mathlib.Core.Path.{_≡_, ap, _∙_, subst}
+use mathlib.Core.Path.{_≡_, _∙_, subst}
 use mathlib.Core.List.{List}
 use Prim.Native.Nat.{ℕ}
-use native.Mathlib.Omega.{arith}
 use borrow.Author.Needs.{needs}
-use lib.ListN.{length, take}
+use lib.ListN.{take}
 use Rattle.text.specs.Text.{decimal, Put}
 use Rattle.text.proofs.Decimals.{decimal-is}
 use Rattle.text.proofs.put_decimal.Statement.{statement}

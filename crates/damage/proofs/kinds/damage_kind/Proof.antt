@@ -4,23 +4,25 @@ use mathlib.Core.Bool.{Bool, false}
 use Prim.Native.Nat.{_*_}
 use native.Mathlib.Omega.{arith}
 use lib.ListN.{length}
-use Rattle.rules.specs.Heap.{Memory, memory}
-use Rattle.rules.specs.Damage.{someBelow, endOnFree, openEnd, unaligned, badCell, badRoot, badCount, firstKind, damage}
+use Rattle.rules.specs.Heap.{Memory, lentMemory}
+use Rattle.rules.specs.Tools.{someBelow, firstKind}
+use Rattle.rules.specs.Damage.{endOnFree, openEnd, unaligned, badCell, badRoot, badCount, damage}
 use Rattle.damage.proofs.References.{cells-within, roots-within}
 use Rattle.rules.proofs.Shape.{Shaped, shape-facts}
 use Rattle.damage.proofs.kinds.damage_kind.Statement.{statement}
 use Rattle.damage.proofs.kinds.damage_kind.Tie as tie
 
--- the six buffers
+-- the seven buffers
 abbrev whole : tie.Start → Memory
 whole s =
-    memory
+    lentMemory
     (s .args .a .now)
     (s .args .b .now)
     (s .args .counts .now)
     (s .args .cells .now)
     (s .args .roots .now)
     (s .args .waiting .now)
+    (s .args .sections .now)
 
 -- they have the right lengths
 right : (s : tie.Start) → Shaped (s .args .blocks) (s .args .width) (whole s)
@@ -49,7 +51,7 @@ rule-6 s = someBelow (badCount (s .args .blocks) (s .args .width) (whole s)) (s 
 
 -- where the code starts from
 abbrev start-1 : tie.After-has-end-on-free → tie.Start
-start-1 c = c .before .before .before .before .before .before .before
+start-1 c = c .before .before .before .before .before .before .before .before
 
 abbrev start-2 : tie.After-has-open-end → tie.Start
 start-2 c = start-1 (c .before .before)
@@ -113,7 +115,7 @@ fails-6 c = sym (test-6 (c .before)) ∙ c .if6 .left
 -- ---- the needs
 
 has-end-on-free-requires : tie.Need-has-end-on-free-requires
-has-end-on-free-requires c κs = let len = right (c .before .before .before .before .before .before) in omega arith
+has-end-on-free-requires c κs = let len = right (c .before .before .before .before .before .before .before) in omega arith
 
 returns : tie.Need-returns
 unfolding damage firstKind

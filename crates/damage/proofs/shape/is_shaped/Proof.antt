@@ -1,5 +1,5 @@
 -- `shape::is_shaped` meets its contract: where one test fails, the shape is not right.
-use mathlib.Core.Path.{_≡_, sym, _∙_}
+use mathlib.Core.Path.{_≡_, sym, ap, _∙_}
 use mathlib.Core.Bool.{Bool, true}
 use mathlib.Core.List.{List, [], _∷_}
 use Prim.Native.Nat.{_*_, _/_}
@@ -7,7 +7,8 @@ use native.Mathlib.Nat.{mul-le-mul-right}
 use native.Mathlib.Omega.{arith}
 use lib.Dec.{leb, eqb}
 use borrow.Author.Tests.{le-leb, lt-leb, eq-eqb, ne-eqb, not-true, not-false}
-use Rattle.rules.specs.Heap.{isBlocks, all, shape}
+use Rattle.rules.specs.Tools.{all}
+use Rattle.rules.specs.Heap.{isBlocks, shape, sectionCount}
 use Rattle.rules.proofs.Tests.{all-failed, all-one}
 use Rattle.rules.proofs.Shape.{blocks-le}
 use borrow.Author.Needs.{needs}
@@ -27,6 +28,7 @@ tests s =
     ∷ eqb (s .args .counts) (s .args .width * (s .args .blocks / 8))
     ∷ eqb (s .args .cells) (4 * s .args .blocks)
     ∷ eqb (s .args .waiting) (s .args .blocks)
+    ∷ eqb (s .args .sections) (sectionCount (s .args .blocks))
     ∷ []
 
 is-blocks-requires : tie.Need-is-blocks-requires
@@ -101,22 +103,33 @@ returns-9 c =
     sym (all-failed (tests s) 8 (ne-eqb (s .args .cells) (4 * s .args .blocks) (c .if9 .taken)))
 
 returns-10 : tie.Need-returns-10
-unfolding shape all
+unfolding shape
 returns-10 c =
-    let s = c .before .before .before .before .before .before .before .before .before .before in
+    let s = c .before .before .before .before .before .before .before .before .before .before .before in
+    sym (all-failed (tests s) 9 (ne-eqb (s .args .waiting) (s .args .blocks) (c .if10 .taken)))
+
+section-count-requires : tie.Need-section-count-requires
+section-count-requires c κs = right-blocks (c .before .before .before .before .before .before .before .before .before)
+
+returns-11 : tie.Need-returns-11
+unfolding shape all
+returns-11 c =
+    let e = c .before in
+    let s = e .before .before .before .before .before .before .before .before .before .before .before in
     rw (
-      right-blocks (c .before .before .before .before .before .before .before .before),
-      le-leb 1 (s .args .width) (c .before .before .before .before .before .before .before .if2 .left),
-      le-leb (s .args .width) 4 (c .before .before .before .before .before .before .if3 .left),
-      le-leb 1 (s .args .roots) (c .before .before .before .before .before .if4 .left),
-      le-leb (s .args .roots) 64 (c .before .before .before .before .if5 .left),
-      eq-eqb (s .args .a) (s .args .blocks / 8) (c .before .before .before .if6 .left),
-      eq-eqb (s .args .b) (s .args .blocks / 8) (c .before .before .if7 .left),
-      eq-eqb (s .args .counts) (s .args .width * (s .args .blocks / 8)) (c .before .if8 .left),
-      eq-eqb (s .args .cells) (4 * s .args .blocks) (c .if9 .left),
+      right-blocks (e .before .before .before .before .before .before .before .before .before),
+      le-leb 1 (s .args .width) (e .before .before .before .before .before .before .before .before .if2 .left),
+      le-leb (s .args .width) 4 (e .before .before .before .before .before .before .before .if3 .left),
+      le-leb 1 (s .args .roots) (e .before .before .before .before .before .before .if4 .left),
+      le-leb (s .args .roots) 64 (e .before .before .before .before .before .if5 .left),
+      eq-eqb (s .args .a) (s .args .blocks / 8) (e .before .before .before .before .if6 .left),
+      eq-eqb (s .args .b) (s .args .blocks / 8) (e .before .before .before .if7 .left),
+      eq-eqb (s .args .counts) (s .args .width * (s .args .blocks / 8)) (e .before .before .if8 .left),
+      eq-eqb (s .args .cells) (4 * s .args .blocks) (e .before .if9 .left),
+      eq-eqb (s .args .waiting) (s .args .blocks) (e .if10 .left),
       shape,
       all,
-    ) (sym (all-one (eqb (s .args .waiting) (s .args .blocks))))
+    ) (ap (eqb (s .args .sections)) (c .section-count .ensures) ∙ sym (all-one (eqb (s .args .sections) (sectionCount (s .args .blocks)))))
 
 pub is-shaped-spec : {M : Type 1} → statement M
 is-shaped-spec =
@@ -134,4 +147,6 @@ is-shaped-spec =
     returns-8
     mul-if9
     returns-9
-    returns-10)
+    returns-10
+    section-count-requires
+    returns-11)

@@ -3,7 +3,7 @@ use mathlib.Core.Path.{sym, subst, _∙_}
 use Prim.Native.Nat.{ℕ, _+_, _*_, _^_, _<_}
 use native.Mathlib.Omega.{arith}
 use lib.ListN.{length}
-use Rattle.rules.specs.Sections.{sectionLength, sectionCount}
+use Rattle.rules.specs.Heap.{sectionLength, sectionCount}
 use Rattle.rules.proofs.Shape.{blocks-le}
 use Rattle.blocks.specs.Search.{lowestIn, Search}
 use Rattle.sections.proofs.BySections.{found-longer, found-none, found-within, chosen-none, chosen-some, figures-length, on-figures}

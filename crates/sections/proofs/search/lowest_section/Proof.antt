@@ -1,6 +1,5 @@
 -- `lowest_section` meets its contract: no section before number s suffices. The measure is what is left of the list.
 use mathlib.Core.Path.{_≡_, sym, ap, _∙_}
-use mathlib.Core.Option.{Option}
 use Prim.Native.Nat.{ℕ, _-_, _≤_}
 use native.Mathlib.Omega.{arith}
 use lib.ListN.{length}
