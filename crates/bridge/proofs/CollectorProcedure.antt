@@ -43,7 +43,7 @@ module _ (N w : ℕ) (h : Memory) (healthy : Healthy N w h) where
 
   remarked-shape : Shaped N w remarked
   remarked-shape =
-      reshaped N w h remarked (healthy .shape) refl refl (mark-counts-shows N w h healthy .0 ∙ sym (healthy .shape .length-counts)) refl refl refl
+      reshaped N w h remarked (healthy .shape) refl refl (mark-counts-shows N w h healthy .0 ∙ sym (healthy .shape .length-counts)) refl refl refl refl
 
   remarked-view : view N w remarked ≡ markedGraph (capacity w) r (view N w h)
   remarked-view = graph-is refl (mark-counts-shows N w h healthy .1) refl
@@ -81,6 +81,7 @@ module _ (N w : ℕ) (h : Memory) (healthy : Healthy N w h) where
         cells = same-cells i;
         roots = (end-stage .swept .same-roots ∙ sym (collect-swept N w h healthy .same-roots)) i;
         waiting = (end-stage .swept .same-waiting ∙ sym (collect-swept N w h healthy .same-waiting)) i;
+        sections = (end-stage .swept .same-sections ∙ sym (collect-swept N w h healthy .same-sections)) i;
       }
     where
       by : Bytewise (collectBy N w h)

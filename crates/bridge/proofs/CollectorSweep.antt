@@ -132,7 +132,7 @@ module _ (N w : ℕ) (h : Memory) (shape : Shaped N w h) (represents : Represent
   unfolding sweep collector.sweepOne sweepBlocks sweepOneBlocks graph.sweep
   sweep-stage zero l =
       record {
-        swept = record { shape = shape; represents = represents; same-roots = refl; same-waiting = refl; slots-are = refl };
+        swept = record { shape = shape; represents = represents; same-roots = refl; same-waiting = refl; same-sections = refl; slots-are = refl };
         same-counts = refl;
         freed-blocks = omega arith;
       }

@@ -2,7 +2,6 @@ pub mod ViewMarking
 pub mod CollectorSweep
 pub mod Bytewise
 pub mod CollectorProcedure
-pub mod CollectorWaiting
 pub mod Freed
-pub mod Settled
+pub mod ReadyHeap
 pub mod Placed

@@ -5,7 +5,7 @@ use mathlib.Core.List.{List}
 use mathlib.Core.Option.{some}
 use Prim.Native.Nat.{ℕ, _+_, _-_, _≤_, _<_}
 use native.Mathlib.Omega.{arith}
-use lib.ListN.{length, getD, set}
+use lib.ListN.{length, set}
 use Rattle.bitmap.specs.Bit.{setBit, fillBits, zeros}
 use Rattle.rules.specs.Heap.{Memory, exponent, lowestFree}
 use Rattle.rules.specs.Store.{letGo, putRoot, placed, allocateIn}
@@ -13,14 +13,18 @@ use Rattle.references.specs.Blocks.{letGoBlocks}
 use Rattle.stores.specs.Blocks.{putRootBlocks, allocateBlocks}
 use Rattle.theory.proofs.Maps.Extents.{sizesOf, length-sizes-of}
 use Rattle.theory.proofs.Maps.LowestChunk.{Room, room}
-use Rattle.theory.proofs.Maps.Totals.{sum, sum-set, free-and-sizes}
+use Rattle.theory.proofs.Maps.Totals.{sum-set, free-and-sizes}
 use Rattle.theory.proofs.Memories.Healthy.{Healthy}
+use Rattle.theory.proofs.Memories.Fit.{Fit}
 use Rattle.theory.proofs.Memories.Stores.{maps-placed, allocate-root}
 use Rattle.theory.proofs.EachCall.Balance.{fresh}
 use Rattle.bridge.proofs.Freed.{release-zeros}
 
-module _ (N w : ℕ) (h : Memory) (healthy : Healthy N w h) (n r i : ℕ) (some-blocks : 1 ≤ n) (l : r < length (h .roots))
+module _ (N w : ℕ) (h : Memory) (fit : Fit N w h) (n r i : ℕ) (some-blocks : 1 ≤ n) (l : r < length (h .roots))
     (found : lowestFree N (exponent n) (h .a) ≡ some i) where
+  abbrev healthy : Healthy N w h
+  healthy = fit .healthy
+
   space : Room N (h .a) n i
   space = room N (h .a) n i found
 
@@ -35,7 +39,7 @@ module _ (N w : ℕ) (h : Memory) (healthy : Healthy N w h) (n r i : ℕ) (some-
         free-and-sizes N (fillBits (h .a) i n 1) (setBit (h .b) (i + n - 1) 0) (set sizes i n)
             (maps-placed N w h healthy n i (omega arith) space),
         sum-set sizes i n inside,
-        fresh N w h healthy n r i some-blocks l found,
+        fresh N w h fit n r i some-blocks l found,
       )
 
   pub allocate-freed : zeros ((allocateIn N w h n r i) .a) + n ≡ zeros (h .a) + allocateBlocks N w h n r i

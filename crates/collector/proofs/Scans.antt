@@ -4,7 +4,7 @@ use mathlib.Core.List.{List, [], _∷_}
 use Prim.Native.Nat.{ℕ, zero, suc, _-_, _*_, _/_, _≤_, _<_}
 use native.Mathlib.Omega.{arith}
 use lib.ListN.{length, getD, set, replicate}
-use Rattle.rules.specs.Heap.{Memory, memory, sizeAt}
+use Rattle.rules.specs.Heap.{Memory, lentMemory, memory, sizeAt}
 use Rattle.rules.specs.Store.{Work, work}
 use Rattle.references.specs.Stack.{topFirst}
 use Rattle.references.proofs.Counted.{counted-le}
@@ -65,18 +65,18 @@ module _ (N w : ℕ) (h : Memory) (counts waiting : List ℕ) (top : ℕ) where
         ∙ before .leads
 
 -- a scan reads the B-map and the cells alone
-scan-reads : (steps N w : ℕ) (h : Memory) (a c roots waiting counts stack : List ℕ)
-    → scan steps N w h counts stack ≡ scan steps N w (memory a (h .b) c (h .cells) roots waiting) counts stack
+scan-reads : (steps N w : ℕ) (h : Memory) (a c roots waiting sections counts stack : List ℕ)
+    → scan steps N w h counts stack ≡ scan steps N w (lentMemory a (h .b) c (h .cells) roots waiting sections) counts stack
 unfolding scan
-scan-reads zero N w h a c roots waiting counts stack = refl
-scan-reads (suc f) N w h a c roots waiting counts [] = refl
-scan-reads (suc f) N w h a c roots waiting counts (i ∷ rest) = scan-reads f N w h a c roots waiting _ _
+scan-reads zero N w h a c roots waiting sections counts stack = refl
+scan-reads (suc f) N w h a c roots waiting sections counts [] = refl
+scan-reads (suc f) N w h a c roots waiting sections counts (i ∷ rest) = scan-reads f N w h a c roots waiting sections _ _
 
 -- and the marking reads the roots besides
-pub mark-reads : (N w : ℕ) (h : Memory) (a c waiting : List ℕ)
-    → markCounts N w h ≡ markCounts N w (memory a (h .b) c (h .cells) (h .roots) waiting)
+pub mark-reads : (N w : ℕ) (h : Memory) (a c waiting sections : List ℕ)
+    → markCounts N w h ≡ markCounts N w (lentMemory a (h .b) c (h .cells) (h .roots) waiting sections)
 unfolding markCounts
-mark-reads N w h a c waiting = scan-reads N N w h a c (h .roots) waiting _ _
+mark-reads N w h a c waiting sections = scan-reads N N w h a c (h .roots) waiting sections _ _
 
 -- the marking in two parts, with counts and stack in between
 pub mark-parts : (N w : ℕ) (b cells roots cleared counts stack : List ℕ) → cleared ≡ replicate (w * (N / 8)) 0
@@ -84,6 +84,6 @@ pub mark-parts : (N w : ℕ) (b cells roots cleared counts stack : List ℕ) →
     → scan N N w (memory [] b [] cells [] []) counts stack ≡ markCounts N w (memory [] b [] cells roots [])
 unfolding markCounts
 mark-parts N w b cells roots cleared counts stack e visited =
-    scan-reads N N w (memory [] b [] cells [] []) [] [] roots [] counts stack
+    scan-reads N N w (memory [] b [] cells [] []) [] [] roots [] [] counts stack
     ∙ ap (λ (s : Work). scan N N w (memory [] b [] cells roots []) (s .counts) (s .stack))
     (visited ∙ ap (λ (c : List ℕ). visitEach N w (work c []) roots 0 (length roots)) e)

@@ -1,15 +1,18 @@
 // The full collection: counts are cleared, every reference of the roots and of the reached objects is counted anew, and what is left
-// at 0 is freed. A count that is not 0 is the mark. It asks for `Ready` lists and leaves the waiting list cleared.
+// at 0 is freed. A count that is not 0 is the mark. It asks for `Ready` lists. It leaves the waiting list cleared, and the figures of
+// sections in which blocks become free unknown.
 pub mod mark;
 pub mod sweep;
 
 ghost use mathlib.Core.Path.{_≡_};
+ghost use Rattle.rules.specs.Heap.{withSections};
 ghost use Rattle.rules.specs.Lent.{before, after, lent};
+ghost use Rattle.sections.specs.Figures.{Coherent};
 ghost use Rattle.references.specs.Ready.{Ready};
 ghost use Rattle.collector.specs.Sweep.{collectBy, collectBlocks};
 use blocks::Ref;
 
-// Collects. The number of blocks freed.
+// Collects. The number of blocks freed. All lists but that of sections are the procedure's, which hands that list on unread.
 pub fn collect(
     blocks: usize,
     width: usize,
@@ -19,16 +22,18 @@ pub fn collect(
     cells: &mut [Ref],
     roots: &[Ref],
     waiting: &mut [Ref],
+    sections: &mut [Ref],
 ) -> usize
-    requires { ⌜ Ready blocks width (lent a b counts cells roots waiting) ⌝ }
+    requires { ⌜ Ready blocks width (lent a b counts cells roots waiting sections) ⌝ }
     ensures { λ freed.
-        ⌜ (after a b counts cells roots waiting
+        ⌜ (withSections (now (sections .entry)) (after a b counts cells roots waiting sections)
         ≡ collectBy blocks width
-        (before a b counts cells roots waiting))
+        (before a b counts cells roots waiting sections))
         × (freed
         ≡ collectBlocks blocks width
-        (before a b counts cells roots waiting)) ⌝ }
+        (before a b counts cells roots waiting sections))
+        × Coherent blocks (now (a .exit)) (now (sections .exit)) ⌝ }
 {
     mark::mark(blocks, width, b, counts, cells, roots, waiting);
-    sweep::sweep(blocks, width, a, b, counts, cells)
+    sweep::sweep(blocks, width, a, b, counts, cells, sections)
 }

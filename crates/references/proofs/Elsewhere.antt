@@ -1,20 +1,21 @@
--- Letting go touches neither the roots nor the waiting list: it is the same whatever stands there.
+-- Letting go, as the rules have it, touches neither the roots, the waiting list nor the list of sections: it is the same whatever stands
+-- there.
 use mathlib.Core.Path.{_≡_, refl, sym, ap, _∙_}
 use mathlib.Core.List.{List, [], _∷_}
 use Prim.Native.Nat.{ℕ, zero, suc, _+_, _*_}
 use lib.ListN.{replicate}
-use Rattle.rules.specs.Heap.{Memory, memory, withCounts, withRoots, withWaiting, sizeAt}
+use Rattle.rules.specs.Heap.{Memory, lentMemory, memory, withCounts, withRoots, withWaiting, withSections, sizeAt}
 use Rattle.rules.specs.Store.{Work, work, countDown, countDownEach, freed, release, letGo}
 use Rattle.references.specs.Stack.{topFirst}
 use Rattle.references.specs.Blocks.{releasedBlocks, letGoBlocks}
 
--- the memory with other roots and another waiting list
-abbrev lent : List ℕ → List ℕ → Memory → Memory
-lent roots waiting h = withRoots roots (withWaiting waiting h)
+-- the memory with other roots, another waiting list and another list of sections
+abbrev lent : List ℕ → List ℕ → List ℕ → Memory → Memory
+lent roots waiting sections h = withRoots roots (withWaiting waiting (withSections sections h))
 
-module _ (N w : ℕ) (roots waiting : List ℕ) where
+module _ (N w : ℕ) (roots waiting sections : List ℕ) where
   release-elsewhere : (f : ℕ) (h : Memory) (stack : List ℕ)
-      → release f N w (lent roots waiting h) stack ≡ lent roots waiting (release f N w h stack)
+      → release f N w (lent roots waiting sections h) stack ≡ lent roots waiting sections (release f N w h stack)
   unfolding release freed
   release-elsewhere zero h stack = refl
   release-elsewhere (suc f) h [] = refl
@@ -25,7 +26,7 @@ module _ (N w : ℕ) (roots waiting : List ℕ) where
       release-elsewhere f (withCounts (s .counts) g) (s .stack)
 
   released-elsewhere : (f : ℕ) (h : Memory) (stack : List ℕ)
-      → releasedBlocks f N w (lent roots waiting h) stack ≡ releasedBlocks f N w h stack
+      → releasedBlocks f N w (lent roots waiting sections h) stack ≡ releasedBlocks f N w h stack
   unfolding releasedBlocks freed
   released-elsewhere zero h stack = refl
   released-elsewhere (suc f) h [] = refl
@@ -35,13 +36,13 @@ module _ (N w : ℕ) (roots waiting : List ℕ) where
       let s = countDownEach N w (work (g .counts) rest) (h .cells) (4 * i) (4 * n) in
       ap (λ (k : ℕ). n + k) (released-elsewhere f (withCounts (s .counts) g) (s .stack))
 
-  let-go-elsewhere : (h : Memory) (v : ℕ) → letGo N w (lent roots waiting h) v ≡ lent roots waiting (letGo N w h v)
+  let-go-elsewhere : (h : Memory) (v : ℕ) → letGo N w (lent roots waiting sections h) v ≡ lent roots waiting sections (letGo N w h v)
   unfolding letGo
   let-go-elsewhere h v =
       let s = countDown N w (work (h .counts) []) v in
       release-elsewhere N (withCounts (s .counts) h) (s .stack)
 
-  let-go-blocks-elsewhere : (h : Memory) (v : ℕ) → letGoBlocks N w (lent roots waiting h) v ≡ letGoBlocks N w h v
+  let-go-blocks-elsewhere : (h : Memory) (v : ℕ) → letGoBlocks N w (lent roots waiting sections h) v ≡ letGoBlocks N w h v
   unfolding letGoBlocks
   let-go-blocks-elsewhere h v =
       let s = countDown N w (work (h .counts) []) v in
@@ -57,8 +58,8 @@ module _ (N w : ℕ) (a b counts cells waiting : List ℕ) (v : ℕ) (counts₁ 
       → memory a′ b′ counts′ cells′ [] waiting′ ≡ letGo N w (memory a b counts cells [] waiting) v
   unfolding letGo topFirst
   let-go-done a′ b′ counts′ cells′ waiting′ released idle idle′ =
-      ap (λ (h : Memory). lent [] waiting′ h) released
-      ∙ sym (release-elsewhere N w [] waiting′ N (memory a b counts₁ cells [] []) (topFirst waiting₁ top))
+      ap (λ (h : Memory). lent [] waiting′ [] h) released
+      ∙ sym (release-elsewhere N w [] waiting′ [] N (memory a b counts₁ cells [] []) (topFirst waiting₁ top))
       ∙ ap (λ (x : List ℕ). release N N w (memory a b counts₁ cells [] x) (topFirst waiting₁ top)) (idle′ ∙ sym idle)
       ∙ ap (λ (s : Work). release N N w (memory a b (s .counts) cells [] waiting) (s .stack)) down
 
@@ -68,19 +69,20 @@ module _ (N w : ℕ) (a b counts cells waiting : List ℕ) (v : ℕ) (counts₁ 
   unfolding letGoBlocks topFirst
   let-go-blocks-done n released =
       released
-      ∙ sym (released-elsewhere N w [] waiting N (memory a b counts₁ cells [] []) (topFirst waiting₁ top))
+      ∙ sym (released-elsewhere N w [] waiting [] N (memory a b counts₁ cells [] []) (topFirst waiting₁ top))
       ∙ ap (λ (s : Work). releasedBlocks N N w (memory a b (s .counts) cells [] waiting) (s .stack)) down
 
--- the same beside roots
-pub let-go-roots : (N w : ℕ) (a b counts cells roots waiting : List ℕ) (v : ℕ) (a′ b′ counts′ cells′ waiting′ : List ℕ)
+-- the same beside roots and a list of sections
+pub let-go-beside : (N w : ℕ) (a b counts cells roots waiting sections : List ℕ) (v : ℕ) (a′ b′ counts′ cells′ waiting′ : List ℕ)
     → memory a′ b′ counts′ cells′ [] waiting′ ≡ letGo N w (memory a b counts cells [] waiting) v
-    → memory a′ b′ counts′ cells′ roots waiting′ ≡ letGo N w (memory a b counts cells roots waiting) v
-let-go-roots N w a b counts cells roots waiting v a′ b′ counts′ cells′ waiting′ e =
+    → lentMemory a′ b′ counts′ cells′ roots waiting′ sections ≡ letGo N w (lentMemory a b counts cells roots waiting sections) v
+let-go-beside N w a b counts cells roots waiting sections v a′ b′ counts′ cells′ waiting′ e =
     let h = memory a b counts cells [] waiting in
-    ap (λ (g : Memory). withRoots roots g) (e ∙ let-go-elsewhere N w [] waiting h v) ∙ sym (let-go-elsewhere N w roots waiting h v)
+    ap (λ (g : Memory). withRoots roots (withSections sections g)) (e ∙ let-go-elsewhere N w [] waiting [] h v)
+    ∙ sym (let-go-elsewhere N w roots waiting sections h v)
 
-pub let-go-blocks-roots : (N w : ℕ) (a b counts cells roots waiting : List ℕ) (v n : ℕ)
+pub let-go-blocks-beside : (N w : ℕ) (a b counts cells roots waiting sections : List ℕ) (v n : ℕ)
     → n ≡ letGoBlocks N w (memory a b counts cells [] waiting) v
-    → n ≡ letGoBlocks N w (memory a b counts cells roots waiting) v
-let-go-blocks-roots N w a b counts cells roots waiting v n e =
-    e ∙ sym (let-go-blocks-elsewhere N w roots waiting (memory a b counts cells [] waiting) v)
+    → n ≡ letGoBlocks N w (lentMemory a b counts cells roots waiting sections) v
+let-go-blocks-beside N w a b counts cells roots waiting sections v n e =
+    e ∙ sym (let-go-blocks-elsewhere N w roots waiting sections (memory a b counts cells [] waiting) v)

@@ -1,5 +1,5 @@
 -- Counting up, by the ways the code goes: each leaves what `countUp` gives, and answers `sticks`.
-use mathlib.Core.Path.{_≡_, refl, sym, ap, _∙_}
+use mathlib.Core.Path.{_≡_, sym, _∙_}
 use mathlib.Core.Logic.{_≢_}
 use mathlib.Core.Bool.{Bool, false}
 use mathlib.Core.List.{List}

@@ -1,10 +1,12 @@
--- What counting, stores and collection ask of the lent lists: their lengths, that no reference points past the heap, and a cleared waiting list. An
--- undamaged heap of right shape meets it once its waiting list is cleared. For contracts of inner functions.
+-- What counting, stores and collection ask of the lent lists: their lengths, that no reference points past the heap, a cleared waiting
+-- list, and no figure of a section that is wrong. An undamaged heap of right shape meets it once its waiting list is cleared. For contracts
+-- of inner functions.
 use Prim.Native.Nat.{ℕ, _*_, _/_, _≤_}
 use mathlib.Core.Path.{_≡_}
 use mathlib.Core.List.{List}
 use lib.ListN.{length, getD, replicate}
 use Rattle.rules.specs.Heap.{Memory, maxBlocks}
+use Rattle.sections.specs.Figures.{Coherent}
 
 -- the count maps of N blocks
 pub record Planes (N w : ℕ) (counts : List ℕ) : Type 0 where
@@ -26,3 +28,4 @@ pub record Ready (N w : ℕ) (h : Memory) : Type 0 where
   pub extents : Extents N (h .a) (h .b) (h .cells)
   pub named : (r : ℕ) → getD (h .roots) r 0 ≤ N
   pub idle : h .waiting ≡ replicate N 0
+  pub coherent : Coherent N (h .a) (h .sections)

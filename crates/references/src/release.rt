@@ -1,14 +1,17 @@
-// Letting go of references, with the waiting list as the stack of objects whose count came to 0.
+// Letting go of references, with the waiting list as the stack of objects whose count came to 0. The figures of sections in which blocks
+// become free are left unknown.
 ghost use mathlib.Core.Path.{_≡_};
 ghost use mathlib.Core.List.{[]};
 ghost use Prim.Native.Nat.{ℕ, _+_, _≤_};
 ghost use lib.ListN.{length, getD, replicate};
 ghost use Rattle.rules.specs.Heap.{memory};
 ghost use Rattle.rules.specs.Store.{work, countDown, countDownEach, clearCells, release, letGo};
+ghost use Rattle.sections.specs.Figures.{Coherent};
 ghost use Rattle.references.specs.Ready.{Planes, Extents};
 ghost use Rattle.references.specs.Stack.{topFirst, counted, Stack, Down};
 ghost use Rattle.references.specs.Blocks.{releasedBlocks, letGoBlocks};
 use blocks::Ref;
+use sections::extents;
 
 // Counts down the object that v names, if any; where its count comes to 0 it goes onto the stack. The stack's new height.
 fn count_down(
@@ -86,10 +89,11 @@ fn release_all(
     counts: &mut [u8],
     cells: &mut [Ref],
     waiting: &mut [Ref],
+    sections: &mut [Ref],
     top: usize,
 ) -> usize
     requires { ⌜ Planes blocks width (now counts) × Extents blocks (now a) (now b) (now cells)
-        × Stack blocks width (now counts) (now waiting) top ⌝ }
+        × Stack blocks width (now counts) (now waiting) top × Coherent blocks (now a) (now sections) ⌝ }
     ensures { λ r.
         ⌜ (memory (now (a .exit)) (now (b .exit)) (now (counts .exit)) (now (cells .exit)) [] []
         ≡ release blocks blocks width
@@ -99,7 +103,8 @@ fn release_all(
         ≡ releasedBlocks blocks blocks width
         (memory (now (a .entry)) (now (b .entry)) (now (counts .entry)) (now (cells .entry)) [] [])
         (topFirst (now (waiting .entry)) top))
-        × (now (waiting .exit) ≡ replicate blocks 0) ⌝ }
+        × (now (waiting .exit) ≡ replicate blocks 0)
+        × Coherent blocks (now (a .exit)) (now (sections .exit)) ⌝ }
 {
     let mut freed: usize = 0;
     let mut t = top;
@@ -108,7 +113,7 @@ fn release_all(
         let i = waiting[t] as usize;
         waiting[t] = 0;
         let n = blocks::objects::object_size(blocks, b, i);
-        blocks::extents::clear_extent(a, b, i, n);
+        extents::clear_extent(blocks, a, b, sections, i, n);
         t = drop_cells(blocks, width, counts, cells, waiting, 4 * i, 4 * n, t);
         freed += n;
     }
@@ -124,17 +129,20 @@ pub fn let_go(
     counts: &mut [u8],
     cells: &mut [Ref],
     waiting: &mut [Ref],
+    sections: &mut [Ref],
     v: Ref,
 ) -> usize
-    requires { ⌜ Planes blocks width (now counts) × Extents blocks (now a) (now b) (now cells) × (now waiting ≡ replicate blocks 0) × (v ≤ blocks) ⌝ }
+    requires { ⌜ Planes blocks width (now counts) × Extents blocks (now a) (now b) (now cells) × (now waiting ≡ replicate blocks 0) × (v ≤ blocks)
+        × Coherent blocks (now a) (now sections) ⌝ }
     ensures { λ r.
         ⌜ (memory (now (a .exit)) (now (b .exit)) (now (counts .exit)) (now (cells .exit)) [] (now (waiting .exit))
         ≡ letGo blocks width
         (memory (now (a .entry)) (now (b .entry)) (now (counts .entry)) (now (cells .entry)) [] (now (waiting .entry))) v)
         × (r
         ≡ letGoBlocks blocks width
-        (memory (now (a .entry)) (now (b .entry)) (now (counts .entry)) (now (cells .entry)) [] (now (waiting .entry))) v) ⌝ }
+        (memory (now (a .entry)) (now (b .entry)) (now (counts .entry)) (now (cells .entry)) [] (now (waiting .entry))) v)
+        × Coherent blocks (now (a .exit)) (now (sections .exit)) ⌝ }
 {
     let top = count_down(blocks, width, counts, waiting, v, 0);
-    release_all(blocks, width, a, b, counts, cells, waiting, top)
+    release_all(blocks, width, a, b, counts, cells, waiting, sections, top)
 }

@@ -10,15 +10,16 @@ use borrow.Author.Tests.{eq-eqb, ne-eqb}
 use Rattle.bitmap.specs.Bit.{setBit, fillBits}
 use Rattle.planes.specs.Plane.{setCount}
 use Rattle.planes.proofs.Counts.{length-set-count}
-use Rattle.rules.specs.Heap.{Memory, memory}
+use Rattle.rules.specs.Heap.{Memory, lentMemory, memory}
 use Rattle.rules.specs.Store.{countUp, sticks, clearCells, letGo, putRoot, putCell, changeRoot, changeCell, storeRootIn, storeCellIn}
 use Rattle.rules.specs.Store.{storeSticks, placed, allocateIn}
+use Rattle.sections.specs.Figures.{Coherent}
 use Rattle.references.specs.Ready.{Ready}
 use Rattle.references.specs.Blocks.{letGoBlocks}
 use Rattle.stores.specs.Blocks.{putRootBlocks, putCellBlocks, changeRootBlocks, changeCellBlocks}
 use Rattle.stores.specs.Blocks.{storeRootBlocks, storeCellBlocks, allocateBlocks}
 use Rattle.references.proofs.Shapes.{planes-same, extents-written}
-use Rattle.references.proofs.Elsewhere.{let-go-roots, let-go-blocks-roots}
+use Rattle.references.proofs.Elsewhere.{let-go-beside, let-go-blocks-beside}
 
 -- ---- what a store does where the value is present, and where it is not
 
@@ -75,72 +76,76 @@ module _ (N w : ℕ) (h : Memory) (i v : ℕ) where
     sticks-changed N w (h .counts) (getD (h .cells) i 0) v n,
   )
 
-module _ (N w : ℕ) (a b counts cells roots waiting : List ℕ) where
+module _ (N w : ℕ) (a b counts cells roots waiting sections : List ℕ) where
   -- ---- stores: the counts are counted up first
 
   pub ready-counts : (counts₁ : List ℕ) → length counts₁ ≡ length counts
-      → Ready N w (memory a b counts cells roots waiting) → Ready N w (memory a b counts₁ cells roots waiting)
+      → Ready N w (lentMemory a b counts cells roots waiting sections) → Ready N w (lentMemory a b counts₁ cells roots waiting sections)
   ready-counts counts₁ e ready = record {
     planes = planes-same N w counts counts₁ (ready .planes) e;
     extents = ready .extents;
     named = ready .named;
     idle = ready .idle;
+    coherent = ready .coherent;
   }
 
   module _ (v : ℕ) (counts₁ : List ℕ) (up : counts₁ ≡ countUp N w counts v) where
     pub store-root-done : (r : ℕ) (g : Memory)
-        → g ≡ putRoot N w (memory a b counts₁ cells roots waiting) r v
-        → g ≡ changeRoot N w (memory a b counts cells roots waiting) r v
+        → g ≡ putRoot N w (lentMemory a b counts₁ cells roots waiting sections) r v
+        → g ≡ changeRoot N w (lentMemory a b counts cells roots waiting sections) r v
     unfolding changeRoot
-    store-root-done r g e = e ∙ ap (λ (x : List ℕ). putRoot N w (memory a b x cells roots waiting) r v) up
+    store-root-done r g e = e ∙ ap (λ (x : List ℕ). putRoot N w (lentMemory a b x cells roots waiting sections) r v) up
 
     pub store-root-blocks : (r n : ℕ)
-        → n ≡ putRootBlocks N w (memory a b counts₁ cells roots waiting) r v
-        → n ≡ changeRootBlocks N w (memory a b counts cells roots waiting) r v
+        → n ≡ putRootBlocks N w (lentMemory a b counts₁ cells roots waiting sections) r v
+        → n ≡ changeRootBlocks N w (lentMemory a b counts cells roots waiting sections) r v
     unfolding changeRootBlocks
-    store-root-blocks r n e = e ∙ ap (λ (x : List ℕ). putRootBlocks N w (memory a b x cells roots waiting) r v) up
+    store-root-blocks r n e = e ∙ ap (λ (x : List ℕ). putRootBlocks N w (lentMemory a b x cells roots waiting sections) r v) up
 
     pub store-cell-done : (c : ℕ) (a′ b′ counts′ cells′ waiting′ : List ℕ)
         → memory a′ b′ counts′ cells′ [] waiting′ ≡ letGo N w (memory a b counts₁ (set cells c v) [] waiting) (getD cells c 0)
-        → memory a′ b′ counts′ cells′ roots waiting′ ≡ changeCell N w (memory a b counts cells roots waiting) c v
+        → lentMemory a′ b′ counts′ cells′ roots waiting′ sections ≡ changeCell N w (lentMemory a b counts cells roots waiting sections) c v
     unfolding changeCell putCell
     store-cell-done c a′ b′ counts′ cells′ waiting′ e =
-        let-go-roots N w a b counts₁ (set cells c v) roots waiting (getD cells c 0) a′ b′ counts′ cells′ waiting′ e
-        ∙ ap (λ (x : List ℕ). letGo N w (memory a b x (set cells c v) roots waiting) (getD cells c 0)) up
+        let-go-beside N w a b counts₁ (set cells c v) roots waiting sections (getD cells c 0) a′ b′ counts′ cells′ waiting′ e
+        ∙ ap (λ (x : List ℕ). letGo N w (lentMemory a b x (set cells c v) roots waiting sections) (getD cells c 0)) up
 
     pub store-cell-blocks : (c n : ℕ)
         → n ≡ letGoBlocks N w (memory a b counts₁ (set cells c v) [] waiting) (getD cells c 0)
-        → n ≡ changeCellBlocks N w (memory a b counts cells roots waiting) c v
+        → n ≡ changeCellBlocks N w (lentMemory a b counts cells roots waiting sections) c v
     unfolding changeCellBlocks putCellBlocks
     store-cell-blocks c n e =
-        let-go-blocks-roots N w a b counts₁ (set cells c v) roots waiting (getD cells c 0) n e
-        ∙ ap (λ (x : List ℕ). letGoBlocks N w (memory a b x (set cells c v) roots waiting) (getD cells c 0)) up
+        let-go-blocks-beside N w a b counts₁ (set cells c v) roots waiting sections (getD cells c 0) n e
+        ∙ ap (λ (x : List ℕ). letGoBlocks N w (lentMemory a b x (set cells c v) roots waiting sections) (getD cells c 0)) up
 
   -- ---- placing: the object of n blocks at i is written first
 
   module _ (i n : ℕ) (a₁ b₁ counts₁ cells₁ : List ℕ) (ea : a₁ ≡ fillBits a i n 1) (eb : b₁ ≡ setBit b (i + n - 1) 0)
       (ec : counts₁ ≡ setCount (N / 8) w counts i 1) (ee : cells₁ ≡ clearCells cells (4 * i) (4 * n)) where
-    pub ready-placed : Ready N w (memory a b counts cells roots waiting) → Ready N w (memory a₁ b₁ counts₁ cells₁ roots waiting)
-    ready-placed ready = record {
+    pub ready-placed :
+        (sections₁ : List ℕ) → Coherent N a₁ sections₁ → Ready N w (lentMemory a b counts cells roots waiting sections)
+        → Ready N w (lentMemory a₁ b₁ counts₁ cells₁ roots waiting sections₁)
+    ready-placed sections₁ coherent ready = record {
       planes = planes-same N w counts counts₁ (ready .planes) (ap length ec ∙ length-set-count (N / 8) w counts i 1);
       extents =
           extents-written N a b cells a₁ b₁ cells₁ i n 1 (i + n - 1) 0 (4 * i) (4 * n) ea eb ee (ready .extents);
       named = ready .named;
       idle = ready .idle;
+      coherent = coherent;
     }
 
-    written : memory a₁ b₁ counts₁ cells₁ roots waiting ≡ placed N w (memory a b counts cells roots waiting) i n
+    written : lentMemory a₁ b₁ counts₁ cells₁ roots waiting sections ≡ placed N w (lentMemory a b counts cells roots waiting sections) i n
     unfolding placed
-    written = λ k. memory (ea k) (eb k) (ec k) (ee k) roots waiting
+    written = λ k. lentMemory (ea k) (eb k) (ec k) (ee k) roots waiting sections
 
     pub place-done : (r : ℕ) (g : Memory)
-        → g ≡ putRoot N w (memory a₁ b₁ counts₁ cells₁ roots waiting) r (i + 1)
-        → g ≡ allocateIn N w (memory a b counts cells roots waiting) n r i
+        → g ≡ putRoot N w (lentMemory a₁ b₁ counts₁ cells₁ roots waiting sections) r (i + 1)
+        → g ≡ allocateIn N w (lentMemory a b counts cells roots waiting sections) n r i
     unfolding allocateIn
     place-done r g e = e ∙ ap (λ (h : Memory). putRoot N w h r (i + 1)) written
 
     pub place-blocks : (r m : ℕ)
-        → m ≡ putRootBlocks N w (memory a₁ b₁ counts₁ cells₁ roots waiting) r (i + 1)
-        → m ≡ allocateBlocks N w (memory a b counts cells roots waiting) n r i
+        → m ≡ putRootBlocks N w (lentMemory a₁ b₁ counts₁ cells₁ roots waiting sections) r (i + 1)
+        → m ≡ allocateBlocks N w (lentMemory a b counts cells roots waiting sections) n r i
     unfolding allocateBlocks
     place-blocks r m e = e ∙ ap (λ (h : Memory). putRootBlocks N w h r (i + 1)) written

@@ -1,5 +1,6 @@
 -- `collector::collect` meets its contract: a marking of some buffers and a sweep of others are the collection of all.
 use borrow.Author.Needs.{needs}
+use Rattle.references.proofs.Shapes.{planes-same}
 use Rattle.collector.proofs.Collects.{collected-memory, collected-blocks}
 use Rattle.collector.proofs.collect.Statement.{statement}
 use Rattle.collector.proofs.collect.Tie as tie
@@ -8,7 +9,16 @@ mark-requires : tie.Need-mark-requires
 mark-requires c κs = search needs
 
 sweep-requires : tie.Need-sweep-requires
-sweep-requires c κs = search needs
+sweep-requires c κs =
+    let m = c .before .before .before .before .before .before .before .before .before in
+    let s = m .before .before .before .before .before .before .before .before .before .before .before .before in
+    let ready = s .pre in (
+      planes-same _ _ _ _ (ready .planes) (search needs),
+      ready .extents .a-length,
+      ready .extents .b-length,
+      ready .extents .cells-length,
+      ready .coherent,
+    )
 
 same-length : tie.Need-same-length
 same-length c = search needs
@@ -25,14 +35,18 @@ same-length-4 c = search needs
 same-length-5 : tie.Need-same-length-5
 same-length-5 c = search needs
 
+same-length-6 : tie.Need-same-length-6
+same-length-6 c = search needs
+
 returns : tie.Need-returns
 returns c =
-    let r = c .before .before .before .before .before .before in
-    let m = r .before .before .before .before .before .before .before .before .before in
-    let s = m .before .before .before .before .before .before .before .before .before .before .before in
+    let r = c .before .before .before .before .before .before .before .before in
+    let m = r .before .before .before .before .before .before .before .before .before .before in
+    let s = m .before .before .before .before .before .before .before .before .before .before .before .before in
     let marked = m .mark .ensures in (
-      collected-memory _ _ _ _ _ _ _ _ (s .pre .idle) _ _ (marked .0) (marked .1) _ _ _ (r .sweep .ensures .0),
-      collected-blocks _ _ _ _ _ _ _ _ (s .pre .idle) _ _ (marked .0) (marked .1) _ (r .sweep .ensures .1),
+      collected-memory _ _ _ _ _ _ _ _ _ (s .pre .idle) _ _ (marked .0) (marked .1) _ _ _ (r .sweep .ensures .0),
+      collected-blocks _ _ _ _ _ _ _ _ _ (s .pre .idle) _ _ (marked .0) (marked .1) _ (r .sweep .ensures .1),
+      r .sweep .ensures .2,
     )
 
 pub collect-spec : {M : Type 1} → statement M
@@ -46,4 +60,5 @@ collect-spec =
     same-length-3
     same-length-4
     same-length-5
+    same-length-6
     returns)

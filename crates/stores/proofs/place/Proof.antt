@@ -10,16 +10,16 @@ use Rattle.stores.proofs.place.Tie as tie
 
 -- the places: the extent marked, the count written, the cells cleared, the root written
 abbrev marked : tie.After-set-count → tie.After-mark-extent
-marked c = c .before .before .before .before .before .before
+marked c = c .before .before .before .before .before .before .before .before
 
 abbrev counted : tie.After-clear-cells → tie.After-set-count
 counted c = c .before .before .before .before
 
 abbrev cleared : tie.After-put-root → tie.After-clear-cells
-cleared c = c .before .before .before .before .before .before .before .before .before
+cleared c = c .before .before .before .before .before .before .before .before .before .before
 
-abbrev put : tie.After-slice-known16 → tie.After-put-root
-put c = c .before .before .before .before .before .before .before .before .before .before .before .before
+abbrev put : tie.After-slice-known19 → tie.After-put-root
+put c = c .before .before .before .before .before .before .before .before .before .before .before .before .before .before
 
 capacity-of-requires : tie.Need-capacity-of-requires
 capacity-of-requires c κs = search needs
@@ -43,15 +43,17 @@ add-put-root : tie.Need-add-put-root
 add-put-root c = search needs
 
 cast-put-root : tie.Need-cast-put-root
-cast-put-root c = search needs
+cast-put-root c =
+    let pre = marked (counted (c .before .before .before .before .before .before .before .before .before)) .before .before .before .before .before .before .before .before .before .before .before .before .pre in
+    omega (arith, pre .1, pre .2, pre .0 .planes .most)
 
 put-root-requires : tie.Need-put-root-requires
 put-root-requires c κs =
-    let clear = c .before .before .before .before .before .before .before .before in
+    let clear = c .before .before .before .before .before .before .before .before .before in
     let count = counted clear in
     let extent = marked count .mark-extent .ensures in
-    let pre = marked count .before .before .before .before .before .before .before .before .before .before .pre in (
-      ready-placed _ _ _ _ _ _ _ _ _ _ _ _ _ _ (extent .0) (extent .1) (count .set-count .ensures) (clear .clear-cells .ensures) (pre .0),
+    let pre = marked count .before .before .before .before .before .before .before .before .before .before .before .before .pre in (
+      ready-placed _ _ _ _ _ _ _ _ _ _ _ _ _ _ _ (extent .0) (extent .1) (count .set-count .ensures) (clear .clear-cells .ensures) _ (extent .2) (pre .0),
       pre .3,
       omega arith,
     )
@@ -63,9 +65,10 @@ returns c =
     let extent = marked count .mark-extent .ensures in
     let counts = count .set-count .ensures in
     let cells = clear .clear-cells .ensures in (
-      place-done _ _ _ _ _ _ _ _ _ _ _ _ _ _ (extent .0) (extent .1) counts cells _ _ (put c .put-root .ensures .0),
-      place-blocks _ _ _ _ _ _ _ _ _ _ _ _ _ _ (extent .0) (extent .1) counts cells _ _ (put c .put-root .ensures .1),
-      ap (λ (most : ℕ). eqb most 1) (marked count .before .before .before .capacity-of .ensures .0),
+      place-done _ _ _ _ _ _ _ _ _ _ _ _ _ _ _ (extent .0) (extent .1) counts cells _ _ (put c .put-root .ensures .0 _),
+      place-blocks _ _ _ _ _ _ _ _ _ _ _ _ _ _ _ (extent .0) (extent .1) counts cells _ _ (put c .put-root .ensures .1 _),
+      ap (λ (most : ℕ). eqb most 1) (marked count .before .before .before .before .capacity-of .ensures .0),
+      put c .put-root .ensures .2,
     )
 
 pub place-spec : {M : Type 1} → statement M
@@ -81,10 +84,11 @@ place-spec =
     add-put-root
     cast-put-root
     put-root-requires
-    (λ c. put c .put-root .kept .1 .1 .0 ∙ marked (counted (cleared (put c))) .mark-extent .kept .0)
-    (λ c. put c .put-root .kept .1 .1 .1 .0 ∙ marked (counted (cleared (put c))) .mark-extent .kept .1 .0)
+    (λ c. put c .put-root .kept .1 .1 .0 ∙ marked (counted (cleared (put c))) .mark-extent .kept .1 .0)
+    (λ c. put c .put-root .kept .1 .1 .1 .0 ∙ marked (counted (cleared (put c))) .mark-extent .kept .1 .1 .0)
     (λ c. put c .put-root .kept .1 .1 .1 .1 .0 ∙ counted (cleared (put c)) .set-count .kept .0)
     (λ c. put c .put-root .kept .1 .1 .1 .1 .1 .0 ∙ cleared (put c) .clear-cells .kept .0)
     (λ c. put c .put-root .kept .1 .1 .1 .1 .1 .1 .0)
     (λ c. put c .put-root .kept .1 .1 .1 .1 .1 .1 .1 .0)
+    (λ c. put c .put-root .kept .1 .1 .1 .1 .1 .1 .1 .1 .0 ∙ marked (counted (cleared (put c))) .mark-extent .kept .1 .1 .1 .0)
     returns)

@@ -1,15 +1,15 @@
--- `stores::put_root` meets its contract: letting go is the same beside the roots, of which one is written.
+-- `stores::put_root` meets its contract: letting go is the same beside the roots, of which one is written, and whatever list of sections.
 use native.Mathlib.Omega.{arith}
 use borrow.Author.Needs.{needs}
 use Rattle.rules.specs.Store.{putRoot}
 use Rattle.stores.specs.Blocks.{putRootBlocks}
-use Rattle.references.proofs.Elsewhere.{let-go-roots, let-go-blocks-roots}
+use Rattle.references.proofs.Elsewhere.{let-go-beside, let-go-blocks-beside}
 use Rattle.stores.proofs.put_root.Statement.{statement}
 use Rattle.stores.proofs.put_root.Tie as tie
 
 -- the place where what stood there is let go
-abbrev gone : tie.After-slice-known12 → tie.After-let-go
-gone c = c .before .before .before .before .before .before .before .before .before .before
+abbrev gone : tie.After-slice-known14 → tie.After-let-go
+gone c = c .before .before .before .before .before .before .before .before .before .before .before .before
 
 mul-old : tie.Need-mul-old
 mul-old c = search needs
@@ -25,9 +25,9 @@ slice-write-roots c = search needs
 
 let-go-requires : tie.Need-let-go-requires
 let-go-requires c κs =
-    let start = c .before .before .before .before .before .before .before .before .before .before .before .before in
+    let start = c .before .before .before .before .before .before .before .before .before .before .before .before .before .before in
     let ready = start .pre .0 in
-    (ready .planes, ready .extents, ready .idle, omega (arith, ready .named (start .args .r)))
+    (ready .planes, ready .extents, ready .idle, omega (arith, ready .named (start .args .r)), ready .coherent)
 
 same-length-5 : tie.Need-same-length-5
 same-length-5 c = search needs
@@ -35,8 +35,11 @@ same-length-5 c = search needs
 returns : tie.Need-returns
 unfolding putRoot putRootBlocks
 returns c =
-    let left = gone c .let-go .ensures in
-    (let-go-roots _ _ _ _ _ _ _ _ _ _ _ _ _ _ (left .0), let-go-blocks-roots _ _ _ _ _ _ _ _ _ _ (left .1))
+    let left = gone c .let-go .ensures in (
+      λ x. let-go-beside _ _ _ _ _ _ _ _ x _ _ _ _ _ _ (left .0),
+      λ x. let-go-blocks-beside _ _ _ _ _ _ _ _ x _ _ (left .1),
+      left .2,
+    )
 
 pub put-root-spec : {M : Type 1} → statement M
 put-root-spec =
@@ -53,4 +56,5 @@ put-root-spec =
     (λ c. gone c .let-go .kept .1 .1 .1 .1 .1 .0)
     same-length-5
     (λ c. gone c .let-go .kept .1 .1 .1 .1 .1 .1 .0)
+    (λ c. gone c .let-go .kept .1 .1 .1 .1 .1 .1 .1 .0)
     returns)

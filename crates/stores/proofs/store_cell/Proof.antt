@@ -11,10 +11,10 @@ use Rattle.stores.proofs.store_cell.Tie as tie
 
 -- the places: counted up, and the old object let go
 abbrev up : tie.After-let-go → tie.After-count-up
-up c = c .before .before .before .before .before .before .before .before
+up c = c .before .before .before .before .before .before .before .before .before
 
-abbrev gone : tie.After-slice-known12 → tie.After-let-go
-gone c = c .before .before .before .before .before .before .before .before .before .before
+abbrev gone : tie.After-slice-known14 → tie.After-let-go
+gone c = c .before .before .before .before .before .before .before .before .before .before .before .before
 
 mul-old : tie.Need-mul-old
 mul-old c = search needs
@@ -23,7 +23,9 @@ slice-read-old : tie.Need-slice-read-old
 slice-read-old c = search needs
 
 returns : tie.Need-returns
-returns c = cell-present _ _ _ _ _ (c .if1 .taken)
+returns c =
+    let same = cell-present _ _ _ _ _ (c .if1 .taken) in
+    (same .0, same .1, same .2, c .before .before .before .before .before .before .before .before .before .pre .0 .coherent)
 
 count-up-requires : tie.Need-count-up-requires
 count-up-requires c κs = search needs
@@ -36,26 +38,28 @@ slice-write-cells c = search needs
 
 let-go-requires : tie.Need-let-go-requires
 let-go-requires c κs =
-    let start = c .before .before .before .before .before .before .before .before .before .before .before .before .before .before .before .before .before in
+    let start = c .before .before .before .before .before .before .before .before .before .before .before .before .before .before .before .before .before .before .before in
     let ready = start .pre .0 in (
       planes-same _ _ _ _ (ready .planes) (omega arith),
       extents-cell _ _ _ _ (start .args .c) _ (start .pre .2) (ready .extents),
       ready .idle,
       ready .extents .named (start .args .c),
+      ready .coherent,
     )
 
 same-length-4 : tie.Need-same-length-4
 same-length-4 c =
-    let args = c .before .before .before .before .before .before .before .before .before .before .before .before .before .before .before .before .before .before .before .before .before .before .before .before .before .before .before .before .args in
+    let args = c .before .before .before .before .before .before .before .before .before .before .before .before .before .before .before .before .before .before .before .before .before .before .before .before .before .before .before .before .before .before .before .before .args in
     omega (arith, length-set (args .cells .now) (args .c) (args .v))
 
 returns-2 : tie.Need-returns-2
 returns-2 c =
     let counted = up (gone c) .count-up .ensures in
     let changed = cell-changed _ _ _ _ _ (up (gone c) .before .before .if1 .left) in (
-      store-cell-done _ _ _ _ _ _ _ _ _ _ (counted .0) _ _ _ _ _ _ (gone c .let-go .ensures .0) ∙ changed .0,
-      store-cell-blocks _ _ _ _ _ _ _ _ _ _ (counted .0) _ _ (gone c .let-go .ensures .1) ∙ changed .1,
+      store-cell-done _ _ _ _ _ _ _ _ _ _ _ (counted .0) _ _ _ _ _ _ (gone c .let-go .ensures .0) ∙ changed .0,
+      store-cell-blocks _ _ _ _ _ _ _ _ _ _ _ (counted .0) _ _ (gone c .let-go .ensures .1) ∙ changed .1,
       counted .1 ∙ changed .2,
+      gone c .let-go .ensures .2,
     )
 
 pub store-cell-spec : {M : Type 1} → statement M
@@ -74,4 +78,5 @@ store-cell-spec =
     (λ c. gone c .let-go .kept .1 .1 .1 .1 .0 ∙ up (gone c) .count-up .kept .1 .1 .0)
     same-length-4
     (λ c. gone c .let-go .kept .1 .1 .1 .1 .1 .1 .0)
+    (λ c. gone c .let-go .kept .1 .1 .1 .1 .1 .1 .1 .0)
     returns-2)

@@ -8,10 +8,10 @@ use Rattle.stores.proofs.store_root.Tie as tie
 
 -- the places: counted up, and the root written
 abbrev up : tie.After-put-root → tie.After-count-up
-up c = c .before .before .before .before .before .before .before .before .before
+up c = c .before .before .before .before .before .before .before .before .before .before
 
-abbrev put : tie.After-slice-known14 → tie.After-put-root
-put c = c .before .before .before .before .before .before .before .before .before .before .before .before
+abbrev put : tie.After-slice-known16 → tie.After-put-root
+put c = c .before .before .before .before .before .before .before .before .before .before .before .before .before .before
 
 mul-if1 : tie.Need-mul-if1
 mul-if1 c = search needs
@@ -20,23 +20,26 @@ slice-read-if1 : tie.Need-slice-read-if1
 slice-read-if1 c = search needs
 
 returns : tie.Need-returns
-returns c = root-present _ _ _ _ _ (c .if1 .taken)
+returns c =
+    let same = root-present _ _ _ _ _ (c .if1 .taken) in
+    (same .0, same .1, same .2, c .before .before .before .before .before .before .before .before .before .pre .0 .coherent)
 
 count-up-requires : tie.Need-count-up-requires
 count-up-requires c κs = search needs
 
 put-root-requires : tie.Need-put-root-requires
 put-root-requires c κs =
-    let pre = c .before .before .before .before .before .before .before .before .before .before .before .before .before .before .before .before .before .before .pre in
-    (ready-counts _ _ _ _ _ _ _ _ _ (omega arith) (pre .0), pre .1, pre .2)
+    let pre = c .before .before .before .before .before .before .before .before .before .before .before .before .before .before .before .before .before .before .before .before .pre in
+    (ready-counts _ _ _ _ _ _ _ _ _ _ (omega arith) (pre .0), pre .1, pre .2)
 
 returns-2 : tie.Need-returns-2
 returns-2 c =
     let counted = up (put c) .count-up .ensures in
     let changed = root-changed _ _ _ _ _ (up (put c) .before .before .if1 .left) in (
-      store-root-done _ _ _ _ _ _ _ _ _ _ (counted .0) _ _ (put c .put-root .ensures .0) ∙ changed .0,
-      store-root-blocks _ _ _ _ _ _ _ _ _ _ (counted .0) _ _ (put c .put-root .ensures .1) ∙ changed .1,
+      store-root-done _ _ _ _ _ _ _ _ _ _ _ (counted .0) _ _ (put c .put-root .ensures .0 _) ∙ changed .0,
+      store-root-blocks _ _ _ _ _ _ _ _ _ _ _ (counted .0) _ _ (put c .put-root .ensures .1 _) ∙ changed .1,
       counted .1 ∙ changed .2,
+      put c .put-root .ensures .2,
     )
 
 pub store-root-spec : {M : Type 1} → statement M
@@ -54,4 +57,5 @@ store-root-spec =
     (λ c. put c .put-root .kept .1 .1 .1 .1 .1 .0)
     (λ c. put c .put-root .kept .1 .1 .1 .1 .1 .1 .0)
     (λ c. put c .put-root .kept .1 .1 .1 .1 .1 .1 .1 .0)
+    (λ c. put c .put-root .kept .1 .1 .1 .1 .1 .1 .1 .1 .0)
     returns-2)

@@ -1,31 +1,38 @@
 -- `collector::sweep::sweep` meets its contract: after i turns the buffers are swept below block i. The measure is what is left of the blocks.
-use mathlib.Core.Path.{_≡_, refl, ap, _∙_}
+use mathlib.Core.Path.{_≡_, refl, sym, ap, _∙_}
 use mathlib.Core.List.{[]}
 use Prim.Native.Nat.{_≤_, _-_, _*_}
-use borrow.Author.Needs.{needs}
 use native.Mathlib.Omega.{arith}
 use lib.ListN.{length}
 use Rattle.rules.specs.Heap.{memory, maxBlocks}
+use Rattle.sections.specs.Figures.{Coherent}
 use Rattle.collector.specs.Sweep.{sweep, sweepBlocks}
 use Rattle.collector.proofs.Sweeps.{sweep-next, sweep-blocks-next}
 use Rattle.collector.proofs.sweep.sweep.Statement.{statement}
 use Rattle.collector.proofs.sweep.sweep.Tie as tie
 
 abbrev Inv-loop : tie.InvT-loop
-Inv-loop blocks width a₀ b₀ counts cells₀ freed₀ i₀ a b cells freed i =
+Inv-loop blocks width a₀ b₀ counts cells₀ sections₀ freed₀ i₀ a b cells sections freed i =
     (i ≤ blocks) × (length a ≡ length a₀) × (length b ≡ length b₀) × (length cells ≡ length cells₀)
     × (memory a b counts cells [] [] ≡ sweep blocks width (memory a₀ b₀ counts cells₀ [] []) i)
     × (freed ≡ sweepBlocks blocks width (memory a₀ b₀ counts cells₀ [] []) i) × (freed ≤ maxBlocks * i)
+    × Coherent blocks a sections
 
 abbrev μ-loop : tie.MeasureT-loop
-μ-loop blocks width a₀ b₀ counts cells₀ freed₀ i₀ a b cells freed i = blocks - i
+μ-loop blocks width a₀ b₀ counts cells₀ sections₀ freed₀ i₀ a b cells sections freed i = blocks - i
 
 loop-holds : tie.Need-loop-holds Inv-loop μ-loop
 unfolding sweep sweepBlocks
-loop-holds c = (omega arith, refl, refl, refl, refl, refl, omega arith)
+loop-holds c =
+    let start = c .before .before .before .before .before in
+    (omega arith, refl, refl, refl, refl, refl, omega arith, start .pre .4)
 
 sweep-one-requires : tie.Need-sweep-one-requires Inv-loop μ-loop
-sweep-one-requires c κs = search needs
+sweep-one-requires c κs =
+    let l = c .before .before .before .before .before in
+    let start = l .before .before .before .before .before .before in
+    let v = l .loop .inv in
+    (start .pre .0, v .1 ∙ start .pre .1, v .2 ∙ start .pre .2, v .3 ∙ start .pre .3, omega arith, v .7)
 
 add-freed : tie.Need-add-freed Inv-loop μ-loop
 add-freed c = omega arith
@@ -38,8 +45,8 @@ loop-less c = omega arith
 
 loop-again : tie.Need-loop-again Inv-loop μ-loop
 loop-again c =
-    let r = c .before .before .before .before .before .before in
-    let l = r .before .before .before .before .before in
+    let r = c .before .before .before .before .before .before .before .before in
+    let l = r .before .before .before .before .before .before in
     let v = l .loop .inv in (
       omega arith,
       omega arith,
@@ -48,6 +55,7 @@ loop-again c =
       sweep-next _ _ _ _ _ (v .4) _ (r .sweep-one .ensures .0),
       sweep-blocks-next _ _ _ _ _ (v .4) _ _ (v .5) (r .sweep-one .ensures .1),
       omega arith,
+      r .sweep-one .ensures .3,
     )
 
 same-length : tie.Need-same-length Inv-loop μ-loop
@@ -59,11 +67,15 @@ same-length-2 c = omega arith
 same-length-3 : tie.Need-same-length-3 Inv-loop μ-loop
 same-length-3 c = omega arith
 
+same-length-4 : tie.Need-same-length-4 Inv-loop μ-loop
+same-length-4 c =
+    c .before .loop .inv .7 .length-is ∙ sym (c .before .before .before .before .before .before .before .pre .4 .length-is)
+
 returns : tie.Need-returns Inv-loop μ-loop
 returns c =
     let v = c .before .loop .inv in
-    let done : c .before .loop .i ≡ c .before .before .before .before .before .before .args .blocks = omega arith in
-    (v .4 ∙ ap (sweep _ _ _) done, v .5 ∙ ap (sweepBlocks _ _ _) done)
+    let done : c .before .loop .i ≡ c .before .before .before .before .before .before .before .args .blocks = omega arith in
+    (v .4 ∙ ap (sweep _ _ _) done, v .5 ∙ ap (sweepBlocks _ _ _) done, v .7)
 
 pub sweep-spec : {M : Type 1} → statement M
 sweep-spec =
@@ -80,4 +92,5 @@ sweep-spec =
     same-length
     same-length-2
     same-length-3
+    same-length-4
     returns)

@@ -16,7 +16,9 @@ same-length-2 : tie.Need-same-length-2
 same-length-2 c = search needs
 
 returns : tie.Need-returns
-returns c = sweep-not-first _ _ _ _ (sym (c .before .is-first .ensures) ∙ not-true _ (c .if1 .taken))
+returns c =
+    let s = c .before .before .before .before .before .before .before .before .before in
+    sweep-not-first _ _ _ _ _ (s .pre .5) (sym (c .before .is-first .ensures) ∙ not-true _ (c .if1 .taken))
 
 get-count-requires : tie.Need-get-count-requires
 get-count-requires c κs = search needs
@@ -30,7 +32,8 @@ same-length-4 c = search needs
 returns-2 : tie.Need-returns-2
 returns-2 c =
     let f = c .before .before in
-    sweep-marked _ _ _ _ (sym (f .before .is-first .ensures) ∙ not-false _ (f .if1 .left))
+    let s = f .before .before .before .before .before .before .before .before .before in
+    sweep-marked _ _ _ _ _ (s .pre .5) (sym (f .before .is-first .ensures) ∙ not-false _ (f .if1 .left))
     (λ z. c .if2 .taken (c .before .get-count .ensures .0 ∙ z))
 
 object-size-requires : tie.Need-object-size-requires
@@ -57,17 +60,20 @@ same-length-6 c = search needs
 same-length-7 : tie.Need-same-length-7
 same-length-7 c = search needs
 
+same-length-8 : tie.Need-same-length-8
+same-length-8 c = search needs
+
 returns-3 : tie.Need-returns-3
 returns-3 c =
     let k = c .before .before in
-    let x = k .before .before .before .before .before .before in
-    let o = x .before .before .before in
+    let x = k .before .before .before .before .before .before .before .before in
+    let o = x .before .before .before .before in
     let g = o .before .before in
     let f = g .before .before in
     let size = o .object-size .ensures in
     let cleared = x .clear-extent .ensures in
     sweep-unmarked _ _ _ _ _ _ _ _ (size .0) (size .2) (sym (f .before .is-first .ensures) ∙ not-false _ (f .if1 .left))
-    (sym (g .before .get-count .ensures .0) ∙ g .if2 .left) _ _ _ (cleared .0) (cleared .1) (k .clear-cells .ensures)
+    (sym (g .before .get-count .ensures .0) ∙ g .if2 .left) _ _ _ (cleared .0) (cleared .1) (k .clear-cells .ensures) _ (cleared .2)
 
 pub sweep-one-spec : {M : Type 1} → statement M
 sweep-one-spec =
@@ -89,4 +95,5 @@ sweep-one-spec =
     same-length-5
     same-length-6
     same-length-7
+    same-length-8
     returns-3)

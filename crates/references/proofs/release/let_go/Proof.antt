@@ -7,7 +7,7 @@ use Rattle.references.proofs.release.let_go.Tie as tie
 
 count-down-requires : tie.Need-count-down-requires
 count-down-requires c κs =
-    let pre = c .before .before .before .before .before .before .before .pre in
+    let pre = c .before .before .before .before .before .before .before .before .pre in
     (pre .0, stack-empty _ _ _ _ (pre .2), pre .3)
 
 release-all-requires : tie.Need-release-all-requires
@@ -28,15 +28,19 @@ same-length-4 c = search needs
 same-length-5 : tie.Need-same-length-5
 same-length-5 c = search needs
 
+same-length-6 : tie.Need-same-length-6
+same-length-6 c = search needs
+
 returns : tie.Need-returns
 returns c =
-    let freed = c .before .before .before .before .before .before .before .before .before .before in
-    let counted = freed .before .before .before .before .before .before .before .before .before .before in
-    let start = counted .before .before .before .before .before .before .before .before in
+    let freed = c .before .before .before .before .before .before .before .before .before .before .before .before in
+    let counted = freed .before .before .before .before .before .before .before .before .before .before .before in
+    let start = counted .before .before .before .before .before .before .before .before .before in
     let down = counted .count-down .ensures .result in
     let released = freed .release-all .ensures in (
       let-go-done _ _ _ _ _ _ _ _ _ _ _ down _ _ _ _ _ (released .0) (start .pre .2) (released .2),
       let-go-blocks-done _ _ _ _ _ _ _ _ _ _ _ down _ (released .1),
+      released .3,
     )
 
 pub let-go-spec : {M : Type 1} → statement M
@@ -50,4 +54,5 @@ let-go-spec =
     same-length-3
     same-length-4
     same-length-5
+    same-length-6
     returns)

@@ -6,6 +6,7 @@ use Prim.Native.Nat.{_+_, _-_}
 use native.Mathlib.Omega.{arith}
 use Rattle.rules.specs.Heap.{memory}
 use Rattle.rules.specs.Store.{release}
+use Rattle.sections.specs.Figures.{Coherent}
 use Rattle.references.specs.Stack.{topFirst, counted}
 use Rattle.references.specs.Blocks.{releasedBlocks}
 use Rattle.references.proofs.Stack.{stack-pop}
@@ -14,20 +15,21 @@ use Rattle.references.proofs.release.release_all.Statement.{statement}
 use Rattle.references.proofs.release.release_all.Tie as tie
 
 abbrev Inv-loop : tie.InvT-loop
-Inv-loop blocks width a₀ b₀ counts₀ cells₀ waiting₀ top freed₀ t₀ a b counts cells waiting freed t =
+Inv-loop blocks width a₀ b₀ counts₀ cells₀ waiting₀ sections₀ top freed₀ t₀ a b counts cells waiting sections freed t =
     Releasing blocks width
     (release blocks blocks width (memory a₀ b₀ counts₀ cells₀ [] []) (topFirst waiting₀ top))
     (releasedBlocks blocks blocks width (memory a₀ b₀ counts₀ cells₀ [] []) (topFirst waiting₀ top))
     a b counts cells waiting t freed
+    × Coherent blocks a sections
 
 abbrev μ-loop : tie.MeasureT-loop
-μ-loop blocks width a₀ b₀ counts₀ cells₀ waiting₀ top freed₀ t₀ a b counts cells waiting freed t =
+μ-loop blocks width a₀ b₀ counts₀ cells₀ waiting₀ sections₀ top freed₀ t₀ a b counts cells waiting sections freed t =
     t + counted blocks width counts
 
 loop-holds : tie.Need-loop-holds Inv-loop μ-loop
 loop-holds c =
-    let start = c .before .before .before .before .before in
-    releasing-start _ _ _ _ _ _ _ _ (start .pre .0) (start .pre .1) (start .pre .2)
+    let start = c .before .before .before .before .before .before in
+    (releasing-start _ _ _ _ _ _ _ _ (start .pre .0) (start .pre .1) (start .pre .2), start .pre .3)
 
 sub-t : tie.Need-sub-t Inv-loop μ-loop
 sub-t c = omega arith
@@ -41,7 +43,7 @@ slice-read-i c = omega arith
 cast-i : tie.Need-cast-i Inv-loop μ-loop
 cast-i c =
     let l = c .before .before .loop in
-    omega (arith, l .inv .stack .blocks (l .t - 1) (omega arith))
+    omega (arith, l .inv .0 .stack .blocks (l .t - 1) (omega arith))
 
 mul-waiting : tie.Need-mul-waiting Inv-loop μ-loop
 mul-waiting c = omega arith
@@ -52,17 +54,18 @@ slice-write-waiting c = omega arith
 object-size-requires : tie.Need-object-size-requires Inv-loop μ-loop
 object-size-requires c κs =
     let l = c .before .before .before .loop in
-    (omega (arith, l .inv .extents .b-length, l .inv .planes .eighths), l .inv .stack .blocks (l .t - 1) (omega arith))
+    (omega (arith, l .inv .0 .extents .b-length, l .inv .0 .planes .eighths), l .inv .0 .stack .blocks (l .t - 1) (omega arith))
 
 clear-extent-requires : tie.Need-clear-extent-requires Inv-loop μ-loop
 clear-extent-requires c κs =
-    let sized = c .before .before in
+    let sized = c .before .before .before in
     let l = sized .before .before .before .before .loop in
-    let inv = l .inv in (
+    let inv = l .inv .0 in (
+      l .inv .1,
+      inv .extents .a-length,
+      inv .extents .b-length,
       omega (arith, sized .object-size .ensures .1, inv .stack .blocks (l .t - 1) (omega arith)),
-      omega (arith, inv .extents .a-length, inv .planes .eighths),
-      omega (arith, inv .extents .b-length, inv .planes .eighths),
-      omega (arith, inv .extents .a-length, inv .planes .eighths, inv .planes .most),
+      sized .object-size .ensures .2,
     )
 
 mul-drop-cells : tie.Need-mul-drop-cells Inv-loop μ-loop
@@ -73,68 +76,75 @@ mul-drop-cells-2 c = omega arith
 
 drop-cells-requires : tie.Need-drop-cells-requires Inv-loop μ-loop
 drop-cells-requires c κs =
-    let cleared = c .before .before .before .before .before .before .before in
-    let sized = cleared .before .before .before in
+    let cleared = c .before .before .before .before .before .before .before .before .before in
+    let sized = cleared .before .before .before .before in
     let test = sized .before .before .before in
     let l = test .before .loop in
     let size = sized .object-size .ensures in (
-      l .inv .planes,
-      stack-pop _ _ _ _ (l .t) (test .loop-test .taken) (l .inv .stack),
-      l .inv .extents .named,
-      omega (arith, l .inv .extents .cells-length),
+      l .inv .0 .planes,
+      stack-pop _ _ _ _ (l .t) (test .loop-test .taken) (l .inv .0 .stack),
+      l .inv .0 .extents .named,
+      omega (arith, l .inv .0 .extents .cells-length),
     )
 
 add-freed : tie.Need-add-freed Inv-loop μ-loop
 add-freed c =
-    let cleared = c .before .before .before .before .before .before .before .before .before .before .before .before .before .before in
-    let sized = cleared .before .before .before in
-    let inv = sized .before .before .before .before .loop .inv in
+    let cleared = c .before .before .before .before .before .before .before .before .before .before .before .before .before .before .before .before in
+    let sized = cleared .before .before .before .before in
+    let inv = sized .before .before .before .before .loop .inv .0 in
     let size = sized .object-size .ensures in
     omega (arith, inv .bound, inv .planes .most)
 
 loop-less : tie.Need-loop-less Inv-loop μ-loop
 loop-less c =
     let dropped = c .before .before .before .before .before .before in
-    let cleared = dropped .before .before .before .before .before .before .before .before in
-    let taken = cleared .before .before .before .before .before .before .loop-test .taken in
+    let cleared = dropped .before .before .before .before .before .before .before .before .before .before in
+    let taken = cleared .before .before .before .before .before .before .before .loop-test .taken in
     let kept = dropped .drop-cells .ensures .0 .kept in
     omega arith
 
 loop-again : tie.Need-loop-again Inv-loop μ-loop
 loop-again c =
     let dropped = c .before .before .before .before .before .before in
-    let cleared = dropped .before .before .before .before .before .before .before .before in
-    let sized = cleared .before .before .before in
+    let cleared = dropped .before .before .before .before .before .before .before .before .before .before in
+    let sized = cleared .before .before .before .before in
     let test = sized .before .before .before in
     let l = test .before .loop in
     let size = sized .object-size .ensures in
     let extent = cleared .clear-extent .ensures in
-    let cells = dropped .drop-cells .ensures in
-    releasing-step _ _ _ _ _ _ _ _ _ (l .t) _ _ _ _ _ _ _ _ _ (test .loop-test .taken) refl (size .0) (size .2)
-    (extent .0) (extent .1) (cells .1) (cells .0) (l .inv)
+    let cells = dropped .drop-cells .ensures in (
+      releasing-step _ _ _ _ _ _ _ _ _ (l .t) _ _ _ _ _ _ _ _ _ (test .loop-test .taken) refl (size .0) (size .2)
+          (extent .0) (extent .1) (cells .1) (cells .0) (l .inv .0),
+      extent .2,
+    )
 
 same-length : tie.Need-same-length Inv-loop μ-loop
-same-length c = c .before .loop .inv .extents .a-length ∙ sym (c .before .before .before .before .before .before .before .pre .1 .a-length)
+same-length c = c .before .loop .inv .0 .extents .a-length ∙ sym (c .before .before .before .before .before .before .before .before .pre .1 .a-length)
 
 same-length-2 : tie.Need-same-length-2 Inv-loop μ-loop
-same-length-2 c = c .before .loop .inv .extents .b-length ∙ sym (c .before .before .before .before .before .before .before .pre .1 .b-length)
+same-length-2 c = c .before .loop .inv .0 .extents .b-length ∙ sym (c .before .before .before .before .before .before .before .before .pre .1 .b-length)
 
 same-length-3 : tie.Need-same-length-3 Inv-loop μ-loop
-same-length-3 c = c .before .loop .inv .planes .length-is ∙ sym (c .before .before .before .before .before .before .before .pre .0 .length-is)
+same-length-3 c = c .before .loop .inv .0 .planes .length-is ∙ sym (c .before .before .before .before .before .before .before .before .pre .0 .length-is)
 
 same-length-4 : tie.Need-same-length-4 Inv-loop μ-loop
-same-length-4 c = c .before .loop .inv .extents .cells-length ∙ sym (c .before .before .before .before .before .before .before .pre .1 .cells-length)
+same-length-4 c = c .before .loop .inv .0 .extents .cells-length ∙ sym (c .before .before .before .before .before .before .before .before .pre .1 .cells-length)
 
 same-length-5 : tie.Need-same-length-5 Inv-loop μ-loop
-same-length-5 c = c .before .loop .inv .stack .length-is ∙ sym (c .before .before .before .before .before .before .before .pre .2 .length-is)
+same-length-5 c = c .before .loop .inv .0 .stack .length-is ∙ sym (c .before .before .before .before .before .before .before .before .pre .2 .length-is)
+
+same-length-6 : tie.Need-same-length-6 Inv-loop μ-loop
+same-length-6 c = c .before .loop .inv .1 .length-is ∙ sym (c .before .before .before .before .before .before .before .before .pre .3 .length-is)
 
 returns : tie.Need-returns Inv-loop μ-loop
 returns c =
-    let inv = c .before .loop .inv in
+    let kept = c .before .loop .inv in
+    let inv = kept .0 in
     let none : c .before .loop .t ≡ 0 = omega arith in (
       releasing-done _ _ _ _ _ _ _ _ _ _ _ inv none,
       blocks-done _ _ _ _ _ _ _ _ _ _ _ inv none,
       waiting-done _ _ _ _ _ _ _ _ _ _ _ inv none,
+      kept .1,
     )
 
 pub release-all-spec : {M : Type 1} → statement M
@@ -163,4 +173,5 @@ release-all-spec =
     same-length-3
     same-length-4
     same-length-5
+    same-length-6
     returns)
