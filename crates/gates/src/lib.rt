@@ -22,19 +22,20 @@ pub fn allocate(
     cells: &[Ref],
     roots: &[Ref],
     waiting: &[Ref],
+    sections: &[Ref],
     n: usize,
     r: usize,
 ) -> Reply
     ensures { λ reply.
-        ⌜ Gated blocks width (Call.allocate n r) (before a b counts cells roots waiting) reply
+        ⌜ Gated blocks width (Call.allocate n r) (before a b counts cells roots waiting sections) reply
         (allocateReply blocks (now (a .entry)) (length (now (roots .entry))) n r) ⌝ }
 {
-    let checked = inspect::check(blocks, width, a, b, counts, cells, roots, waiting);
+    let checked = inspect::check(blocks, width, a, b, counts, cells, roots, waiting, sections);
     let number = checked.number;
     if number != 0 {
         return checked;
     }
-    tests::allocate_reply(blocks, a, roots.len(), n, r)
+    tests::allocate_reply(blocks, a, sections, roots.len(), n, r)
 }
 
 // The tests of a store in root r.
@@ -47,14 +48,15 @@ pub fn store_root(
     cells: &[Ref],
     roots: &[Ref],
     waiting: &[Ref],
+    sections: &[Ref],
     r: usize,
     v: usize,
 ) -> Reply
     ensures { λ reply.
-        ⌜ Gated blocks width (Call.storeRoot r v) (before a b counts cells roots waiting) reply
+        ⌜ Gated blocks width (Call.storeRoot r v) (before a b counts cells roots waiting sections) reply
         (storeRootTest blocks (memory (now (a .entry)) (now (b .entry)) [] [] (now (roots .entry)) []) r v) ⌝ }
 {
-    let checked = inspect::check(blocks, width, a, b, counts, cells, roots, waiting);
+    let checked = inspect::check(blocks, width, a, b, counts, cells, roots, waiting, sections);
     let number = checked.number;
     if number != 0 {
         return checked;
@@ -72,15 +74,16 @@ pub fn store_cell(
     cells: &[Ref],
     roots: &[Ref],
     waiting: &[Ref],
+    sections: &[Ref],
     at: usize,
     j: usize,
     v: usize,
 ) -> Reply
     ensures { λ reply.
-        ⌜ Gated blocks width (Call.storeCell at j v) (before a b counts cells roots waiting) reply
+        ⌜ Gated blocks width (Call.storeCell at j v) (before a b counts cells roots waiting sections) reply
         (storeCellTest blocks (memory (now (a .entry)) (now (b .entry)) [] [] [] []) at j v) ⌝ }
 {
-    let checked = inspect::check(blocks, width, a, b, counts, cells, roots, waiting);
+    let checked = inspect::check(blocks, width, a, b, counts, cells, roots, waiting, sections);
     let number = checked.number;
     if number != 0 {
         return checked;
@@ -98,13 +101,14 @@ pub fn return_roots(
     cells: &[Ref],
     roots: &[Ref],
     waiting: &[Ref],
+    sections: &[Ref],
     chosen: u64,
 ) -> Reply
     ensures { λ reply.
-        ⌜ Gated blocks width (Call.returnRoots chosen) (before a b counts cells roots waiting) reply
+        ⌜ Gated blocks width (Call.returnRoots chosen) (before a b counts cells roots waiting sections) reply
         (returnTest (length (now (roots .entry))) chosen) ⌝ }
 {
-    let checked = inspect::check(blocks, width, a, b, counts, cells, roots, waiting);
+    let checked = inspect::check(blocks, width, a, b, counts, cells, roots, waiting, sections);
     let number = checked.number;
     if number != 0 {
         return checked;

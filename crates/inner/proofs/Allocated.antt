@@ -10,19 +10,20 @@ use lib.Dec.{leb, ltb}
 use lib.ListN.{length, replicate}
 use borrow.Author.Tests.{leb-true, ltb-true}
 use Rattle.bitmap.specs.Bit.{one}
-use Rattle.rules.specs.Heap.{Memory, exponent, lowestFree}
+use Rattle.rules.specs.Heap.{Memory, withSections, exponent, lowestFree}
+use Rattle.rules.specs.Sections.{figures}
 use Rattle.rules.specs.Store.{birthSticks, allocateIn}
 use Rattle.rules.specs.Calls.{allocate, reply, require, allocation, settled, answer}
 use Rattle.rules.specs.Promise.{Promise}
 use Rattle.rules.specs.declared.Reply.{Reply}
 use Rattle.rules.proofs.Tests.{and-true}
 use Rattle.theory.proofs.Maps.LowestChunk.{room}
-use Rattle.theory.proofs.Memories.Healthy.{Healthy}
+use Rattle.theory.proofs.Memories.Fit.{Fit}
 use Rattle.theory.proofs.EachCall.Served.{on-undamaged}
 use Rattle.theory.proofs.Memories.WaitingUnread.{allocate-waiting}
 use Rattle.inner.specs.Usable.{Usable}
 use Rattle.inner.specs.Replies.{found, allocateReply}
-use Rattle.inner.proofs.Idle.{settled-idle, usable-healthy, promised}
+use Rattle.inner.proofs.Idle.{cleared-same, usable-fit, left-settled, promised}
 
 -- ---- the reply, over its two tests and its search
 
@@ -84,33 +85,33 @@ module _ (N : ℕ) (a : List ℕ) (roots n r : ℕ) where
 
 module _ (N w : ℕ) (h : Memory) (n r : ℕ) where
   allocate-stopped :
-      Healthy N w h → (allocateReply N (h .a) (length (h .roots)) n r .number ≡ 0 → ⊥)
+      Fit N w h → (allocateReply N (h .a) (length (h .roots)) n r .number ≡ 0 → ⊥)
       → answer N w h (allocate n r) ≡ (allocateReply N (h .a) (length (h .roots)) n r, h)
   unfolding answer allocateReply
-  allocate-stopped healthy fails =
-      on-undamaged N w h healthy _
+  allocate-stopped fit fails =
+      on-undamaged N w h fit _
       ∙ tested-stops N w h n r (leb 1 n && leb n N) (ltb r (length (h .roots))) (lowestFree N (exponent n) (h .a)) fails
 
   pub allocate-refused :
-      Healthy N w h → (x : Reply) → x ≡ allocateReply N (h .a) (length (h .roots)) n r → (x .number ≡ 0 → ⊥) → Promise N w (allocate n r) h x h
-  allocate-refused healthy x tested fails =
+      Fit N w h → (x : Reply) → x ≡ allocateReply N (h .a) (length (h .roots)) n r → (x .number ≡ 0 → ⊥) → Promise N w (allocate n r) h x h
+  allocate-refused fit x tested fails =
       promised N w h (allocate n r) (allocateReply N (h .a) (length (h .roots)) n r, h)
-      (allocate-stopped healthy (λ e. fails (ap (λ (y : Reply). y .number) tested ∙ e)))
+      (allocate-stopped fit (λ e. fails (ap (λ (y : Reply). y .number) tested ∙ e)))
       x h tested refl
 
   module _ (at : ℕ) (free : Found N (h .a) (length (h .roots)) n r at) where
     pub allocate-answered :
-        Healthy N w h → answer N w h (allocate n r) ≡ (reply 0 at (one (birthSticks w)), settled N (allocateIn N w h n r at))
+        Fit N w h → answer N w h (allocate n r) ≡ (reply 0 at (one (birthSticks w)), settled N (allocateIn N w h n r at))
     unfolding answer require allocation
-    allocate-answered healthy = on-undamaged N w h healthy _ ∙ rw (free .size-test, free .place-test, free .lowest)
+    allocate-answered fit = on-undamaged N w h fit _ ∙ rw (free .size-test, free .place-test, free .lowest)
 
     pub allocate-promised :
-        Usable N w h → (stuck : Bool) (x : Reply) (g : Memory) → g ≡ allocateIn N w h n r at → stuck ≡ birthSticks w
-        → x ≡ reply 0 at (one stuck) → Promise N w (allocate n r) h x g
-    allocate-promised usable stuck x g left told replied =
+        Usable N w h → (stuck : Bool) (x : Reply) (g : Memory) → withSections (h .sections) g ≡ allocateIn N w h n r at
+        → g .sections ≡ figures N (g .a) → stuck ≡ birthSticks w → x ≡ reply 0 at (one stuck) → Promise N w (allocate n r) h x g
+    allocate-promised usable stuck x g left listed told replied =
         promised N w h (allocate n r) (reply 0 at (one (birthSticks w)), settled N (allocateIn N w h n r at))
-        (allocate-answered (usable-healthy N w h usable)) x g
+        (allocate-answered (usable-fit N w h usable)) x g
         (replied ∙ ap (λ (t : Bool). reply 0 at (one t)) told)
-        (left
-        ∙ ap (λ (k : Memory). allocateIn N w k n r at) (sym (settled-idle N w h usable))
-        ∙ allocate-waiting N w (replicate N 0) h n r at)
+        (left-settled N (h .sections) g (allocateIn N w h n r at) left
+        (ap (λ (k : Memory). allocateIn N w k n r at) (sym (cleared-same N w h usable)) ∙ allocate-waiting N w (replicate N 0) h n r at)
+        listed)

@@ -6,28 +6,28 @@ use native.Mathlib.Omega.{arith}
 use lib.ListN.{length}
 use borrow.Author.Tests.{eq-eqb, ne-eqb}
 use Rattle.bitmap.specs.Bit.{one, zeros}
-use Rattle.rules.specs.Heap.{Memory}
+use Rattle.rules.specs.Heap.{Memory, withSections}
+use Rattle.rules.specs.Sections.{figures}
 use Rattle.rules.specs.Store.{birthSticks, allocateIn}
-use Rattle.rules.specs.Calls.{allocate, reply, Answer, answer}
+use Rattle.rules.specs.Calls.{allocate, reply}
 use Rattle.rules.specs.Promise.{Promise}
 use Rattle.rules.specs.declared.Reply.{Reply}
 use Rattle.stores.specs.Blocks.{allocateBlocks}
 use Rattle.theory.specs.Balance.{freedBlocks, inUse, allocates, allocatedBy}
 use Rattle.theory.proofs.Maps.Totals.{free-and-sizes}
-use Rattle.theory.proofs.Memories.Healthy.{Healthy}
 use Rattle.theory.proofs.EachCall.Balance.{answer-even}
 use Rattle.bridge.proofs.Placed.{allocate-freed}
 use Rattle.inner.specs.Usable.{Usable}
 use Rattle.inner.specs.Allocating.{Allocating}
 use Rattle.inner.specs.declared.acts.Allocated.{Allocated}
-use Rattle.inner.proofs.Idle.{usable-healthy}
+use Rattle.inner.proofs.Idle.{usable-fit, usable-healthy}
 use Rattle.inner.proofs.Kept.{usable-kept}
 use Rattle.inner.proofs.Allocated.{Found, allocate-promised}
 
 module _ (N w : ℕ) (h : Memory) (usable : Usable N w h) (n r : ℕ) {x : Reply} {g : Memory} (promise : Promise N w (allocate n r) h x g) where
   balance : inUse N h + allocatedBy (allocate n r) x ≡ freedBlocks N h g + inUse N g
   balance =
-      rw (promise .reply-is, promise .after-is) (answer-even N w h (usable-healthy N w h usable) (allocate n r) .kept)
+      rw (promise .reply-is, promise .after-is) (answer-even N w h (usable-fit N w h usable) (allocate n r) .kept)
 
   zeros-most : zeros (h .a) + (N - zeros (h .a)) ≡ N
   zeros-most = omega (arith, free-and-sizes N (h .a) (h .b) _ (usable-healthy N w h usable .represents))
@@ -59,16 +59,15 @@ module _ (N w : ℕ) (h : Memory) (usable : Usable N w h) (n r : ℕ) where
       }
 
   pub allocate-accepting :
-      (at : ℕ) → Found N (h .a) (length (h .roots)) n r at → (stuck : Bool) (done : Allocated) (g : Memory) → g ≡ allocateIn N w h n r at
-      → done .freed ≡ allocateBlocks N w h n r at → stuck ≡ birthSticks w → done .reply ≡ reply 0 at (one stuck)
+      (at : ℕ) → Found N (h .a) (length (h .roots)) n r at → (stuck : Bool) (done : Allocated) (g : Memory)
+      → withSections (h .sections) g ≡ allocateIn N w h n r at → g .sections ≡ figures N (g .a) → done .freed ≡ allocateBlocks N w h n r at → stuck ≡ birthSticks w → done .reply ≡ reply 0 at (one stuck)
       → Allocating N w n r h done g
-  allocate-accepting at free stuck done g left counted told replied =
-      let promise = allocate-promised N w h n r at free usable stuck (done .reply) g left told replied in
-      let healthy = usable-healthy N w h usable in
+  allocate-accepting at free stuck done g left listed counted told replied =
+      let promise = allocate-promised N w h n r at free usable stuck (done .reply) g left listed told replied in
       let zeros-are : zeros (g .a) + n ≡ zeros (h .a) + done .freed =
       omega (
         arith,
-        allocate-freed N w h healthy n r at (free .some-blocks) (free .place) (free .lowest),
+        allocate-freed N w h (usable-fit N w h usable) n r at (free .some-blocks) (free .place) (free .lowest),
         ap (λ (k : Memory). zeros (k .a)) left,
       ) in
       record {

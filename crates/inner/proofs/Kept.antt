@@ -10,9 +10,10 @@ use Rattle.rules.specs.Store.{formatted, chosenBelow}
 use Rattle.rules.specs.Calls.{Call, format, check, collect, freeBlocks, allocate, storeRoot, storeCell, look, returnRoots, Answer, require, onUndamaged, freeing, allocation, answer}
 use Rattle.rules.specs.Promise.{Promise}
 use Rattle.rules.specs.declared.Reply.{Reply}
-use Rattle.rules.proofs.Replies.{on-undamaged-next}
 use Rattle.theory.proofs.Theorems.{calls-keep-undamaged}
+use Rattle.theory.proofs.EachCall.Served.{on-undamaged}
 use Rattle.inner.specs.Usable.{Usable}
+use Rattle.inner.proofs.Idle.{usable-fit}
 
 module _ (N w : ℕ) (h : Memory) (usable : Usable N w h) where
   abbrev Idle : Answer → Type 0
@@ -24,7 +25,7 @@ module _ (N w : ℕ) (h : Memory) (usable : Usable N w h) where
   require-idle false number next idle = usable .idle
 
   on-undamaged-idle : (next : Answer) → Idle next → Idle (onUndamaged N w h next)
-  on-undamaged-idle next idle = subst Idle (sym (on-undamaged-next N w h next (usable .shape-is) (usable .undamaged))) idle
+  on-undamaged-idle next idle = subst Idle (sym (on-undamaged N w h (usable-fit N w h usable) next)) idle
 
   allocation-idle : (n r : ℕ) (o : Option ℕ) → Idle (allocation N w h n r o)
   unfolding allocation
@@ -51,6 +52,5 @@ module _ (N w : ℕ) (h : Memory) (usable : Usable N w h) where
 
   pub usable-kept : (c : Call) (x : Reply) (g : Memory) → Promise N w c h x g → Usable N w g
   usable-kept c x g promise =
-      let kept = calls-keep-undamaged N w h (record { right-shape = usable .shape-is; no-damage = usable .undamaged }) c in
       subst (λ (k : Memory). Usable N w k) (sym (promise .after-is))
-      (record { shape-is = kept .right-shape; undamaged = kept .no-damage; idle = answer-idle c })
+      (record { undamaged = calls-keep-undamaged N w h (usable .undamaged) c; idle = answer-idle c })

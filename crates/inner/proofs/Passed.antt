@@ -10,13 +10,12 @@ use lib.ListN.{length}
 use lib.Dec.{ltb}
 use borrow.Author.Tests.{ltb-true}
 use Rattle.rules.specs.Heap.{Memory, memory, isFirst, sizeAt, isRef}
-use Rattle.rules.specs.Store.{storeRootIn, storeCellIn}
-use Rattle.rules.specs.Calls.{storeRoot, storeCell, Answer, accepted, require, freeing, answer}
+use Rattle.rules.specs.Calls.{storeRoot, storeCell, Answer, accepted, require, answer}
 use Rattle.rules.specs.Promise.{Promise}
 use Rattle.rules.specs.declared.Reply.{Reply}
 use Rattle.rules.proofs.Tests.{require-true, require-passed}
 use Rattle.rules.proofs.Objects.{first-facts, size-le, ref-facts}
-use Rattle.theory.proofs.Memories.Healthy.{Healthy}
+use Rattle.theory.proofs.Memories.Fit.{Fit}
 use Rattle.theory.proofs.EachCall.Served.{on-undamaged}
 use Rattle.inner.specs.Replies.{storeRootTest, storeCellTest}
 use Rattle.inner.proofs.Idle.{promised}
@@ -68,10 +67,10 @@ module _ (N : ℕ) (h : Memory) (r v : ℕ) where
       require-reply (ltb r (length (h .roots))) 4 rootRead h _ _ (require-reply (isRef N h v) 8 rootRead h (accepted rootRead 0) (accepted h 0) refl)
 
   root-stopped :
-      (w : ℕ) → Healthy N w h → (storeRootTest N h r v .number ≡ 0 → ⊥) → answer N w h (storeRoot r v) ≡ (storeRootTest N h r v, h)
+      (w : ℕ) → Fit N w h → (storeRootTest N h r v .number ≡ 0 → ⊥) → answer N w h (storeRoot r v) ≡ (storeRootTest N h r v, h)
   unfolding answer storeRootTest
-  root-stopped w healthy fails =
-      on-undamaged N w h healthy _
+  root-stopped w fit fails =
+      on-undamaged N w h fit _
       ∙ require-stops (ltb r (length (h .roots))) 4 (require (isRef N h v) 8 h (accepted h 0)) _
       (require-stops (isRef N h v) 8 (accepted h 0) _ (λ n. absurd (n refl)))
       fails
@@ -83,10 +82,10 @@ module _ (N : ℕ) (h : Memory) (r v : ℕ) where
     pub root-goes-on : x .number ≡ 0 → storeRootTest N h r v .number ≡ 0
     root-goes-on accepts = ap (λ (y : Reply). y .number) (sym same-root-test) ∙ accepts
 
-    pub root-refused : (w : ℕ) → Healthy N w h → (x .number ≡ 0 → ⊥) → Promise N w (storeRoot r v) h x h
-    root-refused w healthy fails =
+    pub root-refused : (w : ℕ) → Fit N w h → (x .number ≡ 0 → ⊥) → Promise N w (storeRoot r v) h x h
+    root-refused w fit fails =
         promised N w h (storeRoot r v) (storeRootTest N h r v, h)
-        (root-stopped w healthy (λ e. fails (ap (λ (y : Reply). y .number) same-root-test ∙ e)))
+        (root-stopped w fit (λ e. fails (ap (λ (y : Reply). y .number) same-root-test ∙ e)))
         x h same-root-test refl
 
 -- ---- a store in a cell
@@ -133,10 +132,10 @@ module _ (N : ℕ) (h : Memory) (a j v : ℕ) where
       (require-reply (isRef N h v) 8 cellRead h (accepted cellRead 0) (accepted h 0) refl))
 
   cell-stopped :
-      (w : ℕ) → Healthy N w h → (storeCellTest N h a j v .number ≡ 0 → ⊥) → answer N w h (storeCell a j v) ≡ (storeCellTest N h a j v, h)
+      (w : ℕ) → Fit N w h → (storeCellTest N h a j v .number ≡ 0 → ⊥) → answer N w h (storeCell a j v) ≡ (storeCellTest N h a j v, h)
   unfolding answer storeCellTest
-  cell-stopped w healthy fails =
-      on-undamaged N w h healthy _
+  cell-stopped w fit fails =
+      on-undamaged N w h fit _
       ∙ require-stops (isFirst N h a) 6 cellTest _
       (require-stops (ltb j (4 * sizeAt N h a)) 7 refTest _
       (require-stops (isRef N h v) 8 (accepted h 0) _ (λ n. absurd (n refl))))
@@ -149,8 +148,8 @@ module _ (N : ℕ) (h : Memory) (a j v : ℕ) where
     pub cell-goes-on : x .number ≡ 0 → storeCellTest N h a j v .number ≡ 0
     cell-goes-on accepts = ap (λ (y : Reply). y .number) (sym same-cell-test) ∙ accepts
 
-    pub cell-refused : (w : ℕ) → Healthy N w h → (x .number ≡ 0 → ⊥) → Promise N w (storeCell a j v) h x h
-    cell-refused w healthy fails =
+    pub cell-refused : (w : ℕ) → Fit N w h → (x .number ≡ 0 → ⊥) → Promise N w (storeCell a j v) h x h
+    cell-refused w fit fails =
         promised N w h (storeCell a j v) (storeCellTest N h a j v, h)
-        (cell-stopped w healthy (λ e. fails (ap (λ (y : Reply). y .number) same-cell-test ∙ e)))
+        (cell-stopped w fit (λ e. fails (ap (λ (y : Reply). y .number) same-cell-test ∙ e)))
         x h same-cell-test refl

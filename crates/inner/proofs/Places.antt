@@ -1,46 +1,15 @@
--- Laws of an object's place: the heap is a number of chunks of the size that the object asks for, and what is found among them is the
--- reply of an allocation.
+-- Laws of an object's place: what the search found is the reply of an allocation.
 use mathlib.Core.Path.{_≡_, refl, sym, ap, _∙_}
-use mathlib.Core.Bool.{true}
 use mathlib.Core.List.{List}
 use mathlib.Core.Option.{Option, none, some}
-use Prim.Native.Nat.{ℕ, _+_, _-_, _*_, _%_, _^_, _≤_, _<_}
-use native.Mathlib.Nat.{zero-mod, mul-mod-left}
+use Prim.Native.Nat.{ℕ, _≤_, _<_}
 use native.Mathlib.Omega.{arith}
-use lib.Pow.{pow-add}
 use borrow.Author.Tests.{le-leb, lt-ltb}
-use Rattle.rules.specs.Heap.{isBlocks, exponent, lowestFree}
+use Rattle.rules.specs.Heap.{exponent, lowestFree}
 use Rattle.rules.specs.Calls.{reply}
-use Rattle.rules.proofs.Shape.{blocks-facts, blocks-power}
-use Rattle.rules.proofs.Chunks.{exponent-least}
 use Rattle.theory.proofs.Maps.LowestChunk.{room}
-use Rattle.blocks.specs.Search.{orElse, Part}
+use Rattle.blocks.specs.Search.{orElse}
 use Rattle.inner.specs.Replies.{found, allocateReply}
-
--- ---- the heap as chunks
-
-chunks-of : (N n : ℕ) → isBlocks N ≡ true → n ≤ N → (d : ℕ) × (N ≡ 2 ^ d * 2 ^ exponent n)
-chunks-of N n e l =
-    let power = blocks-power N e in
-    let k = power .0 in
-    let least : exponent n ≤ k = exponent-least n k (omega (arith, power .1)) in
-    let parts : k - exponent n + exponent n ≡ k = omega arith in
-    (k - exponent n, power .1 ∙ ap (λ (x : ℕ). 2 ^ x) (sym parts) ∙ pow-add 2 (k - exponent n) (exponent n))
-
--- the heap as the part that is searched
-pub whole-heap : (N n size : ℕ) → isBlocks N ≡ true → n ≤ N → size ≡ 2 ^ exponent n → Part 0 N size
-whole-heap N n size e l p =
-    let (d, chunks) = chunks-of N n e l in
-    let multiple : N ≡ 2 ^ d * size = chunks ∙ ap (λ (x : ℕ). 2 ^ d * x) (sym p) in
-    record {
-      exponent = exponent n;
-      power = p;
-      upward = omega arith;
-      from-chunk = zero-mod size;
-      to-chunk = ap (λ (x : ℕ). x % size) multiple ∙ mul-mod-left (2 ^ d) size;
-      from-byte = zero-mod 8;
-      to-byte = omega (arith, blocks-facts N e .2);
-    }
 
 -- ---- what is found
 

@@ -6,19 +6,20 @@ use lib.Dec.{ltb}
 use lib.ListN.{length, getD, replicate}
 use borrow.Author.Tests.{lt-ltb}
 use Rattle.bitmap.specs.Bit.{one, zeros}
-use Rattle.rules.specs.Heap.{Memory, isFirst, sizeAt, isRef}
+use Rattle.rules.specs.Heap.{Memory, withSections, isFirst, sizeAt, isRef}
+use Rattle.rules.specs.Sections.{figures}
 use Rattle.rules.specs.Store.{storeRootIn, storeCellIn, storeSticks}
 use Rattle.rules.specs.Calls.{Call, storeRoot, storeCell, reply, freeing, settled, answer}
 use Rattle.rules.specs.Promise.{Promise}
 use Rattle.rules.specs.declared.Reply.{Reply}
 use Rattle.rules.proofs.Tests.{require-true}
 use Rattle.stores.specs.Blocks.{storeRootBlocks, storeCellBlocks}
-use Rattle.theory.proofs.Memories.Healthy.{Healthy}
+use Rattle.theory.proofs.Memories.Fit.{Fit}
 use Rattle.theory.proofs.EachCall.Served.{on-undamaged}
 use Rattle.theory.proofs.Memories.WaitingUnread.{store-root-waiting, store-cell-waiting}
 use Rattle.bridge.proofs.Freed.{store-root-freed, store-cell-freed}
 use Rattle.inner.specs.Usable.{Usable}
-use Rattle.inner.proofs.Idle.{settled-idle, usable-healthy, promised}
+use Rattle.inner.proofs.Idle.{cleared-same, usable-fit, usable-healthy, left-settled, promised}
 use Rattle.inner.proofs.Passed.{RootPassed, CellPassed}
 
 -- whether the store makes an object stuck
@@ -37,45 +38,45 @@ freeing-promised N w h k second c e freed x g counted replied left =
     promised N w h c (freeing N h k second) e x g (replied ∙ ap (λ (n : ℕ). reply 0 n second) counted) left
 
 module _ (N w : ℕ) (h : Memory) (r v : ℕ) (passed : RootPassed N h r v) where
-  pub root-answered : Healthy N w h → answer N w h (storeRoot r v) ≡ freeing N h (storeRootIn N w h r v) (one (rootSticks N w h r v))
+  pub root-answered : Fit N w h → answer N w h (storeRoot r v) ≡ freeing N h (storeRootIn N w h r v) (one (rootSticks N w h r v))
   unfolding answer
-  root-answered healthy =
-      on-undamaged N w h healthy _
+  root-answered fit =
+      on-undamaged N w h fit _
       ∙ require-true (ltb r (length (h .roots))) 4 h _ (lt-ltb r (length (h .roots)) (passed .place))
       ∙ require-true (isRef N h v) 8 h _ (passed .ref)
 
   pub root-promised :
-      Usable N w h → (freed : ℕ) (stuck : Bool) (x : Reply) (g : Memory) → g ≡ storeRootIn N w h r v → freed ≡ storeRootBlocks N w h r v
-      → stuck ≡ rootSticks N w h r v → x ≡ reply 0 freed (one stuck) → Promise N w (storeRoot r v) h x g
-  root-promised usable freed stuck x g left counted told replied =
+      Usable N w h → (freed : ℕ) (stuck : Bool) (x : Reply) (g : Memory) → withSections (h .sections) g ≡ storeRootIn N w h r v
+      → g .sections ≡ figures N (g .a) → freed ≡ storeRootBlocks N w h r v → stuck ≡ rootSticks N w h r v → x ≡ reply 0 freed (one stuck) → Promise N w (storeRoot r v) h x g
+  root-promised usable freed stuck x g left listed counted told replied =
       let healthy = usable-healthy N w h usable in
-      freeing-promised N w h (storeRootIn N w h r v) (one (rootSticks N w h r v)) (storeRoot r v) (root-answered healthy) freed x g
+      freeing-promised N w h (storeRootIn N w h r v) (one (rootSticks N w h r v)) (storeRoot r v) (root-answered (usable-fit N w h usable)) freed x g
       (counted ∙ sym (store-root-freed N w h healthy r v (passed .place) (passed .ref)))
       (replied ∙ ap (λ (t : Bool). reply 0 freed (one t)) told)
-      (left
-      ∙ ap (λ (k : Memory). storeRootIn N w k r v) (sym (settled-idle N w h usable))
-      ∙ store-root-waiting N w (replicate N 0) h r v)
+      (left-settled N (h .sections) g (storeRootIn N w h r v) left
+      (ap (λ (k : Memory). storeRootIn N w k r v) (sym (cleared-same N w h usable)) ∙ store-root-waiting N w (replicate N 0) h r v) listed)
 
 module _ (N w : ℕ) (h : Memory) (a j v : ℕ) (passed : CellPassed N h a j v) where
   pub cell-answered :
-      Healthy N w h → answer N w h (storeCell a j v) ≡ freeing N h (storeCellIn N w h (4 * a + j) v) (one (cellSticks N w h a j v))
+      Fit N w h → answer N w h (storeCell a j v) ≡ freeing N h (storeCellIn N w h (4 * a + j) v) (one (cellSticks N w h a j v))
   unfolding answer
-  cell-answered healthy =
-      on-undamaged N w h healthy _
+  cell-answered fit =
+      on-undamaged N w h fit _
       ∙ require-true (isFirst N h a) 6 h _ (passed .first)
       ∙ require-true (ltb j (4 * sizeAt N h a)) 7 h _ (lt-ltb j (4 * sizeAt N h a) (passed .place))
       ∙ require-true (isRef N h v) 8 h _ (passed .ref)
 
   pub cell-promised :
-      Usable N w h → (freed : ℕ) (stuck : Bool) (x : Reply) (g : Memory) → g ≡ storeCellIn N w h (4 * a + j) v
-      → freed ≡ storeCellBlocks N w h (4 * a + j) v → stuck ≡ cellSticks N w h a j v → x ≡ reply 0 freed (one stuck)
+      Usable N w h → (freed : ℕ) (stuck : Bool) (x : Reply) (g : Memory) → withSections (h .sections) g ≡ storeCellIn N w h (4 * a + j) v
+      → g .sections ≡ figures N (g .a) → freed ≡ storeCellBlocks N w h (4 * a + j) v → stuck ≡ cellSticks N w h a j v → x ≡ reply 0 freed (one stuck)
       → Promise N w (storeCell a j v) h x g
-  cell-promised usable freed stuck x g left counted told replied =
+  cell-promised usable freed stuck x g left listed counted told replied =
       let healthy = usable-healthy N w h usable in
-      freeing-promised N w h (storeCellIn N w h (4 * a + j) v) (one (cellSticks N w h a j v)) (storeCell a j v) (cell-answered healthy)
+      freeing-promised N w h (storeCellIn N w h (4 * a + j) v) (one (cellSticks N w h a j v)) (storeCell a j v) (cell-answered (usable-fit N w h usable))
       freed x g
       (counted ∙ sym (store-cell-freed N w h healthy a j v (passed .first) (passed .place) (passed .ref)))
       (replied ∙ ap (λ (t : Bool). reply 0 freed (one t)) told)
-      (left
-      ∙ ap (λ (k : Memory). storeCellIn N w k (4 * a + j) v) (sym (settled-idle N w h usable))
+      (left-settled N (h .sections) g (storeCellIn N w h (4 * a + j) v) left
+      (ap (λ (k : Memory). storeCellIn N w k (4 * a + j) v) (sym (cleared-same N w h usable))
       ∙ store-cell-waiting N w (replicate N 0) h (4 * a + j) v)
+      listed)

@@ -1,4 +1,4 @@
--- The replies that depend on the arguments and on the heap before the call alone, once numbers 1 and 2 are passed: for contracts of
+-- The replies that depend on the arguments and on the heap before the call alone, once numbers 1, 2 and 11 are passed: for contracts of
 -- inner functions. Each is a part of the rules' `answer`.
 use Prim.Native.Nat.{ℕ, _*_}
 use mathlib.Core.Bool.{true, false, _&&_}

@@ -1,5 +1,5 @@
 // The work of the calls that write, once their tests are passed: on an undamaged heap with a cleared waiting list, which they leave
-// cleared.
+// cleared. The figures of the sections that the work touched are found anew at its end.
 ghost use mathlib.Core.Path.{_≡_};
 ghost use lib.ListN.{length};
 ghost use Rattle.rules.specs.Lent.{before, after, lent};
@@ -28,16 +28,31 @@ pub fn allocate(
     cells: &mut [Ref],
     roots: &mut [Ref],
     waiting: &mut [Ref],
+    sections: &mut [Ref],
     n: usize,
     r: usize,
     at: usize,
 ) -> Allocated
-    requires { ⌜ Usable blocks width (lent a b counts cells roots waiting)
+    requires { ⌜ Usable blocks width (lent a b counts cells roots waiting sections)
         × (allocateReply blocks (now a) (length (now roots)) n r ≡ reply 0 at 0) ⌝ }
     ensures { λ done.
-        ⌜ Allocating blocks width n r (before a b counts cells roots waiting) done (after a b counts cells roots waiting) ⌝ }
+        ⌜ Allocating blocks width n r (before a b counts cells roots waiting sections) done (after a b counts cells roots waiting sections) ⌝ }
 {
-    let placed = stores::place(blocks, width, a, b, counts, cells, roots, waiting, n, r, at);
+    let placed = stores::place(
+        blocks,
+        width,
+        a,
+        b,
+        counts,
+        cells,
+        roots,
+        waiting,
+        sections,
+        n,
+        r,
+        at,
+    );
+    sections::renew(blocks, a, sections);
     let reply = tests::telling(at, placed.stuck);
     Allocated {
         reply: reply,
@@ -55,14 +70,15 @@ pub fn store_root(
     cells: &mut [Ref],
     roots: &mut [Ref],
     waiting: &mut [Ref],
+    sections: &mut [Ref],
     r: usize,
     v: usize,
 ) -> Reply
-    requires { ⌜ Usable blocks width (lent a b counts cells roots waiting)
-        × (storeRootTest blocks (lent a b counts cells roots waiting) r v .number ≡ 0) ⌝ }
+    requires { ⌜ Usable blocks width (lent a b counts cells roots waiting sections)
+        × (storeRootTest blocks (lent a b counts cells roots waiting sections) r v .number ≡ 0) ⌝ }
     ensures { λ reply.
-        ⌜ Promise blocks width (Call.storeRoot r v) (before a b counts cells roots waiting) reply
-        (after a b counts cells roots waiting) ⌝ }
+        ⌜ Promise blocks width (Call.storeRoot r v) (before a b counts cells roots waiting sections) reply
+        (after a b counts cells roots waiting sections) ⌝ }
 {
     let stored = stores::store_root(
         blocks,
@@ -73,9 +89,11 @@ pub fn store_root(
         cells,
         roots,
         waiting,
+        sections,
         r,
         v as Ref,
     );
+    sections::renew(blocks, a, sections);
     tests::telling(stored.freed, stored.stuck)
 }
 
@@ -89,15 +107,16 @@ pub fn store_cell(
     cells: &mut [Ref],
     roots: &[Ref],
     waiting: &mut [Ref],
+    sections: &mut [Ref],
     at: usize,
     j: usize,
     v: usize,
 ) -> Reply
-    requires { ⌜ Usable blocks width (lent a b counts cells roots waiting)
-        × (storeCellTest blocks (lent a b counts cells roots waiting) at j v .number ≡ 0) ⌝ }
+    requires { ⌜ Usable blocks width (lent a b counts cells roots waiting sections)
+        × (storeCellTest blocks (lent a b counts cells roots waiting sections) at j v .number ≡ 0) ⌝ }
     ensures { λ reply.
-        ⌜ Promise blocks width (Call.storeCell at j v) (before a b counts cells roots waiting) reply
-        (after a b counts cells roots waiting) ⌝ }
+        ⌜ Promise blocks width (Call.storeCell at j v) (before a b counts cells roots waiting sections) reply
+        (after a b counts cells roots waiting sections) ⌝ }
 {
     let written = stores::store_cell(
         blocks,
@@ -108,9 +127,11 @@ pub fn store_cell(
         cells,
         roots,
         waiting,
+        sections,
         4 * at + j,
         v as Ref,
     );
+    sections::renew(blocks, a, sections);
     tests::telling(written.freed, written.stuck)
 }
 
@@ -124,11 +145,13 @@ pub fn collect(
     cells: &mut [Ref],
     roots: &[Ref],
     waiting: &mut [Ref],
+    sections: &mut [Ref],
 ) -> Reply
-    requires { ⌜ Usable blocks width (lent a b counts cells roots waiting) ⌝ }
+    requires { ⌜ Usable blocks width (lent a b counts cells roots waiting sections) ⌝ }
     ensures { λ reply.
-        ⌜ Promise blocks width Call.collect (before a b counts cells roots waiting) reply (after a b counts cells roots waiting) ⌝ }
+        ⌜ Promise blocks width Call.collect (before a b counts cells roots waiting sections) reply (after a b counts cells roots waiting sections) ⌝ }
 {
-    let freed = collector::collect(blocks, width, a, b, counts, cells, roots, waiting);
+    let freed = collector::collect(blocks, width, a, b, counts, cells, roots, waiting, sections);
+    sections::renew(blocks, a, sections);
     tests::acceptance(freed)
 }

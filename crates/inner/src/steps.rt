@@ -20,14 +20,15 @@ pub fn allocate(
     cells: &mut [Ref],
     roots: &mut [Ref],
     waiting: &mut [Ref],
+    sections: &mut [Ref],
     n: usize,
     r: usize,
 ) -> Allocated
-    requires { ⌜ Usable blocks width (lent a b counts cells roots waiting) ⌝ }
+    requires { ⌜ Usable blocks width (lent a b counts cells roots waiting sections) ⌝ }
     ensures { λ done.
-        ⌜ Allocating blocks width n r (before a b counts cells roots waiting) done (after a b counts cells roots waiting) ⌝ }
+        ⌜ Allocating blocks width n r (before a b counts cells roots waiting sections) done (after a b counts cells roots waiting sections) ⌝ }
 {
-    let test = tests::allocate_reply(blocks, a, roots.len(), n, r);
+    let test = tests::allocate_reply(blocks, a, sections, roots.len(), n, r);
     let number = test.number;
     if number != 0 {
         return Allocated {
@@ -36,7 +37,20 @@ pub fn allocate(
         };
     }
     let at = test.value;
-    acts::allocate(blocks, width, a, b, counts, cells, roots, waiting, n, r, at)
+    acts::allocate(
+        blocks,
+        width,
+        a,
+        b,
+        counts,
+        cells,
+        roots,
+        waiting,
+        sections,
+        n,
+        r,
+        at,
+    )
 }
 
 // Stores v in root r.
@@ -49,20 +63,33 @@ pub fn store_root(
     cells: &mut [Ref],
     roots: &mut [Ref],
     waiting: &mut [Ref],
+    sections: &mut [Ref],
     r: usize,
     v: usize,
 ) -> Reply
-    requires { ⌜ Usable blocks width (lent a b counts cells roots waiting) ⌝ }
+    requires { ⌜ Usable blocks width (lent a b counts cells roots waiting sections) ⌝ }
     ensures { λ reply.
-        ⌜ Promise blocks width (Call.storeRoot r v) (before a b counts cells roots waiting) reply
-        (after a b counts cells roots waiting) ⌝ }
+        ⌜ Promise blocks width (Call.storeRoot r v) (before a b counts cells roots waiting sections) reply
+        (after a b counts cells roots waiting sections) ⌝ }
 {
     let test = tests::store_root_test(blocks, a, b, roots, r, v);
     let number = test.number;
     if number != 0 {
         return test;
     }
-    acts::store_root(blocks, width, a, b, counts, cells, roots, waiting, r, v)
+    acts::store_root(
+        blocks,
+        width,
+        a,
+        b,
+        counts,
+        cells,
+        roots,
+        waiting,
+        sections,
+        r,
+        v,
+    )
 }
 
 // Stores v in cell j of the object at block `at`.
@@ -75,19 +102,33 @@ pub fn store_cell(
     cells: &mut [Ref],
     roots: &[Ref],
     waiting: &mut [Ref],
+    sections: &mut [Ref],
     at: usize,
     j: usize,
     v: usize,
 ) -> Reply
-    requires { ⌜ Usable blocks width (lent a b counts cells roots waiting) ⌝ }
+    requires { ⌜ Usable blocks width (lent a b counts cells roots waiting sections) ⌝ }
     ensures { λ reply.
-        ⌜ Promise blocks width (Call.storeCell at j v) (before a b counts cells roots waiting) reply
-        (after a b counts cells roots waiting) ⌝ }
+        ⌜ Promise blocks width (Call.storeCell at j v) (before a b counts cells roots waiting sections) reply
+        (after a b counts cells roots waiting sections) ⌝ }
 {
     let test = tests::store_cell_test(blocks, a, b, at, j, v);
     let number = test.number;
     if number != 0 {
         return test;
     }
-    acts::store_cell(blocks, width, a, b, counts, cells, roots, waiting, at, j, v)
+    acts::store_cell(
+        blocks,
+        width,
+        a,
+        b,
+        counts,
+        cells,
+        roots,
+        waiting,
+        sections,
+        at,
+        j,
+        v,
+    )
 }

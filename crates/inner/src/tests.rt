@@ -5,15 +5,17 @@ ghost use mathlib.Core.List.{[]};
 ghost use Prim.Native.Nat.{_*_, _/_, _≤_};
 ghost use lib.ListN.{length};
 ghost use Rattle.bitmap.specs.Bit.{one};
-ghost use Rattle.rules.specs.Heap.{memory, maxBlocks, isBlocks, exponent, lowestFree};
+ghost use Rattle.rules.specs.Heap.{memory, maxBlocks, isBlocks, exponent};
+ghost use Rattle.rules.specs.Sections.{figures};
 ghost use Rattle.rules.specs.Calls.{reply};
-ghost use Rattle.blocks.specs.Search.{Search};
+ghost use Rattle.sections.specs.Search.{Found};
 ghost use Rattle.inner.specs.Replies.{storeRootTest, storeCellTest, allocateReply, lookReply};
 use blocks::Ref;
 use blocks::chunks;
 use blocks::chunks::Searched;
 use blocks::objects;
 use rules::Reply;
+use sections::search;
 
 // A refusal.
 pub fn refusal(number: usize) -> Reply
@@ -87,18 +89,24 @@ pub fn store_cell_test(blocks: usize, a: &[u8], b: &[u8], at: usize, j: usize, v
 }
 
 // The block that an object of n blocks would start at, or `blocks`, and how many blocks the search looked at.
-fn find_place(blocks: usize, a: &[u8], n: usize) -> Searched
-    requires { ⌜ (isBlocks blocks ≡ true) × (blocks ≤ 8 * length (now a)) × (1 ≤ n) × (n ≤ blocks) ⌝ }
-    ensures { λ r.
-        ⌜ Search 0 blocks (exponent n) (lowestFree blocks (exponent n) (now (a .entry))) (r .at) (r .looks) ⌝ }
+fn find_place(blocks: usize, a: &[u8], sections: &[Ref], n: usize) -> Searched
+    requires { ⌜ (isBlocks blocks ≡ true) × (blocks ≤ 8 * length (now a)) × (now sections ≡ figures blocks (now a)) × (1 ≤ n) × (n ≤ blocks) ⌝ }
+    ensures { λ r. ⌜ Found blocks (exponent n) (now (a .entry)) (r .at) (r .looks) ⌝ }
 {
     let size = chunks::chunk_size(n);
-    chunks::lowest_chunk(a, 0, blocks, size)
+    search::find_chunk(blocks, a, sections, size)
 }
 
 // The number and the value of the reply of an allocation of n blocks into root r.
-pub fn allocate_reply(blocks: usize, a: &[u8], roots: usize, n: usize, r: usize) -> Reply
-    requires { ⌜ (isBlocks blocks ≡ true) × (blocks ≤ 8 * length (now a)) ⌝ }
+pub fn allocate_reply(
+    blocks: usize,
+    a: &[u8],
+    sections: &[Ref],
+    roots: usize,
+    n: usize,
+    r: usize,
+) -> Reply
+    requires { ⌜ (isBlocks blocks ≡ true) × (blocks ≤ 8 * length (now a)) × (now sections ≡ figures blocks (now a)) ⌝ }
     ensures { λ t. ⌜ t ≡ allocateReply blocks (now (a .entry)) roots n r ⌝ }
 {
     if n == 0 {
@@ -110,7 +118,7 @@ pub fn allocate_reply(blocks: usize, a: &[u8], roots: usize, n: usize, r: usize)
     if roots <= r {
         return refusal(4);
     }
-    let found = find_place(blocks, a, n);
+    let found = find_place(blocks, a, sections, n);
     let at = found.at;
     if at == blocks {
         return refusal(5);

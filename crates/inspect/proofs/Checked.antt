@@ -3,14 +3,16 @@ use mathlib.Core.Path.{_≡_, refl, sym, ap, _∙_}
 use mathlib.Core.Bool.{Bool, true, false}
 use mathlib.Core.List.{[]}
 use Prim.Native.Nat.{ℕ}
-use borrow.Author.Tests.{ne-eqb}
+use borrow.Author.Tests.{eq-eqb, ne-eqb}
 use Rattle.bitmap.specs.Bit.{zeros}
 use Rattle.rules.specs.Heap.{Memory, memory, shaped, countOf, isFirst, sizeAt}
 use Rattle.rules.specs.Damage.{damage}
+use Rattle.rules.specs.Sections.{staleFigures}
 use Rattle.rules.specs.Calls.{Call, check, freeBlocks, look, Answer, answer, reply, accepted, require, onUndamaged}
 use Rattle.rules.specs.Promise.{Promise}
 use Rattle.rules.specs.declared.Reply.{Reply}
-use Rattle.rules.proofs.Replies.{on-undamaged-shaped, on-undamaged-no-damage, on-undamaged-next, on-undamaged-refused}
+use Rattle.rules.proofs.Replies.{on-undamaged-passed, on-undamaged-next, on-undamaged-refused}
+use Rattle.theory.specs.Statements.{Undamaged}
 use Rattle.inner.specs.Replies.{lookReply}
 
 module _ (N w : ℕ) (h : Memory) where
@@ -26,12 +28,19 @@ module _ (N w : ℕ) (h : Memory) where
       let damaged = ne-eqb (damage N w h) 0 (λ none. some (is-kind ∙ none)) in
       record { reply-is = rw (e, damaged) (ap (λ (k : ℕ). reply 2 k 0) is-kind); after-is = rw (e, damaged) }
 
+  pub check-stale :
+      (x : Reply) → shaped N w h ≡ true → damage N w h ≡ 0 → staleFigures N (h .a) (h .sections) ≡ true → x ≡ reply 11 0 0 → Promise N w check h x h
+  unfolding answer onUndamaged require
+  check-stale x e undamaged stale x-is =
+      let none = eq-eqb (damage N w h) 0 undamaged in
+      record { reply-is = rw (e, none, stale) x-is; after-is = rw (e, none, stale) }
+
   -- ---- a call that makes the check first: `next` is what it answers once that is passed
 
   module _ (call : Call) (next : Answer) (tests : answer N w h call ≡ onUndamaged N w h next) where
-    pub passed : (x : Reply) → shaped N w h ≡ true → damage N w h ≡ 0 → x ≡ next .0 → h ≡ next .1 → Promise N w call h x h
-    passed x shape undamaged x-is same =
-        let goes-on : answer N w h call ≡ next = tests ∙ on-undamaged-next N w h next shape undamaged in
+    pub passed : (x : Reply) → Undamaged N w h → x ≡ next .0 → h ≡ next .1 → Promise N w call h x h
+    passed x fit x-is same =
+        let goes-on : answer N w h call ≡ next = tests ∙ on-undamaged-next N w h next (fit .right-shape) (fit .no-damage) (fit .true-list) in
         record { reply-is = x-is ∙ ap (λ (y : Answer). y .0) (sym goes-on); after-is = same ∙ ap (λ (y : Answer). y .1) (sym goes-on) }
 
     -- where the check refuses, the call is refused alike
@@ -51,19 +60,17 @@ module _ (N w : ℕ) (h : Memory) where
     accepted-check : answer N w h check .0 .number ≡ 0
     accepted-check = ap (λ (y : Reply). y .number) (sym (checked .reply-is)) ∙ accepts
 
-    pub checked-shaped : shaped N w h ≡ true
+    pub checked-fit : Undamaged N w h
     unfolding answer
-    checked-shaped = on-undamaged-shaped N w h (accepted h 0) accepted-check
-
-    pub checked-undamaged : damage N w h ≡ 0
-    unfolding answer
-    checked-undamaged = on-undamaged-no-damage N w h (accepted h 0) accepted-check
+    checked-fit =
+        let passed = on-undamaged-passed N w h (accepted h 0) accepted-check in
+        record { right-shape = passed .0; no-damage = passed .1; true-list = passed .2 }
 
   -- ---- the calls that read
 
-  pub check-passed : (x : Reply) → shaped N w h ≡ true → damage N w h ≡ 0 → x ≡ reply 0 0 0 → Promise N w check h x h
+  pub check-passed : (x : Reply) → Undamaged N w h → x ≡ reply 0 0 0 → Promise N w check h x h
   unfolding answer
-  check-passed x shape undamaged x-is = passed check (accepted h 0) refl x shape undamaged x-is refl
+  check-passed x fit x-is = passed check (accepted h 0) refl x fit x-is refl
 
   module _ (y : Reply) (checked : Promise N w check h y h) where
     pub free-blocks-refused : (y .number ≡ 0 → ⊥) → Promise N w freeBlocks h y h
@@ -74,8 +81,7 @@ module _ (N w : ℕ) (h : Memory) where
     unfolding answer
     free-blocks-passed accepts x n x-is counted =
         passed freeBlocks (accepted h (zeros (h .a))) refl x
-        (checked-shaped y checked accepts)
-        (checked-undamaged y checked accepts)
+        (checked-fit y checked accepts)
         (x-is ∙ ap (λ (v : ℕ). reply 0 v 0) counted)
         refl
 
@@ -93,8 +99,7 @@ module _ (N w : ℕ) (h : Memory) where
       unfolding answer looked lookReply require
       look-passed accepts x x-is =
           passed (look at) looked refl x
-          (checked-shaped y checked accepts)
-          (checked-undamaged y checked accepts)
+          (checked-fit y checked accepts)
           (x-is ∙ same-reply (isFirst N h at))
           (same-memory (isFirst N h at))
         where

@@ -8,7 +8,7 @@ use damage::shape;
 use inner::tests;
 use rules::Reply;
 
-// Whether the heap has the right shape and is undamaged: number 1, or 2 with the damage kind, or 0.
+// Whether the heap has the right shape, is undamaged and has a true list of sections: number 1, or 2 with the damage kind, or 11, or 0.
 pub fn check(
     blocks: usize,
     width: usize,
@@ -18,9 +18,11 @@ pub fn check(
     cells: &[Ref],
     roots: &[Ref],
     waiting: &[Ref],
+    sections: &[Ref],
 ) -> Reply
     ensures { λ reply.
-        ⌜ Promise blocks width Call.check (before a b counts cells roots waiting) reply (after a b counts cells roots waiting) ⌝ }
+        ⌜ Promise blocks width Call.check (before a b counts cells roots waiting sections) reply
+        (after a b counts cells roots waiting sections) ⌝ }
 {
     if !shape::is_shaped(
         blocks,
@@ -31,16 +33,20 @@ pub fn check(
         cells.len(),
         roots.len(),
         waiting.len(),
+        sections.len(),
     ) {
         return tests::refusal(1);
     }
-    let kind = kinds::damage_kind(blocks, width, a, b, counts, cells, roots, waiting);
+    let kind = kinds::damage_kind(blocks, width, a, b, counts, cells, roots, waiting, sections);
     if kind != 0 {
         return Reply {
             number: 2,
             value: kind,
             second: 0,
         };
+    }
+    if sections::is_stale(blocks, a, sections) {
+        return tests::refusal(11);
     }
     tests::acceptance(0)
 }
@@ -55,11 +61,13 @@ pub fn free_blocks(
     cells: &[Ref],
     roots: &[Ref],
     waiting: &[Ref],
+    sections: &[Ref],
 ) -> Reply
     ensures { λ reply.
-        ⌜ Promise blocks width Call.freeBlocks (before a b counts cells roots waiting) reply (after a b counts cells roots waiting) ⌝ }
+        ⌜ Promise blocks width Call.freeBlocks (before a b counts cells roots waiting sections) reply
+        (after a b counts cells roots waiting sections) ⌝ }
 {
-    let check_reply = check(blocks, width, a, b, counts, cells, roots, waiting);
+    let check_reply = check(blocks, width, a, b, counts, cells, roots, waiting, sections);
     let number = check_reply.number;
     if number != 0 {
         return check_reply;
@@ -77,12 +85,14 @@ pub fn look(
     cells: &[Ref],
     roots: &[Ref],
     waiting: &[Ref],
+    sections: &[Ref],
     at: usize,
 ) -> Reply
     ensures { λ reply.
-        ⌜ Promise blocks width (Call.look at) (before a b counts cells roots waiting) reply (after a b counts cells roots waiting) ⌝ }
+        ⌜ Promise blocks width (Call.look at) (before a b counts cells roots waiting sections) reply
+        (after a b counts cells roots waiting sections) ⌝ }
 {
-    let checked = check(blocks, width, a, b, counts, cells, roots, waiting);
+    let checked = check(blocks, width, a, b, counts, cells, roots, waiting, sections);
     let number = checked.number;
     if number != 0 {
         return checked;

@@ -7,22 +7,23 @@ use native.Mathlib.Omega.{arith}
 use lib.ListN.{length, replicate}
 use borrow.Author.Tests.{lt-ltb, eq-eqb, ne-eqb}
 use Rattle.bitmap.specs.Bit.{bitOf, zeros}
-use Rattle.rules.specs.Heap.{Memory}
+use Rattle.rules.specs.Heap.{Memory, withWaiting, withSections}
 use Rattle.rules.specs.Store.{storeRootIn, chosenBelow, clearChosen, returnIn}
 use Rattle.rules.specs.Calls.{returnRoots, storeRoot, reply, Answer, require, settled, freeing, answer}
 use Rattle.rules.specs.Promise.{Promise}
 use Rattle.rules.specs.declared.Reply.{Reply}
-use Rattle.theory.proofs.Memories.Healthy.{Healthy}
+use Rattle.theory.proofs.Memories.Fit.{Fit}
 use Rattle.theory.proofs.EachCall.Served.{on-undamaged}
 use Rattle.theory.proofs.EachCall.Clearing.{none-ref, root-cleared}
 use Rattle.theory.proofs.Memories.WaitingUnread.{store-root-waiting}
 use Rattle.inner.specs.Usable.{Usable}
 use Rattle.inner.specs.Replies.{storeRootTest}
-use Rattle.inner.proofs.Idle.{settled-idle, usable-healthy, promised}
+use Rattle.inner.proofs.Idle.{cleared-same, usable-fit, left-settled, promised}
 use Rattle.inner.proofs.Passed.{root-passed}
 use Rattle.inner.proofs.Stored.{root-answered, freeing-promised}
 use Rattle.inner.proofs.Kept.{usable-kept}
 use Rattle.returns.specs.Returns.{returnTest, Turn}
+use Rattle.returns.proofs.SectionsUnread.{store-root-sections}
 
 -- ---- the answer
 
@@ -30,7 +31,7 @@ use Rattle.returns.specs.Returns.{returnTest, Turn}
 outcome : Bool → Reply
 outcome t = elim t [ true ↦ reply 0 0 0 | false ↦ reply 4 0 0 ]
 
-module _ (N w : ℕ) (h : Memory) (healthy : Healthy N w h) (chosen : ℕ) where
+module _ (N w : ℕ) (h : Memory) (fit : Fit N w h) (chosen : ℕ) where
   abbrev test : Reply
   test = returnTest (length (h .roots)) chosen
 
@@ -39,7 +40,7 @@ module _ (N w : ℕ) (h : Memory) (healthy : Healthy N w h) (chosen : ℕ) where
 
   pub return-answered : test .number ≡ 0 → answer N w h (returnRoots chosen) ≡ done
   unfolding answer returnTest outcome require
-  return-answered passes = on-undamaged N w h healthy _ ∙ go (chosenBelow chosen (length (h .roots))) passes
+  return-answered passes = on-undamaged N w h fit _ ∙ go (chosenBelow chosen (length (h .roots))) passes
     where
       go : (t : Bool) → outcome t .number ≡ 0 → require t 4 h done ≡ done
       go true e = refl
@@ -47,7 +48,7 @@ module _ (N w : ℕ) (h : Memory) (healthy : Healthy N w h) (chosen : ℕ) where
 
   return-stopped : (test .number ≡ 0 → ⊥) → answer N w h (returnRoots chosen) ≡ (test, h)
   unfolding answer returnTest outcome require
-  return-stopped fails = on-undamaged N w h healthy _ ∙ go (chosenBelow chosen (length (h .roots))) fails
+  return-stopped fails = on-undamaged N w h fit _ ∙ go (chosenBelow chosen (length (h .roots))) fails
     where
       go : (t : Bool) → (outcome t .number ≡ 0 → ⊥) → require t 4 h done ≡ (outcome t, h)
       go true n = absurd (n refl)
@@ -67,25 +68,27 @@ module _ (N w : ℕ) (h : Memory) (usable : Usable N w h) (chosen r : ℕ) where
   -- it is not one of the set
   pub turn-none : (bitOf chosen r ≡ 1 → ⊥) → Turn N w h chosen r h 0
   unfolding clearChosen
-  turn-none n = record { after-is = rw (ne-eqb (bitOf chosen r) 1 n, clearChosen) refl; usable = usable; blocks = omega arith }
+  turn-none n = record { after-is = λ x. rw (ne-eqb (bitOf chosen r) 1 n, clearChosen) refl; usable = usable; blocks = omega arith }
 
-  -- it is, and was cleared; the waiting list was clear and is left so
+  -- it is, and was cleared; the waiting list was clear and is left so, and the store reads no list of sections
   pub turn-one :
       r < length (h .roots) → bitOf chosen r ≡ 1 → (x : Reply) (g : Memory) → Promise N w (storeRoot r 0) h x g
       → Turn N w h chosen r g (x .value)
   unfolding freeing clearChosen
   turn-one inside e x g promise =
-      let healthy = usable-healthy N w h usable in
+      let fit = usable-fit N w h usable in
       let end : Memory = storeRootIn N w h r 0 in
-      let stored = root-answered N w h r 0 (root-passed N h r 0 (zero-passes N h r inside)) healthy in
-      let settles : settled N end ≡ end =
-      sym (store-root-waiting N w (replicate N 0) h r 0) ∙ ap (λ (k : Memory). storeRootIn N w k r 0) (settled-idle N w h usable) in
-      let is : g ≡ end = promise .after-is ∙ ap (λ (y : Answer). y .1) stored ∙ settles in
+      let stored = root-answered N w h r 0 (root-passed N h r 0 (zero-passes N h r inside)) fit in
+      let idle : withWaiting (replicate N 0) end ≡ end =
+      sym (store-root-waiting N w (replicate N 0) h r 0) ∙ ap (λ (k : Memory). storeRootIn N w k r 0) (cleared-same N w h usable) in
+      let is : g ≡ settled N end = promise .after-is ∙ ap (λ (y : Answer). y .1) stored in
       let value : x .value ≡ zeros (end .a) - zeros (h .a) =
       ap (λ (y : Reply). y .value) (promise .reply-is) ∙ ap (λ (y : Answer). y .0 .value) stored in
-      let grows = root-cleared N w (λ i. Unit {0}) h healthy r inside tt .grows in
+      let grows = root-cleared N w (λ i. Unit {0}) h (fit .healthy) r inside tt .grows in
       record {
-        after-is = is ∙ rw (eq-eqb (bitOf chosen r) 1 e, clearChosen) refl;
+        after-is = λ l.
+            ap (withSections l) is ∙ ap (withSections l) idle ∙ sym (store-root-sections N w l h r 0)
+            ∙ rw (eq-eqb (bitOf chosen r) 1 e, clearChosen) refl;
         usable = usable-kept N w h usable (storeRoot r 0) x g promise;
         blocks = omega (arith, value, grows, ap (λ (k : Memory). zeros (k .a)) is);
       }
@@ -96,7 +99,7 @@ pub record Progress (N w : ℕ) (start : Memory) (chosen r : ℕ) (h : Memory) (
   pub usable : Usable N w h
   pub roots-length : length (h .roots) ≡ length (start .roots)
   pub made : r ≤ length (start .roots)
-  pub after-is : h ≡ returnIn N w start chosen r
+  pub after-is : withSections (start .sections) h ≡ returnIn N w start chosen r
   pub blocks : zeros (h .a) ≡ zeros (start .a) + freed
 
 module _ (N w : ℕ) (start : Memory) (chosen : ℕ) where
@@ -115,7 +118,7 @@ module _ (N w : ℕ) (start : Memory) (chosen : ℕ) where
         roots-length = kept ∙ p .roots-length;
         made = omega (arith, p .roots-length);
         after-is =
-            turn .after-is ∙ ap (λ (k : Memory). clearChosen N w k chosen r) (p .after-is)
+            turn .after-is (start .sections) ∙ ap (λ (k : Memory). clearChosen N w k chosen r) (p .after-is)
             ∙ ap (returnIn N w start chosen) (sym (add-one r));
         blocks = omega (arith, turn .blocks, p .blocks);
       }
@@ -126,8 +129,9 @@ module _ (N w : ℕ) (start : Memory) (chosen : ℕ) where
   progress-done {r} {freed} {h} x usable passes l p replied =
       let end : Memory = returnIn N w start chosen (length (start .roots)) in
       let all : r ≡ length (start .roots) = omega (arith, p .made, p .roots-length) in
-      let is : h ≡ end = p .after-is ∙ ap (returnIn N w start chosen) all in
-      freeing-promised N w start end 0 (returnRoots chosen) (return-answered N w start (usable-healthy N w start usable) chosen passes)
+      let is : withSections (start .sections) h ≡ end = p .after-is ∙ ap (returnIn N w start chosen) all in
+      freeing-promised N w start end 0 (returnRoots chosen) (return-answered N w start (usable-fit N w start usable) chosen passes)
       freed x h
       (omega (arith, p .blocks, ap (λ (k : Memory). zeros (k .a)) is)) replied
-      (sym (settled-idle N w h (p .usable)) ∙ ap (settled N) is)
+      (left-settled N (h .sections) h h refl (sym (cleared-same N w h (p .usable))) (usable-fit N w h (p .usable) .listed)
+      ∙ ap (settled N) is)

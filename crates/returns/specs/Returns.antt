@@ -2,8 +2,9 @@
 use Prim.Native.Nat.{ℕ, _+_}
 use mathlib.Core.Path.{_≡_}
 use mathlib.Core.Bool.{true, false}
+use mathlib.Core.List.{List}
 use Rattle.bitmap.specs.Bit.{zeros}
-use Rattle.rules.specs.Heap.{Memory}
+use Rattle.rules.specs.Heap.{Memory, withSections}
 use Rattle.rules.specs.Store.{chosenBelow, clearChosen}
 use Rattle.rules.specs.Calls.{reply}
 use Rattle.rules.specs.declared.Reply.{Reply}
@@ -13,8 +14,9 @@ use Rattle.inner.specs.Usable.{Usable}
 unfoldable pub returnTest : (roots chosen : ℕ) → Reply
 returnTest roots chosen = elim (chosenBelow chosen roots) [ true ↦ reply 0 0 0 | false ↦ reply 4 0 0 ]
 
--- root r was cleared where it is one of the set, and `freed` blocks were freed
+-- root r was cleared where it is one of the set, and `freed` blocks were freed: as the rule has it whatever list of sections stands beside,
+-- and the heap's own list is left true
 pub record Turn (N w : ℕ) (h : Memory) (chosen r : ℕ) (g : Memory) (freed : ℕ) : Type 0 where
-  pub after-is : g ≡ clearChosen N w h chosen r
+  pub after-is : (x : List ℕ) → withSections x g ≡ clearChosen N w (withSections x h) chosen r
   pub usable : Usable N w g
   pub blocks : zeros (g .a) ≡ zeros (h .a) + freed

@@ -1,5 +1,5 @@
-// The return of a set of roots (request U10) on a heap that is known to be undamaged, with a cleared waiting list: its test, and its work. Bit r
-// of `chosen` says whether root r is one of the set.
+// The return of a set of roots (request U10) on a heap that is known to be undamaged, with a cleared waiting list and a true list of sections:
+// its test, and its work. Bit r of `chosen` says whether root r is one of the set.
 ghost use mathlib.Core.Path.{_≡_};
 ghost use Prim.Native.Nat.{_≤_, _<_};
 ghost use lib.ListN.{length};
@@ -38,22 +38,35 @@ fn clear_chosen(
     cells: &mut [Ref],
     roots: &mut [Ref],
     waiting: &mut [Ref],
+    sections: &mut [Ref],
     chosen: u64,
     r: usize,
 ) -> usize
-    requires { ⌜ Usable blocks width (lent a b counts cells roots waiting)
+    requires { ⌜ Usable blocks width (lent a b counts cells roots waiting sections)
         × (r < length (now roots)) ⌝ }
     ensures { λ freed.
         ⌜ Turn blocks width
-        (before a b counts cells roots waiting)
+        (before a b counts cells roots waiting sections)
         chosen r
-        (after a b counts cells roots waiting)
+        (after a b counts cells roots waiting sections)
         freed ⌝ }
 {
     if (chosen >> r) % 2 != 1 {
         return 0;
     }
-    let reply = acts::store_root(blocks, width, a, b, counts, cells, roots, waiting, r, 0);
+    let reply = acts::store_root(
+        blocks,
+        width,
+        a,
+        b,
+        counts,
+        cells,
+        roots,
+        waiting,
+        sections,
+        r,
+        0,
+    );
     reply.value
 }
 
@@ -67,13 +80,14 @@ pub fn clear_roots(
     cells: &mut [Ref],
     roots: &mut [Ref],
     waiting: &mut [Ref],
+    sections: &mut [Ref],
     chosen: u64,
 ) -> Reply
-    requires { ⌜ Usable blocks width (lent a b counts cells roots waiting)
+    requires { ⌜ Usable blocks width (lent a b counts cells roots waiting sections)
         × (returnTest (length (now roots)) chosen .number ≡ 0) ⌝ }
     ensures { λ reply.
-        ⌜ Promise blocks width (Call.returnRoots chosen) (before a b counts cells roots waiting) reply
-        (after a b counts cells roots waiting) ⌝ }
+        ⌜ Promise blocks width (Call.returnRoots chosen) (before a b counts cells roots waiting sections) reply
+        (after a b counts cells roots waiting sections) ⌝ }
 {
     let mut freed: usize = 0;
     let mut r = 0;
@@ -87,6 +101,7 @@ pub fn clear_roots(
             cells,
             roots,
             waiting,
+            sections,
             chosen,
             r,
         );
@@ -106,17 +121,29 @@ pub fn return_roots(
     cells: &mut [Ref],
     roots: &mut [Ref],
     waiting: &mut [Ref],
+    sections: &mut [Ref],
     chosen: u64,
 ) -> Reply
-    requires { ⌜ Usable blocks width (lent a b counts cells roots waiting) ⌝ }
+    requires { ⌜ Usable blocks width (lent a b counts cells roots waiting sections) ⌝ }
     ensures { λ reply.
-        ⌜ Promise blocks width (Call.returnRoots chosen) (before a b counts cells roots waiting) reply
-        (after a b counts cells roots waiting) ⌝ }
+        ⌜ Promise blocks width (Call.returnRoots chosen) (before a b counts cells roots waiting sections) reply
+        (after a b counts cells roots waiting sections) ⌝ }
 {
     let test = return_test(roots.len(), chosen);
     let number = test.number;
     if number != 0 {
         return test;
     }
-    clear_roots(blocks, width, a, b, counts, cells, roots, waiting, chosen)
+    clear_roots(
+        blocks,
+        width,
+        a,
+        b,
+        counts,
+        cells,
+        roots,
+        waiting,
+        sections,
+        chosen,
+    )
 }

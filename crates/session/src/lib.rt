@@ -16,17 +16,42 @@ pub fn one_life(
     cells: &mut [Ref],
     roots: &mut [Ref],
     waiting: &mut [Ref],
+    sections: &mut [Ref],
 ) -> Reply
     ensures { λ reply.
-        ⌜ Lived blocks width (before a b counts cells roots waiting) reply (after a b counts cells roots waiting) ⌝ }
+        ⌜ Lived blocks width (before a b counts cells roots waiting sections) reply (after a b counts cells roots waiting sections) ⌝ }
 {
-    let formatting = mutate::format(blocks, width, a, b, counts, cells, roots, waiting);
+    let formatting = mutate::format(blocks, width, a, b, counts, cells, roots, waiting, sections);
     let number = formatting.number;
     if number != 0 {
         return formatting;
     }
-    mutate::allocate(blocks, width, a, b, counts, cells, roots, waiting, 1, 0);
-    mutate::store_root(blocks, width, a, b, counts, cells, roots, waiting, 0, 0);
-    mutate::collect(blocks, width, a, b, counts, cells, roots, waiting);
+    mutate::allocate(
+        blocks,
+        width,
+        a,
+        b,
+        counts,
+        cells,
+        roots,
+        waiting,
+        sections,
+        1,
+        0,
+    );
+    mutate::store_root(
+        blocks,
+        width,
+        a,
+        b,
+        counts,
+        cells,
+        roots,
+        waiting,
+        sections,
+        0,
+        0,
+    );
+    mutate::collect(blocks, width, a, b, counts, cells, roots, waiting, sections);
     formatting
 }

@@ -5,7 +5,7 @@ use borrow.Author.Needs.{needs}
 use Rattle.rules.specs.Calls.{allocate, answer}
 use Rattle.inner.proofs.Idle.{healthy-blocks}
 use Rattle.inner.proofs.Allocated.{allocate-refused}
-use Rattle.gates.proofs.Checked.{checked-healthy, gate-shut, gate-open}
+use Rattle.gates.proofs.Checked.{checked-passed, gate-shut, gate-open}
 use Rattle.gates.proofs.allocate.Statement.{statement}
 use Rattle.gates.proofs.allocate.Tie as tie
 
@@ -18,14 +18,14 @@ returns c = gate-shut _ _ _ _ (c .before .check .ensures) (c .if1 .taken) (alloc
 
 allocate-reply-requires : tie.Need-allocate-reply-requires
 allocate-reply-requires c κs =
-    let healthy = checked-healthy _ _ _ _ (c .before .check .ensures) (c .if1 .left) in
-    (healthy-blocks _ _ _ healthy, omega (arith, healthy .shape .length-a, healthy .shape .whole-bytes))
+    let fit = checked-passed _ _ _ _ (c .before .check .ensures) (c .if1 .left) in
+    (healthy-blocks _ _ _ (fit .healthy), omega (arith, fit .healthy .shape .length-a, fit .healthy .shape .whole-bytes), fit .listed)
 
 returns-2 : tie.Need-returns-2
 returns-2 c =
     let passed = c .before in
     gate-open _ _ _ _ (passed .before .check .ensures) (passed .if1 .left) _ _ _ (c .allocate-reply .ensures)
-    (λ healthy. allocate-refused _ _ _ _ _ healthy _ (c .allocate-reply .ensures))
+    (λ fit. allocate-refused _ _ _ _ _ fit _ (c .allocate-reply .ensures))
 
 pub allocate-spec : {M : Type 1} → statement M
 allocate-spec = tie.close (tie.spec check-requires returns allocate-reply-requires returns-2)

@@ -3,7 +3,7 @@ use mathlib.Core.Path.{refl}
 use borrow.Author.Needs.{needs}
 use Rattle.rules.specs.Calls.{returnRoots, answer}
 use Rattle.returns.proofs.Returned.{return-refused}
-use Rattle.gates.proofs.Checked.{checked-healthy, gate-shut, gate-open}
+use Rattle.gates.proofs.Checked.{checked-passed, gate-shut, gate-open}
 use Rattle.gates.proofs.return_roots.Statement.{statement}
 use Rattle.gates.proofs.return_roots.Tie as tie
 
@@ -16,13 +16,13 @@ returns c = gate-shut _ _ _ _ (c .before .check .ensures) (c .if1 .taken) (retur
 
 return-test-requires : tie.Need-return-test-requires
 return-test-requires c κs =
-    checked-healthy _ _ _ _ (c .before .check .ensures) (c .if1 .left) .shape .roots-max
+    checked-passed _ _ _ _ (c .before .check .ensures) (c .if1 .left) .healthy .shape .roots-max
 
 returns-2 : tie.Need-returns-2
 returns-2 c =
     let passed = c .before in
     gate-open _ _ _ _ (passed .before .check .ensures) (passed .if1 .left) _ _ _ (c .return-test .ensures)
-    (λ healthy. return-refused _ _ _ healthy _ _ (c .return-test .ensures))
+    (λ fit. return-refused _ _ _ fit _ _ (c .return-test .ensures))
 
 pub return-roots-spec : {M : Type 1} → statement M
 return-roots-spec = tie.close (tie.spec check-requires returns return-test-requires returns-2)

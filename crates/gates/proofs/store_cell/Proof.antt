@@ -4,7 +4,7 @@ use native.Mathlib.Omega.{arith}
 use borrow.Author.Needs.{needs}
 use Rattle.rules.specs.Calls.{storeCell, answer}
 use Rattle.inner.proofs.Passed.{cell-refused}
-use Rattle.gates.proofs.Checked.{checked-healthy, gate-shut, gate-open}
+use Rattle.gates.proofs.Checked.{checked-passed, gate-shut, gate-open}
 use Rattle.gates.proofs.store_cell.Statement.{statement}
 use Rattle.gates.proofs.store_cell.Tie as tie
 
@@ -17,7 +17,7 @@ returns c = gate-shut _ _ _ _ (c .before .check .ensures) (c .if1 .taken) (store
 
 store-cell-test-requires : tie.Need-store-cell-test-requires
 store-cell-test-requires c κs =
-    let shape = checked-healthy _ _ _ _ (c .before .check .ensures) (c .if1 .left) .shape in
+    let shape = checked-passed _ _ _ _ (c .before .check .ensures) (c .if1 .left) .healthy .shape in
     (omega (arith, shape .length-a, shape .whole-bytes), omega (arith, shape .length-b, shape .whole-bytes), shape .blocks-max)
 
 returns-2 : tie.Need-returns-2

@@ -1,20 +1,24 @@
--- `check` meets its contract: the shape is tested before the damage.
+-- `check` meets its contract: the shape is tested before the damage, and that before the list of sections.
 use mathlib.Core.Path.{_≡_, sym, _∙_}
 use mathlib.Core.Bool.{true}
+use native.Mathlib.Omega.{arith}
 use borrow.Author.Needs.{needs}
 use borrow.Author.Tests.{not-true, not-false}
-use Rattle.rules.specs.Heap.{Memory, memory, shaped}
-use Rattle.inspect.proofs.Checked.{check-unshaped, check-damaged, check-passed}
+use Rattle.rules.specs.Heap.{Memory, lentMemory, shaped}
+use Rattle.rules.specs.Damage.{damage}
+use Rattle.rules.proofs.Shape.{shape-facts, shaped-blocks}
+use Rattle.inspect.proofs.Checked.{check-unshaped, check-damaged, check-stale, check-passed}
 use Rattle.inspect.proofs.check.Statement.{statement}
 use Rattle.inspect.proofs.check.Tie as tie
 
 -- the lent heap
 abbrev lent : tie.Start → Memory
 lent s =
-    memory (s .args .a .now) (s .args .b .now) (s .args .counts .now) (s .args .cells .now) (s .args .roots .now) (s .args .waiting .now)
+    lentMemory (s .args .a .now) (s .args .b .now) (s .args .counts .now) (s .args .cells .now) (s .args .roots .now) (s .args .waiting .now)
+    (s .args .sections .now)
 
 abbrev start : tie.After-is-shaped → tie.Start
-start c = c .before .before .before .before .before .before .before
+start c = c .before .before .before .before .before .before .before .before
 
 -- past the first test its shape is right
 shape-is : (c : tie.Else1) → let s = start (c .before) in shaped (s .args .blocks) (s .args .width) (lent s) ≡ true
@@ -40,14 +44,40 @@ returns-2 c =
     let shaped-here = c .before .before in
     check-damaged _ _ (lent (start (shaped-here .before))) _ (shape-is shaped-here) (c .before .damage-kind .ensures) (c .if2 .taken)
 
-acceptance-requires : tie.Need-acceptance-requires
-acceptance-requires c κs = search needs
+-- past the second test it is undamaged
+undamaged : (c : tie.Else2) → let s = start (c .before .before .before) in damage (s .args .blocks) (s .args .width) (lent s) ≡ 0
+undamaged c = sym (c .before .damage-kind .ensures) ∙ c .if2 .left
+
+is-stale-requires : tie.Need-is-stale-requires
+is-stale-requires c κs =
+    let s = start (c .before .before .before) in
+    let shape = shape-facts _ _ (lent s) (shape-is (c .before .before)) in
+    (shaped-blocks _ _ (lent s) shape, omega (arith, shape .length-a, shape .whole-bytes), shape .length-sections)
+
+refusal-requires-2 : tie.Need-refusal-requires-2
+refusal-requires-2 c κs = search needs
 
 returns-3 : tie.Need-returns-3
 returns-3 c =
-    let undamaged = sym (c .before .before .damage-kind .ensures) ∙ c .before .if2 .left in
-    let shaped-here = c .before .before .before in
-    check-passed _ _ (lent (start (shaped-here .before))) _ (shape-is shaped-here) undamaged (c .acceptance .ensures)
+    let tested = c .before in
+    let none = tested .before .before in
+    check-stale _ _ (lent (start (none .before .before .before))) _ (shape-is (none .before .before)) (undamaged none)
+    (sym (tested .before .is-stale .ensures) ∙ tested .if3 .taken) (c .refusal2 .ensures)
+
+acceptance-requires : tie.Need-acceptance-requires
+acceptance-requires c κs = search needs
+
+returns-4 : tie.Need-returns-4
+returns-4 c =
+    let tested = c .before in
+    let none = tested .before .before in
+    check-passed _ _ (lent (start (none .before .before .before))) _
+    (record {
+      right-shape = shape-is (none .before .before);
+      no-damage = undamaged none;
+      true-list = sym (tested .before .is-stale .ensures) ∙ tested .if3 .left;
+    })
+    (c .acceptance .ensures)
 
 pub check-spec : {M : Type 1} → statement M
 check-spec =
@@ -58,5 +88,8 @@ check-spec =
     returns
     damage-kind-requires
     returns-2
+    is-stale-requires
+    refusal-requires-2
+    returns-3
     acceptance-requires
-    returns-3)
+    returns-4)

@@ -1,25 +1,26 @@
 -- `free_blocks` meets its contract: it is refused as the check refuses, or counts the free blocks.
 use native.Mathlib.Omega.{arith}
 use borrow.Author.Needs.{needs}
-use Rattle.rules.specs.Heap.{Memory, memory}
+use Rattle.rules.specs.Heap.{Memory, lentMemory}
 use Rattle.rules.proofs.Shape.{Shaped, shape-facts}
-use Rattle.inspect.proofs.Checked.{checked-shaped, free-blocks-refused, free-blocks-passed}
+use Rattle.inspect.proofs.Checked.{checked-fit, free-blocks-refused, free-blocks-passed}
 use Rattle.inspect.proofs.free_blocks.Statement.{statement}
 use Rattle.inspect.proofs.free_blocks.Tie as tie
 
 -- the lent heap
 abbrev lent : tie.Start → Memory
 lent s =
-    memory (s .args .a .now) (s .args .b .now) (s .args .counts .now) (s .args .cells .now) (s .args .roots .now) (s .args .waiting .now)
+    lentMemory (s .args .a .now) (s .args .b .now) (s .args .counts .now) (s .args .cells .now) (s .args .roots .now) (s .args .waiting .now)
+    (s .args .sections .now)
 
 abbrev start : tie.After-check → tie.Start
-start c = c .before .before .before .before .before .before .before
+start c = c .before .before .before .before .before .before .before .before
 
 -- past the check its lengths are right
 right : (c : tie.Else1) → let s = start (c .before) in Shaped (s .args .blocks) (s .args .width) (lent s)
 right c =
     let s = start (c .before) in
-    shape-facts _ _ (lent s) (checked-shaped _ _ (lent s) _ (c .before .check .ensures) (c .if1 .left))
+    shape-facts _ _ (lent s) (checked-fit _ _ (lent s) _ (c .before .check .ensures) (c .if1 .left) .right-shape)
 
 check-requires : tie.Need-check-requires
 check-requires c κs = search needs

@@ -10,11 +10,11 @@ use Rattle.mutate.proofs.allocate.Tie as tie
 abbrev passed : tie.After-clear-all → tie.Else1
 passed c = c .before .before
 
-abbrev cleared : tie.After-allocate-arg12 → tie.After-clear-all
-cleared c = c .before .before .before .before .before .before .before .before
+abbrev cleared : tie.After-allocate-arg14 → tie.After-clear-all
+cleared c = c .before .before .before .before .before .before .before .before .before
 
 abbrev done : tie.After-result → tie.After-allocate2
-done c = c .before .before .before .before .before .before .before .before .before .before .before .before .before
+done c = c .before .before .before .before .before .before .before .before .before .before .before .before .before .before .before
 
 allocate-requires : tie.Need-allocate-requires
 allocate-requires c κs = search needs
@@ -53,6 +53,7 @@ allocate-spec =
     (λ _. refl)
     (λ _. refl)
     (λ _. refl)
+    (λ _. refl)
     returns
     clear-all-requires
     allocate-requires-2
@@ -62,4 +63,5 @@ allocate-spec =
     (λ c. done c .allocate2 .kept .1 .1 .1 .1 .1 .0)
     (λ c. done c .allocate2 .kept .1 .1 .1 .1 .1 .1 .0)
     (λ c. done c .allocate2 .kept .1 .1 .1 .1 .1 .1 .1 .0 ∙ cleared (done c .before) .clear-all .kept .0)
+    (λ c. done c .allocate2 .kept .1 .1 .1 .1 .1 .1 .1 .1 .0)
     returns-2)

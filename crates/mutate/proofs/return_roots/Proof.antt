@@ -10,11 +10,11 @@ use Rattle.mutate.proofs.return_roots.Tie as tie
 abbrev passed : tie.After-clear-all → tie.Else1
 passed c = c .before .before
 
-abbrev cleared : tie.After-clear-roots-arg6 → tie.After-clear-all
-cleared c = c .before .before .before .before .before .before .before .before
+abbrev cleared : tie.After-clear-roots-arg7 → tie.After-clear-all
+cleared c = c .before .before .before .before .before .before .before .before .before
 
-abbrev done : tie.After-slice-known13 → tie.After-clear-roots
-done c = c .before .before .before .before .before .before .before .before .before .before .before .before
+abbrev done : tie.After-slice-known15 → tie.After-clear-roots
+done c = c .before .before .before .before .before .before .before .before .before .before .before .before .before .before
 
 return-roots-requires : tie.Need-return-roots-requires
 return-roots-requires c κs = search needs
@@ -53,6 +53,7 @@ return-roots-spec =
     (λ _. refl)
     (λ _. refl)
     (λ _. refl)
+    (λ _. refl)
     returns
     clear-all-requires
     clear-roots-requires
@@ -62,4 +63,5 @@ return-roots-spec =
     (λ c. done c .clear-roots .kept .1 .1 .1 .1 .1 .0)
     (λ c. done c .clear-roots .kept .1 .1 .1 .1 .1 .1 .0)
     (λ c. done c .clear-roots .kept .1 .1 .1 .1 .1 .1 .1 .0 ∙ cleared (done c .before) .clear-all .kept .0)
+    (λ c. done c .clear-roots .kept .1 .1 .1 .1 .1 .1 .1 .1 .0)
     returns-2)

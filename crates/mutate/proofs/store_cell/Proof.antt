@@ -10,11 +10,11 @@ use Rattle.mutate.proofs.store_cell.Tie as tie
 abbrev passed : tie.After-clear-all → tie.Else1
 passed c = c .before .before
 
-abbrev cleared : tie.After-store-cell-arg10 → tie.After-clear-all
-cleared c = c .before .before .before .before .before .before .before
+abbrev cleared : tie.After-store-cell-arg12 → tie.After-clear-all
+cleared c = c .before .before .before .before .before .before .before .before
 
-abbrev done : tie.After-slice-known11 → tie.After-store-cell2
-done c = c .before .before .before .before .before .before .before .before .before .before
+abbrev done : tie.After-slice-known13 → tie.After-store-cell2
+done c = c .before .before .before .before .before .before .before .before .before .before .before .before
 
 store-cell-requires : tie.Need-store-cell-requires
 store-cell-requires c κs = search needs
@@ -52,6 +52,7 @@ store-cell-spec =
     (λ _. refl)
     (λ _. refl)
     (λ _. refl)
+    (λ _. refl)
     returns
     clear-all-requires
     store-cell-requires-2
@@ -60,4 +61,5 @@ store-cell-spec =
     (λ c. done c .store-cell2 .kept .1 .1 .1 .1 .0)
     (λ c. done c .store-cell2 .kept .1 .1 .1 .1 .1 .0)
     (λ c. done c .store-cell2 .kept .1 .1 .1 .1 .1 .1 .1 .0 ∙ cleared (done c .before) .clear-all .kept .0)
+    (λ c. done c .store-cell2 .kept .1 .1 .1 .1 .1 .1 .1 .1 .0)
     returns-2)

@@ -6,11 +6,11 @@ use Rattle.returns.proofs.clear_chosen.Statement.{statement}
 use Rattle.returns.proofs.clear_chosen.Tie as tie
 
 -- the places: the entry, and the root cleared
-abbrev entry : tie.After-slice-known6 → tie.Start
-entry c = c .before .before .before .before .before .before
+abbrev entry : tie.After-slice-known7 → tie.Start
+entry c = c .before .before .before .before .before .before .before
 
-abbrev cleared : tie.After-slice-known12 → tie.After-store-root
-cleared c = c .before .before .before .before .before .before .before .before .before .before .before .before
+abbrev cleared : tie.After-slice-known14 → tie.After-store-root
+cleared c = c .before .before .before .before .before .before .before .before .before .before .before .before .before .before
 
 shr-if1 : tie.Need-shr-if1
 shr-if1 c =
@@ -22,12 +22,12 @@ returns c = turn-none _ _ _ (entry (c .before) .pre .0) _ _ (c .if1 .taken)
 
 store-root-requires : tie.Need-store-root-requires
 store-root-requires c κs =
-    let start = entry (c .before .before .before .before .before .before .before) in
+    let start = entry (c .before .before .before .before .before .before .before .before) in
     (start .pre .0, zero-passes _ _ _ (start .pre .1))
 
 returns-2 : tie.Need-returns-2
 returns-2 c =
-    let chosen = cleared c .before .before .before .before .before .before .before in
+    let chosen = cleared c .before .before .before .before .before .before .before .before in
     let pre = entry (chosen .before) .pre in
     turn-one _ _ _ (pre .0) _ _ (pre .1) (omega (arith, chosen .if1 .left)) _ _ (cleared c .store-root .ensures)
 
@@ -44,4 +44,5 @@ clear-chosen-spec =
     (λ c. cleared c .store-root .kept .1 .1 .1 .1 .1 .0)
     (λ c. cleared c .store-root .kept .1 .1 .1 .1 .1 .1 .0)
     (λ c. cleared c .store-root .kept .1 .1 .1 .1 .1 .1 .1 .0)
+    (λ c. cleared c .store-root .kept .1 .1 .1 .1 .1 .1 .1 .1 .0)
     returns-2)

@@ -5,7 +5,7 @@ use native.Mathlib.Omega.{arith}
 use lib.ListN.{length}
 use borrow.Author.Needs.{needs}
 use Rattle.bitmap.proofs.Zeros.{zeros-le}
-use Rattle.rules.specs.Heap.{memory}
+use Rattle.rules.specs.Heap.{lentMemory}
 use Rattle.rules.proofs.Shape.{Shaped}
 use Rattle.inner.proofs.Idle.{usable-healthy}
 use Rattle.returns.proofs.Returned.{Progress, progress-start, progress-next, progress-done}
@@ -13,28 +13,29 @@ use Rattle.returns.proofs.clear_roots.Statement.{statement}
 use Rattle.returns.proofs.clear_roots.Tie as tie
 
 abbrev Inv-loop : tie.InvT-loop
-Inv-loop blocks width a₀ b₀ counts₀ cells₀ roots₀ waiting₀ chosen freed₀ r₀ a b counts cells roots waiting freed r =
-    Progress blocks width (memory a₀ b₀ counts₀ cells₀ roots₀ waiting₀) chosen r (memory a b counts cells roots waiting) freed
+Inv-loop blocks width a₀ b₀ counts₀ cells₀ roots₀ waiting₀ sections₀ chosen freed₀ r₀ a b counts cells roots waiting sections freed r =
+    Progress blocks width (lentMemory a₀ b₀ counts₀ cells₀ roots₀ waiting₀ sections₀) chosen r
+    (lentMemory a b counts cells roots waiting sections) freed
 
 abbrev μ-loop : tie.MeasureT-loop
-μ-loop blocks width a₀ b₀ counts₀ cells₀ roots₀ waiting₀ chosen freed₀ r₀ a b counts cells roots waiting freed r =
+μ-loop blocks width a₀ b₀ counts₀ cells₀ roots₀ waiting₀ sections₀ chosen freed₀ r₀ a b counts cells roots waiting sections freed r =
     length roots₀ - r
 
 -- the places: the entry, a turn of the loop, its root seen to
 abbrev entry : tie.At-loop Inv-loop μ-loop → tie.Start Inv-loop μ-loop
-entry c = c .before .before .before .before .before .before .before
+entry c = c .before .before .before .before .before .before .before .before
 
-abbrev turn : tie.After-slice-known12 Inv-loop μ-loop → tie.In-loop Inv-loop μ-loop
-turn c = c .before .before .before .before .before .before .before .before .before .before .before .before .before .before .before .before .before .before .before
+abbrev turn : tie.After-slice-known14 Inv-loop μ-loop → tie.In-loop Inv-loop μ-loop
+turn c = c .before .before .before .before .before .before .before .before .before .before .before .before .before .before .before .before .before .before .before .before .before .before
 
-abbrev seen : tie.After-slice-known12 Inv-loop μ-loop → tie.After-clear-chosen Inv-loop μ-loop
-seen c = c .before .before .before .before .before .before .before .before .before .before .before .before
+abbrev seen : tie.After-slice-known14 Inv-loop μ-loop → tie.After-clear-chosen Inv-loop μ-loop
+seen c = c .before .before .before .before .before .before .before .before .before .before .before .before .before .before
 
 loop-holds : tie.Need-loop-holds Inv-loop μ-loop
-loop-holds c = progress-start _ _ _ _ (c .before .before .before .before .before .before .pre .0)
+loop-holds c = progress-start _ _ _ _ (c .before .before .before .before .before .before .before .pre .0)
 
 clear-chosen-requires : tie.Need-clear-chosen-requires Inv-loop μ-loop
-clear-chosen-requires c κs = (c .before .before .before .before .before .before .before .loop .inv .usable, omega arith)
+clear-chosen-requires c κs = (c .before .before .before .before .before .before .before .before .loop .inv .usable, omega arith)
 
 -- what was freed so far are blocks of the heap
 add-freed : tie.Need-add-freed Inv-loop μ-loop
@@ -75,14 +76,15 @@ shaped-now :
     (c : tie.After-acceptance Inv-loop μ-loop)
     → let l = c .before .before .loop in
     let args = entry (c .before .before) .args in
-    Shaped (args .blocks) (args .width) (memory (l .a) (l .b) (l .counts) (l .cells) (l .roots) (l .waiting))
+    Shaped (args .blocks) (args .width) (lentMemory (l .a) (l .b) (l .counts) (l .cells) (l .roots) (l .waiting) (l .sections))
 shaped-now c = usable-healthy _ _ _ (c .before .before .loop .inv .usable) .shape
 
 shaped-before :
     (c : tie.After-acceptance Inv-loop μ-loop)
     → let args = entry (c .before .before) .args in
     Shaped (args .blocks) (args .width)
-    (memory (args .a .now) (args .b .now) (args .counts .now) (args .cells .now) (args .roots .now) (args .waiting .now))
+    (lentMemory (args .a .now) (args .b .now) (args .counts .now) (args .cells .now) (args .roots .now) (args .waiting .now)
+    (args .sections .now))
 shaped-before c = usable-healthy _ _ _ (entry (c .before .before) .pre .0) .shape
 
 returns : tie.Need-returns Inv-loop μ-loop
@@ -109,4 +111,5 @@ clear-roots-spec =
     (λ c. shaped-now c .length-cells ∙ sym (shaped-before c .length-cells))
     (λ c. c .before .before .loop .inv .roots-length)
     (λ c. shaped-now c .length-waiting ∙ sym (shaped-before c .length-waiting))
+    (λ c. shaped-now c .length-sections ∙ sym (shaped-before c .length-sections))
     returns)

@@ -1,28 +1,28 @@
 -- `returns::return_roots` meets its contract.
 use mathlib.Core.Path.{sym, ap, _∙_}
 use Rattle.rules.specs.declared.Reply.{Reply}
-use Rattle.inner.proofs.Idle.{usable-healthy}
+use Rattle.inner.proofs.Idle.{usable-fit, usable-healthy}
 use Rattle.returns.proofs.Returned.{return-refused}
 use Rattle.returns.proofs.return_roots.Statement.{statement}
 use Rattle.returns.proofs.return_roots.Tie as tie
 
 -- the places: the entry, and the roots cleared
-abbrev entry : tie.After-slice-known6 → tie.Start
-entry c = c .before .before .before .before .before .before
+abbrev entry : tie.After-slice-known7 → tie.Start
+entry c = c .before .before .before .before .before .before .before
 
-abbrev cleared : tie.After-slice-known12 → tie.After-clear-roots
-cleared c = c .before .before .before .before .before .before .before .before .before .before .before .before
+abbrev cleared : tie.After-slice-known14 → tie.After-clear-roots
+cleared c = c .before .before .before .before .before .before .before .before .before .before .before .before .before .before
 
 return-test-requires : tie.Need-return-test-requires
 return-test-requires c κs = usable-healthy _ _ _ (entry c .pre) .shape .roots-max
 
 returns : tie.Need-returns
 returns c =
-    return-refused _ _ _ (usable-healthy _ _ _ (entry (c .before .before) .pre)) _ _ (c .before .return-test .ensures) (c .if1 .taken)
+    return-refused _ _ _ (usable-fit _ _ _ (entry (c .before .before) .pre)) _ _ (c .before .return-test .ensures) (c .if1 .taken)
 
 clear-roots-requires : tie.Need-clear-roots-requires
 clear-roots-requires c κs =
-    let tested = c .before .before .before .before .before .before in
+    let tested = c .before .before .before .before .before .before .before in
     (entry (tested .before .before) .pre, ap (λ (y : Reply). y .number) (sym (tested .before .return-test .ensures)) ∙ tested .if1 .left)
 
 returns-2 : tie.Need-returns-2
@@ -41,4 +41,5 @@ return-roots-spec =
     (λ c. cleared c .clear-roots .kept .1 .1 .1 .1 .1 .0)
     (λ c. cleared c .clear-roots .kept .1 .1 .1 .1 .1 .1 .0)
     (λ c. cleared c .clear-roots .kept .1 .1 .1 .1 .1 .1 .1 .0)
+    (λ c. cleared c .clear-roots .kept .1 .1 .1 .1 .1 .1 .1 .1 .0)
     returns-2)

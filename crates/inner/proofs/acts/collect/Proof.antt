@@ -1,25 +1,37 @@
 -- `inner::acts::collect` meets its contract: the collector's procedure on maps of bytes, as lent slices are.
+use mathlib.Core.Path.{_∙_}
+use native.Mathlib.Omega.{arith}
 use Rattle.bitmap.proofs.Maps.{bytes-given}
-use Rattle.inner.proofs.Idle.{usable-ready}
+use Rattle.inner.proofs.Idle.{usable-healthy, usable-ready}
 use Rattle.inner.proofs.Collected.{collect-promised}
 use borrow.Author.Needs.{needs}
 use Rattle.inner.proofs.acts.collect.Statement.{statement}
 use Rattle.inner.proofs.acts.collect.Tie as tie
 
--- the place where the work is done
-abbrev done : tie.After-acceptance → tie.After-collect
-done c = c .before .before .before .before .before .before .before .before .before .before .before
+-- the places: the work done, and unknown figures found anew
+abbrev renewed : tie.After-acceptance → tie.After-renew
+renewed c = c .before .before .before
+
+abbrev done : tie.After-renew → tie.After-collect
+done c = c .before .before .before .before .before .before .before .before .before .before .before .before .before .before .before
 
 collect-requires : tie.Need-collect-requires
-collect-requires c κs = usable-ready _ _ _ (c .before .before .before .before .before .before .before .before .before .before .before .pre)
+collect-requires c κs = usable-ready _ _ _ (c .before .before .before .before .before .before .before .before .before .before .before .before .before .pre)
 
 acceptance-requires : tie.Need-acceptance-requires
 acceptance-requires c κs = search needs
 
+renew-requires : tie.Need-renew-requires
+renew-requires c κs =
+    let work = c .before .before .before .before .before .before .before .before .before .before .before .before .before .before in
+    let shape = usable-healthy _ _ _ (work .before .before .before .before .before .before .before .before .before .before .before .before .before .before .pre) .shape in
+    (work .collect .ensures .2, omega (arith, work .collect .kept .1 .1 .0, shape .length-a, shape .whole-bytes))
+
 returns : tie.Need-returns
 returns c =
-    let counts-lent = done c .before .before .before .before .before .before .before .before .before in
-    let freed = done c .collect .ensures in
+    let work = done (renewed c) in
+    let counts-lent = work .before .before .before .before .before .before .before .before .before .before .before in
+    let freed = work .collect .ensures in
     collect-promised _ _ _ (counts-lent .before .before .before .pre)
     (record {
       a = bytes-given _ (counts-lent .before .before .slice-known .given);
@@ -28,6 +40,7 @@ returns c =
     })
     _ _ _
     (freed .0)
+    (renewed c .renew .ensures)
     (freed .1)
     (c .acceptance .ensures)
 
@@ -36,10 +49,12 @@ collect-spec =
     tie.close
     (tie.spec
     collect-requires
+    renew-requires
     acceptance-requires
-    (λ c. done c .collect .kept .1 .1 .0)
-    (λ c. done c .collect .kept .1 .1 .1 .0)
-    (λ c. done c .collect .kept .1 .1 .1 .1 .0)
-    (λ c. done c .collect .kept .1 .1 .1 .1 .1 .0)
-    (λ c. done c .collect .kept .1 .1 .1 .1 .1 .1 .1 .0)
+    (λ c. done (renewed c) .collect .kept .1 .1 .0)
+    (λ c. done (renewed c) .collect .kept .1 .1 .1 .0)
+    (λ c. done (renewed c) .collect .kept .1 .1 .1 .1 .0)
+    (λ c. done (renewed c) .collect .kept .1 .1 .1 .1 .1 .0)
+    (λ c. done (renewed c) .collect .kept .1 .1 .1 .1 .1 .1 .1 .0)
+    (λ c. renewed c .renew .kept .1 .1 .0 ∙ done (renewed c) .collect .kept .1 .1 .1 .1 .1 .1 .1 .1 .0)
     returns)

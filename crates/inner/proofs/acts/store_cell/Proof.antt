@@ -1,4 +1,5 @@
 -- `inner::acts::store_cell` meets its contract: cell j of the object at block `at` is cell 4 * at + j of all.
+use mathlib.Core.Path.{_∙_}
 use native.Mathlib.Omega.{arith}
 use Rattle.inner.proofs.Idle.{usable-healthy, usable-ready}
 use Rattle.inner.proofs.Passed.{cell-passed}
@@ -7,40 +8,51 @@ use borrow.Author.Needs.{needs}
 use Rattle.inner.proofs.acts.store_cell.Statement.{statement}
 use Rattle.inner.proofs.acts.store_cell.Tie as tie
 
--- the place where the work is done
-abbrev done : tie.After-telling → tie.After-store-cell
-done c = c .before .before .before .before .before .before .before .before .before .before .before
+-- the places: the work done, and unknown figures found anew
+abbrev renewed : tie.After-telling → tie.After-renew
+renewed c = c .before .before .before
+
+abbrev done : tie.After-renew → tie.After-store-cell
+done c = c .before .before .before .before .before .before .before .before .before .before .before .before .before .before .before
 
 mul-store-cell : tie.Need-mul-store-cell
 mul-store-cell c =
-    let pre = c .before .before .before .before .before .before .before .before .before .before .before .pre in
+    let pre = c .before .before .before .before .before .before .before .before .before .before .before .before .before .pre in
     record { fits = omega (arith, cell-passed _ _ _ _ _ (pre .1) .cell-inside, usable-healthy _ _ _ (pre .0) .shape .blocks-max) }
 
 add-store-cell : tie.Need-add-store-cell
 add-store-cell c =
-    let pre = c .before .before .before .before .before .before .before .before .before .before .before .pre in
+    let pre = c .before .before .before .before .before .before .before .before .before .before .before .before .before .pre in
     record { fits = omega (arith, cell-passed _ _ _ _ _ (pre .1) .cell-inside, usable-healthy _ _ _ (pre .0) .shape .blocks-max) }
 
 -- a reference is at most the number of blocks, so it fits a cell
 cast-store-cell : tie.Need-cast-store-cell
 cast-store-cell c =
-    let pre = c .before .before .before .before .before .before .before .before .before .before .before .pre in
+    let pre = c .before .before .before .before .before .before .before .before .before .before .before .before .before .pre in
     omega (arith, cell-passed _ _ _ _ _ (pre .1) .inside, usable-healthy _ _ _ (pre .0) .shape .blocks-max)
 
 store-cell-requires : tie.Need-store-cell-requires
 store-cell-requires c κs =
-    let pre = c .before .before .before .before .before .before .before .before .before .before .before .pre in
+    let pre = c .before .before .before .before .before .before .before .before .before .before .before .before .before .pre in
     let passed = cell-passed _ _ _ _ _ (pre .1) in
     (usable-ready _ _ _ (pre .0), passed .cell-inside, passed .inside)
 
 telling-requires : tie.Need-telling-requires
 telling-requires c κs = search needs
 
+renew-requires : tie.Need-renew-requires
+renew-requires c κs =
+    let work = c .before .before .before .before .before .before .before .before .before .before .before .before .before .before in
+    let shape = usable-healthy _ _ _ (work .before .before .before .before .before .before .before .before .before .before .before .before .before .before .pre .0) .shape in
+    (work .store-cell .ensures .3, omega (arith, work .store-cell .kept .1 .1 .0, shape .length-a, shape .whole-bytes))
+
 returns : tie.Need-returns
 returns c =
-    let pre = done c .before .before .before .before .before .before .before .before .before .before .before .before .pre in
-    let stored = done c .store-cell .ensures in
-    cell-promised _ _ _ _ _ _ (cell-passed _ _ _ _ _ (pre .1)) (pre .0) _ _ _ _ (stored .0) (stored .1) (stored .2) (c .telling .ensures)
+    let work = done (renewed c) in
+    let pre = work .before .before .before .before .before .before .before .before .before .before .before .before .before .before .pre in
+    let stored = work .store-cell .ensures in
+    cell-promised _ _ _ _ _ _ (cell-passed _ _ _ _ _ (pre .1)) (pre .0) _ _ _ _ (stored .0) (renewed c .renew .ensures) (stored .1) (stored .2)
+    (c .telling .ensures)
 
 pub store-cell-spec : {M : Type 1} → statement M
 store-cell-spec =
@@ -50,10 +62,12 @@ store-cell-spec =
     add-store-cell
     cast-store-cell
     store-cell-requires
+    renew-requires
     telling-requires
-    (λ c. done c .store-cell .kept .1 .1 .0)
-    (λ c. done c .store-cell .kept .1 .1 .1 .0)
-    (λ c. done c .store-cell .kept .1 .1 .1 .1 .0)
-    (λ c. done c .store-cell .kept .1 .1 .1 .1 .1 .0)
-    (λ c. done c .store-cell .kept .1 .1 .1 .1 .1 .1 .1 .0)
+    (λ c. done (renewed c) .store-cell .kept .1 .1 .0)
+    (λ c. done (renewed c) .store-cell .kept .1 .1 .1 .0)
+    (λ c. done (renewed c) .store-cell .kept .1 .1 .1 .1 .0)
+    (λ c. done (renewed c) .store-cell .kept .1 .1 .1 .1 .1 .0)
+    (λ c. done (renewed c) .store-cell .kept .1 .1 .1 .1 .1 .1 .1 .0)
+    (λ c. renewed c .renew .kept .1 .1 .0 ∙ done (renewed c) .store-cell .kept .1 .1 .1 .1 .1 .1 .1 .1 .0)
     returns)

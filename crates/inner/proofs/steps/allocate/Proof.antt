@@ -1,7 +1,7 @@
 -- `inner::steps::allocate` meets its contract.
 use mathlib.Core.Path.{refl}
 use native.Mathlib.Omega.{arith}
-use Rattle.inner.proofs.Idle.{healthy-blocks, usable-healthy}
+use Rattle.inner.proofs.Idle.{healthy-blocks, usable-fit}
 use Rattle.inner.proofs.Allocated.{allocate-accepts, allocate-refused}
 use Rattle.inner.proofs.Balanced.{allocate-refusing}
 use borrow.Author.Needs.{needs}
@@ -9,24 +9,25 @@ use Rattle.inner.proofs.steps.allocate.Statement.{statement}
 use Rattle.inner.proofs.steps.allocate.Tie as tie
 
 -- the place where the work is done
-abbrev done : tie.After-slice-known12 → tie.After-allocate
-done c = c .before .before .before .before .before .before .before .before .before .before .before .before
+abbrev done : tie.After-slice-known14 → tie.After-allocate
+done c = c .before .before .before .before .before .before .before .before .before .before .before .before .before .before
 
 allocate-reply-requires : tie.Need-allocate-reply-requires
 allocate-reply-requires c κs =
-    let healthy = usable-healthy _ _ _ (c .before .before .before .before .before .before .before .pre) in
-    (healthy-blocks _ _ _ healthy, omega (arith, healthy .shape .length-a, healthy .shape .whole-bytes))
+    let fit = usable-fit _ _ _ (c .before .before .before .before .before .before .before .before .before .pre) in
+    let shape = fit .healthy .shape in
+    (healthy-blocks _ _ _ (fit .healthy), omega (arith, shape .length-a, shape .whole-bytes), fit .listed)
 
 returns : tie.Need-returns
 returns c =
-    let usable = c .before .before .before .before .before .before .before .before .before .pre in
+    let usable = c .before .before .before .before .before .before .before .before .before .before .before .pre in
     allocate-refusing _ _ _ usable _ _ _ (c .if1 .taken) refl
-    (allocate-refused _ _ _ _ _ (usable-healthy _ _ _ usable) _ (c .before .allocate-reply .ensures) (c .if1 .taken))
+    (allocate-refused _ _ _ _ _ (usable-fit _ _ _ usable) _ (c .before .allocate-reply .ensures) (c .if1 .taken))
 
 allocate-requires : tie.Need-allocate-requires
 allocate-requires c κs =
-    let tested = c .before .before .before .before .before .before in
-    (tested .before .before .before .before .before .before .before .before .before .pre, allocate-accepts _ _ _ _ _ _ (tested .before .allocate-reply .ensures) (tested .if1 .left))
+    let tested = c .before .before .before .before .before .before .before in
+    (tested .before .before .before .before .before .before .before .before .before .before .before .pre, allocate-accepts _ _ _ _ _ _ (tested .before .allocate-reply .ensures) (tested .if1 .left))
 
 returns-2 : tie.Need-returns-2
 returns-2 c = search needs
@@ -37,6 +38,7 @@ allocate-spec =
     (tie.spec
     allocate-reply-requires
     (λ _. refl)
+    (λ _. refl)
     returns
     allocate-requires
     (λ c. done c .allocate .kept .1 .1 .0)
@@ -45,4 +47,5 @@ allocate-spec =
     (λ c. done c .allocate .kept .1 .1 .1 .1 .1 .0)
     (λ c. done c .allocate .kept .1 .1 .1 .1 .1 .1 .0)
     (λ c. done c .allocate .kept .1 .1 .1 .1 .1 .1 .1 .0)
+    (λ c. done c .allocate .kept .1 .1 .1 .1 .1 .1 .1 .1 .0)
     returns-2)

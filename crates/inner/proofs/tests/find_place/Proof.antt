@@ -1,33 +1,25 @@
--- `tests::find_place` meets its contract: the heap is a number of chunks of the object's size, and all of it is searched.
-use mathlib.Core.Path.{subst}
-use mathlib.Core.Option.{Option}
-use Prim.Native.Nat.{ℕ}
+-- `tests::find_place` meets its contract: a chunk of the object's size is sought.
 use native.Mathlib.Omega.{arith}
+use lib.Pow.{pow-mono}
 use Rattle.rules.specs.Heap.{exponent}
-use Rattle.rules.proofs.Shape.{blocks-le}
-use Rattle.blocks.specs.Search.{Search}
-use Rattle.blocks.proofs.LowestChunk.{lowest-whole}
-use Rattle.inner.proofs.Places.{whole-heap}
+use Rattle.rules.proofs.Shape.{blocks-le, blocks-power}
+use Rattle.rules.proofs.Chunks.{exponent-least}
 use Rattle.inner.proofs.tests.find_place.Statement.{statement}
 use Rattle.inner.proofs.tests.find_place.Tie as tie
 
 chunk-size-requires : tie.Need-chunk-size-requires
-chunk-size-requires c κs = omega (arith, blocks-le (c .before .args .blocks) (c .before .pre .0))
+chunk-size-requires c κs = omega (arith, blocks-le (c .before .before .args .blocks) (c .before .before .pre .0))
 
-lowest-chunk-requires : tie.Need-lowest-chunk-requires
-lowest-chunk-requires c κs =
-    let s = c .before .before in
-    let most = blocks-le (s .args .blocks) (s .pre .0) in
-    let part = whole-heap (s .args .blocks) (s .args .n) (c .chunk-size .result) (s .pre .0) (s .pre .3) (c .chunk-size .ensures .0) in
-    (part, (omega arith, omega arith))
+find-chunk-requires : tie.Need-find-chunk-requires
+find-chunk-requires c κs =
+    let s = c .before .before .before in
+    let k = exponent (s .args .n) in
+    let power = blocks-power (s .args .blocks) (s .pre .0) in
+    let least = pow-mono {i = k} {j = power .0} (exponent-least (s .args .n) (power .0) (omega (arith, power .1))) in
+    ((k, c .chunk-size .ensures .0), (s .pre .0, s .pre .1, omega (arith, c .chunk-size .ensures .0, power .1), s .pre .2))
 
 returns : tie.Need-returns
-returns c =
-    let size = c .before in
-    let s = size .before .before in
-    let k : ℕ = exponent (s .args .n) in
-    subst (λ (o : Option ℕ). Search 0 (s .args .blocks) k o (c .lowest-chunk .result .at) (c .lowest-chunk .result .looks))
-    (lowest-whole (s .args .blocks) k (s .args .a .now)) (c .lowest-chunk .ensures k (size .chunk-size .ensures .0))
+returns c = c .find-chunk .ensures (exponent (c .before .before .before .before .args .n)) (c .before .chunk-size .ensures .0)
 
 pub find-place-spec : {M : Type 1} → statement M
-find-place-spec = tie.close (tie.spec chunk-size-requires lowest-chunk-requires returns)
+find-place-spec = tie.close (tie.spec chunk-size-requires find-chunk-requires returns)
