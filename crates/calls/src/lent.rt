@@ -6,10 +6,13 @@ ghost use Rattle.calls.specs.Within.{Within};
 use crate::entries::Entry;
 use blocks::MAX_BLOCKS;
 
-// The largest width and the largest number of roots, one more than a heap may have; and the largest length of each buffer.
+// The largest width and the largest number of roots, one more than a heap may have; the longest section; and the largest length of each
+// buffer.
 const MAX_WIDTH: usize = 5;
 
 pub const MAX_ROOTS: usize = 65;
+
+const MAX_SECTION: usize = 256;
 
 pub const MAX_BYTES: usize = MAX_BLOCKS / 8;
 
@@ -17,7 +20,9 @@ pub const MAX_COUNTS: usize = MAX_WIDTH * MAX_BYTES;
 
 pub const MAX_CELLS: usize = 4 * MAX_BLOCKS;
 
-pub const BUFFERS: usize = 6;
+pub const MAX_SECTIONS: usize = MAX_BLOCKS / MAX_SECTION;
+
+pub const BUFFERS: usize = 7;
 
 const LARGEST: [usize; BUFFERS] = [
     MAX_BYTES,
@@ -26,6 +31,7 @@ const LARGEST: [usize; BUFFERS] = [
     MAX_CELLS,
     MAX_ROOTS,
     MAX_BLOCKS,
+    MAX_SECTIONS,
 ];
 
 // Whether a heap asks for more than the largest.
@@ -41,6 +47,17 @@ pub fn is_too_large(heap: Entry) -> bool
     MAX_ROOTS < heap.z
 }
 
+// The number of sections: one where there are fewer blocks than in the longest.
+fn section_count(blocks: usize) -> usize
+    requires { ⌜ blocks ≤ 8192 ⌝ }
+    ensures { λ r. ⌜ r ≤ 32 ⌝ }
+{
+    if blocks < MAX_SECTION {
+        return 1;
+    }
+    blocks / MAX_SECTION
+}
+
 // The lengths that belong to a heap's numbers; none where it is too large.
 pub fn lengths(heap: Entry) -> [usize; BUFFERS]
     ensures { λ r. ⌜ Within r ⌝ }
@@ -49,7 +66,8 @@ pub fn lengths(heap: Entry) -> [usize; BUFFERS]
         return [0; BUFFERS];
     }
     let n = heap.x;
-    [n / 8, n / 8, heap.y * n / 8, 4 * n, heap.z, n]
+    let sections = section_count(n);
+    [n / 8, n / 8, heap.y * n / 8, 4 * n, heap.z, n, sections]
 }
 
 // Another length of a buffer; false where that is out of range.

@@ -15,13 +15,14 @@ fn read_call(
     cells: &[Ref],
     roots: &[Ref],
     waiting: &[Ref],
+    sections: &[Ref],
     e: Entry,
 ) -> Reply {
     let kind = e.kind;
     match kind {
-        6 => inspect::look(n, w, a, b, counts, cells, roots, waiting, e.x),
-        7 => inspect::free_blocks(n, w, a, b, counts, cells, roots, waiting),
-        _ => inspect::check(n, w, a, b, counts, cells, roots, waiting),
+        6 => inspect::look(n, w, a, b, counts, cells, roots, waiting, sections, e.x),
+        7 => inspect::free_blocks(n, w, a, b, counts, cells, roots, waiting, sections),
+        _ => inspect::check(n, w, a, b, counts, cells, roots, waiting, sections),
     }
 }
 
@@ -34,19 +35,24 @@ fn call(
     cells: &mut [Ref],
     roots: &mut [Ref],
     waiting: &mut [Ref],
+    sections: &mut [Ref],
     e: Entry,
 ) -> Reply {
     let n = heap.x;
     let w = heap.y;
+    let x = e.x;
+    let y = e.y;
+    let z = e.z;
+    let chosen = x as u64;
     let kind = e.kind;
     match kind {
-        0 => mutate::format(n, w, a, b, counts, cells, roots, waiting),
-        2 => mutate::allocate(n, w, a, b, counts, cells, roots, waiting, e.x, e.y),
-        3 => mutate::store_root(n, w, a, b, counts, cells, roots, waiting, e.x, e.y),
-        4 => mutate::store_cell(n, w, a, b, counts, cells, roots, waiting, e.x, e.y, e.z),
-        5 => mutate::collect(n, w, a, b, counts, cells, roots, waiting),
-        8 => mutate::return_roots(n, w, a, b, counts, cells, roots, waiting, e.x as u64),
-        _ => read_call(n, w, a, b, counts, cells, roots, waiting, e),
+        0 => mutate::format(n, w, a, b, counts, cells, roots, waiting, sections),
+        2 => mutate::allocate(n, w, a, b, counts, cells, roots, waiting, sections, x, y),
+        3 => mutate::store_root(n, w, a, b, counts, cells, roots, waiting, sections, x, y),
+        4 => mutate::store_cell(n, w, a, b, counts, cells, roots, waiting, sections, x, y, z),
+        5 => mutate::collect(n, w, a, b, counts, cells, roots, waiting, sections),
+        8 => mutate::return_roots(n, w, a, b, counts, cells, roots, waiting, sections, chosen),
+        _ => read_call(n, w, a, b, counts, cells, roots, waiting, sections, e),
     }
 }
 
@@ -79,13 +85,14 @@ pub fn perform(
     cells: &mut [Ref],
     roots: &mut [Ref],
     waiting: &mut [Ref],
+    sections: &mut [Ref],
     e: Entry,
     k: usize,
 ) -> bool {
     let kind = e.kind;
     let x = e.x;
     if kind <= entries::LAST_CALL {
-        return output::say_reply(call(heap, a, b, counts, cells, roots, waiting, e));
+        return output::say_reply(call(heap, a, b, counts, cells, roots, waiting, sections, e));
     }
     if kind >= entries::NEW {
         output::say_bytes(a);
@@ -93,7 +100,8 @@ pub fn perform(
         output::say_bytes(counts);
         output::say_refs(cells);
         output::say_refs(roots);
-        return output::say_refs(waiting);
+        output::say_refs(waiting);
+        return output::say_refs(sections);
     }
     if kind == entries::LENGTH {
         return true;
@@ -105,6 +113,7 @@ pub fn perform(
         3 => load_ref(cells, e, k),
         4 => load_ref(roots, e, k),
         5 => load_ref(waiting, e, k),
+        6 => load_ref(sections, e, k),
         _ => output::say_wrong(k, b"load out of range\n"),
     }
 }

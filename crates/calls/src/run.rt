@@ -50,6 +50,7 @@ fn run_heap(heap: Entry) -> Entry {
     let mut cells = [0 as Ref; lent::MAX_CELLS];
     let mut roots = [0 as Ref; lent::MAX_ROOTS];
     let mut waiting = [0 as Ref; MAX_BLOCKS];
+    let mut sections = [0 as Ref; lent::MAX_SECTIONS];
     let mut lengths = lent::lengths(heap);
     let mut k = heap.next;
     while k < MOST {
@@ -60,6 +61,7 @@ fn run_heap(heap: Entry) -> Entry {
         let lcells = lengths[3];
         let lroots = lengths[4];
         let lwaiting = lengths[5];
+        let lsections = lengths[6];
         if !perform::perform(
             heap,
             &mut a[..la],
@@ -68,6 +70,7 @@ fn run_heap(heap: Entry) -> Entry {
             &mut cells[..lcells],
             &mut roots[..lroots],
             &mut waiting[..lwaiting],
+            &mut sections[..lsections],
             e,
             k,
         ) {

@@ -19,11 +19,13 @@ pub extern "C" fn huwekapo_format(
     cells: &mut [Ref],
     roots: &mut [Ref],
     waiting: &mut [Ref],
+    sections: &mut [Ref],
 ) -> Reply
     ensures { λ reply.
-        ⌜ Promise blocks width Call.format (before a b counts cells roots waiting) reply (after a b counts cells roots waiting) ⌝ }
+        ⌜ Promise blocks width Call.format (before a b counts cells roots waiting sections) reply
+        (after a b counts cells roots waiting sections) ⌝ }
 {
-    mutate::format(blocks, width, a, b, counts, cells, roots, waiting)
+    mutate::format(blocks, width, a, b, counts, cells, roots, waiting, sections)
 }
 
 #[no_mangle]
@@ -36,14 +38,27 @@ pub extern "C" fn huwekapo_allocate(
     cells: &mut [Ref],
     roots: &mut [Ref],
     waiting: &mut [Ref],
+    sections: &mut [Ref],
     n: usize,
     r: usize,
 ) -> Reply
     ensures { λ reply.
-        ⌜ Promise blocks width (Call.allocate n r) (before a b counts cells roots waiting) reply
-        (after a b counts cells roots waiting) ⌝ }
+        ⌜ Promise blocks width (Call.allocate n r) (before a b counts cells roots waiting sections) reply
+        (after a b counts cells roots waiting sections) ⌝ }
 {
-    mutate::allocate(blocks, width, a, b, counts, cells, roots, waiting, n, r)
+    mutate::allocate(
+        blocks,
+        width,
+        a,
+        b,
+        counts,
+        cells,
+        roots,
+        waiting,
+        sections,
+        n,
+        r,
+    )
 }
 
 #[no_mangle]
@@ -56,14 +71,27 @@ pub extern "C" fn huwekapo_store_root(
     cells: &mut [Ref],
     roots: &mut [Ref],
     waiting: &mut [Ref],
+    sections: &mut [Ref],
     r: usize,
     v: usize,
 ) -> Reply
     ensures { λ reply.
-        ⌜ Promise blocks width (Call.storeRoot r v) (before a b counts cells roots waiting) reply
-        (after a b counts cells roots waiting) ⌝ }
+        ⌜ Promise blocks width (Call.storeRoot r v) (before a b counts cells roots waiting sections) reply
+        (after a b counts cells roots waiting sections) ⌝ }
 {
-    mutate::store_root(blocks, width, a, b, counts, cells, roots, waiting, r, v)
+    mutate::store_root(
+        blocks,
+        width,
+        a,
+        b,
+        counts,
+        cells,
+        roots,
+        waiting,
+        sections,
+        r,
+        v,
+    )
 }
 
 #[no_mangle]
@@ -76,15 +104,29 @@ pub extern "C" fn huwekapo_store_cell(
     cells: &mut [Ref],
     roots: &[Ref],
     waiting: &mut [Ref],
+    sections: &mut [Ref],
     at: usize,
     j: usize,
     v: usize,
 ) -> Reply
     ensures { λ reply.
-        ⌜ Promise blocks width (Call.storeCell at j v) (before a b counts cells roots waiting) reply
-        (after a b counts cells roots waiting) ⌝ }
+        ⌜ Promise blocks width (Call.storeCell at j v) (before a b counts cells roots waiting sections) reply
+        (after a b counts cells roots waiting sections) ⌝ }
 {
-    mutate::store_cell(blocks, width, a, b, counts, cells, roots, waiting, at, j, v)
+    mutate::store_cell(
+        blocks,
+        width,
+        a,
+        b,
+        counts,
+        cells,
+        roots,
+        waiting,
+        sections,
+        at,
+        j,
+        v,
+    )
 }
 
 #[no_mangle]
@@ -97,13 +139,25 @@ pub extern "C" fn huwekapo_return_roots(
     cells: &mut [Ref],
     roots: &mut [Ref],
     waiting: &mut [Ref],
+    sections: &mut [Ref],
     chosen: u64,
 ) -> Reply
     ensures { λ reply.
-        ⌜ Promise blocks width (Call.returnRoots chosen) (before a b counts cells roots waiting) reply
-        (after a b counts cells roots waiting) ⌝ }
+        ⌜ Promise blocks width (Call.returnRoots chosen) (before a b counts cells roots waiting sections) reply
+        (after a b counts cells roots waiting sections) ⌝ }
 {
-    mutate::return_roots(blocks, width, a, b, counts, cells, roots, waiting, chosen)
+    mutate::return_roots(
+        blocks,
+        width,
+        a,
+        b,
+        counts,
+        cells,
+        roots,
+        waiting,
+        sections,
+        chosen,
+    )
 }
 
 #[no_mangle]
@@ -116,11 +170,13 @@ pub extern "C" fn huwekapo_collect(
     cells: &mut [Ref],
     roots: &[Ref],
     waiting: &mut [Ref],
+    sections: &mut [Ref],
 ) -> Reply
     ensures { λ reply.
-        ⌜ Promise blocks width Call.collect (before a b counts cells roots waiting) reply (after a b counts cells roots waiting) ⌝ }
+        ⌜ Promise blocks width Call.collect (before a b counts cells roots waiting sections) reply
+        (after a b counts cells roots waiting sections) ⌝ }
 {
-    mutate::collect(blocks, width, a, b, counts, cells, roots, waiting)
+    mutate::collect(blocks, width, a, b, counts, cells, roots, waiting, sections)
 }
 
 #[no_mangle]
@@ -133,11 +189,13 @@ pub extern "C" fn huwekapo_check(
     cells: &[Ref],
     roots: &[Ref],
     waiting: &[Ref],
+    sections: &[Ref],
 ) -> Reply
     ensures { λ reply.
-        ⌜ Promise blocks width Call.check (before a b counts cells roots waiting) reply (after a b counts cells roots waiting) ⌝ }
+        ⌜ Promise blocks width Call.check (before a b counts cells roots waiting sections) reply
+        (after a b counts cells roots waiting sections) ⌝ }
 {
-    inspect::check(blocks, width, a, b, counts, cells, roots, waiting)
+    inspect::check(blocks, width, a, b, counts, cells, roots, waiting, sections)
 }
 
 #[no_mangle]
@@ -150,11 +208,13 @@ pub extern "C" fn huwekapo_free_blocks(
     cells: &[Ref],
     roots: &[Ref],
     waiting: &[Ref],
+    sections: &[Ref],
 ) -> Reply
     ensures { λ reply.
-        ⌜ Promise blocks width Call.freeBlocks (before a b counts cells roots waiting) reply (after a b counts cells roots waiting) ⌝ }
+        ⌜ Promise blocks width Call.freeBlocks (before a b counts cells roots waiting sections) reply
+        (after a b counts cells roots waiting sections) ⌝ }
 {
-    inspect::free_blocks(blocks, width, a, b, counts, cells, roots, waiting)
+    inspect::free_blocks(blocks, width, a, b, counts, cells, roots, waiting, sections)
 }
 
 #[no_mangle]
@@ -167,12 +227,25 @@ pub extern "C" fn huwekapo_look(
     cells: &[Ref],
     roots: &[Ref],
     waiting: &[Ref],
+    sections: &[Ref],
     at: usize,
 ) -> Reply
     ensures { λ reply.
-        ⌜ Promise blocks width (Call.look at) (before a b counts cells roots waiting) reply (after a b counts cells roots waiting) ⌝ }
+        ⌜ Promise blocks width (Call.look at) (before a b counts cells roots waiting sections) reply
+        (after a b counts cells roots waiting sections) ⌝ }
 {
-    inspect::look(blocks, width, a, b, counts, cells, roots, waiting, at)
+    inspect::look(
+        blocks,
+        width,
+        a,
+        b,
+        counts,
+        cells,
+        roots,
+        waiting,
+        sections,
+        at,
+    )
 }
 
 #[no_mangle]
@@ -185,14 +258,15 @@ pub extern "C" fn huwekapo_replay(
     cells: &mut [Ref],
     roots: &mut [Ref],
     waiting: &mut [Ref],
+    sections: &mut [Ref],
     calls: &[u64],
     replies: &mut [u64],
 ) -> Reply
     ensures { λ reply.
         ⌜ Replayed blocks width
-        (before a b counts cells roots waiting)
+        (before a b counts cells roots waiting sections)
         (now (calls .entry)) (now (replies .entry)) reply
-        (after a b counts cells roots waiting)
+        (after a b counts cells roots waiting sections)
         (now (replies .exit)) ⌝ }
 {
     replay::replay(
@@ -204,6 +278,7 @@ pub extern "C" fn huwekapo_replay(
         cells,
         roots,
         waiting,
+        sections,
         calls,
         replies,
     )

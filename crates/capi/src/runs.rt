@@ -15,12 +15,13 @@ pub extern "C" fn huwekapo_run_records(
     cells: &mut [Ref],
     roots: &mut [Ref],
     waiting: &mut [Ref],
+    sections: &mut [Ref],
     run: Run,
     bytes: &[u8],
 ) -> Ran
     ensures { λ r.
-        ⌜ Promised blocks width (now (bytes .entry)) (before a b counts cells roots waiting) run r
-        (after a b counts cells roots waiting) ⌝ }
+        ⌜ Promised blocks width (now (bytes .entry)) (before a b counts cells roots waiting sections) run r
+        (after a b counts cells roots waiting sections) ⌝ }
 {
     history::run_records(
         blocks,
@@ -31,6 +32,7 @@ pub extern "C" fn huwekapo_run_records(
         cells,
         roots,
         waiting,
+        sections,
         run,
         bytes,
     )

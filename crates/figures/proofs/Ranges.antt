@@ -1,12 +1,12 @@
 -- Laws of a run in range.
-use mathlib.Core.Path.{_≡_, refl, sym, ap, _∙_}
+use mathlib.Core.Path.{_≡_, sym, ap, _∙_}
 use mathlib.Core.Bool.{true}
-use mathlib.Core.List.{[], _∷_}
 use Prim.Native.Nat.{ℕ, _+_, _*_, _≤_}
 use lib.Dec.{leb}
 use borrow.Author.Tests.{leb-true, le-leb, eq-eqb, ne-eqb}
-use Rattle.rules.specs.Heap.{maxBlocks, all}
-use Rattle.rules.proofs.Tests.{Each, done, also, all-at, all-one, all-passed}
+use Rattle.rules.specs.Tools.{all}
+use Rattle.rules.specs.Heap.{maxBlocks}
+use Rattle.rules.proofs.Tests.{done, also, all-at, all-one, all-passed}
 use Rattle.figures.specs.declared.tally.Run.{Run}
 use Rattle.figures.specs.Figures.{mostRecords, mostCollections, inRange}
 

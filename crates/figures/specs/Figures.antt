@@ -3,7 +3,8 @@ use Prim.Native.Nat.{ℕ, _+_, _*_, max}
 use mathlib.Core.Bool.{Bool, true, false}
 use mathlib.Core.List.{List, [], _∷_}
 use lib.Dec.{eqb, leb}
-use Rattle.rules.specs.Heap.{all, maxBlocks}
+use Rattle.rules.specs.Tools.{all}
+use Rattle.rules.specs.Heap.{maxBlocks}
 use Rattle.rules.specs.Calls.{Call, format, check, collect, freeBlocks, allocate, storeRoot, storeCell, look, returnRoots}
 use Rattle.rules.specs.declared.Reply.{Reply}
 use Rattle.theory.specs.Words.{Made}

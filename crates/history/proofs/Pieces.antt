@@ -3,22 +3,22 @@ use mathlib.Core.Path.{_≡_, refl, sym, ap, _∙_, subst}
 use mathlib.Core.Logic.{inl, inr}
 use mathlib.Core.Bool.{true, false}
 use mathlib.Core.List.{List}
-use Prim.Native.Nat.{ℕ, _-_, _*_, _≤_}
+use Prim.Native.Nat.{ℕ, _*_, _≤_}
 use native.Mathlib.Decide.{ℕ-discrete}
 use native.Mathlib.Omega.{arith}
 use lib.ListN.{length, replicate}
 use borrow.Author.Tests.{eq-eqb, ne-eqb}
-use Rattle.rules.specs.Heap.{Memory, withWaiting, shaped}
-use Rattle.rules.specs.Damage.{damage}
-use Rattle.rules.specs.Calls.{check, reply, accepted as Calls·accepted, settled, answer}
+use Rattle.rules.specs.Heap.{Memory, withWaiting}
+use Rattle.rules.specs.Calls.{check, reply, accepted as Calls·accepted, answer}
 use Rattle.rules.specs.Promise.{Promise}
 use Rattle.rules.specs.declared.Reply.{Reply}
 use Rattle.rules.proofs.Shape.{shape-facts}
 use Rattle.rules.proofs.Tests.{test-cases}
-use Rattle.rules.proofs.Replies.{on-undamaged-shaped, on-undamaged-no-damage}
+use Rattle.rules.proofs.Replies.{on-undamaged-passed}
+use Rattle.theory.specs.Statements.{Undamaged}
 use Rattle.theory.specs.Balance.{inUse}
 use Rattle.inner.specs.Usable.{Usable}
-use Rattle.inner.proofs.Idle.{settled-usable}
+use Rattle.inner.proofs.Idle.{cleared-usable as Idle·cleared-usable, usable-fit}
 use Rattle.figures.specs.declared.tally.Run.{Run}
 use Rattle.figures.specs.Figures.{inRange}
 use Rattle.figures.proofs.Ranges.{in-range-within}
@@ -26,7 +26,7 @@ use Rattle.turns.specs.Steps.{running, Going}
 use Rattle.history.specs.declared.Ran.{Ran}
 use Rattle.history.specs.Runs.{wholeRecords, ended, ranFrom, ran}
 use Rattle.history.specs.RunBy.{RunBy}
-use Rattle.history.specs.Promised.{runReply, refusal, Promised}
+use Rattle.history.specs.Promised.{runReply, refusal, cleared, Promised}
 use Rattle.history.proofs.Ends.{ended-range}
 use Rattle.history.proofs.Made.{runs-are-calls}
 
@@ -96,8 +96,7 @@ module _ (N w : ℕ) (h : Memory) (r : Run) where
   -- what an accepted run of records starts from
   pub record Accepted : Type 0 where
     pub reply-is : runReply N w h r ≡ reply 0 0 0
-    pub shape-is : shaped N w h ≡ true
-    pub undamaged : damage N w h ≡ 0
+    pub undamaged : Undamaged N w h
     pub range : inRange r ≡ true
 
   pub accepted : runReply N w h r .number ≡ 0 → Accepted
@@ -106,10 +105,10 @@ module _ (N w : ℕ) (h : Memory) (r : Run) where
     | no refused ↦ absurd (refused (rw (ne-eqb (answer N w h check .0 .number) 0 refused, runReply) at e))
     | yes passed ↦ elim (test-cases (inRange r)) [
       | inl range ↦
+          let tests = on-undamaged-passed N w h (Calls·accepted h 0) passed in
           record {
             reply-is = sym (reply-passed passed range (reply 0 0 0) refl);
-            shape-is = on-undamaged-shaped N w h (Calls·accepted h 0) passed;
-            undamaged = on-undamaged-no-damage N w h (Calls·accepted h 0) passed;
+            undamaged = record { right-shape = tests .0; no-damage = tests .1; true-list = tests .2 };
             range = range;
           }
       | inr out ↦ absurd (nineteen (ap (λ (v : Reply). v .number) (reply-range passed out (reply 19 0 0) refl) ∙ e))
@@ -128,17 +127,17 @@ module _ (N w : ℕ) (h : Memory) (r : Run) (x : Reply) (is : x ≡ runReply N w
   pub run-range : inRange r ≡ true
   run-range = from .range
 
-  ready : Usable N w (settled N h)
-  ready = settled-usable N w h (from .shape-is) (from .undamaged)
+  ready : Usable N w (cleared N h)
+  ready = Idle·cleared-usable N w h (from .undamaged)
 
   module _ (waiting : List ℕ) (clear : waiting ≡ replicate (length (h .waiting)) 0) where
-    is-settled : settled N h ≡ withWaiting waiting h
-    is-settled =
+    is-cleared : cleared N h ≡ withWaiting waiting h
+    is-cleared =
         ap (λ (l : List ℕ). withWaiting l h)
-        (ap (λ (n : ℕ). replicate n 0) (sym (shape-facts N w h (from .shape-is) .length-waiting)) ∙ sym clear)
+        (ap (λ (n : ℕ). replicate n 0) (sym (shape-facts N w h (from .undamaged .right-shape) .length-waiting)) ∙ sym clear)
 
     pub cleared-usable : Usable N w (withWaiting waiting h)
-    cleared-usable = subst (λ (k : Memory). Usable N w k) is-settled ready
+    cleared-usable = subst (λ (k : Memory). Usable N w k) is-cleared ready
 
 -- ---- the answer
 
@@ -152,6 +151,7 @@ module _ (N w : ℕ) (bytes : List ℕ) (h : Memory) (r : Run) (x : Reply) (is :
         run-is = ap (λ (v : Ran). v .run) e ∙ sym (rw stops);
         after-is = sym (rw stops);
         idle = λ z. absurd (none z);
+        listed = λ z. absurd (none z);
         again = λ z. absurd (none z);
         calls = λ z. absurd (none z);
       }
@@ -163,12 +163,13 @@ module _ (N w : ℕ) (bytes : List ℕ) (h : Memory) (r : Run) (x : Reply) (is :
   run-promised accepts waiting clear after g by =
       let zero : runReply N w h r ≡ reply 0 0 0 = from N w h r x is accepts .reply-is in
       let usable = ready N w h r x is accepts in
-      let ran-by = subst (λ (k : Memory). RunBy N w (ran N w bytes k r) after g) (sym (is-settled N w h r x is accepts waiting clear)) by in
+      let ran-by = subst (λ (k : Memory). RunBy N w (ran N w bytes k r) after g) (sym (is-cleared N w h r x is accepts waiting clear)) by in
       record {
         reply-is = is;
         run-is = ran-by .run-is ∙ sym (rw zero);
         after-is = ran-by .memory-is ∙ sym (rw zero);
         idle = λ _. ran-by .usable .idle;
+        listed = λ _. usable-fit N w g (ran-by .usable) .listed;
         again = λ _. ran-by .in-range;
-        calls = λ _. runs-are-calls N w bytes (settled N h) r (record { right-shape = usable .shape-is; no-damage = usable .undamaged });
+        calls = λ _. runs-are-calls N w bytes (cleared N h) r (usable .undamaged);
       }

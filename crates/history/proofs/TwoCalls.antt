@@ -6,21 +6,21 @@ use Prim.Native.Nat.{ℕ, _%_}
 use lib.ListN.{length, replicate, length-replicate}
 use Rattle.rules.specs.Heap.{Memory, withWaiting, shaped}
 use Rattle.rules.specs.Damage.{damage, endOnFree, openEnd, unaligned, badCell, badRoot, badCount}
-use Rattle.rules.specs.Calls.{reply, settled}
+use Rattle.rules.specs.Calls.{reply}
 use Rattle.rules.specs.declared.Reply.{Reply}
 use Rattle.rules.proofs.Shape.{shape-facts, shape-test}
 use Rattle.theory.specs.Statements.{Undamaged}
 use Rattle.theory.specs.Demand.{Finds}
 use Rattle.theory.proofs.Memories.ViewRelease.{reshaped}
 use Rattle.inner.specs.Usable.{Usable}
-use Rattle.inner.proofs.Idle.{settled-usable, settled-idle}
+use Rattle.inner.proofs.Idle.{cleared-usable, cleared-same}
 use Rattle.inspect.proofs.Checked.{check-passed}
 use Rattle.records.specs.Records.{recordLength}
 use Rattle.figures.specs.declared.tally.Run.{Run}
 use Rattle.figures.specs.Figures.{inRange}
 use Rattle.history.specs.declared.Ran.{Ran}
 use Rattle.history.specs.Runs.{Came, came, ran}
-use Rattle.history.specs.Promised.{runReply, Promised, CallsAreOne}
+use Rattle.history.specs.Promised.{runReply, cleared, Promised, CallsAreOne}
 use Rattle.history.proofs.Made.{run-undamaged, runs-are-calls}
 use Rattle.history.proofs.Pieces.{check-accepted, Accepted, accepted, reply-passed}
 use Rattle.history.proofs.Whole.{pieces-are-whole}
@@ -33,47 +33,46 @@ module _ (N w : ℕ) (bytes : List ℕ) (h : Memory) (r : Run) (x : Ran) (g : Me
   from = accepted N w h r (ap (λ (v : Reply). v .number) (sym (promised .reply-is)) ∙ accepts)
 
   -- the heap that it starts from
-  start : Undamaged N w (settled N h)
-  start =
-      let usable = settled-usable N w h (from .shape-is) (from .undamaged) in
-      record { right-shape = usable .shape-is; no-damage = usable .undamaged }
+  start : Undamaged N w (cleared N h)
+  start = cleared-usable N w h (from .undamaged) .undamaged
 
-  answered : x .run ≡ ran N w bytes (settled N h) r .run
+  answered : x .run ≡ ran N w bytes (cleared N h) r .run
   answered = rw (from .reply-is) at (promised .run-is)
 
-  left : g ≡ ran N w bytes (settled N h) r .memory
+  left : g ≡ ran N w bytes (cleared N h) r .memory
   left = rw (from .reply-is) at (promised .after-is)
 
   -- what it leaves is usable
   usable-left : Usable N w g
   usable-left =
-      let undamaged = subst (λ (m : Memory). Undamaged N w m) (sym left) (run-undamaged N w bytes (settled N h) start r) in
-      record { shape-is = undamaged .right-shape; undamaged = undamaged .no-damage; idle = promised .idle accepts }
+      let undamaged = subst (λ (m : Memory). Undamaged N w m) (sym left) (run-undamaged N w bytes (cleared N h) start r) in
+      record { undamaged = undamaged; idle = promised .idle accepts }
 
 -- ---- a call that finds a usable heap, with a waiting list of its own
 
 module _ (N w : ℕ) (g found : Memory) (usable : Usable N w g) (finds : Finds N g found) where
-  settled-found : settled N found ≡ g
-  settled-found = ap (withWaiting (replicate N 0)) (finds .same-heap) ∙ settled-idle N w g usable
+  cleared-found : cleared N found ≡ g
+  cleared-found = ap (withWaiting (replicate N 0)) (finds .same-heap) ∙ cleared-same N w g usable
 
-  found-settled : Usable N w (settled N found)
-  found-settled = subst (λ (m : Memory). Usable N w m) (sym settled-found) usable
+  found-cleared : Undamaged N w (cleared N found)
+  found-cleared = subst (λ (m : Memory). Undamaged N w m) (sym cleared-found) (usable .undamaged)
 
   found-shaped : shaped N w found ≡ true
   found-shaped =
-      let facts = shape-facts N w (settled N found) (found-settled .shape-is) in
+      let facts = shape-facts N w (cleared N found) (found-cleared .right-shape) in
       shape-test N w found
-      (reshaped N w (settled N found) found facts refl refl refl refl refl (finds .space ∙ sym (length-replicate N 0)))
+      (reshaped N w (cleared N found) found facts refl refl refl refl refl (finds .space ∙ sym (length-replicate N 0)) refl)
 
-  found-undamaged : damage N w found ≡ 0
+  found-undamaged : Undamaged N w found
   unfolding damage endOnFree openEnd unaligned badCell badRoot badCount
-  found-undamaged = found-settled .undamaged
+  found-undamaged =
+      record { right-shape = found-shaped; no-damage = found-cleared .no-damage; true-list = found-cleared .true-list }
 
   found-accepted : (r : Run) → inRange r ≡ true → runReply N w found r ≡ reply 0 0 0
   found-accepted r range =
       sym
       (reply-passed N w found r
-      (check-accepted N w found (reply 0 0 0) (check-passed N w found (reply 0 0 0) found-shaped found-undamaged refl) refl)
+      (check-accepted N w found (reply 0 0 0) (check-passed N w found (reply 0 0 0) found-undamaged refl) refl)
       range
       (reply 0 0 0)
       refl)
@@ -91,33 +90,34 @@ module _ (N w : ℕ) (first rest : List ℕ) (h found : Memory) (r : Run) (x y :
 
   -- what came of the first piece, and then of the second
   abbrev came-first : Came
-  came-first = ran N w first (settled N h) r
+  came-first = ran N w first (cleared N h) r
 
   abbrev came-second : Came
   came-second = ran N w rest (came-first .memory) (came-first .run)
 
-  same-start : ran N w rest (settled N found) (x .run) ≡ came-second
+  same-start : ran N w rest (cleared N found) (x .run) ≡ came-second
   same-start =
-      ap (λ (m : Memory). ran N w rest m (x .run)) (settled-found N w g found usable finds ∙ left N w first h r x g one accepts)
+      ap (λ (m : Memory). ran N w rest m (x .run)) (cleared-found N w g found usable finds ∙ left N w first h r x g one accepts)
       ∙ ap (ran N w rest (came-first .memory)) (answered N w first h r x g one accepts)
 
-  whole : ran N w (first ++ rest) (settled N h) r ≡ came (came-second .run) (came-second .memory) (came-first .made ++ came-second .made)
-  whole = pieces-are-whole N w first rest (settled N h) r even
+  whole : ran N w (first ++ rest) (cleared N h) r ≡ came (came-second .run) (came-second .memory) (came-first .made ++ came-second .made)
+  whole = pieces-are-whole N w first rest (cleared N h) r even
 
   both-promised : Promised N w (first ++ rest) h r y k
   both-promised =
       let start-accepted : runReply N w h r ≡ reply 0 0 0 = from N w first h r x g one accepts .reply-is in
       let number : y .reply .number ≡ 0 = ap (λ (v : Reply). v .number) (two .reply-is ∙ second-accepted) in
-      let run-is : y .run ≡ ran N w rest (settled N found) (x .run) .run = rw second-accepted at (two .run-is) in
-      let after-is : k ≡ ran N w rest (settled N found) (x .run) .memory = rw second-accepted at (two .after-is) in
+      let run-is : y .run ≡ ran N w rest (cleared N found) (x .run) .run = rw second-accepted at (two .run-is) in
+      let after-is : k ≡ ran N w rest (cleared N found) (x .run) .memory = rw second-accepted at (two .after-is) in
       record {
         reply-is = two .reply-is ∙ second-accepted ∙ sym start-accepted;
         run-is = run-is ∙ ap (λ (z : Came). z .run) same-start ∙ ap (λ (z : Came). z .run) (sym whole) ∙ sym (rw start-accepted);
         after-is =
             after-is ∙ ap (λ (z : Came). z .memory) same-start ∙ ap (λ (z : Came). z .memory) (sym whole) ∙ sym (rw start-accepted);
         idle = λ _. two .idle number;
+        listed = λ _. two .listed number;
         again = λ _. two .again number;
-        calls = λ _. runs-are-calls N w (first ++ rest) (settled N h) r (start N w first h r x g one accepts);
+        calls = λ _. runs-are-calls N w (first ++ rest) (cleared N h) r (start N w first h r x g one accepts);
       }
 
 pub calls-are-one : CallsAreOne

@@ -5,8 +5,9 @@ use mathlib.Core.Bool.{true, false}
 use mathlib.Core.List.{List, _++_}
 use lib.Dec.{eqb}
 use lib.ListN.{length, replicate}
-use Rattle.rules.specs.Heap.{Memory}
-use Rattle.rules.specs.Calls.{check, reply, settled, answer}
+use Rattle.rules.specs.Heap.{Memory, withWaiting}
+use Rattle.rules.specs.Sections.{figures}
+use Rattle.rules.specs.Calls.{check, reply, answer}
 use Rattle.rules.specs.declared.Reply.{Reply}
 use Rattle.theory.specs.Demand.{Finds}
 use Rattle.records.specs.Records.{recordLength}
@@ -16,7 +17,8 @@ use Rattle.history.specs.declared.Ran.{Ran}
 use Rattle.history.specs.Runs.{ran}
 use Rattle.history.specs.Claims.{AsCalls}
 
--- "1 as before; 2 if the heap is damaged", as the check; then 19 for a run that no run leaves
+-- "1 as before; 2 if the heap is damaged"; "11, the list doesn't match the maps, next after 2": as the check; then 19 for a run that no
+-- run leaves
 unfoldable pub runReply : ℕ → ℕ → Memory → Run → Reply
 runReply N w h r =
     let checked = answer N w h check .0 in
@@ -26,15 +28,21 @@ runReply N w h r =
 abbrev pub refusal : Reply → Ran
 refusal x = record { reply = x; run = newRun }
 
+-- the heap with its waiting list cleared, all other lists as they stood: what an accepted run starts from
+abbrev pub cleared : ℕ → Memory → Memory
+cleared N h = withWaiting (replicate N 0) h
+
 -- Accepted: the run goes on over the bytes, on the heap with its waiting list cleared, and where it stands then is answered. A
--- refusal changes no buffer. The run answered is in range, so it can be handed in again. Demand 3 holds of the calls that the run made.
+-- refusal changes no buffer. An accepted run leaves the waiting list cleared and the list of sections true. The run answered is in range, so
+-- it can be handed in again. Demand 3 holds of the calls that the run made.
 pub record Promised (N w : ℕ) (bytes : List ℕ) (h : Memory) (r : Run) (x : Ran) (g : Memory) : Type 0 where
   pub reply-is : x .reply ≡ runReply N w h r
-  pub run-is : x .run ≡ elim (eqb (runReply N w h r .number) 0) [ true ↦ ran N w bytes (settled N h) r .run | false ↦ newRun ]
-  pub after-is : g ≡ elim (eqb (runReply N w h r .number) 0) [ true ↦ ran N w bytes (settled N h) r .memory | false ↦ h ]
+  pub run-is : x .run ≡ elim (eqb (runReply N w h r .number) 0) [ true ↦ ran N w bytes (cleared N h) r .run | false ↦ newRun ]
+  pub after-is : g ≡ elim (eqb (runReply N w h r .number) 0) [ true ↦ ran N w bytes (cleared N h) r .memory | false ↦ h ]
   pub idle : x .reply .number ≡ 0 → g .waiting ≡ replicate N 0
+  pub listed : x .reply .number ≡ 0 → g .sections ≡ figures N (g .a)
   pub again : x .reply .number ≡ 0 → inRange (x .run) ≡ true
-  pub calls : x .reply .number ≡ 0 → AsCalls N w (settled N h) r (ran N w bytes (settled N h) r)
+  pub calls : x .reply .number ≡ 0 → AsCalls N w (cleared N h) r (ran N w bytes (cleared N h) r)
 
 -- A history in pieces, over calls. A first call is accepted, on a piece of whole records; a second finds the heap that the first left, and
 -- is handed the run that the first answered. Then it is accepted too, and keeps the promise of one call on both pieces.

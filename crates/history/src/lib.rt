@@ -30,8 +30,8 @@ fn refused(reply: Reply) -> Ran
     }
 }
 
-// The reply of a run of records, which depends on the heap and on the run handed in alone: that of the check, then 19 for a run that no run
-// leaves.
+// The reply of a run of records, which depends on the heap and on the run handed in alone: that of the check, whose refusals are 1, 2 and 11,
+// then 19 for a run that no run leaves.
 fn run_reply(
     blocks: usize,
     width: usize,
@@ -41,11 +41,12 @@ fn run_reply(
     cells: &[Ref],
     roots: &[Ref],
     waiting: &[Ref],
+    sections: &[Ref],
     run: Run,
 ) -> Reply
-    ensures { λ reply. ⌜ reply ≡ runReply blocks width (before a b counts cells roots waiting) run ⌝ }
+    ensures { λ reply. ⌜ reply ≡ runReply blocks width (before a b counts cells roots waiting sections) run ⌝ }
 {
-    let checked = inspect::check(blocks, width, a, b, counts, cells, roots, waiting);
+    let checked = inspect::check(blocks, width, a, b, counts, cells, roots, waiting, sections);
     let number = checked.number;
     if number != 0 {
         return checked;
@@ -67,14 +68,26 @@ pub fn run_records(
     cells: &mut [Ref],
     roots: &mut [Ref],
     waiting: &mut [Ref],
+    sections: &mut [Ref],
     run: Run,
     bytes: &[u8],
 ) -> Ran
     ensures { λ r.
-        ⌜ Promised blocks width (now (bytes .entry)) (before a b counts cells roots waiting) run r
-        (after a b counts cells roots waiting) ⌝ }
+        ⌜ Promised blocks width (now (bytes .entry)) (before a b counts cells roots waiting sections) run r
+        (after a b counts cells roots waiting sections) ⌝ }
 {
-    let reply = run_reply(blocks, width, a, b, counts, cells, roots, waiting, run);
+    let reply = run_reply(
+        blocks,
+        width,
+        a,
+        b,
+        counts,
+        cells,
+        roots,
+        waiting,
+        sections,
+        run,
+    );
     let number = reply.number;
     if number != 0 {
         return refused(reply);
@@ -89,6 +102,7 @@ pub fn run_records(
         cells,
         roots,
         waiting,
+        sections,
         bytes,
         run,
     );

@@ -24,22 +24,36 @@ fn run_whole(
     cells: &mut [Ref],
     roots: &mut [Ref],
     waiting: &mut [Ref],
+    sections: &mut [Ref],
     bytes: &[u8],
     n: usize,
     start: Running,
 ) -> Run
-    requires { ⌜ Usable blocks width (lent a b counts cells roots waiting)
-        × Going blocks (lent a b counts cells roots waiting) n start
+    requires { ⌜ Usable blocks width (lent a b counts cells roots waiting sections)
+        × Going blocks (lent a b counts cells roots waiting sections) n start
         × (8 * n ≤ length (now bytes)) ⌝ }
     ensures { λ r.
-        ⌜ RunBy blocks width (ranFrom n blocks width (now (bytes .entry)) 0 (before a b counts cells roots waiting) (start .run)) r
-        (after a b counts cells roots waiting) ⌝ }
+        ⌜ RunBy blocks width
+        (ranFrom n blocks width (now (bytes .entry)) 0 (before a b counts cells roots waiting sections) (start .run)) r
+        (after a b counts cells roots waiting sections) ⌝ }
 {
     let mut state = start;
     let mut i = 0;
     while i < n {
         let f = records::fields_at(bytes, 8 * i);
-        state = turns::step(blocks, width, a, b, counts, cells, roots, waiting, f, state);
+        state = turns::step(
+            blocks,
+            width,
+            a,
+            b,
+            counts,
+            cells,
+            roots,
+            waiting,
+            sections,
+            f,
+            state,
+        );
         let number = state.run.number;
         if number != 0 {
             return state.run;
@@ -92,14 +106,15 @@ pub(crate) fn run_piece(
     cells: &mut [Ref],
     roots: &mut [Ref],
     waiting: &mut [Ref],
+    sections: &mut [Ref],
     bytes: &[u8],
     run: Run,
 ) -> Run
-    requires { ⌜ Usable blocks width (lent a b counts cells roots waiting)
+    requires { ⌜ Usable blocks width (lent a b counts cells roots waiting sections)
         × (inRange run ≡ true) ⌝ }
     ensures { λ r.
-        ⌜ RunBy blocks width (ran blocks width (now (bytes .entry)) (before a b counts cells roots waiting) run) r
-        (after a b counts cells roots waiting) ⌝ }
+        ⌜ RunBy blocks width (ran blocks width (now (bytes .entry)) (before a b counts cells roots waiting sections) run) r
+        (after a b counts cells roots waiting sections) ⌝ }
 {
     let number = run.number;
     if number != 0 {
@@ -120,6 +135,7 @@ pub(crate) fn run_piece(
         cells,
         roots,
         waiting,
+        sections,
         bytes,
         n,
         state,

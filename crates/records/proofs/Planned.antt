@@ -7,7 +7,8 @@ use native.Mathlib.Decide.{ℕ-discrete}
 use native.Mathlib.Omega.{arith}
 use lib.ListN.{length, getD, List·getD-eq-default}
 use borrow.Author.Tests.{lt-ltb, le-ltb, eq-eqb, ne-eqb}
-use Rattle.rules.specs.Heap.{Memory, all, sizeAt}
+use Rattle.rules.specs.Tools.{all}
+use Rattle.rules.specs.Heap.{Memory, sizeAt}
 use Rattle.rules.specs.Calls.{storeRoot, storeCell}
 use Rattle.records.specs.declared.Fields.{Fields}
 use Rattle.records.specs.Records.{unnamedBy, unnamed, areZero, Asked, makes, stops, unless, root, objectIn, cellIn, onRoots}

@@ -4,7 +4,8 @@ use mathlib.Core.Bool.{Bool, true, false, not}
 use mathlib.Core.List.{List, [], _∷_, map}
 use lib.ListN.{length, getD}
 use lib.Dec.{ltb, eqb}
-use Rattle.rules.specs.Heap.{Memory, all, sizeAt}
+use Rattle.rules.specs.Tools.{all}
+use Rattle.rules.specs.Heap.{Memory, sizeAt}
 use Rattle.rules.specs.Calls.{Call, allocate, storeRoot, storeCell, collect}
 use Rattle.records.specs.declared.Fields.{Fields}
 

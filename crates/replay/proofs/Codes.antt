@@ -10,7 +10,7 @@ use lib.ListN.{length}
 use lib.Dec.{leb, eqb}
 use borrow.Author.Tests.{le-leb, leb-true, not-true, not-false}
 use Rattle.rules.specs.Heap.{Memory}
-use Rattle.rules.specs.Damage.{someBelow}
+use Rattle.rules.specs.Tools.{someBelow}
 use Rattle.rules.specs.Calls.{reply}
 use Rattle.rules.specs.Promise.{Promise}
 use Rattle.rules.specs.declared.Reply.{Reply}

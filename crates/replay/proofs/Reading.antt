@@ -15,7 +15,9 @@ use Rattle.inner.proofs.Idle.{promised}
 
 module _ (N w : ℕ) (h : Memory) (usable : Usable N w h) where
   passed : (next : Answer) → onUndamaged N w h next ≡ next
-  passed next = on-undamaged-next N w h next (usable .shape-is) (usable .undamaged)
+  passed next =
+      let fine = usable .undamaged in
+      on-undamaged-next N w h next (fine .right-shape) (fine .no-damage) (fine .true-list)
 
   pub check-promise : (r : Reply) → r ≡ reply 0 0 0 → Promise N w check h r h
   unfolding answer

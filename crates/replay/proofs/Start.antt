@@ -31,9 +31,7 @@ module _ (N w : ℕ) (lent : Memory) (fits : shaped N w lent ≡ true) where
 
   formatted-usable : Usable N w (formatted N w (length (lent .roots)))
   unfolding formatted
-  formatted-usable =
-      let made = format-makes-undamaged N w lent fits in
-      record { shape-is = made .right-shape; undamaged = made .no-damage; idle = refl }
+  formatted-usable = record { undamaged = format-makes-undamaged N w lent fits; idle = refl }
 
   -- .. and it can be used by the inner calls
   pub started-usable : {x : Reply} {g : Memory} → Promise N w format lent x g → Usable N w g

@@ -4,7 +4,7 @@ use mathlib.Core.Bool.{Bool, not}
 use mathlib.Core.List.{List, [], _∷_}
 use lib.ListN.{length, getD}
 use lib.Dec.{leb}
-use Rattle.rules.specs.Damage.{someBelow}
+use Rattle.rules.specs.Tools.{someBelow}
 use Rattle.rules.specs.Calls.{Call, format, check, allocate, storeRoot, storeCell, collect, look, freeBlocks, returnRoots, Answer}
 
 -- the call that a code and three arguments stand for; the codes are 0 to 8, and what a call does not name is not looked at

@@ -31,8 +31,9 @@ abbrev pub replayReply : ℕ → ℕ → Memory → List ℕ → (room : ℕ) �
 replayReply N w h words room = replyOn (shaped N w h) words room
 
 -- An accepted replay. Calls were made: those of the list, each on the heap that the one before it left, the first on `start`. The buffers and
--- the replies are those of these calls, and behind the replies nothing is changed. Every lent number, the waiting list too, is the plain
--- machine's. Demand 3 holds of these calls, and they form a chain, so that the calls of a caller's list go on behind them.
+-- the replies are those of these calls, and behind the replies nothing is changed. Every lent number, the waiting list and the list of
+-- sections too, is the plain machine's. Demand 3 holds of these calls, and they form a chain, so that the calls of a caller's list go on
+-- behind them.
 pub record Ran (N w : ℕ) (start : Memory) (words replies : List ℕ) (after : Memory) (replies′ : List ℕ) : Type 0 where
   pub made : List Made
   pub calls-are : callsOf made ≡ callsIn words

@@ -1,5 +1,5 @@
 // A whole list of calls in one lent slice, run from a formatted heap: demand 3 as the contract of one function. The heap is formatted
-// here, so it is undamaged, and calls keep it so: no call of the list tests it.
+// here, so it is undamaged and its list of sections true, and calls keep it so: no call of the list tests it.
 ghost use Rattle.rules.specs.Lent.{before, after};
 ghost use Rattle.replay.specs.Replay.{Replayed};
 use blocks::Ref;
@@ -21,14 +21,15 @@ pub fn replay(
     cells: &mut [Ref],
     roots: &mut [Ref],
     waiting: &mut [Ref],
+    sections: &mut [Ref],
     calls: &[u64],
     replies: &mut [u64],
 ) -> Reply
     ensures { λ reply.
         ⌜ Replayed blocks width
-        (before a b counts cells roots waiting)
+        (before a b counts cells roots waiting sections)
         (now (calls .entry)) (now (replies .entry)) reply
-        (after a b counts cells roots waiting)
+        (after a b counts cells roots waiting sections)
         (now (replies .exit)) ⌝ }
 {
     let test = tests::replay_reply(
@@ -40,6 +41,7 @@ pub fn replay(
         cells.len(),
         roots.len(),
         waiting.len(),
+        sections.len(),
         calls,
         replies.len(),
     );
@@ -47,7 +49,7 @@ pub fn replay(
     if number != 0 {
         return test;
     }
-    mutate::format(blocks, width, a, b, counts, cells, roots, waiting);
+    mutate::format(blocks, width, a, b, counts, cells, roots, waiting, sections);
     run::run_all(
         blocks,
         width,
@@ -57,6 +59,7 @@ pub fn replay(
         cells,
         roots,
         waiting,
+        sections,
         calls,
         replies,
     );

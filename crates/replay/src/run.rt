@@ -21,16 +21,17 @@ pub(crate) fn run_all(
     cells: &mut [Ref],
     roots: &mut [Ref],
     waiting: &mut [Ref],
+    sections: &mut [Ref],
     calls: &[u64],
     replies: &mut [u64],
 )
-    requires { ⌜ Usable blocks width (lent a b counts cells roots waiting)
+    requires { ⌜ Usable blocks width (lent a b counts cells roots waiting sections)
         × (areCalls (now calls) (length (now calls) / 4) ≡ true) × (3 * (length (now calls) / 4) ≤ length (now replies)) ⌝ }
     ensures { λ _.
         ⌜ AsRun blocks width
-        (before a b counts cells roots waiting)
+        (before a b counts cells roots waiting sections)
         (now (calls .entry)) (now (replies .entry))
-        (after a b counts cells roots waiting)
+        (after a b counts cells roots waiting sections)
         (now (replies .exit)) ⌝ }
 {
     let n = calls.len() / 4;
@@ -46,6 +47,7 @@ pub(crate) fn run_all(
             cells,
             roots,
             waiting,
+            sections,
             call.code,
             call.x,
             call.y,

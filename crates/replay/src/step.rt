@@ -18,17 +18,19 @@ pub(crate) fn step(
     cells: &mut [Ref],
     roots: &mut [Ref],
     waiting: &mut [Ref],
+    sections: &mut [Ref],
     code: u64,
     x: u64,
     y: u64,
     z: u64,
 ) -> Reply
-    requires { ⌜ Usable blocks width (lent a b counts cells roots waiting) ⌝ }
+    requires { ⌜ Usable blocks width (lent a b counts cells roots waiting sections) ⌝ }
     ensures { λ reply.
-        ⌜ Stepped blocks width code x y z (before a b counts cells roots waiting) reply (after a b counts cells roots waiting) ⌝ }
+        ⌜ Stepped blocks width code x y z (before a b counts cells roots waiting sections) reply
+        (after a b counts cells roots waiting sections) ⌝ }
 {
     match code {
-        0 => mutate::format(blocks, width, a, b, counts, cells, roots, waiting),
+        0 => mutate::format(blocks, width, a, b, counts, cells, roots, waiting, sections),
         1 => tests::acceptance(0),
         2 => {
             let done = steps::allocate(
@@ -40,6 +42,7 @@ pub(crate) fn step(
                 cells,
                 roots,
                 waiting,
+                sections,
                 x as usize,
                 y as usize,
             );
@@ -54,6 +57,7 @@ pub(crate) fn step(
             cells,
             roots,
             waiting,
+            sections,
             x as usize,
             y as usize,
         ),
@@ -66,14 +70,26 @@ pub(crate) fn step(
             cells,
             roots,
             waiting,
+            sections,
             x as usize,
             y as usize,
             z as usize,
         ),
-        5 => acts::collect(blocks, width, a, b, counts, cells, roots, waiting),
+        5 => acts::collect(blocks, width, a, b, counts, cells, roots, waiting, sections),
         6 => tests::look_reply(blocks, width, a, b, counts, x as usize),
         7 => tests::acceptance(bitmap::count_zeros(a)),
-        8 => returns::return_roots(blocks, width, a, b, counts, cells, roots, waiting, x),
+        8 => returns::return_roots(
+            blocks,
+            width,
+            a,
+            b,
+            counts,
+            cells,
+            roots,
+            waiting,
+            sections,
+            x,
+        ),
         _ => tests::refusal(9),
     }
 }

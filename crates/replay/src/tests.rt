@@ -42,12 +42,13 @@ pub(crate) fn replay_reply(
     cells: usize,
     roots: usize,
     waiting: usize,
+    sections: usize,
     calls: &[u64],
     room: usize,
 ) -> Reply
-    ensures { λ r. ⌜ r ≡ replyOn (shape blocks width a b counts cells roots waiting) (now (calls .entry)) room ⌝ }
+    ensures { λ r. ⌜ r ≡ replyOn (shape blocks width a b counts cells roots waiting sections) (now (calls .entry)) room ⌝ }
 {
-    if !shape::is_shaped(blocks, width, a, b, counts, cells, roots, waiting) {
+    if !shape::is_shaped(blocks, width, a, b, counts, cells, roots, waiting, sections) {
         return refusal(1);
     }
     if calls.len() % 4 != 0 {

@@ -1,22 +1,19 @@
 -- A piece that leaves the run going was run whole: all its records are counted, and they are no more than a run may have.
 use mathlib.Core.Path.{_≡_, sym, ap, subst, _∙_}
-use mathlib.Core.Bool.{true, false}
 use mathlib.Core.List.{List}
 use Prim.Native.Nat.{ℕ, zero, suc, _+_, _*_, _≤_, _<_}
 use native.Mathlib.Decide.{ℕ-discrete}
 use native.Mathlib.Omega.{arith}
 use lib.ListN.{length}
-use lib.Dec.{eqb}
 use borrow.Author.Tests.{eq-eqb, ne-eqb}
 use Rattle.rules.specs.Heap.{Memory}
-use Rattle.rules.specs.Calls.{settled}
 use Rattle.rules.specs.declared.Reply.{Reply}
 use Rattle.figures.specs.declared.tally.Run.{Run}
 use Rattle.figures.specs.Figures.{mostRecords}
 use Rattle.history.specs.declared.Ran.{Ran}
 use Rattle.turns.specs.Turns.{afterTurn}
 use Rattle.history.specs.Runs.{recordAt, ranFrom, wholeRecords, ended, ran}
-use Rattle.history.specs.Promised.{Promised, runReply}
+use Rattle.history.specs.Promised.{runReply, cleared, Promised}
 use Rattle.report.specs.declared.run.Turn.{Turn}
 use Rattle.report.specs.declared.run.Turn.the-variants.{GoesOn}
 use Rattle.report.specs.Turns.{Further}
@@ -78,7 +75,7 @@ module _ (N w : ℕ) (bytes : List ℕ) (h : Memory) (r : Run) (x : Ran) (g : Me
   further some accepted going =
       let test = eq-eqb (runReply N w h r .number) 0 (ap (λ (y : Reply). y .number) (sym (promised .reply-is)) ∙ accepted) in
       let is = rw test at (promised .run-is) in
-      rw is (piece-goes N w bytes (settled N h) r some (rw is at going))
+      rw is (piece-goes N w bytes (cleared N h) r some (rw is at going))
 
 -- the same of a turn that goes on
 pub goes-further :

@@ -11,3 +11,6 @@ pub const MAP_BYTES: usize = BLOCKS / 8;
 pub const COUNT_BYTES: usize = WIDTH * MAP_BYTES;
 
 pub const CELLS: usize = 4 * BLOCKS;
+
+// A section of so large a heap has 256 blocks.
+pub const SECTIONS: usize = BLOCKS / 256;

@@ -9,6 +9,7 @@ use crate::heap::CELLS;
 use crate::heap::COUNT_BYTES;
 use crate::heap::MAP_BYTES;
 use crate::heap::ROOTS;
+use crate::heap::SECTIONS;
 use crate::heap::WIDTH;
 use crate::run::Outcome;
 use blocks::Ref;
@@ -20,6 +21,7 @@ fn main() {
     let mut cells = [0 as Ref; CELLS];
     let mut roots = [0 as Ref; ROOTS];
     let mut waiting = [0 as Ref; BLOCKS];
+    let mut sections = [0 as Ref; SECTIONS];
     mutate::format(
         BLOCKS,
         WIDTH,
@@ -29,6 +31,7 @@ fn main() {
         &mut cells,
         &mut roots,
         &mut waiting,
+        &mut sections,
     );
     let outcome = run::run_pieces(
         &mut a,
@@ -37,6 +40,7 @@ fn main() {
         &mut cells,
         &mut roots,
         &mut waiting,
+        &mut sections,
     );
     match outcome {
         Outcome::Ran(run) => output::print_line(run),

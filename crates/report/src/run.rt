@@ -5,6 +5,7 @@ use crate::heap::CELLS;
 use crate::heap::COUNT_BYTES;
 use crate::heap::MAP_BYTES;
 use crate::heap::ROOTS;
+use crate::heap::SECTIONS;
 use crate::heap::WIDTH;
 use crate::input;
 use crate::input::PIECE;
@@ -34,6 +35,7 @@ fn run_piece(
     cells: &mut [Ref; CELLS],
     roots: &mut [Ref; ROOTS],
     waiting: &mut [Ref; BLOCKS],
+    sections: &mut [Ref; SECTIONS],
 ) -> Turn
     ensures { λ turn. ⌜ Further run turn ⌝ }
 {
@@ -52,6 +54,7 @@ fn run_piece(
         cells,
         roots,
         waiting,
+        sections,
         run,
         &buffer[..n],
     );
@@ -76,10 +79,11 @@ pub fn run_pieces(
     cells: &mut [Ref; CELLS],
     roots: &mut [Ref; ROOTS],
     waiting: &mut [Ref; BLOCKS],
+    sections: &mut [Ref; SECTIONS],
 ) -> Outcome {
     let mut run = tally::new_run();
     loop {
-        let turn = run_piece(run, a, b, counts, cells, roots, waiting);
+        let turn = run_piece(run, a, b, counts, cells, roots, waiting, sections);
         match turn {
             Turn::GoesOn(next) => {
                 run = next;

@@ -7,13 +7,13 @@ use lib.ListN.{length}
 use Rattle.rules.specs.Heap.{Memory, isFirst, sizeAt, isRef}
 use Rattle.rules.specs.Store.{storeRootIn, storeCellIn}
 use Rattle.rules.specs.Calls.{storeRoot, storeCell, Answer, require, onUndamaged, freeing, answer}
-use Rattle.theory.proofs.Memories.Healthy.{Healthy}
+use Rattle.theory.proofs.Memories.Fit.{Fit}
 use Rattle.theory.proofs.EachCall.Served.{on-undamaged}
 
 pub record Keeps (h : Memory) (x : Answer) : Type 0 where
   pub kept : (x .0 .number ≡ 0 → ⊥) → (x .1 ≡ h) × (x .0 .value ≡ 0) × (x .0 .second ≡ 0)
 
-module _ (N w : ℕ) (h : Memory) (healthy : Healthy N w h) where
+module _ (N w : ℕ) (h : Memory) (fit : Fit N w h) where
   freeing-keeps : (g : Memory) (second : ℕ) → Keeps h (freeing N h g second)
   unfolding freeing
   freeing-keeps g second = record { kept = λ refused. absurd (refused refl) }
@@ -24,7 +24,7 @@ module _ (N w : ℕ) (h : Memory) (healthy : Healthy N w h) where
   require-keeps false number next = record { kept = λ _. (refl, refl, refl) }
 
   on-undamaged-keeps : {next : Answer} → Keeps h next → Keeps h (onUndamaged N w h next)
-  on-undamaged-keeps {next} keeps = subst (λ (x : Answer). Keeps h x) (sym (on-undamaged N w h healthy next)) keeps
+  on-undamaged-keeps {next} keeps = subst (λ (x : Answer). Keeps h x) (sym (on-undamaged N w h fit next)) keeps
 
   pub store-root-keeps : (r v : ℕ) → Keeps h (answer N w h (storeRoot r v))
   unfolding answer

@@ -15,13 +15,13 @@ use Rattle.theory.specs.Words.{Made}
 use Rattle.rules.specs.declared.Reply.{Reply}
 use Rattle.rules.proofs.Tests.{and-true, require-passed}
 use Rattle.theory.specs.Balance.{freedBlocks, inUse, allocates, allocatedBy}
-use Rattle.theory.proofs.Memories.Healthy.{Healthy}
+use Rattle.theory.proofs.Memories.Fit.{Fit}
 use Rattle.theory.proofs.EachCall.Served.{on-undamaged}
 use Rattle.theory.proofs.EachCall.Balance.{answer-even, blocks-add-up}
 use Rattle.inner.specs.Usable.{Usable}
 use Rattle.inner.specs.Allocating.{Allocating}
 use Rattle.inner.specs.declared.acts.Allocated.{Allocated}
-use Rattle.inner.proofs.Idle.{usable-healthy}
+use Rattle.inner.proofs.Idle.{usable-fit, usable-healthy}
 use Rattle.inner.proofs.Kept.{usable-kept}
 use Rattle.inner.proofs.Collected.{collect-answered}
 use Rattle.records.specs.declared.Plan.{Plan}
@@ -87,7 +87,7 @@ acted-plan w {N} {h} {plan} {q} {d} {g} e acted = subst (λ (p : Plan). Acted N 
 
 module _ (N w : ℕ) (h : Memory) (usable : Usable N w h) (c : Call) {x : Reply} {g : Memory} (promise : Promise N w c h x g) where
   call-balance : inUse N h + allocatedBy c x ≡ freedBlocks N h g + inUse N g
-  call-balance = rw (promise .reply-is, promise .after-is) (answer-even N w h (usable-healthy N w h usable) c .kept)
+  call-balance = rw (promise .reply-is, promise .after-is) (answer-even N w h (usable-fit N w h usable) c .kept)
 
 -- ---- stores, and a number that stops the run
 
@@ -110,7 +110,7 @@ record Plain (c : Call) : Type 0 where
   told : (x : Reply) → toldStuck c x ≡ eqb (x .second) 1
   none-new : allocates c ≡ 0
   frees : (N w : ℕ) (h : Memory) → let x = answer N w h c in x .0 .number ≡ 0 → x .0 .value ≡ freedBlocks N h (x .1)
-  keeps : (N w : ℕ) (h : Memory) → Healthy N w h → Keeps h (answer N w h c)
+  keeps : (N w : ℕ) (h : Memory) → Fit N w h → Keeps h (answer N w h c)
 
 store-root-plain : (r v : ℕ) → Plain (storeRoot r v)
 unfolding triesAgain countedIn toldStuck allocates
@@ -121,7 +121,7 @@ store-root-plain r v =
       told = λ x. refl;
       none-new = refl;
       frees = λ N w h e. blocks-add-up N w h .store-root r v e .by-objects;
-      keeps = λ N w h healthy. store-root-keeps N w h healthy r v;
+      keeps = λ N w h fit. store-root-keeps N w h fit r v;
     }
 
 store-cell-plain : (a j v : ℕ) → Plain (storeCell a j v)
@@ -133,7 +133,7 @@ store-cell-plain a j v =
       told = λ x. refl;
       none-new = refl;
       frees = λ N w h e. blocks-add-up N w h .store-cell a j v e .by-objects;
-      keeps = λ N w h healthy. store-cell-keeps N w h healthy a j v;
+      keeps = λ N w h fit. store-cell-keeps N w h fit a j v;
     }
 
 module _ (N w : ℕ) (h : Memory) (usable : Usable N w h) where
@@ -164,7 +164,7 @@ module _ (N w : ℕ) (h : Memory) (usable : Usable N w h) where
         | yes e ↦ accepted-balance e
         | no e ↦
             let kept =
-            plain .keeps N w h (usable-healthy N w h usable) .kept (λ z. e (ap (λ (y : Reply). y .number) (promise .reply-is) ∙ z)) in
+            plain .keeps N w h (usable-fit N w h usable) .kept (λ z. e (ap (λ (y : Reply). y .number) (promise .reply-is) ∙ z)) in
             omega (
               arith,
               ap (λ (y : Reply). y .value) (promise .reply-is) ∙ kept .1,
@@ -179,7 +179,7 @@ module _ (N w : ℕ) (h : Memory) (usable : Usable N w h) where
       untold : (x .number ≡ 0 → ⊥) → eqb (x .second) 1 ≡ false
       untold refused =
           let kept =
-          plain .keeps N w h (usable-healthy N w h usable) .kept (λ z. refused (ap (λ (y : Reply). y .number) (promise .reply-is) ∙ z)) in
+          plain .keeps N w h (usable-fit N w h usable) .kept (λ z. refused (ap (λ (y : Reply). y .number) (promise .reply-is) ∙ z)) in
           ne-eqb (x .second) 1 (λ e. omega (arith, kept .2, second-is))
 
       counted : (t : Tally) → noted (madeOn N w h c) t ≡ momentIn (eqb (x .second) 1) t
@@ -206,7 +206,7 @@ module _ (N w : ℕ) (h : Memory) (usable : Usable N w h) where
 
   collect-accepted : answer N w h collect .0 .number ≡ 0
   unfolding freeing
-  collect-accepted = ap (λ (y : Answer). y .0 .number) (collect-answered N w h (usable-healthy N w h usable))
+  collect-accepted = ap (λ (y : Answer). y .0 .number) (collect-answered N w h (usable-fit N w h usable))
 
   collect-noted : (t : Tally) → noted (madeOn N w h collect) t ≡ collected t
   unfolding countedIn toldStuck momentIn
@@ -245,7 +245,7 @@ module _ (N w : ℕ) (h : Memory) (usable : Usable N w h) (n r : ℕ) where
       let placed : Answer = require (ltb r (length (h .roots))) 4 h search in
       let tested : Answer = require (leb 1 n && leb n N) 3 h placed in
       let passed : tested .0 .number ≡ 0 =
-      ap (λ (y : Answer). y .0 .number) (sym (on-undamaged N w h (usable-healthy N w h usable) tested)) ∙ accepted in
+      ap (λ (y : Answer). y .0 .number) (sym (on-undamaged N w h (usable-fit N w h usable) tested)) ∙ accepted in
       let sizes = and-true (leb 1 n) (leb n N) (require-passed (leb 1 n && leb n N) 3 h placed (omega arith) passed) in
       (leb-true 1 n (sizes .0), leb-true n N (sizes .1))
 

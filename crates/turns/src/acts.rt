@@ -59,22 +59,47 @@ fn allocate(
     cells: &mut [Ref],
     roots: &mut [Ref],
     waiting: &mut [Ref],
+    sections: &mut [Ref],
     n: usize,
     r: usize,
 ) -> Done
-    requires { ⌜ Usable blocks width (lent a b counts cells roots waiting) ⌝ }
+    requires { ⌜ Usable blocks width (lent a b counts cells roots waiting sections) ⌝ }
     ensures { λ done.
-        ⌜ Acted blocks (before a b counts cells roots waiting)
-        (turnOf blocks width (before a b counts cells roots waiting) (makes (Call.allocate n r))) done
-        (after a b counts cells roots waiting) ⌝ }
+        ⌜ Acted blocks (before a b counts cells roots waiting sections)
+        (turnOf blocks width (before a b counts cells roots waiting sections) (makes (Call.allocate n r))) done
+        (after a b counts cells roots waiting sections) ⌝ }
 {
-    let first = steps::allocate(blocks, width, a, b, counts, cells, roots, waiting, n, r);
+    let first = steps::allocate(
+        blocks,
+        width,
+        a,
+        b,
+        counts,
+        cells,
+        roots,
+        waiting,
+        sections,
+        n,
+        r,
+    );
     let number = first.reply.number;
     if number != 5 {
         return done_after(first, n, false, 0);
     }
-    let forced = acts::collect(blocks, width, a, b, counts, cells, roots, waiting);
-    let second = steps::allocate(blocks, width, a, b, counts, cells, roots, waiting, n, r);
+    let forced = acts::collect(blocks, width, a, b, counts, cells, roots, waiting, sections);
+    let second = steps::allocate(
+        blocks,
+        width,
+        a,
+        b,
+        counts,
+        cells,
+        roots,
+        waiting,
+        sections,
+        n,
+        r,
+    );
     done_after(second, n, true, forced.value)
 }
 
@@ -88,12 +113,14 @@ pub(crate) fn act(
     cells: &mut [Ref],
     roots: &mut [Ref],
     waiting: &mut [Ref],
+    sections: &mut [Ref],
     plan: Plan,
 ) -> Done
-    requires { ⌜ Usable blocks width (lent a b counts cells roots waiting) ⌝ }
+    requires { ⌜ Usable blocks width (lent a b counts cells roots waiting sections) ⌝ }
     ensures { λ done.
-        ⌜ Acted blocks (before a b counts cells roots waiting)
-        (turnOf blocks width (before a b counts cells roots waiting) (meaning plan)) done (after a b counts cells roots waiting) ⌝ }
+        ⌜ Acted blocks (before a b counts cells roots waiting sections)
+        (turnOf blocks width (before a b counts cells roots waiting sections) (meaning plan)) done
+        (after a b counts cells roots waiting sections) ⌝ }
 {
     match plan {
         Plan::Stop(number) => Done {
@@ -112,11 +139,24 @@ pub(crate) fn act(
             cells,
             roots,
             waiting,
+            sections,
             n,
             r,
         ),
         Plan::StoreRoot { r, v } => {
-            let reply = steps::store_root(blocks, width, a, b, counts, cells, roots, waiting, r, v);
+            let reply = steps::store_root(
+                blocks,
+                width,
+                a,
+                b,
+                counts,
+                cells,
+                roots,
+                waiting,
+                sections,
+                r,
+                v,
+            );
             Done {
                 number: reply.number,
                 allocated: 0,
@@ -135,6 +175,7 @@ pub(crate) fn act(
                 cells,
                 roots,
                 waiting,
+                sections,
                 at,
                 j,
                 v,
@@ -148,7 +189,7 @@ pub(crate) fn act(
             }
         }
         Plan::Collect => {
-            let reply = acts::collect(blocks, width, a, b, counts, cells, roots, waiting);
+            let reply = acts::collect(blocks, width, a, b, counts, cells, roots, waiting, sections);
             Done {
                 number: 0,
                 allocated: 0,

@@ -21,17 +21,30 @@ pub fn step(
     cells: &mut [Ref],
     roots: &mut [Ref],
     waiting: &mut [Ref],
+    sections: &mut [Ref],
     f: Fields,
     state: Running,
 ) -> Running
-    requires { ⌜ Usable blocks width (lent a b counts cells roots waiting)
-        × Going blocks (lent a b counts cells roots waiting) 1 state ⌝ }
+    requires { ⌜ Usable blocks width (lent a b counts cells roots waiting sections)
+        × Going blocks (lent a b counts cells roots waiting sections) 1 state ⌝ }
     ensures { λ next.
         ⌜ Stepped blocks
-        (turnOf blocks width (before a b counts cells roots waiting) (asked blocks (before a b counts cells roots waiting) f))
-        state next (after a b counts cells roots waiting) ⌝ }
+        (turnOf blocks width (before a b counts cells roots waiting sections)
+        (asked blocks (before a b counts cells roots waiting sections) f))
+        state next (after a b counts cells roots waiting sections) ⌝ }
 {
     let plan = records::plan_of(blocks, b, cells, roots, f);
-    let done = acts::act(blocks, width, a, b, counts, cells, roots, waiting, plan);
+    let done = acts::act(
+        blocks,
+        width,
+        a,
+        b,
+        counts,
+        cells,
+        roots,
+        waiting,
+        sections,
+        plan,
+    );
     noting::noted(state, done)
 }

@@ -4,8 +4,8 @@ use Rattle.capi.proofs.huwekapo_replay.Statement.{statement}
 use Rattle.capi.proofs.huwekapo_replay.Tie as tie
 
 -- the call has returned
-abbrev done : tie.After-slice-known14 → tie.After-replay
-done c = c .before .before .before .before .before .before .before .before .before .before .before .before .before .before
+abbrev done : tie.After-slice-known16 → tie.After-replay
+done c = c .before .before .before .before .before .before .before .before .before .before .before .before .before .before .before .before
 
 replay-requires : tie.Need-replay-requires
 replay-requires c κs = search needs
@@ -24,5 +24,6 @@ huwekapo-replay-spec =
     (λ c. done c .replay .kept .1 .1 .1 .1 .1 .0)
     (λ c. done c .replay .kept .1 .1 .1 .1 .1 .1 .0)
     (λ c. done c .replay .kept .1 .1 .1 .1 .1 .1 .1 .0)
-    (λ c. done c .replay .kept .1 .1 .1 .1 .1 .1 .1 .1 .1 .0)
+    (λ c. done c .replay .kept .1 .1 .1 .1 .1 .1 .1 .1 .0)
+    (λ c. done c .replay .kept .1 .1 .1 .1 .1 .1 .1 .1 .1 .1 .0)
     returns)

@@ -2,7 +2,6 @@
 use mathlib.Core.Path.{ap}
 use borrow.Author.Needs.{needs}
 use Rattle.figures.specs.declared.tally.Run.{Run}
-use Rattle.history.specs.declared.Ran.{Ran}
 use Rattle.history.proofs.refused.Statement.{statement}
 use Rattle.history.proofs.refused.Tie as tie
 

@@ -6,11 +6,11 @@ use Rattle.history.proofs.run_records.Statement.{statement}
 use Rattle.history.proofs.run_records.Tie as tie
 
 -- the places, from the last back: the records run, the waiting list cleared, all tests passed
-abbrev ran : tie.After-slice-known13 → tie.After-run-piece
-ran c = c .before .before .before .before .before .before .before .before .before .before .before .before
+abbrev ran : tie.After-slice-known15 → tie.After-run-piece
+ran c = c .before .before .before .before .before .before .before .before .before .before .before .before .before .before
 
-abbrev cleared : tie.After-run-piece-arg6 → tie.After-clear-all
-cleared c = c .before .before .before .before .before .before .before .before
+abbrev cleared : tie.After-run-piece-arg7 → tie.After-clear-all
+cleared c = c .before .before .before .before .before .before .before .before .before
 
 abbrev passed : tie.After-clear-all → tie.Else1
 passed c = c .before .before
@@ -54,6 +54,7 @@ run-records-spec =
     (λ _. refl)
     (λ _. refl)
     (λ _. refl)
+    (λ _. refl)
     returns
     clear-all-requires
     run-piece-requires
@@ -63,4 +64,5 @@ run-records-spec =
     (λ c. ran c .run-piece .kept .1 .1 .1 .1 .1 .0)
     (λ c. ran c .run-piece .kept .1 .1 .1 .1 .1 .1 .0)
     (λ c. ran c .run-piece .kept .1 .1 .1 .1 .1 .1 .1 .0 ∙ cleared (ran c .before) .clear-all .kept .0)
+    (λ c. ran c .run-piece .kept .1 .1 .1 .1 .1 .1 .1 .1 .0)
     returns-2)

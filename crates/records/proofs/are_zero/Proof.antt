@@ -2,7 +2,7 @@
 use mathlib.Core.Path.{sym}
 use lib.Dec.{eqb}
 use borrow.Author.Tests.{eq-eqb, ne-eqb}
-use Rattle.rules.specs.Heap.{all}
+use Rattle.rules.specs.Tools.{all}
 use Rattle.rules.proofs.Tests.{all-one}
 use Rattle.records.proofs.are_zero.Statement.{statement}
 use Rattle.records.proofs.are_zero.Tie as tie

@@ -2,7 +2,7 @@
 use mathlib.Core.Path.{refl, sym, ap, _∙_}
 use lib.ListN.{length}
 use borrow.Author.Needs.{needs}
-use Rattle.rules.specs.Heap.{memory, shaped}
+use Rattle.rules.specs.Heap.{lentMemory, shaped}
 use Rattle.rules.specs.declared.Reply.{Reply}
 use Rattle.replay.proofs.Codes.{Passed, accepted-passed}
 use Rattle.replay.proofs.Start.{started-usable, replayed}
@@ -10,21 +10,22 @@ use Rattle.replay.proofs.replay.Statement.{statement}
 use Rattle.replay.proofs.replay.Tie as tie
 
 -- the places: past the test, the heap formatted, the list run
-abbrev tested : tie.After-format-arg6 → tie.Else1
-tested c = c .before .before .before .before .before .before
+abbrev tested : tie.After-format-arg7 → tie.Else1
+tested c = c .before .before .before .before .before .before .before
 
-abbrev formatted : tie.After-run-all-arg7 → tie.After-format
-formatted c = c .before .before .before .before .before .before .before .before .before .before .before .before .before .before .before .before .before .before .before
+abbrev formatted : tie.After-run-all-arg8 → tie.After-format
+formatted c = c .before .before .before .before .before .before .before .before .before .before .before .before .before .before .before .before .before .before .before .before .before .before
 
-abbrev done : tie.After-slice-known20 → tie.After-run-all
-done c = c .before .before .before .before .before .before .before .before .before .before .before .before .before .before
+abbrev done : tie.After-slice-known23 → tie.After-run-all
+done c = c .before .before .before .before .before .before .before .before .before .before .before .before .before .before .before .before
 
 -- what an accepted list has passed
 passed : (c : tie.Else1) →
-    let args = c .before .before .before .before .before .before .before .before .before .before .args in
+    let args = c .before .before .before .before .before .before .before .before .before .before .before .args in
     Passed
     (shaped (args .blocks) (args .width)
-    (memory (args .a .now) (args .b .now) (args .counts .now) (args .cells .now) (args .roots .now) (args .waiting .now)))
+    (lentMemory (args .a .now) (args .b .now) (args .counts .now) (args .cells .now) (args .roots .now) (args .waiting .now)
+    (args .sections .now)))
     (args .calls .now) (length (args .replies .now))
 passed c = accepted-passed _ _ _ (ap (λ (r : Reply). r .number) (sym (c .before .replay-reply .ensures)) ∙ c .if1 .left)
 
@@ -72,5 +73,6 @@ replay-spec =
     (λ c. done c .run-all .kept .1 .1 .1 .1 .1 .0 ∙ formatted (done c .before) .format .kept .1 .1 .1 .1 .1 .0)
     (λ c. done c .run-all .kept .1 .1 .1 .1 .1 .1 .0 ∙ formatted (done c .before) .format .kept .1 .1 .1 .1 .1 .1 .0)
     (λ c. done c .run-all .kept .1 .1 .1 .1 .1 .1 .1 .0 ∙ formatted (done c .before) .format .kept .1 .1 .1 .1 .1 .1 .1 .0)
-    (λ c. done c .run-all .kept .1 .1 .1 .1 .1 .1 .1 .1 .1 .0)
+    (λ c. done c .run-all .kept .1 .1 .1 .1 .1 .1 .1 .1 .0 ∙ formatted (done c .before) .format .kept .1 .1 .1 .1 .1 .1 .1 .1 .0)
+    (λ c. done c .run-all .kept .1 .1 .1 .1 .1 .1 .1 .1 .1 .1 .0)
     returns-2)

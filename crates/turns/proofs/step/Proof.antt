@@ -6,20 +6,20 @@ use Rattle.turns.proofs.step.Statement.{statement}
 use Rattle.turns.proofs.step.Tie as tie
 
 -- the places: the calls made, the plan known, the start
-abbrev acted : tie.After-slice-known12 → tie.After-act
-acted c = c .before .before .before .before .before .before .before .before .before .before .before .before
+abbrev acted : tie.After-slice-known14 → tie.After-act
+acted c = c .before .before .before .before .before .before .before .before .before .before .before .before .before .before
 
 abbrev planned-at : tie.After-act → tie.After-plan-of
-planned-at c = c .before .before .before .before .before .before .before
+planned-at c = c .before .before .before .before .before .before .before .before
 
 abbrev start : tie.After-plan-of → tie.Start
-start c = c .before .before .before .before .before .before .before .before .before .before
+start c = c .before .before .before .before .before .before .before .before .before .before .before
 
 plan-of-requires : tie.Need-plan-of-requires
-plan-of-requires c κs = usable-readable _ _ _ (c .before .before .before .before .before .before .before .before .before .pre .0)
+plan-of-requires c κs = usable-readable _ _ _ (c .before .before .before .before .before .before .before .before .before .before .pre .0)
 
 act-requires : tie.Need-act-requires
-act-requires c κs = start (c .before .before .before .before .before .before) .pre .0
+act-requires c κs = start (c .before .before .before .before .before .before .before) .pre .0
 
 noted-requires : tie.Need-noted-requires
 noted-requires c κs =
@@ -47,4 +47,5 @@ step-spec =
     (λ c. acted (c .before) .act .kept .1 .1 .1 .1 .1 .0)
     (λ c. acted (c .before) .act .kept .1 .1 .1 .1 .1 .1 .0)
     (λ c. acted (c .before) .act .kept .1 .1 .1 .1 .1 .1 .1 .0)
+    (λ c. acted (c .before) .act .kept .1 .1 .1 .1 .1 .1 .1 .1 .0)
     returns)

@@ -9,23 +9,28 @@ is-too-large-requires : tie.Need-is-too-large-requires
 is-too-large-requires c κs = search needs
 
 returns : tie.Need-returns
-returns c = within-heap 0 0 0 (omega arith) (omega arith) (omega arith)
+returns c = within-heap 0 0 0 0 (omega arith) (omega arith) (omega arith) (omega arith)
 
-mul-t6 : tie.Need-mul-t6
-mul-t6 c =
-    let fits = c .before .before .is-too-large .ensures (c .before .if1 .left) in
+section-count-requires : tie.Need-section-count-requires
+section-count-requires c κs =
+    let fits = c .before .is-too-large .ensures (c .if1 .left) in
+    fits .0
+
+mul-t7 : tie.Need-mul-t7
+mul-t7 c =
+    let fits = c .before .before .before .is-too-large .ensures (c .before .before .if1 .left) in
     let p = product _ _ (fits .1) (fits .0) in
     omega (arith, p)
 
-mul-t8 : tie.Need-mul-t8
-mul-t8 c =
-    let fits = c .before .before .is-too-large .ensures (c .before .if1 .left) in
+mul-t9 : tie.Need-mul-t9
+mul-t9 c =
+    let fits = c .before .before .before .is-too-large .ensures (c .before .before .if1 .left) in
     omega (arith, fits .0)
 
 returns-2 : tie.Need-returns-2
 returns-2 c =
-    let fits = c .before .before .is-too-large .ensures (c .before .if1 .left) in
-    within-heap _ _ _ (fits .0) (fits .1) (fits .2)
+    let fits = c .before .before .before .is-too-large .ensures (c .before .before .if1 .left) in
+    within-heap _ _ _ _ (fits .0) (fits .1) (fits .2) (c .before .section-count .ensures)
 
 pub lengths-spec : {M : Type 1} → statement M
-lengths-spec = tie.close (tie.spec is-too-large-requires returns mul-t6 mul-t8 returns-2)
+lengths-spec = tie.close (tie.spec is-too-large-requires returns section-count-requires mul-t7 mul-t9 returns-2)

@@ -6,7 +6,7 @@ use Rattle.calls.proofs.perform.perform.Tie as tie
 
 -- the call has returned
 abbrev called : tie.After-say-reply → tie.After-call
-called c = c .before .before .before .before .before .before .before .before .before .before .before .before .before
+called c = c .before .before .before .before .before .before .before .before .before .before .before .before .before .before .before
 
 pub perform-spec : {M : Type 1} → statement M
 perform-spec =
@@ -20,6 +20,7 @@ perform-spec =
     (λ c. called c .call .kept .1 .1 .1 .1 .0)
     (λ c. called c .call .kept .1 .1 .1 .1 .1 .0)
     (λ c. called c .call .kept .1 .1 .1 .1 .1 .1 .0)
+    (λ c. called c .call .kept .1 .1 .1 .1 .1 .1 .1 .0)
     (λ _. search needs)
     (λ c κs. search needs)
     (λ c κs. search needs)
@@ -27,6 +28,8 @@ perform-spec =
     (λ c κs. search needs)
     (λ c κs. search needs)
     (λ c κs. search needs)
+    (λ c κs. search needs)
+    (λ _. refl)
     (λ _. refl)
     (λ _. refl)
     (λ _. refl)
@@ -35,6 +38,7 @@ perform-spec =
     (λ _. refl)
     (λ _. search needs)
     (λ _. search needs)
+    (λ c κs. search needs)
     (λ c κs. search needs)
     (λ c κs. search needs)
     (λ c κs. search needs)
@@ -54,5 +58,7 @@ perform-spec =
     (λ c. c .before .before .load-ref2 .kept .0)
     (λ _. search needs)
     (λ c. c .before .before .load-ref3 .kept .0)
+    (λ _. search needs)
+    (λ c. c .before .before .load-ref4 .kept .0)
     (λ _. search needs)
     (λ _. search needs))

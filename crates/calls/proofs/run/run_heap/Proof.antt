@@ -10,11 +10,11 @@ use Rattle.calls.proofs.run.run_heap.Statement.{statement}
 use Rattle.calls.proofs.run.run_heap.Tie as tie
 
 abbrev Inv-loop : tie.InvT-loop
-Inv-loop heap a₀ b₀ counts₀ cells₀ roots₀ waiting₀ lengths₀ k₀ a b counts cells roots waiting lengths k =
-    Held a b counts cells roots waiting lengths
+Inv-loop heap a₀ b₀ counts₀ cells₀ roots₀ waiting₀ sections₀ lengths₀ k₀ a b counts cells roots waiting sections lengths k =
+    Held a b counts cells roots waiting sections lengths
 
 abbrev μ-loop : tie.MeasureT-loop
-μ-loop heap a₀ b₀ counts₀ cells₀ roots₀ waiting₀ lengths₀ k₀ a b counts cells roots waiting lengths k =
+μ-loop heap a₀ b₀ counts₀ cells₀ roots₀ waiting₀ sections₀ lengths₀ k₀ a b counts cells roots waiting sections lengths k =
     1152921504606846976 - k
 
 -- the places: a turn's beginning, and the entry performed
@@ -22,10 +22,10 @@ abbrev turn : tie.After-next-entry Inv-loop μ-loop → tie.In-loop Inv-loop μ-
 turn c = c .before .before
 
 abbrev performed : tie.Else2 Inv-loop μ-loop → tie.After-perform Inv-loop μ-loop
-performed c = c .before .before .before .before .before .before .before .before .before
+performed c = c .before .before .before .before .before .before .before .before .before .before
 
 abbrev entry : tie.After-perform Inv-loop μ-loop → tie.After-next-entry Inv-loop μ-loop
-entry c = c .before .before .before .before .before .before .before
+entry c = c .before .before .before .before .before .before .before .before
 
 -- each lent length is within its buffer
 fits-a : (c : tie.After-next-entry Inv-loop μ-loop) → getD (c .next-entry .last .0) 0 0 ≤ length (turn c .before .loop .a)
@@ -46,6 +46,9 @@ fits-roots c = omega (arith, turn c .before .loop .inv .length-roots, c .next-en
 fits-waiting : (c : tie.After-next-entry Inv-loop μ-loop) → getD (c .next-entry .last .0) 5 0 ≤ length (turn c .before .loop .waiting)
 fits-waiting c = omega (arith, turn c .before .loop .inv .length-waiting, c .next-entry .ensures 5)
 
+fits-sections : (c : tie.After-next-entry Inv-loop μ-loop) → getD (c .next-entry .last .0) 6 0 ≤ length (turn c .before .loop .sections)
+fits-sections c = omega (arith, turn c .before .loop .inv .length-sections, c .next-entry .ensures 6)
+
 lengths-requires : tie.Need-lengths-requires Inv-loop μ-loop
 lengths-requires c κs = search needs
 
@@ -58,6 +61,7 @@ loop-holds c =
       length-cells = refl;
       length-roots = refl;
       length-waiting = refl;
+      length-sections = refl;
       within = c .lengths .ensures;
     }
 
@@ -88,6 +92,7 @@ loop-again c =
       length-cells = length-front (l .cells) (done .last .1 .1 .1 .1 .0) (getD (read .next-entry .last .0) 3 0) (done .kept .1 .1 .1 .1 .0) ∙ l .inv .length-cells;
       length-roots = length-front (l .roots) (done .last .1 .1 .1 .1 .1 .0) (getD (read .next-entry .last .0) 4 0) (done .kept .1 .1 .1 .1 .1 .0) ∙ l .inv .length-roots;
       length-waiting = length-front (l .waiting) (done .last .1 .1 .1 .1 .1 .1 .0) (getD (read .next-entry .last .0) 5 0) (done .kept .1 .1 .1 .1 .1 .1 .0) ∙ l .inv .length-waiting;
+      length-sections = length-front (l .sections) (done .last .1 .1 .1 .1 .1 .1 .1 .0) (getD (read .next-entry .last .0) 6 0) (done .kept .1 .1 .1 .1 .1 .1 .1 .0) ∙ l .inv .length-sections;
       within = read .next-entry .ensures;
     }
 
@@ -112,6 +117,7 @@ run-heap-spec =
     (λ _. search needs)
     (λ _. search needs)
     (λ _. search needs)
+    (λ _. search needs)
     fits-a
     (λ c. sym (length-take-le _ _ (fits-a (c .before))))
     (λ c. fits-b (c .before))
@@ -124,6 +130,8 @@ run-heap-spec =
     (λ c. sym (length-take-le _ _ (fits-roots (c .before .before .before .before .before))))
     (λ c. fits-waiting (c .before .before .before .before .before))
     (λ c. sym (length-take-le _ _ (fits-waiting (c .before .before .before .before .before .before))))
+    (λ c. fits-sections (c .before .before .before .before .before .before))
+    (λ c. sym (length-take-le _ _ (fits-sections (c .before .before .before .before .before .before .before))))
     perform-requires
     returns
     add-k

@@ -4,8 +4,8 @@ use Rattle.capi.proofs.runs.huwekapo_run_records.Statement.{statement}
 use Rattle.capi.proofs.runs.huwekapo_run_records.Tie as tie
 
 -- the call has returned
-abbrev done : tie.After-slice-known12 → tie.After-run-records
-done c = c .before .before .before .before .before .before .before .before .before .before .before .before
+abbrev done : tie.After-slice-known14 → tie.After-run-records
+done c = c .before .before .before .before .before .before .before .before .before .before .before .before .before .before
 
 run-records-requires : tie.Need-run-records-requires
 run-records-requires c κs = search needs
@@ -24,4 +24,5 @@ huwekapo-run-records-spec =
     (λ c. done c .run-records .kept .1 .1 .1 .1 .1 .0)
     (λ c. done c .run-records .kept .1 .1 .1 .1 .1 .1 .0)
     (λ c. done c .run-records .kept .1 .1 .1 .1 .1 .1 .1 .0)
+    (λ c. done c .run-records .kept .1 .1 .1 .1 .1 .1 .1 .1 .0)
     returns)

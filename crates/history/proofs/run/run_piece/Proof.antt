@@ -10,21 +10,21 @@ use Rattle.history.proofs.run.run_piece.Statement.{statement}
 use Rattle.history.proofs.run.run_piece.Tie as tie
 
 -- the places, from the last back: the whole records run, the blocks in use counted, the number of whole records known, a run that goes on
-abbrev ran : tie.After-slice-known12 → tie.After-run-whole
-ran c = c .before .before .before .before .before .before .before .before .before .before .before .before
+abbrev ran : tie.After-slice-known14 → tie.After-run-whole
+ran c = c .before .before .before .before .before .before .before .before .before .before .before .before .before .before
 
-abbrev counted : tie.After-run-whole-arg6 → tie.After-count-zeros
-counted c = c .before .before .before .before .before .before
+abbrev counted : tie.After-run-whole-arg7 → tie.After-count-zeros
+counted c = c .before .before .before .before .before .before .before
 
 abbrev measured : tie.After-count-zeros → tie.After-whole-records
 measured c = c .before .before
 
 abbrev start : tie.Else1 → tie.Start
-start c = c .before .before .before .before .before .before .before .before
+start c = c .before .before .before .before .before .before .before .before .before
 
 returns : tie.Need-returns
 returns c =
-    let pre = c .before .before .before .before .before .before .before .before .pre in
+    let pre = c .before .before .before .before .before .before .before .before .before .pre in
     piece-stopped _ _ _ _ _ (pre .0) (pre .1) (c .if1 .taken)
 
 whole-records-requires : tie.Need-whole-records-requires
@@ -77,4 +77,5 @@ run-piece-spec =
     (λ c. ran (c .before) .run-whole .kept .1 .1 .1 .1 .1 .0)
     (λ c. ran (c .before) .run-whole .kept .1 .1 .1 .1 .1 .1 .0)
     (λ c. ran (c .before) .run-whole .kept .1 .1 .1 .1 .1 .1 .1 .0)
+    (λ c. ran (c .before) .run-whole .kept .1 .1 .1 .1 .1 .1 .1 .1 .0)
     returns-2)

@@ -2,7 +2,7 @@
 use mathlib.Core.Path.{refl, sym, _∙_}
 use Prim.Native.Nat.{_-_}
 use native.Mathlib.Omega.{arith}
-use Rattle.rules.specs.Heap.{memory}
+use Rattle.rules.specs.Heap.{lentMemory}
 use Rattle.rules.proofs.Shape.{Shaped}
 use Rattle.inner.proofs.Idle.{usable-healthy}
 use Rattle.history.proofs.Progress.{Progress, progress-start, step-going, next-usable, progress-next, progress-stop, progress-done}
@@ -10,40 +10,41 @@ use Rattle.history.proofs.run.run_whole.Statement.{statement}
 use Rattle.history.proofs.run.run_whole.Tie as tie
 
 abbrev Inv-loop : tie.InvT-loop
-Inv-loop blocks width a₀ b₀ counts₀ cells₀ roots₀ waiting₀ bytes n state₀ i₀ a b counts cells roots waiting state i =
-    Progress n blocks width bytes (memory a₀ b₀ counts₀ cells₀ roots₀ waiting₀) (state₀ .run) i (memory a b counts cells roots waiting)
-    state
+Inv-loop blocks width a₀ b₀ counts₀ cells₀ roots₀ waiting₀ sections₀ bytes n state₀ i₀ a b counts cells roots waiting sections state i =
+    Progress n blocks width bytes (lentMemory a₀ b₀ counts₀ cells₀ roots₀ waiting₀ sections₀) (state₀ .run) i
+    (lentMemory a b counts cells roots waiting sections) state
 
 abbrev μ-loop : tie.MeasureT-loop
-μ-loop blocks width a₀ b₀ counts₀ cells₀ roots₀ waiting₀ bytes n state₀ i₀ a b counts cells roots waiting state i =
+μ-loop blocks width a₀ b₀ counts₀ cells₀ roots₀ waiting₀ sections₀ bytes n state₀ i₀ a b counts cells roots waiting sections state i =
     n - i
 
 -- the places, from the last back: the record run (it stopped the run, or the loop goes on), the record read, the loop's test, the start
 abbrev stopped : tie.After-result Inv-loop μ-loop → tie.After-step Inv-loop μ-loop
-stopped c = c .before .before .before .before .before .before .before .before .before .before .before .before .before .before
+stopped c = c .before .before .before .before .before .before .before .before .before .before .before .before .before .before .before .before
 
 abbrev went-on : tie.Else1 Inv-loop μ-loop → tie.After-step Inv-loop μ-loop
-went-on c = c .before .before .before .before .before .before .before .before .before .before .before .before .before
+went-on c = c .before .before .before .before .before .before .before .before .before .before .before .before .before .before .before
 
-abbrev record-read : tie.After-step-arg6 Inv-loop μ-loop → tie.After-fields-at Inv-loop μ-loop
-record-read c = c .before .before .before .before .before .before
+abbrev record-read : tie.After-step-arg7 Inv-loop μ-loop → tie.After-fields-at Inv-loop μ-loop
+record-read c = c .before .before .before .before .before .before .before
 
 abbrev start : tie.At-loop Inv-loop μ-loop → tie.Start Inv-loop μ-loop
-start c = c .before .before .before .before .before .before .before .before
+start c = c .before .before .before .before .before .before .before .before .before
 
 -- the shape before the loop, at a record that stops the run, and after the loop
 shaped-at : (c : tie.At-loop Inv-loop μ-loop) →
     let args = start c .args in
     Shaped (args .blocks) (args .width)
-    (memory (args .a .now) (args .b .now) (args .counts .now) (args .cells .now) (args .roots .now) (args .waiting .now))
+    (lentMemory (args .a .now) (args .b .now) (args .counts .now) (args .cells .now) (args .roots .now) (args .waiting .now)
+    (args .sections .now))
 shaped-at c = usable-healthy _ _ _ (start c .pre .0) .shape
 
 shaped-stop : (c : tie.After-step Inv-loop μ-loop) →
     let args = start (record-read (c .before) .before .before) .args in
     let left = c .step .last in
     Shaped (args .blocks) (args .width)
-    (memory (left .1 .1 .0) (left .1 .1 .1 .0) (left .1 .1 .1 .1 .0) (left .1 .1 .1 .1 .1 .0)
-    (left .1 .1 .1 .1 .1 .1 .0) (left .1 .1 .1 .1 .1 .1 .1 .0))
+    (lentMemory (left .1 .1 .0) (left .1 .1 .1 .0) (left .1 .1 .1 .1 .0) (left .1 .1 .1 .1 .1 .0)
+    (left .1 .1 .1 .1 .1 .1 .0) (left .1 .1 .1 .1 .1 .1 .1 .0) (left .1 .1 .1 .1 .1 .1 .1 .1 .0))
 shaped-stop c =
     let read = record-read (c .before) in
     let test = read .before in
@@ -54,12 +55,12 @@ shaped-stop c =
 shaped-done : (c : tie.At-loop Inv-loop μ-loop) →
     let args = start c .args in
     let l = c .loop in
-    Shaped (args .blocks) (args .width) (memory (l .a) (l .b) (l .counts) (l .cells) (l .roots) (l .waiting))
+    Shaped (args .blocks) (args .width) (lentMemory (l .a) (l .b) (l .counts) (l .cells) (l .roots) (l .waiting) (l .sections))
 shaped-done c = usable-healthy _ _ _ (c .loop .inv .usable) .shape
 
 loop-holds : tie.Need-loop-holds Inv-loop μ-loop
 loop-holds c =
-    let pre = c .before .before .before .before .before .before .before .pre in
+    let pre = c .before .before .before .before .before .before .before .before .pre in
     progress-start _ _ _ _ _ _ _ refl (pre .0) (pre .1)
 
 mul-fields-at : tie.Need-mul-fields-at Inv-loop μ-loop
@@ -116,6 +117,7 @@ run-whole-spec =
     (λ c. shaped-stop (stopped c) .length-cells ∙ sym (shaped-at (record-read (stopped c .before) .before .before) .length-cells))
     (λ c. stopped c .step .kept .1 .1 .1 .1 .1 .1 .0 ∙ record-read (stopped c .before) .before .before .loop .inv .roots-length)
     (λ c. shaped-stop (stopped c) .length-waiting ∙ sym (shaped-at (record-read (stopped c .before) .before .before) .length-waiting))
+    (λ c. shaped-stop (stopped c) .length-sections ∙ sym (shaped-at (record-read (stopped c .before) .before .before) .length-sections))
     returns
     add-i
     loop-less
@@ -126,4 +128,5 @@ run-whole-spec =
     (λ c. shaped-done (c .before .before) .length-cells ∙ sym (shaped-at (c .before .before) .length-cells))
     (λ c. c .before .before .loop .inv .roots-length)
     (λ c. shaped-done (c .before .before) .length-waiting ∙ sym (shaped-at (c .before .before) .length-waiting))
+    (λ c. shaped-done (c .before .before) .length-sections ∙ sym (shaped-at (c .before .before) .length-sections))
     returns-2)

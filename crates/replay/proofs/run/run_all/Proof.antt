@@ -3,7 +3,7 @@ use mathlib.Core.Path.{sym, _∙_}
 use Prim.Native.Nat.{_-_, _/_, _<_}
 use native.Mathlib.Omega.{arith}
 use lib.ListN.{length}
-use Rattle.rules.specs.Heap.{memory}
+use Rattle.rules.specs.Heap.{lentMemory}
 use Rattle.rules.proofs.Shape.{Shaped}
 use Rattle.inner.proofs.Idle.{usable-healthy}
 use Rattle.replay.proofs.Codes.{call-at, call-made}
@@ -12,25 +12,25 @@ use Rattle.replay.proofs.run.run_all.Statement.{statement}
 use Rattle.replay.proofs.run.run_all.Tie as tie
 
 abbrev Inv-loop : tie.InvT-loop
-Inv-loop blocks width a₀ b₀ counts₀ cells₀ roots₀ waiting₀ calls replies₀ n i₀ a b counts cells roots waiting replies i =
-    Progress blocks width (memory a₀ b₀ counts₀ cells₀ roots₀ waiting₀) calls replies₀ i
-    (memory a b counts cells roots waiting) replies
+Inv-loop blocks width a₀ b₀ counts₀ cells₀ roots₀ waiting₀ sections₀ calls replies₀ n i₀ a b counts cells roots waiting sections replies i =
+    Progress blocks width (lentMemory a₀ b₀ counts₀ cells₀ roots₀ waiting₀ sections₀) calls replies₀ i
+    (lentMemory a b counts cells roots waiting sections) replies
 
 abbrev μ-loop : tie.MeasureT-loop
-μ-loop blocks width a₀ b₀ counts₀ cells₀ roots₀ waiting₀ calls replies₀ n i₀ a b counts cells roots waiting replies i =
+μ-loop blocks width a₀ b₀ counts₀ cells₀ roots₀ waiting₀ sections₀ calls replies₀ n i₀ a b counts cells roots waiting sections replies i =
     length calls / 4 - i
 
 -- the places: the entry, the turn of the loop, the call made, its reply written
 abbrev entry : tie.At-loop Inv-loop μ-loop → tie.Start Inv-loop μ-loop
-entry c = c .before .before .before .before .before .before .before .before .before
+entry c = c .before .before .before .before .before .before .before .before .before .before
 
-abbrev turn : tie.After-step-arg6 Inv-loop μ-loop → tie.In-loop Inv-loop μ-loop
-turn c = c .before .before .before .before .before .before .before
+abbrev turn : tie.After-step-arg7 Inv-loop μ-loop → tie.In-loop Inv-loop μ-loop
+turn c = c .before .before .before .before .before .before .before .before
 
 abbrev made : tie.After-put-reply-arg Inv-loop μ-loop → tie.After-step Inv-loop μ-loop
-made c = c .before .before .before .before .before .before .before .before .before .before .before .before .before
+made c = c .before .before .before .before .before .before .before .before .before .before .before .before .before .before .before
 
-abbrev put : tie.After-slice-known14 Inv-loop μ-loop → tie.After-put-reply Inv-loop μ-loop
+abbrev put : tie.After-slice-known16 Inv-loop μ-loop → tie.After-put-reply Inv-loop μ-loop
 put c = c .before .before
 
 -- in a turn there is a call left
@@ -39,7 +39,7 @@ left c = omega arith
 
 loop-holds : tie.Need-loop-holds Inv-loop μ-loop
 loop-holds c =
-    let pre = c .before .before .before .before .before .before .before .before .pre in
+    let pre = c .before .before .before .before .before .before .before .before .before .pre in
     progress-start _ _ _ _ _ (pre .0) (pre .2)
 
 call-at-requires : tie.Need-call-at-requires Inv-loop μ-loop
@@ -67,7 +67,7 @@ loop-again c =
     let m = made (put c .before) in
     let t = turn (m .before) in
     let s = entry (t .before) in
-    let read = m .before .before .before .before .before .before .before .call-at .ensures in
+    let read = m .before .before .before .before .before .before .before .before .call-at .ensures in
     progress-next _ _ _ _ _ (left t) (m .step .kept .1 .1 .1 .1 .1 .1 .0)
     (call-made _ _ (s .args .calls .now) (t .before .loop .i) read (call-at _ _ (s .pre .1) _ (left t)) (m .step .ensures))
     (put c .put-reply .ensures)
@@ -77,13 +77,15 @@ loop-again c =
 shaped-now : (c : tie.After-loop Inv-loop μ-loop) →
     let l = c .before .loop in
     let args = entry (c .before) .args in
-    Shaped (args .blocks) (args .width) (memory (l .a) (l .b) (l .counts) (l .cells) (l .roots) (l .waiting))
+    Shaped (args .blocks) (args .width)
+    (lentMemory (l .a) (l .b) (l .counts) (l .cells) (l .roots) (l .waiting) (l .sections))
 shaped-now c = usable-healthy _ _ _ (c .before .loop .inv .usable) .shape
 
 shaped-before : (c : tie.After-loop Inv-loop μ-loop) →
     let args = entry (c .before) .args in
     Shaped (args .blocks) (args .width)
-    (memory (args .a .now) (args .b .now) (args .counts .now) (args .cells .now) (args .roots .now) (args .waiting .now))
+    (lentMemory (args .a .now) (args .b .now) (args .counts .now) (args .cells .now) (args .roots .now) (args .waiting .now)
+    (args .sections .now))
 shaped-before c = usable-healthy _ _ _ (entry (c .before) .pre .0) .shape
 
 returns : tie.Need-returns Inv-loop μ-loop
@@ -108,5 +110,6 @@ run-all-spec =
     (λ c. shaped-now c .length-cells ∙ sym (shaped-before c .length-cells))
     (λ c. c .before .loop .inv .roots-length)
     (λ c. shaped-now c .length-waiting ∙ sym (shaped-before c .length-waiting))
+    (λ c. shaped-now c .length-sections ∙ sym (shaped-before c .length-sections))
     (λ c. c .before .loop .inv .replies-length)
     returns)

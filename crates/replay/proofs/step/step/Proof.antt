@@ -12,26 +12,26 @@ use Rattle.replay.proofs.step.step.Statement.{statement}
 use Rattle.replay.proofs.step.step.Tie as tie
 
 -- the places: the entry, and in each arm the call that has just returned
-abbrev entry : tie.After-slice-known6 → tie.Start
-entry c = c .before .before .before .before .before .before
+abbrev entry : tie.After-slice-known7 → tie.Start
+entry c = c .before .before .before .before .before .before .before
 
-abbrev formatted : tie.After-slice-known12 → tie.After-format
-formatted c = c .before .before .before .before .before .before .before .before .before .before .before .before
+abbrev formatted : tie.After-slice-known14 → tie.After-format
+formatted c = c .before .before .before .before .before .before .before .before .before .before .before .before .before .before
 
 abbrev allocated : tie.After-result → tie.After-allocate
-allocated c = c .before .before .before .before .before .before .before .before .before .before .before .before .before
+allocated c = c .before .before .before .before .before .before .before .before .before .before .before .before .before .before .before
 
-abbrev root-stored : tie.After-slice-known24 → tie.After-store-root
-root-stored c = c .before .before .before .before .before .before .before .before .before .before .before .before
+abbrev root-stored : tie.After-slice-known28 → tie.After-store-root
+root-stored c = c .before .before .before .before .before .before .before .before .before .before .before .before .before .before
 
-abbrev cell-stored : tie.After-slice-known29 → tie.After-store-cell
-cell-stored c = c .before .before .before .before .before .before .before .before .before .before
+abbrev cell-stored : tie.After-slice-known34 → tie.After-store-cell
+cell-stored c = c .before .before .before .before .before .before .before .before .before .before .before .before
 
-abbrev collected : tie.After-slice-known34 → tie.After-collect
-collected c = c .before .before .before .before .before .before .before .before .before .before
+abbrev collected : tie.After-slice-known40 → tie.After-collect
+collected c = c .before .before .before .before .before .before .before .before .before .before .before .before
 
-abbrev returned : tie.After-slice-known40 → tie.After-return-roots
-returned c = c .before .before .before .before .before .before .before .before .before .before .before .before
+abbrev returned : tie.After-slice-known47 → tie.After-return-roots
+returned c = c .before .before .before .before .before .before .before .before .before .before .before .before .before .before
 
 format-requires : tie.Need-format-requires
 format-requires c κs = search needs
@@ -79,7 +79,7 @@ returns : tie.Need-returns
 unfolding decoded
 returns c =
     let called = formatted c in
-    stepped-as _ _ 0 _ _ _ (omega arith) (called .before .before .before .before .before .before .before .match .keys1)
+    stepped-as _ _ 0 _ _ _ (omega arith) (called .before .before .before .before .before .before .before .before .match .keys1)
     (called .format .ensures)
 
 returns-2 : tie.Need-returns-2
@@ -93,28 +93,28 @@ returns-3 : tie.Need-returns-3
 unfolding decoded
 returns-3 c =
     let called = allocated c in
-    stepped-as _ _ 2 _ _ _ (omega arith) (called .before .before .before .before .before .before .before .match .keys3)
+    stepped-as _ _ 2 _ _ _ (omega arith) (called .before .before .before .before .before .before .before .before .match .keys3)
     (called .allocate .ensures .promise)
 
 returns-4 : tie.Need-returns-4
 unfolding decoded
 returns-4 c =
     let called = root-stored c in
-    stepped-as _ _ 3 _ _ _ (omega arith) (called .before .before .before .before .before .before .before .match .keys4)
+    stepped-as _ _ 3 _ _ _ (omega arith) (called .before .before .before .before .before .before .before .before .match .keys4)
     (called .store-root .ensures)
 
 returns-5 : tie.Need-returns-5
 unfolding decoded
 returns-5 c =
     let called = cell-stored c in
-    stepped-as _ _ 4 _ _ _ (omega arith) (called .before .before .before .before .before .before .before .match .keys5)
+    stepped-as _ _ 4 _ _ _ (omega arith) (called .before .before .before .before .before .before .before .before .match .keys5)
     (called .store-cell .ensures)
 
 returns-6 : tie.Need-returns-6
 unfolding decoded
 returns-6 c =
     let called = collected c in
-    stepped-as _ _ 5 _ _ _ (omega arith) (called .before .before .before .before .before .before .before .match .keys6)
+    stepped-as _ _ 5 _ _ _ (omega arith) (called .before .before .before .before .before .before .before .before .match .keys6)
     (called .collect .ensures)
 
 returns-7 : tie.Need-returns-7
@@ -135,7 +135,7 @@ returns-9 : tie.Need-returns-9
 unfolding decoded
 returns-9 c =
     let called = returned c in
-    stepped-as _ _ 8 _ _ _ (omega arith) (called .before .before .before .before .before .before .before .match .keys9)
+    stepped-as _ _ 8 _ _ _ (omega arith) (called .before .before .before .before .before .before .before .before .match .keys9)
     (called .return-roots .ensures)
 
 returns-10 : tie.Need-returns-10
@@ -167,6 +167,7 @@ step-spec =
     (λ c. formatted c .format .kept .1 .1 .1 .1 .1 .0)
     (λ c. formatted c .format .kept .1 .1 .1 .1 .1 .1 .0)
     (λ c. formatted c .format .kept .1 .1 .1 .1 .1 .1 .1 .0)
+    (λ c. formatted c .format .kept .1 .1 .1 .1 .1 .1 .1 .1 .0)
     returns
     returns-2
     (λ c. allocated c .allocate .kept .1 .1 .0)
@@ -175,6 +176,7 @@ step-spec =
     (λ c. allocated c .allocate .kept .1 .1 .1 .1 .1 .0)
     (λ c. allocated c .allocate .kept .1 .1 .1 .1 .1 .1 .0)
     (λ c. allocated c .allocate .kept .1 .1 .1 .1 .1 .1 .1 .0)
+    (λ c. allocated c .allocate .kept .1 .1 .1 .1 .1 .1 .1 .1 .0)
     returns-3
     (λ c. root-stored c .store-root .kept .1 .1 .0)
     (λ c. root-stored c .store-root .kept .1 .1 .1 .0)
@@ -182,6 +184,7 @@ step-spec =
     (λ c. root-stored c .store-root .kept .1 .1 .1 .1 .1 .0)
     (λ c. root-stored c .store-root .kept .1 .1 .1 .1 .1 .1 .0)
     (λ c. root-stored c .store-root .kept .1 .1 .1 .1 .1 .1 .1 .0)
+    (λ c. root-stored c .store-root .kept .1 .1 .1 .1 .1 .1 .1 .1 .0)
     returns-4
     (λ c. cell-stored c .store-cell .kept .1 .1 .0)
     (λ c. cell-stored c .store-cell .kept .1 .1 .1 .0)
@@ -189,6 +192,7 @@ step-spec =
     (λ c. cell-stored c .store-cell .kept .1 .1 .1 .1 .1 .0)
     (λ _. refl)
     (λ c. cell-stored c .store-cell .kept .1 .1 .1 .1 .1 .1 .1 .0)
+    (λ c. cell-stored c .store-cell .kept .1 .1 .1 .1 .1 .1 .1 .1 .0)
     returns-5
     (λ c. collected c .collect .kept .1 .1 .0)
     (λ c. collected c .collect .kept .1 .1 .1 .0)
@@ -196,6 +200,7 @@ step-spec =
     (λ c. collected c .collect .kept .1 .1 .1 .1 .1 .0)
     (λ _. refl)
     (λ c. collected c .collect .kept .1 .1 .1 .1 .1 .1 .1 .0)
+    (λ c. collected c .collect .kept .1 .1 .1 .1 .1 .1 .1 .1 .0)
     returns-6
     (λ _. refl)
     (λ _. refl)
@@ -209,5 +214,6 @@ step-spec =
     (λ c. returned c .return-roots .kept .1 .1 .1 .1 .1 .0)
     (λ c. returned c .return-roots .kept .1 .1 .1 .1 .1 .1 .0)
     (λ c. returned c .return-roots .kept .1 .1 .1 .1 .1 .1 .1 .0)
+    (λ c. returned c .return-roots .kept .1 .1 .1 .1 .1 .1 .1 .1 .0)
     returns-9
     returns-10)

@@ -10,10 +10,10 @@ use Rattle.report.proofs.run.run_pieces.Statement.{statement}
 use Rattle.report.proofs.run.run_pieces.Tie as tie
 
 abbrev Inv-loop : tie.InvT-loop
-Inv-loop a₀ b₀ counts₀ cells₀ roots₀ waiting₀ run₀ a b counts cells roots waiting run = run .records ≤ mostRecords
+Inv-loop a₀ b₀ counts₀ cells₀ roots₀ waiting₀ sections₀ run₀ a b counts cells roots waiting sections run = run .records ≤ mostRecords
 
 abbrev μ-loop : tie.MeasureT-loop
-μ-loop a₀ b₀ counts₀ cells₀ roots₀ waiting₀ run₀ a b counts cells roots waiting run = mostRecords - run .records
+μ-loop a₀ b₀ counts₀ cells₀ roots₀ waiting₀ sections₀ run₀ a b counts cells roots waiting sections run = mostRecords - run .records
 
 new-run-requires : tie.Need-new-run-requires Inv-loop μ-loop
 new-run-requires c κs = search needs

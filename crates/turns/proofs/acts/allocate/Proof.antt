@@ -7,23 +7,23 @@ use Rattle.turns.proofs.acts.allocate.Statement.{statement}
 use Rattle.turns.proofs.acts.allocate.Tie as tie
 
 -- the places, from the last back: the second try, the collection, that no chunk was free, the first try (or the only one), the start
-abbrev second : tie.After-slice-known23 → tie.After-allocate2
-second c = c .before .before .before .before .before .before .before .before .before .before .before .before
+abbrev second : tie.After-slice-known27 → tie.After-allocate2
+second c = c .before .before .before .before .before .before .before .before .before .before .before .before .before .before
 
-abbrev forced : tie.After-allocate-arg12 → tie.After-collect
-forced c = c .before .before .before .before .before .before .before .before .before .before .before .before .before .before .before .before
+abbrev forced : tie.After-allocate-arg14 → tie.After-collect
+forced c = c .before .before .before .before .before .before .before .before .before .before .before .before .before .before .before .before .before .before .before
 
-abbrev none-free : tie.After-collect-arg6 → tie.Else1
-none-free c = c .before .before .before .before .before .before
+abbrev none-free : tie.After-collect-arg7 → tie.Else1
+none-free c = c .before .before .before .before .before .before .before
 
 abbrev first : tie.Else1 → tie.After-allocate
-first c = c .before .before .before .before .before .before .before .before .before .before .before .before .before
+first c = c .before .before .before .before .before .before .before .before .before .before .before .before .before .before .before
 
 abbrev only : tie.Then1 → tie.After-allocate
-only c = c .before .before .before .before .before .before .before .before .before .before .before .before .before
+only c = c .before .before .before .before .before .before .before .before .before .before .before .before .before .before .before
 
 abbrev start : tie.After-allocate → tie.Start
-start c = c .before .before .before .before .before .before .before .before .before .before .before .before .before
+start c = c .before .before .before .before .before .before .before .before .before .before .before .before .before .before .before
 
 -- those of an allocation that was tried twice, from its return
 abbrev last-try : tie.After-done-after2 → tie.After-allocate2
@@ -36,7 +36,7 @@ abbrev first-try : tie.After-done-after2 → tie.After-allocate
 first-try c = first (none-free (collection c .before))
 
 allocate-requires : tie.Need-allocate-requires
-allocate-requires c κs = c .before .before .before .before .before .before .before .before .before .before .before .before .pre
+allocate-requires c κs = c .before .before .before .before .before .before .before .before .before .before .before .before .before .before .pre
 
 done-after-requires : tie.Need-done-after-requires
 done-after-requires c κs = search needs
@@ -80,6 +80,7 @@ allocate-spec =
     (λ c. only (c .before) .allocate .kept .1 .1 .1 .1 .1 .0)
     (λ c. only (c .before) .allocate .kept .1 .1 .1 .1 .1 .1 .0)
     (λ c. only (c .before) .allocate .kept .1 .1 .1 .1 .1 .1 .1 .0)
+    (λ c. only (c .before) .allocate .kept .1 .1 .1 .1 .1 .1 .1 .1 .0)
     returns
     collect-requires
     allocate-requires-2
@@ -93,4 +94,6 @@ allocate-spec =
     (λ c. last-try c .allocate2 .kept .1 .1 .1 .1 .1 .1 .0 ∙ first-try c .allocate .kept .1 .1 .1 .1 .1 .1 .0)
     (λ c. last-try c .allocate2 .kept .1 .1 .1 .1 .1 .1 .1 .0 ∙ collection c .collect .kept .1 .1 .1 .1 .1 .1 .1 .0
     ∙ first-try c .allocate .kept .1 .1 .1 .1 .1 .1 .1 .0)
+    (λ c. last-try c .allocate2 .kept .1 .1 .1 .1 .1 .1 .1 .1 .0 ∙ collection c .collect .kept .1 .1 .1 .1 .1 .1 .1 .1 .0
+    ∙ first-try c .allocate .kept .1 .1 .1 .1 .1 .1 .1 .1 .0)
     returns-2)
