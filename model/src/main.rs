@@ -32,9 +32,10 @@ const USAGE: &str = "usage:
   model history port < FILE          the line once more, by the product's algorithms in plain Rust
   model history bench FILE PROGRAM ..  times of a program on a history against these; its memory
 with the product's library, `--features library`:
-  model fuzz SECONDS SEED            all pairs of maps of 8 blocks, random lists, damaged memories and replays,
-                                     model against library
-  model bench                        times of the library against plain Rust (build it with --release)
+  model fuzz SECONDS SEED            all pairs of maps of 8 blocks, random lists, damaged memories, replays and runs
+                                     of records, model against library
+  model bench                        times of the library against plain Rust, and of the searches for a chunk
+                                     (build it with --release)
 ";
 
 fn main() {
@@ -145,7 +146,7 @@ fn fuzz(seconds: u64, seed: u64) {
         print(format!("no difference, but not met: {}\n", unmet.join("; ")).as_bytes());
         exit(1);
     }
-    print(b"no difference; every number of every call and every damage kind was met, and every pair of maps of 8 blocks\n");
+    print(b"no difference; every number of every call, replay and run and every damage kind was met, and every pair of maps of 8 blocks\n");
 }
 
 #[cfg(feature = "library")]

@@ -5,6 +5,7 @@ use common::{fresh, say};
 use model::rules::claims::unsound;
 use model::rules::damage::{damage, kind_1, kind_2};
 use model::rules::heap::*;
+use model::rules::section_claims::untrue_list;
 use model::texts::trace;
 use model::{apply, Call, Memory};
 use std::sync::atomic::{AtomicUsize, Ordering};
@@ -156,7 +157,7 @@ fn objects_are_the_ends_without_kinds_1_and_2() {
 /// The damaged memories that `model damaged` prints: damage and the claims agree, and each call refuses.
 #[test]
 fn random_damage() {
-    let mut met = [0; 6];
+    let (mut met, mut untrue) = ([0; 6], [0; 2]);
     for line in trace::damaged(3, 4000).lines() {
         let fields: Vec<Vec<u16>> = line
             .split('|')
@@ -176,8 +177,11 @@ fn random_damage() {
             cells: fields[4].clone(),
             roots: fields[5].clone(),
             waiting: fields[6].clone(),
+            sections: fields[7].clone(),
         };
-        let kind = fields[7][0] as usize;
+        let kind = fields[8][0] as usize;
+        let is_untrue = untrue_list(blocks, &memory).is_some();
+        untrue[usize::from(kind != 0)] += usize::from(is_untrue);
         met[kind] += 1;
         assert_eq!(damage(blocks, width, &memory), kind);
         assert_eq!(kind == 0, unsound(blocks, width, &memory).is_none());
@@ -198,8 +202,12 @@ fn random_damage() {
             let reply = common::call_and_claims(blocks, width, &mut memory, call);
             assert_eq!(reply.number == 2, kind != 0);
             assert!(kind == 0 || reply.value == kind);
+            // "11, the list doesn't match the maps, next after 2."
+            assert_eq!(reply.number == 11, kind == 0 && is_untrue);
         }
     }
-    assert!(met.iter().all(|number| *number > 100));
-    say(&format!("4000 damaged memories, kinds 0 to 5: {met:?}"));
+    assert!(met.iter().chain(&untrue).all(|number| *number > 100));
+    say(&format!(
+        "4000 damaged memories, kinds 0 to 5: {met:?}; untrue lists of sections without and with damage: {untrue:?}"
+    ));
 }

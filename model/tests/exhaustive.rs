@@ -54,7 +54,7 @@ const BESIDE: [Call; 10] = [
 struct Ran {
     lists: usize,
     calls: usize,
-    numbers: [usize; 9],
+    numbers: [usize; 12],
 }
 
 /// All lists that go on from here with at most so many calls.

@@ -3,14 +3,14 @@
 mod common;
 use common::say;
 use model::lists::families;
-use model::lists::file::{bytes, LENGTH, LOAD, NEW};
+use model::lists::file::{bytes, BUFFERS, LENGTH, LOAD, NEW};
 use model::lists::paper::cases;
 use model::lists::vectors::{paper_file, vectors};
 use model::texts::expect::expect;
 use model::texts::trace;
 use model::Call;
 
-const EMPTY_8_2_4: &str = "0\n0\n0 0\n0 0 0 0 0 0 0 0 0 0 0 0 0 0 0 0 0 0 0 0 0 0 0 0 0 0 0 0 0 0 0 0\n0 0 0 0\n0 0 0 0 0 0 0 0\n";
+const EMPTY_8_2_4: &str = "0\n0\n0 0\n0 0 0 0 0 0 0 0 0 0 0 0 0 0 0 0 0 0 0 0 0 0 0 0 0 0 0 0 0 0 0 0\n0 0 0 0\n0 0 0 0 0 0 0 0\n0\n";
 
 fn printed(header: [u64; 3], entries: &[[u64; 4]]) -> String {
     expect(&bytes(header, entries)).0
@@ -29,7 +29,7 @@ fn headers() {
         assert_eq!(printed(header, &[[0; 4]]), "header: too large\n");
     }
     // Too large is said of a header alone; a bad one is a heap that refuses.
-    assert_eq!(printed([0, 0, 0], &[[0; 4]]), "1 0 0\n\n\n\n\n\n\n");
+    assert_eq!(printed([0, 0, 0], &[[0; 4]]), "1 0 0\n\n\n\n\n\n\n0\n");
     assert_eq!(
         printed([8, 5, 1], &[[1, 0, 0, 0]]).lines().next(),
         Some("1 0 0")
@@ -64,7 +64,9 @@ fn entries() {
         [2, 2, 0],
         [3, 32, 0],
         [3, 0, 65_536],
-        [6, 0, 0],
+        [6, 1, 0],
+        [6, 0, 65_536],
+        [7, 0, 0],
     ] {
         let words = [LOAD, load[0], load[1], load[2]];
         assert_eq!(first(words).unwrap(), "call 0: load out of range\n");
@@ -75,7 +77,8 @@ fn entries() {
         [3, 32_769],
         [4, 66],
         [5, 8193],
-        [6, 0],
+        [6, 33],
+        [7, 0],
     ] {
         let words = [LENGTH, buffer, length, 0];
         assert_eq!(first(words).unwrap(), "call 0: length out of range\n");
@@ -83,7 +86,7 @@ fn entries() {
     assert_eq!(first([NEW, 8193, 1, 1]).unwrap(), "call 0: too large\n");
     // A new heap: the old buffers are printed first.
     let out = printed([0, 0, 0], &[[NEW, 8, 2, 4], [1, 0, 0, 0]]);
-    assert_eq!(out, format!("\n\n\n\n\n\n2 1 0\n{EMPTY_8_2_4}"));
+    assert_eq!(out, format!("\n\n\n\n\n\n0\n2 1 0\n{EMPTY_8_2_4}"));
     // Loads and lengths print nothing, count as entries, and what lies beyond a length is kept.
     let out = printed(
         [0, 0, 2],
@@ -97,7 +100,40 @@ fn entries() {
             [LENGTH, 0, 2, 0],
         ],
     );
-    assert_eq!(out, "call 3: load out of range\n0 0\n\n\n\n65535 7 0 5\n\n");
+    assert_eq!(
+        out,
+        "call 3: load out of range\n0 0\n\n\n\n65535 7 0 5\n\n0\n"
+    );
+}
+
+/// The list of sections is buffer 6, printed last: a number for each 256 blocks, one where there are fewer.
+#[test]
+fn the_list_of_sections() {
+    for (blocks, length) in [
+        (0, 1),
+        (8, 1),
+        (255, 1),
+        (256, 1),
+        (512, 2),
+        (1000, 3),
+        (8192, 32),
+    ] {
+        let out = printed([blocks, 1, 1], &[]);
+        assert_eq!(out.lines().count(), BUFFERS);
+        assert_eq!(out.lines().last(), Some(&*vec!["0"; length].join(" ")));
+    }
+    let entries = [
+        [0; 4],
+        [LOAD, 6, 1, 65_535],
+        [1, 0, 0, 0],
+        [LENGTH, 6, 1, 0],
+        [1, 0, 0, 0],
+        [LENGTH, 6, 3, 0],
+        [LOAD, 6, 2, 9],
+    ];
+    let out = printed([512, 1, 1], &entries);
+    assert!(out.starts_with("0 0 0\n11 0 0\n1 0 0\n"), "{out}");
+    assert_eq!(out.lines().last(), Some("256 65535 9"));
 }
 
 #[test]
@@ -117,7 +153,7 @@ fn cut_off() {
             cuts += 1;
         }
         let lines: Vec<&str> = out.lines().collect();
-        assert_eq!(lines.len(), due.len() + 6);
+        assert_eq!(lines.len(), due.len() + BUFFERS);
         assert_eq!(lines[..due.len()], due);
     }
     say(&format!("{cuts} files cut off inside a call"));
@@ -128,10 +164,10 @@ fn the_large_file() {
     let file = vectors(1);
     assert_eq!(file, vectors(1));
     let (out, tally) = expect(&file);
-    assert!(
-        tally.numbers.iter().all(|number| *number >= 100),
-        "{tally:?}"
-    );
+    // No call answers 9 or 10.
+    for number in (0..=8).chain([11]) {
+        assert!(tally.numbers[number] >= 100, "{number}: {tally:?}");
+    }
     assert!(
         tally.kinds[1..].iter().all(|number| *number >= 30),
         "{tally:?}"
@@ -170,8 +206,8 @@ fn seeds_make_the_same_again() {
     assert!(text
         .lines()
         .skip(2)
-        .all(|line| line.split('|').count() == 8));
+        .all(|line| line.split('|').count() == 9));
     assert_eq!(text, trace::trace(5, 50, 16, 3));
     let text = trace::steps(5, 50);
-    assert!(text.lines().all(|line| line.split('|').count() == 15));
+    assert!(text.lines().all(|line| line.split('|').count() == 17));
 }

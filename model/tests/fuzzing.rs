@@ -2,18 +2,27 @@
 
 mod common;
 use common::say;
+use model::history::run::run_records;
+use model::history::Run;
 use model::product::compare::Library;
 use model::product::fuzz::fuzz;
-use model::product::met::{Met, CALLS};
+use model::product::met::{Met, CALLS, NUMBERS};
 use model::rules::replay::replay;
 use model::{apply, Call, Memory, Reply};
 
 /// A run of no seconds: the pairs of maps and the lists that are always the same.
 fn met_always() -> Met {
-    let (met, difference) = fuzz(0, 1, Library { apply, replay });
+    let (met, difference) = fuzz(0, 1, MODEL);
     assert_eq!(difference, None);
     met
 }
+
+/// The model in the library's place.
+const MODEL: Library = Library {
+    apply,
+    replay,
+    run_records,
+};
 
 #[test]
 fn what_can_be_met_is_met_whatever_the_seed() {
@@ -21,7 +30,7 @@ fn what_can_be_met_is_met_whatever_the_seed() {
     assert_eq!(met.unmet(), Vec::<String>::new());
     // And no call answers a number that it doesn't have.
     for (code, (name, numbers)) in CALLS.into_iter().enumerate() {
-        for number in (0..9).filter(|number| !numbers.contains(number)) {
+        for number in (0..NUMBERS).filter(|number| !numbers.contains(number)) {
             assert_eq!(met.numbers[code][number], 0, "{name}, number {number}");
         }
         assert_eq!(met.too_many_blocks[code], 4, "{name}, at each width");
@@ -61,9 +70,21 @@ fn what_was_not_met_is_named() {
         let what = format!("replay, number {number}");
         without(&|met| met.replay_numbers[number] = 0, what);
     }
+    for number in [0, 1, 2, 11, 19] {
+        let what = format!("run, number {number}");
+        without(&|met| met.run_numbers[number] = 0, what);
+    }
+    for number in [0, 3, 4, 5, 6, 7, 9, 10] {
+        let what = format!("run, stopped by {number}");
+        without(&|met| met.stops[number] = 0, what);
+    }
     without(
         &|met| met.pairs_of_maps -= 1,
         "every pair of maps".to_string(),
+    );
+    without(
+        &|met| met.maps_with_figures -= 1,
+        "every map with figures".to_string(),
     );
     assert_eq!(Met::default().unmet().len(), named);
 }
@@ -90,21 +111,46 @@ fn wrong_replay(
     reply
 }
 
+/// Answers the run that was handed in where the list of sections is untrue.
+fn wrong_run(
+    blocks: usize,
+    width: usize,
+    memory: &mut Memory,
+    so_far: Run,
+    piece: &[u8],
+) -> (Reply, Run) {
+    let (reply, run) = run_records(blocks, width, memory, so_far, piece);
+    match reply.number {
+        11 => (reply, so_far),
+        _ => (reply, run),
+    }
+}
+
 #[test]
 fn a_difference_is_found_and_cut_down() {
     let apply_only = Library {
         apply: wrong_apply,
-        replay,
+        ..MODEL
     };
     let (_, found) = fuzz(0, 1, apply_only);
     let text = found.expect("a wrong value in a refusal on 16,384 blocks");
     assert!(text.starts_with("a difference: 16384 blocks"), "{text}");
     assert_eq!(text.matches("collect").count(), 1, "{text}");
     let replay_only = Library {
-        apply,
         replay: wrong_replay,
+        ..MODEL
     };
     let (_, found) = fuzz(0, 1, replay_only);
     let text = found.expect("a word written in a refused replay");
     assert!(text.starts_with("a difference: a replay of "), "{text}");
+    let run_only = Library {
+        run_records: wrong_run,
+        ..MODEL
+    };
+    let (_, found) = fuzz(0, 1, run_only);
+    let text = found.expect("a run that isn't all 0 in a refusal");
+    assert!(
+        text.starts_with("a difference: a run of records, "),
+        "{text}"
+    );
 }

@@ -117,10 +117,11 @@ fn every_unreached_object_is_in_one_part() {
             cells: words(4),
             roots: words(5),
             waiting: words(6),
+            sections: words(7),
         };
         let found = garbage(blocks, width, &memory);
         let held = |set: &BTreeSet<usize>| vec![set.len(), blocks_of(blocks, &memory, set)];
-        assert_eq!(fields[7..], [held(&found.stuck), held(&found.cycles)]);
+        assert_eq!(fields[8..], [held(&found.stuck), held(&found.cycles)]);
         let mut all = reached(blocks, &memory);
         assert_eq!(
             all.len() + found.stuck.len() + found.cycles.len(),

@@ -1,11 +1,11 @@
 //! Runs of histories: the line, what a stop leaves, pieces, and the limit.
 
 mod common;
-use common::say;
+use common::{fresh, say};
 use model::history::figures::Figures;
 use model::history::record::bytes;
 use model::history::record::short::{allocate, clear, copy, read, write, COLLECT};
-use model::history::run::{new_heap, run_as_report, MOST_RECORDS};
+use model::history::run::{new_heap, run_as_report, run_records, MOST_RECORDS};
 use model::history::vectors::all_but_the_longest;
 use model::history::{report, Record, Run};
 use model::lists::random::Random;
@@ -131,4 +131,42 @@ fn the_limit() {
     assert_eq!(ends(&[9; 7]), (10, 4_294_967_294, 0));
     let line = run_as_report(&mut new_heap(), far, &two).line();
     assert_eq!(line, "refused 10 at record 4294967295\n");
+}
+
+/// Each set of the four faults, in the order in which they are refused: 1, 2, U4's 11, 19. A refusal answers a run of all 0.
+#[test]
+fn refusals_in_order() {
+    let history = bytes(&[allocate(3, 0), allocate(1, 1), COLLECT, clear(0)]);
+    for faults in 0..16 {
+        let has = |k: usize| faults >> k & 1 == 1;
+        let mut memory = fresh(8, 2, 4);
+        memory.waiting.fill(9);
+        if has(1) {
+            memory.cells[31] = 1;
+        }
+        if has(2) {
+            memory.sections[0] = 7;
+        }
+        if has(0) {
+            memory.sections.clear();
+        }
+        let mut so_far = Run::default();
+        so_far.figures.allocations = u64::from(has(3));
+        let before = memory.clone();
+        let (reply, run) = run_records(8, 2, &mut memory, so_far, &history);
+        let numbers = [1, 2, 11, 19];
+        let due = (0..4).find(|k| has(*k)).map_or(0, |k| numbers[k]);
+        assert_eq!(reply.number, due);
+        if due == 0 {
+            // Block 3 is left.
+            assert_eq!(run.line(), "2 4 3 1 4 0\n");
+            assert_eq!(
+                (&memory.sections[..], &memory.waiting[..]),
+                (&[4][..], &[0; 8][..])
+            );
+        } else {
+            assert_eq!((run, memory), (Run::default(), before));
+        }
+    }
+    say("a run of records with each set of the faults 1, 2, 11 and 19");
 }

@@ -4,8 +4,9 @@
 mod common;
 use common::{fresh, say};
 use model::history::run::run;
-use model::history::{Operation, Record, Run};
+use model::history::{Record, Run};
 use model::lists::random::Random;
+use model::lists::runs::some_record;
 use model::rules::claims::{broken_claim, objects};
 use model::rules::heap::{capacity, count, is_allocated, is_first_block, Memory};
 use model::rules::list_claims::{before_letting_go, unduly_stuck, Step};
@@ -105,7 +106,8 @@ impl Heap {
         };
         let is_stuck = |memory: &Memory| {
             let first = named - 1;
-            is_first_block(blocks, memory, first) && count(blocks, width, memory, first) == capacity(width)
+            is_first_block(blocks, memory, first)
+                && count(blocks, width, memory, first) == capacity(width)
         };
         named != 0 && !is_stuck(&step.before) && is_stuck(&step.after)
     }
@@ -173,30 +175,6 @@ fn conditions(blocks: usize, memory: &Memory, record: Record) -> Vec<(usize, boo
         6 => vec![nine(&[d.into(), s.into(), c, size])],
         _ => vec![(9, true)],
     }
-}
-
-/// A record that may be refused.
-fn some_record(random: &mut Random, blocks: usize, roots: usize) -> Record {
-    let mut up_to = |usual: usize, seldom: usize| {
-        let bound = if random.percent(90) { usual } else { seldom };
-        random.below(bound)
-    };
-    let (d, s) = (up_to(roots, roots + 1) as u8, up_to(roots, roots + 1) as u8);
-    let c = up_to(4, 20) as u16;
-    let size = up_to(4, blocks + 2) as u16;
-    let operation = match random.below(100) {
-        0..=29 => Operation::Allocate { size, d },
-        30..=49 => Operation::Copy { s, d },
-        50..=74 => Operation::Write { s, c, d },
-        75..=84 => Operation::Read { c, s, d },
-        85..=96 => Operation::Clear { d },
-        _ => Operation::Collect,
-    };
-    let mut bytes = operation.record().bytes();
-    if random.percent(4) {
-        bytes[random.below(8)] = random.below(9) as u8;
-    }
-    Record::from_bytes(bytes)
 }
 
 #[test]

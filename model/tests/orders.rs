@@ -11,6 +11,7 @@ use model::lists::random::Random;
 use model::rules::calls::apply_in_order;
 use model::rules::counting::{count_up, erase, longest_waiting, Order};
 use model::rules::heap::*;
+use model::rules::sections::leave_list_true;
 use model::{apply, Call, Memory, Reply};
 
 /// Carries out a call in an order.
@@ -159,6 +160,7 @@ fn faulty(fault: Fault, memory: &mut Memory, shape: [usize; 2], call: Call, orde
         }
     }
     memory.waiting.fill(0);
+    leave_list_true(blocks, memory);
     Reply {
         value: freed,
         ..reply

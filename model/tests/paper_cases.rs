@@ -131,7 +131,7 @@ fn too_many_blocks_in_every_call() {
 fn every_wrong_length_in_every_call() {
     let mut refused = 0;
     for call in EVERY_CALL {
-        for buffer in 0..6 {
+        for buffer in 0..7 {
             for by in [-1i64, 1] {
                 let mut memory = common::fresh(16, 3, 4);
                 let longer = |length: usize| (length as i64 + by) as usize;
@@ -141,7 +141,8 @@ fn every_wrong_length_in_every_call() {
                     2 => memory.counts.resize(longer(6), 0),
                     3 => memory.cells.resize(longer(64), 0),
                     4 => memory.roots.resize(if by < 0 { 0 } else { 65 }, 0),
-                    _ => memory.waiting.resize(longer(16), 0),
+                    5 => memory.waiting.resize(longer(16), 0),
+                    _ => memory.sections.resize(longer(1), 0),
                 }
                 let before = memory.clone();
                 assert_eq!(

@@ -3,6 +3,7 @@
 
 mod common;
 use common::say;
+use model::lists::file::BUFFERS;
 use model::lists::paper::{cases, Step};
 use model::lists::vectors::paper_file;
 use model::texts::expect::expect;
@@ -72,7 +73,7 @@ fn what_the_documents_name_is_shown() {
 
 /// Whether each printed line is one that a case compares: a reply, or a map that the case reads.
 fn compared() -> Vec<bool> {
-    let mut compared = vec![false; 6];
+    let mut compared = vec![false; BUFFERS];
     for case in cases() {
         for part in case.parts() {
             let calls = part.again.iter().chain(&part.steps);
@@ -84,7 +85,8 @@ fn compared() -> Vec<bool> {
             let last = part.steps.last();
             let reads_a = last.is_some_and(|step| step.reads_maps());
             let reads_b = matches!(last, Some(Step::Maps(..)));
-            compared.extend([reads_a, reads_b, false, false, false, false]);
+            compared.extend([reads_a, reads_b]);
+            compared.extend([false; BUFFERS - 2]);
         }
     }
     compared

@@ -1,39 +1,172 @@
 //! The port that the benchmark uses does what the model does, so that the two sides of the benchmark do the
 //! same work.
 
+use model::history::figures::Figures;
 use model::history::report;
+use model::history::run::run_records;
 use model::history::vectors::all_but_the_longest;
+use model::history::Run;
+use model::lists::damaging::{some_damage, AIMS};
+use model::lists::file::{Bench, Entry};
 use model::lists::generate::Desk;
 use model::lists::random::Random;
-use model::product::port::{self, lend, Searched, SoFar};
+use model::lists::runs::{some_records, some_run};
+use model::lists::section_lists::sections;
+use model::product::port::{self, lend, Searched, SoFar, Tally};
 use model::rules::replay::replay;
-use model::{Call, Memory};
+use model::rules::sections::leave_list_true;
+use model::{apply, Call, Memory};
+
+/// A list of calls, replayed by both and, but for the list of sections, by the searches that the port had before.
+fn same_replay(shape: [u64; 3], list: &[u64]) -> Memory {
+    let [blocks, width, roots] = shape.map(|number| number as usize);
+    let mut due = Memory::zeros(blocks, width, roots);
+    let mut replies_due = vec![0; list.len() / 4 * 3];
+    let reply = replay(blocks, width, &mut due, list, &mut replies_due);
+    assert_eq!(reply.number, 0);
+    let mut memory = Memory::zeros(blocks, width, roots);
+    let mut replies = vec![0; replies_due.len()];
+    let m = &mut lend(&mut memory);
+    let answer = port::replay(blocks, width, m, list, &mut replies);
+    assert_eq!((answer.number, answer.value), (reply.number, reply.value));
+    assert_eq!((&memory, &replies), (&due, &replies_due), "{shape:?}");
+    assert_eq!(port::check(blocks, width, &lend(&mut memory)).number, 0);
+    for find in [port::search_in_one_walk, port::search_in_two_passes] {
+        let mut memory = Memory::zeros(blocks, width, roots);
+        memory.sections.fill(7);
+        let m = &mut lend(&mut memory);
+        port::replay_without_list(find, blocks, width, m, list, &mut replies);
+        assert!(memory.sections.iter().all(|number| *number == 7));
+        leave_list_true(blocks, &mut memory);
+        assert_eq!((&memory, &replies), (&due, &replies_due), "{shape:?}");
+    }
+    due
+}
 
 #[test]
 fn port_is_the_model_on_random_lists() {
     for seed in 0..40 {
         let mut random = Random::new(seed);
-        let shape = [random.pick(&[8, 16, 64]), 1 + seed % 4, 4];
+        let shape = [random.pick(&[8, 16, 64, 256, 512]), 1 + seed % 4, 4];
         let mut desk = Desk::new(random, shape);
         desk.call(Call::Format);
         for _ in 0..300 {
             let call = desk.some_call();
             desk.call(call);
         }
-        let (blocks, width) = (shape[0] as usize, shape[1] as usize);
-        let list: Vec<u64> = desk.entries.concat();
-        let mut memories = [0, 1].map(|_| Memory::zeros(blocks, width, 4));
-        let mut replies = [0, 1].map(|_| vec![0; desk.entries.len() * 3]);
-        let mut lent = lend(&mut memories[0]);
-        let answer = port::replay(blocks, width, &mut lent, &list, &mut replies[0]);
-        let reply = replay(blocks, width, &mut memories[1], &list, &mut replies[1]);
+        let memory = same_replay(shape, &desk.entries.concat());
+        assert_eq!(memory, desk.bench.memory, "seed {seed}");
+    }
+}
+
+/// Lists of several sections, their calls alone.
+#[test]
+fn port_is_the_model_on_sections() {
+    for seed in 0..24 {
+        let mut desk = Desk::new(Random::new(seed), [8, 1 + seed % 4, 4]);
+        sections(&mut desk, 150);
+        let calls = desk.entries.iter().copied();
+        let calls = calls.filter(|words| Entry::from_words(*words).call().is_some());
+        let list: Vec<u64> = calls.flatten().collect();
+        same_replay([desk.blocks() as u64, 1 + seed % 4, 4], &list);
+    }
+}
+
+/// 1, 2 and 11: heaps as they are, damaged, with an untrue list of sections, and with buffers of another length.
+#[test]
+fn port_checks_as_the_model_does() {
+    let mut met = [0; 12];
+    for seed in 0..600 {
+        let desk = some_used_desk(seed);
+        let mut bench = desk.bench.clone();
+        let mut random = desk.random.clone();
+        let aim = seed as usize % (AIMS + 1);
+        if aim == AIMS {
+            let buffer = random.below(7) as u64;
+            let length = bench.length(buffer) as u64 + 1;
+            bench.set_length(buffer, length);
+        } else {
+            for (buffer, index, value) in some_damage(&mut random, &bench, aim) {
+                bench.load(buffer, index as u64, value);
+            }
+        }
+        let Bench {
+            blocks,
+            width,
+            mut memory,
+            ..
+        } = bench;
+        let answer = port::check(blocks, width, &lend(&mut memory));
+        let reply = apply(blocks, width, &mut memory, Call::Check);
         assert_eq!((answer.number, answer.value), (reply.number, reply.value));
-        assert_eq!(reply.number, 0);
-        assert_eq!(memories[0], memories[1], "seed {seed}");
-        assert_eq!(replies[0], replies[1], "seed {seed}");
-        assert_eq!(memories[0], desk.bench.memory, "seed {seed}");
-        let [memory, _] = &mut memories;
-        assert_eq!(port::check(blocks, width, &lend(memory)).number, 0);
+        met[reply.number] += 1;
+    }
+    assert!(
+        [0, 1, 2, 11].iter().all(|number| met[*number] > 20),
+        "{met:?}"
+    );
+}
+
+/// A used heap of one section or more.
+fn some_used_desk(seed: u64) -> Desk {
+    let mut random = Random::new(seed);
+    let shape = [random.pick(&[8, 8, 16, 64, 512]), 1 + seed % 4, 4];
+    let mut desk = Desk::new(random, shape);
+    desk.call(Call::Format);
+    for _ in 0..20 {
+        let call = desk.some_call();
+        desk.call(call);
+    }
+    desk
+}
+
+/// Runs of records, as they are and spoilt.
+#[test]
+fn port_runs_records_as_the_model_does() {
+    let mut met = [0; 20];
+    for seed in 0..600 {
+        let mut desk = some_used_desk(seed);
+        let (blocks, roots) = (desk.blocks(), desk.roots());
+        let records = some_records(&mut desk.random, blocks, roots);
+        let handed = some_run(seed, &desk.bench, &records);
+        let (mut due, mut memory) = (handed.bench.memory.clone(), handed.bench.memory);
+        let width = handed.bench.width;
+        let (reply, run) = run_records(blocks, width, &mut due, handed.run, &handed.bytes);
+        let m = &mut lend(&mut memory);
+        match port::run_records(blocks, width, m, so_far(handed.run), &handed.bytes) {
+            Ok(after) => assert_eq!((0, after), (reply.number, so_far(run))),
+            Err(answer) => assert_eq!((answer.number, answer.value), (reply.number, reply.value)),
+        }
+        assert_eq!(memory, due, "seed {seed}");
+        met[reply.number] += 1;
+    }
+    assert!(
+        [0, 1, 2, 11, 19].iter().all(|number| met[*number] > 5),
+        "{met:?}"
+    );
+}
+
+/// Where a run stands, for the port.
+fn so_far(run: Run) -> SoFar {
+    let Figures {
+        allocations,
+        blocks,
+        largest,
+        collections,
+        most_in_use,
+        became_stuck,
+    } = run.figures;
+    SoFar {
+        number: run.number,
+        records: run.records as usize,
+        tally: Tally {
+            allocations,
+            blocks,
+            largest,
+            collections,
+            peak: most_in_use,
+            stuck: became_stuck,
+        },
     }
 }
 
@@ -52,6 +185,7 @@ fn port_hands_runs_in_and_out() {
     let history = [1, 0, 0, 0, 0, 0, 2, 0, 1, 0, 0, 0, 0, 0, 9, 0];
     let mut memory = Memory::zeros(8, 2, 4);
     memory.b.fill(255);
+    memory.sections.fill(8);
     let mut lent = lend(&mut memory);
     let mut run = |so_far, bytes: &[u8]| port::run_records(8, 2, &mut lent, so_far, bytes);
     let first = run(SoFar::default(), &history[..8]).expect("accepted");
@@ -85,9 +219,35 @@ fn plain_search(a: &[u8], from: usize, to: usize, size: usize) -> Searched {
     }
 }
 
+/// The same section by section, where it is no longer than one: the first section that has a chunk is searched alone, and where
+/// none has, nothing is.
+fn search_by_sections(a: &[u8], size: usize) -> Searched {
+    if size > 256 {
+        return plain_search(a, 0, BLOCKS, size);
+    }
+    let mut sections = (0..BLOCKS).step_by(256);
+    let found = sections.find_map(|from| {
+        let found = plain_search(a, from, from + 256, size);
+        (found.at != from + 256).then_some(found)
+    });
+    found.unwrap_or(Searched {
+        at: BLOCKS,
+        looks: 0,
+    })
+}
+
+/// The list of sections of a map, by the port.
+fn true_list(a: &[u8]) -> Vec<u16> {
+    let mut list = vec![port::UNKNOWN; BLOCKS / 256];
+    port::renew(BLOCKS, a, &mut list);
+    list
+}
+
+/// The blocks of the maps that are searched.
+const BLOCKS: usize = 1024;
+
 #[test]
-fn both_searches_find_the_lowest_chunk_and_the_new_one_counts_its_looks() {
-    const BLOCKS: usize = 1024;
+fn all_searches_find_the_lowest_chunk_and_the_later_ones_count_their_looks() {
     for seed in 0..400 {
         let mut random = Random::new(seed);
         let rarely_mixed = random.below(9);
@@ -109,6 +269,13 @@ fn both_searches_find_the_lowest_chunk_and_the_new_one_counts_its_looks() {
                 expected,
                 "seed {seed}, {from}..{to}, {size}"
             );
+            let by_sections = search_by_sections(&map, size);
+            let list = true_list(&map);
+            assert_eq!(
+                port::find_chunk(BLOCKS, &map, &list, size),
+                by_sections,
+                "seed {seed}, {size}"
+            );
             let whole = plain_search(&map, 0, BLOCKS, size);
             assert_eq!(
                 port::lowest_chunk(&map, 0, BLOCKS, size),
@@ -120,6 +287,7 @@ fn both_searches_find_the_lowest_chunk_and_the_new_one_counts_its_looks() {
                 whole.at,
                 "seed {seed}, {size}"
             );
+            assert_eq!(by_sections.at, whole.at, "seed {seed}, {size}");
         }
     }
 }

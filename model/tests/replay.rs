@@ -109,3 +109,28 @@ fn a_value_that_no_cell_can_hold() {
     assert_eq!(numbers, [0, 8, 8, 8, 0, 0]);
     assert_eq!(replies[15..], [0, 1, 2]);
 }
+
+/// A replay formats, so it takes any list of sections of the right length, and leaves a true one (U4).
+#[test]
+fn any_list_of_sections() {
+    let list = words(&[
+        Call::Allocate { n: 300, r: 0 },
+        Call::Allocate { n: 1, r: 1 },
+        Call::StoreRoot { r: 0, v: 0 },
+        Call::Check,
+    ]);
+    let mut replies = [7; 12];
+    let mut memory = Memory::zeros(512, 2, 4);
+    memory.sections.fill(5);
+    let reply = replay(512, 2, &mut memory, &list, &mut replies);
+    assert_eq!((reply.number, reply.value), (0, 4));
+    assert_eq!(replies, [0, 0, 0, 0, 300, 0, 0, 300, 0, 0, 0, 0]);
+    assert_eq!(memory.sections, [256, 128]);
+    for length in [0, 1, 3] {
+        let mut memory = Memory::zeros(512, 2, 4);
+        memory.sections.resize(length, 5);
+        let before = memory.clone();
+        let reply = replay(512, 2, &mut memory, &list, &mut replies);
+        assert_eq!((reply.number, memory), (1, before));
+    }
+}

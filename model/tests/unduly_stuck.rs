@@ -10,6 +10,7 @@ use model::rules::claims::objects;
 use model::rules::counting::{count_up, longest_waiting, release};
 use model::rules::heap::*;
 use model::rules::list_claims::{before_letting_go, unduly_stuck, Step};
+use model::rules::sections::leave_list_true;
 use model::{apply, Call, Memory, Reply};
 
 /// What a heap does otherwise than the rules, if anything.
@@ -107,6 +108,7 @@ impl Heap {
             }
         }
         memory.waiting.fill(0);
+        leave_list_true(blocks, memory);
         Reply {
             number: 0,
             value: free_count(blocks, memory) - free,

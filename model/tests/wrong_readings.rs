@@ -9,6 +9,7 @@ use model::rules::collection::reached;
 use model::rules::counting::{count_up, erase, references};
 use model::rules::damage::damage;
 use model::rules::heap::*;
+use model::rules::sections::leave_list_true;
 use model::{Call, Memory, Reply};
 
 const N: usize = 8;
@@ -96,6 +97,7 @@ fn wrong_clear_counting_stuck_down(width: usize, memory: &mut Memory, r: usize) 
     let value = if now == 1 { size } else { 0 };
     if now == 1 {
         erase(N, width, memory, first);
+        leave_list_true(N, memory);
     }
     Reply {
         number: 0,
@@ -193,6 +195,7 @@ fn counting_from_unreached_objects() {
         set_count(N, 2, &mut wrong, first, references(&before, first).min(3));
     }
     erase(N, 2, &mut wrong, 1);
+    leave_list_true(N, &mut wrong);
     assert_eq!(count(N, 2, &wrong, 0), 2);
     assert_eq!(damage(N, 2, &wrong), 5);
     let reply = Reply {

@@ -3,7 +3,7 @@
 use super::figures::Figures;
 use super::record::Record;
 use super::request::request;
-use crate::rules::answers::Reply;
+use crate::rules::answers::{accepted, refused, refused_first, Reply};
 use crate::rules::calls::{apply, apply_undamaged, Call};
 use crate::rules::heap::{free_count, Memory};
 use crate::texts::expect::numbers;
@@ -85,6 +85,45 @@ fn run_record(
         figures.after_record(blocks - free_count(blocks, memory));
     }
     number
+}
+
+/// The call on any heap, with its reply and where the run stands then. Document 01 has no such call: the rules quoted here are
+/// those of docs/DECISIONS.md.
+///
+/// Its own refusals are those of the check, with U4's 11 "next after 2", and then 19. "A refusal changes no buffer, and the
+/// run it answers is all 0".
+pub fn run_records(
+    blocks: usize,
+    width: usize,
+    memory: &mut Memory,
+    so_far: Run,
+    piece: &[u8],
+) -> (Reply, Run) {
+    if let Some(reply) = refused_first(blocks, width, memory, Call::Check) {
+        return (reply, Run::default());
+    }
+    if no_run_leaves(so_far) {
+        return (refused(19), Run::default());
+    }
+    // "Accepted, the waiting list is left all 0, also where no record was run."
+    memory.waiting.fill(0);
+    let after = run(blocks, memory, so_far, piece, &mut |memory, call| {
+        apply_undamaged(blocks, width, memory, call)
+    });
+    (accepted(0), after)
+}
+
+/// "19 is for a run that no run leaves: more than 4,294,967,295 records, more allocations than records, more than 8,192 blocks
+/// for each record, more objects that became stuck than records (U5), or more collections than records (one more where the run
+/// was stopped, ...)."
+fn no_run_leaves(run: Run) -> bool {
+    let figures = run.figures;
+    let stopped = u64::from(run.number != 0);
+    run.records > MOST_RECORDS
+        || figures.allocations > run.records
+        || figures.blocks > 8192 * run.records
+        || figures.became_stuck > run.records
+        || figures.collections > run.records + stopped
 }
 
 impl Run {

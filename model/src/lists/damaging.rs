@@ -1,18 +1,20 @@
-//! Damage to a sound heap, as a list of numbers to write into its buffers: one way of each kind 1 to 5, and
-//! changes that may or may not be damage.
+//! Damage to a sound heap, as a list of numbers to write into its buffers: one way of each kind 1 to 5, lists of sections
+//! that are not true, and changes that may or may not be damage.
 
 use crate::lists::file::Bench;
 use crate::lists::random::Random;
 use crate::rules::heap::{capacity, count, first_blocks, is_allocated, size, Memory};
 
-/// A load: buffer (0 a, 1 b, 2 counts, 3 cells, 4 roots, 5 waiting), index, value.
+/// A load: buffer (by its number in file.rs), index, value.
 pub type Load = (u64, usize, u64);
 
-/// The aims of `some_damage`.
-pub const AIMS: usize = 7;
+/// The aims of `some_damage`, and the one that makes the list of sections untrue.
+pub const AIMS: usize = 8;
+pub const UNTRUE_LIST: usize = 6;
 
-/// Loads that aim at a kind 1 to 5 of damage in a used heap. Two aims are no kind: 0 changes only what may stand
-/// in a sound heap, the last one anything. Where a kind isn't possible in this heap it is another, or none.
+/// Loads that aim at a kind 1 to 5 of damage in a used heap. Three aims are no kind: 0 changes only what may stand in a
+/// sound heap, 6 makes the list of sections untrue, the last one changes anything. Where a kind isn't possible in this heap
+/// it is another, or none. Seldom the list of sections is untrue besides: damage is found before it.
 pub fn some_damage(random: &mut Random, bench: &Bench, aim: usize) -> Vec<Load> {
     let (blocks, memory) = (bench.blocks, &bench.memory);
     let free: Vec<usize> = (0..blocks).filter(|i| !is_allocated(memory, *i)).collect();
@@ -24,16 +26,19 @@ pub fn some_damage(random: &mut Random, bench: &Bench, aim: usize) -> Vec<Load> 
         3 => misaligned(random, blocks, memory, &free),
         4 => bad_reference(random, blocks, memory, &free, &objects),
         5 => bad_count(random, bench, &free, &objects),
+        UNTRUE_LIST => untrue_list(random, bench),
         _ => anything(random, bench),
     };
+    let mut more = Vec::new();
     if loads.is_empty() || random.percent(10) {
-        let mut more = anything(random, bench);
-        // Never two loads to one place: each is undone by the value before.
-        more.retain(|new| loads.iter().all(|old| (old.0, old.1) != (new.0, new.1)));
-        more.extend(loads);
-        return more;
+        more = anything(random, bench);
+    } else if aim > 0 && random.percent(15) {
+        more = untrue_list(random, bench);
     }
-    loads
+    // Never two loads to one place: each is undone by the value before.
+    more.retain(|new| loads.iter().all(|old| (old.0, old.1) != (new.0, new.1)));
+    more.extend(loads);
+    more
 }
 
 /// The load that turns one bit of a map of bytes. The map starts at this byte of its buffer.
@@ -194,11 +199,22 @@ fn bad_count(random: &mut Random, bench: &Bench, free: &[usize], objects: &[usiz
     }
 }
 
+/// U4: "the list doesn't match the maps": one number of the list of sections is another, mostly by one.
+fn untrue_list(random: &mut Random, bench: &Bench) -> Vec<Load> {
+    let k = random.below(bench.memory.sections.len());
+    let now = bench.number_at(6, k);
+    // One below 0 is the largest number of 16 bits.
+    let (more, less) = (now + 1, (now + 65_535) % 65_536);
+    let value = random.pick(&[more, more, less, less, 2 * now + 1, 65_535]);
+    vec![(6, k, value)]
+}
+
 /// One to three numbers of the heap changed at random.
 fn anything(random: &mut Random, bench: &Bench) -> Vec<Load> {
     let mut loads: Vec<Load> = Vec::new();
     for _ in 0..1 + random.below(3) {
-        let buffer = random.below(5) as u64;
+        // All but the waiting list.
+        let buffer = random.pick(&[0, 1, 2, 3, 4, 6]);
         let index = random.below(bench.length(buffer));
         if loads.iter().any(|(b, i, _)| (*b, *i) == (buffer, index)) {
             continue;

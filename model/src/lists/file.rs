@@ -10,8 +10,11 @@ pub const MOST_BLOCKS: u64 = 8192;
 pub const MOST_WIDTH: u64 = 5;
 pub const MOST_ROOTS: u64 = 65;
 
-/// The largest length of each of the six buffers.
-pub const MOST_LENGTHS: [u64; 6] = [1024, 1024, 5 * 1024, 32768, 65, 8192];
+/// The lent buffers, by number: 0 a, 1 b, 2 counts, 3 cells, 4 roots, 5 waiting, 6 sections.
+pub const BUFFERS: usize = 7;
+
+/// The largest length of each of them.
+pub const MOST_LENGTHS: [u64; BUFFERS] = [1024, 1024, 5 * 1024, 32768, 65, 8192, 32];
 
 /// Word 0 of the entries that are no calls: behind all calls to come.
 pub const LOAD: u64 = 253;
@@ -151,13 +154,14 @@ impl Bench {
             3 => load_number(&mut memory.cells, index, value),
             4 => load_number(&mut memory.roots, index, value),
             5 => load_number(&mut memory.waiting, index, value),
+            6 => load_number(&mut memory.sections, index, value),
             _ => false,
         }
     }
 
     /// Sets the lent length of a buffer; false where the buffer or the length is out of range.
     pub fn set_length(&mut self, buffer: u64, length: u64) -> bool {
-        if buffer > 5 || length > MOST_LENGTHS[buffer as usize] {
+        if buffer >= BUFFERS as u64 || length > MOST_LENGTHS[buffer as usize] {
             return false;
         }
         let (memory, beyond) = (&mut self.memory, &mut self.beyond);
@@ -168,7 +172,8 @@ impl Bench {
             2 => lend(&mut memory.counts, &mut beyond.counts, length),
             3 => lend(&mut memory.cells, &mut beyond.cells, length),
             4 => lend(&mut memory.roots, &mut beyond.roots, length),
-            _ => lend(&mut memory.waiting, &mut beyond.waiting, length),
+            5 => lend(&mut memory.waiting, &mut beyond.waiting, length),
+            _ => lend(&mut memory.sections, &mut beyond.sections, length),
         }
         true
     }
@@ -182,7 +187,8 @@ impl Bench {
             2 => memory.counts[index] as u64,
             3 => memory.cells[index] as u64,
             4 => memory.roots[index] as u64,
-            _ => memory.waiting[index] as u64,
+            5 => memory.waiting[index] as u64,
+            _ => memory.sections[index] as u64,
         }
     }
 
@@ -195,7 +201,8 @@ impl Bench {
             2 => memory.counts.len(),
             3 => memory.cells.len(),
             4 => memory.roots.len(),
-            _ => memory.waiting.len(),
+            5 => memory.waiting.len(),
+            _ => memory.sections.len(),
         }
     }
 }

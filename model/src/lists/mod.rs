@@ -1,6 +1,7 @@
-//! Lists of calls, written: by hand (paper, request_vectors) and at random. `file` has the form in which they are kept,
-//! `generate` the desk at which they are written, `families` what is written there; `damaging` and `spoiling` make
-//! something wrong; `vectors` is the one large file.
+//! Lists of calls, written: by hand (paper, request_vectors, section_vectors) and at random. `file` has the form in which
+//! they are kept, `generate` the desk at which they are written, `families` what is written there, with `wrong_families` and
+//! `section_lists`; `damaging` and `spoiling` make something wrong; `runs` has runs of records on what a list left;
+//! `vectors` is the one large file.
 
 pub mod damaging;
 pub mod families;
@@ -9,5 +10,9 @@ pub mod generate;
 pub mod paper;
 pub mod random;
 pub mod request_vectors;
+pub mod runs;
+pub mod section_lists;
+pub mod section_vectors;
 pub mod spoiling;
 pub mod vectors;
+pub mod wrong_families;

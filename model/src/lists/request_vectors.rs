@@ -1,4 +1,4 @@
-//! The lists of the large file that belong to requests of document 02.
+//! The lists of the large file that belong to requests of document 02. U4 has a file of its own.
 
 use crate::lists::generate::Desk;
 use crate::rules::calls::short::{allocate, cell, chosen, look, root};
@@ -293,7 +293,8 @@ pub fn moments(desk: &mut Desk) {
     }
 }
 
-fn on_new_heap(desk: &mut Desk, shape: [u64; 3], calls: &[Call]) {
+/// These calls, on a new heap.
+pub fn on_new_heap(desk: &mut Desk, shape: [u64; 3], calls: &[Call]) {
     desk.new_heap(shape);
     for call in calls {
         desk.call(*call);

@@ -1,8 +1,8 @@
 //! Replays to be made of a list of calls, and ways to spoil them.
 
-use crate::lists::families::{wrong_length, BAD_SHAPES};
-use crate::lists::file::{Bench, Entry};
+use crate::lists::file::{Bench, Entry, BUFFERS};
 use crate::lists::random::Random;
+use crate::lists::wrong_families::{wrong_length, BAD_SHAPES};
 use crate::rules::answers::Reply;
 use crate::rules::heap::Memory;
 
@@ -68,7 +68,12 @@ fn fill(random: &mut Random, memory: &mut Memory) {
     for map in [&mut memory.a, &mut memory.b, &mut memory.counts] {
         map.fill_with(|| random.word() as u8);
     }
-    for list in [&mut memory.cells, &mut memory.roots, &mut memory.waiting] {
+    for list in [
+        &mut memory.cells,
+        &mut memory.roots,
+        &mut memory.waiting,
+        &mut memory.sections,
+    ] {
         list.fill_with(|| random.word() as u16);
     }
 }
@@ -90,7 +95,7 @@ fn wrong_shape(random: &mut Random, lent: &mut Lent) {
     let bench = &mut lent.bench;
     match random.below(4) {
         0 => {
-            let buffer = random.below(6) as u64;
+            let buffer = random.below(BUFFERS) as u64;
             let length = wrong_length(random, bench.length(buffer));
             bench.set_length(buffer, length as u64);
         }

@@ -7,6 +7,7 @@ use crate::lists::generate::Desk;
 use crate::lists::paper::{self, Step};
 use crate::lists::random::Random;
 use crate::lists::request_vectors::{moments, present_values, returns};
+use crate::lists::section_vectors::sections;
 use crate::rules::calls::short::{allocate, cell, root};
 use crate::rules::calls::Call;
 
@@ -53,6 +54,7 @@ pub fn vectors(seed: u64) -> Vec<u8> {
     present_values(&mut desk);
     returns(&mut desk);
     moments(&mut desk);
+    sections(&mut desk);
     for round in 0..16 {
         for (_, write) in FAMILIES {
             let shape = some_shape(round, &mut desk.random);
@@ -82,7 +84,9 @@ fn complaints(desk: &mut Desk) {
     for load in [
         [4, 4, 0],
         [5, 8, 1],
-        [6, 0, 0],
+        [6, 1, 0],
+        [6, 0, 65_536],
+        [7, 0, 0],
         [m, 0, 0],
         [0, m, 0],
         [4, 0, m],
@@ -92,7 +96,7 @@ fn complaints(desk: &mut Desk) {
     for [buffer, length] in [[0, 1025], [1, 1025], [2, 5121], [3, 32_769], [4, 66]] {
         desk.words([LENGTH, buffer, length, 0]);
     }
-    for [buffer, length] in [[5, 8193], [6, 0], [m, 1], [0, m]] {
+    for [buffer, length] in [[5, 8193], [6, 33], [7, 0], [m, 1], [0, m]] {
         desk.words([LENGTH, buffer, length, 0]);
     }
     for shape in [
@@ -120,6 +124,11 @@ fn complaints(desk: &mut Desk) {
         desk.words([LENGTH, 4, length, 0]);
         desk.call(Call::Check);
         desk.call(Call::StoreRoot { r: 3, v: 0 });
+    }
+    for length in [32, 2, 0, 1] {
+        desk.words([LENGTH, 6, length, 0]);
+        desk.words([LOAD, 6, 1, 7]);
+        desk.call(Call::Check);
     }
 }
 
@@ -278,6 +287,11 @@ fn large_heaps(desk: &mut Desk) {
         desk.load(3, 4 * block + block % 4, block as u64);
     }
     desk.load(4, 1, blocks as u64);
+    // The list is still that of the format.
+    desk.call(Call::Check);
+    for k in 0..blocks / 256 {
+        desk.load(6, k, 0);
+    }
     desk.call(Call::Check);
     desk.call(Call::Allocate { n: 1, r: 0 });
     desk.call(Call::StoreRoot { r: 1, v: 0 });
@@ -313,6 +327,6 @@ fn large_heaps(desk: &mut Desk) {
             desk.call(Call::StoreRoot { r: 2, v: 4097 });
         }
         crate::lists::families::random(desk, 120);
-        crate::lists::families::damage(desk, 60);
+        crate::lists::wrong_families::damage(desk, 60);
     }
 }

@@ -1,13 +1,16 @@
-//! Times of the product's library against the port in plain safe Rust: one run, same input, buffers warm.
+//! Times of the product's library against the port in plain safe Rust: one run, same input, buffers warm. And those of the
+//! port's searches against each other (search_bench).
 
 use crate::lists::random::Random;
 use crate::product::library::{shared, unique};
 use crate::product::port::{self, lend};
+use crate::product::search_bench;
+use crate::product::timing::{by_turns, compared};
 use crate::rules::heap::{first_blocks, free_count, size, Memory};
 use huwekapo::lent;
 use std::fmt::Write;
 use std::hint::black_box;
-use std::time::{Duration, Instant};
+use std::time::Duration;
 
 const WIDTH: usize = 3;
 const ROOTS: usize = 64;
@@ -22,8 +25,9 @@ pub fn bench() -> String {
     say_what(&mut out, &list);
     calls(&mut out, &list);
     calls(&mut out, &mixed_calls(BLOCKS, MANY_CALLS, 3));
-    passes(&mut out, &list);
-    searches(&mut out);
+    search_bench::lists(&mut out, WIDTH, ROOTS, &list);
+    search_bench::searches(&mut out);
+    search_bench::growth(&mut out);
     check(&mut out, &list);
     growth(&mut out);
     out
@@ -100,26 +104,8 @@ fn say_what(out: &mut String, list: &[u64]) {
     .unwrap();
 }
 
-/// The least of seven times of each of two, taken by turns after one turn that warms up: other work on the machine
-/// can only add to a time.
-fn by_turns(mut one: impl FnMut(), mut other: impl FnMut()) -> [Duration; 2] {
-    let mut least = [Duration::MAX; 2];
-    for turn in 0..8 {
-        let start = Instant::now();
-        one();
-        let middle = Instant::now();
-        other();
-        if turn > 0 {
-            least[0] = least[0].min(middle - start);
-            least[1] = least[1].min(middle.elapsed());
-        }
-    }
-    least
-}
-
-fn ratio([library, port]: [Duration; 2]) -> String {
-    let ratio = library.as_secs_f64() / port.as_secs_f64();
-    format!("library {library:>12.3?}   plain Rust {port:>12.3?}   ratio {ratio:.3}")
+fn ratio(times: [Duration; 2]) -> String {
+    compared(["library", "plain Rust"], times)
 }
 
 /// The inner calls, by the library's run of a list and by the port's. Replies and buffers must be equal.
@@ -148,80 +134,6 @@ fn calls(out: &mut String, list: &[u64]) {
     )
     .unwrap();
     writeln!(out, "  {rate:.0} calls a second by the library").unwrap();
-}
-
-/// The list of calls by the port, with the search in two passes and with the one that replaced it.
-fn passes(out: &mut String, list: &[u64]) {
-    let mut memories = [0, 1].map(|_| Memory::zeros(BLOCKS, WIDTH, ROOTS));
-    let mut replies = [0, 1].map(|_| vec![0u64; list.len() / 4 * 3]);
-    let [first, second] = &mut memories;
-    let [by_one, by_two] = &mut replies;
-    let times = by_turns(
-        || {
-            port::replay(BLOCKS, WIDTH, &mut lend(first), black_box(list), by_one);
-        },
-        || {
-            let find = &port::search_in_two_passes;
-            let m = &mut lend(second);
-            port::replay_by(find, BLOCKS, WIDTH, m, black_box(list), by_two);
-        },
-    );
-    assert!(memories[0] == memories[1] && replies[0] == replies[1]);
-    writeln!(
-        out,
-        "{} mixed calls, plain Rust: {}",
-        list.len() / 4,
-        before_and_after(times)
-    )
-    .unwrap();
-}
-
-fn before_and_after([after, before]: [Duration; 2]) -> String {
-    let ratio = after.as_secs_f64() / before.as_secs_f64();
-    format!("two passes {before:>12.3?}   one {after:>12.3?}   ratio {ratio:.3}")
-}
-
-/// The two searches, in plain Rust, on A-maps of several kinds.
-fn searches(out: &mut String) {
-    let half = |byte| if byte < BLOCKS / 16 { 255 } else { 0 };
-    let mut random = Random::new(4);
-    let three_of_four = (0..BLOCKS / 8)
-        .map(|_| (0..8).map(|i| u8::from(random.below(4) < 3) << i).sum())
-        .collect();
-    let maps: [(&str, Vec<u8>); 4] = [
-        ("full", vec![255; BLOCKS / 8]),
-        ("lower half full", (0..BLOCKS / 8).map(half).collect()),
-        ("three of four used", three_of_four),
-        ("one of eight used", vec![128; BLOCKS / 8]),
-    ];
-    for (kind, map) in &maps {
-        for size in [1, 2, 8, 64, 512] {
-            let (times, found) = search_times(map, size);
-            let looks = found.looks;
-            let times = before_and_after(times);
-            writeln!(out, "{kind}, size {size}, {looks} looks: {times}").unwrap();
-        }
-    }
-}
-
-fn search_times(map: &[u8], size: usize) -> ([Duration; 2], port::Searched) {
-    const ROUNDS: u32 = 500;
-    let found = port::lowest_chunk(map, 0, BLOCKS, size);
-    let times = by_turns(
-        || {
-            for _ in 0..ROUNDS {
-                let at = port::lowest_chunk(black_box(map), 0, BLOCKS, size).at;
-                assert_eq!(at, found.at);
-            }
-        },
-        || {
-            for _ in 0..ROUNDS {
-                let at = port::search_in_two_passes(black_box(map), BLOCKS, size);
-                assert_eq!(at, found.at);
-            }
-        },
-    );
-    (times.map(|time| time / ROUNDS), found)
 }
 
 /// A heap as a list of calls leaves it.
@@ -277,7 +189,7 @@ fn collect_times(blocks: usize, list: &[u64]) -> [Duration; 2] {
                 let mut m = lend(black_box(&mut other));
                 assert_eq!(port::check(blocks, WIDTH, &m).number, 0);
                 m.waiting.fill(0);
-                port::collect(blocks, WIDTH, &mut m);
+                port::full_collection(blocks, WIDTH, &mut m);
             }
         },
     );

@@ -1,6 +1,9 @@
 //! The model and the product's library side by side: the first difference, as text.
 
-use crate::lists::file::{Apply, Bench, Entry};
+use crate::history::run::run_records;
+use crate::history::{text, Run};
+use crate::lists::file::{Apply, Bench, Entry, BUFFERS};
+use crate::lists::runs::{Handed, RunRecords};
 use crate::lists::spoiling::{Lent, Replay};
 use crate::product::met::Met;
 use crate::rules::answers::Reply;
@@ -16,14 +19,17 @@ use std::fmt::Write;
 pub struct Library {
     pub apply: Apply,
     pub replay: Replay,
+    pub run_records: RunRecords,
 }
 
-/// What one side answered and left. An entry that is no call has no reply, and only a replay has replies.
+/// What one side answered and left. An entry that is no call has no reply; only a replay has replies, and only a run stands
+/// somewhere.
 #[derive(PartialEq, Eq)]
 struct Outcome<'a> {
     reply: Option<Reply>,
     memory: &'a Memory,
     replies: &'a [u64],
+    run: Option<Run>,
 }
 
 /// Runs a list on both, comparing the reply and every buffer after every entry.
@@ -46,11 +52,13 @@ pub fn call_by_call(
             reply,
             memory: &bench.memory,
             replies: &[],
+            run: None,
         });
         if sides[0] != sides[1] {
             let [blocks, width, roots] = header;
             let title = format!("{blocks} blocks, width {width}, {roots} roots");
-            return Some(difference(&title, &entries[..=k].concat(), sides));
+            let list = entry_lines(&entries[..=k].concat());
+            return Some(difference(&title, &list, sides));
         }
     }
     None
@@ -66,14 +74,45 @@ pub fn replayed(other: Library, lent: &Lent, met: &mut Met) -> Option<String> {
         reply: Some(reply),
         memory: &lent.bench.memory,
         replies: &lent.replies,
+        run: None,
     });
-    (sides[0] != sides[1]).then(|| difference(&replay_title(lent), &lent.words, sides))
+    (sides[0] != sides[1])
+        .then(|| difference(&replay_title(lent), &entry_lines(&lent.words), sides))
+}
+
+/// Makes a run of records on both, comparing the reply, where the run stands, and every buffer.
+pub fn ran(other: Library, handed: &Handed, met: &mut Met) -> Option<String> {
+    let (mut model, mut library) = (handed.clone(), handed.clone());
+    let by_model = model.run(run_records);
+    let by_library = library.run(other.run_records);
+    met.run(by_model.0, by_model.1.number);
+    let sides =
+        [(by_model, &model), (by_library, &library)].map(|((reply, run), handed)| Outcome {
+            reply: Some(reply),
+            memory: &handed.bench.memory,
+            replies: &[],
+            run: Some(run),
+        });
+    (sides[0] != sides[1]).then(|| {
+        let bench = &handed.bench;
+        let title = format!(
+            "a run of records, {} blocks, width {}, from {:?}",
+            bench.blocks, bench.width, handed.run
+        );
+        let before: Vec<String> = named_buffers(&bench.memory)
+            .into_iter()
+            .map(|(name, numbers)| format!("  {name} before   {numbers}\n"))
+            .collect();
+        let list = before.concat() + &text::words(&handed.bytes);
+        difference(&title, &list, sides)
+    })
 }
 
 /// The shape of a replay in words.
 fn replay_title(lent: &Lent) -> String {
     let bench = &lent.bench;
-    let lengths: Vec<usize> = (0..6).map(|buffer| bench.length(buffer)).collect();
+    let buffers = 0..BUFFERS as u64;
+    let lengths: Vec<usize> = buffers.map(|buffer| bench.length(buffer)).collect();
     format!(
         "a replay of {} words with room for {} words of replies, {} blocks, width {}, buffers of {}",
         lent.words.len(),
@@ -84,13 +123,18 @@ fn replay_title(lent: &Lent) -> String {
     )
 }
 
-/// A list that shows a difference, in numbers and words, with both replies and the lists that differ.
-fn difference(title: &str, words: &[u64], [model, library]: [Outcome; 2]) -> String {
-    let mut out = format!("a difference: {title}\n");
-    for four in words.chunks_exact(4) {
+/// Entries in numbers and words, a line each.
+fn entry_lines(words: &[u64]) -> String {
+    let lines = words.chunks_exact(4).map(|four| {
         let in_words = entry_in_words([four[0], four[1], four[2], four[3]]);
-        writeln!(out, "  {}   {in_words}", numbers(four)).unwrap();
-    }
+        format!("  {}   {in_words}\n", numbers(four))
+    });
+    lines.collect()
+}
+
+/// A list that shows a difference, with both replies and what differs.
+fn difference(title: &str, list: &str, [model, library]: [Outcome; 2]) -> String {
+    let mut out = format!("a difference: {title}\n{list}");
     writeln!(out, "the model's reply     {}", reply_numbers(model.reply)).unwrap();
     writeln!(
         out,
@@ -115,10 +159,16 @@ fn reply_numbers(reply: Option<Reply>) -> String {
     }
 }
 
-/// The buffers and the replies, by name.
+/// The buffers, by name.
+fn named_buffers(memory: &Memory) -> Vec<(String, String)> {
+    let names = (0..BUFFERS as u64).map(buffer_name);
+    names.zip(buffer_lines(memory)).collect()
+}
+
+/// The buffers, the replies and where a run stands, by name.
 fn lists(outcome: &Outcome) -> Vec<(String, String)> {
-    let names = (0..6).map(buffer_name);
-    let mut lists: Vec<_> = names.zip(buffer_lines(outcome.memory)).collect();
+    let mut lists = named_buffers(outcome.memory);
     lists.push(("replies".to_string(), numbers(outcome.replies)));
+    lists.push(("run".to_string(), format!("{:?}", outcome.run)));
     lists
 }

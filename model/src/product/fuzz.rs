@@ -1,14 +1,17 @@
-//! Random lists and damaged memories, on the model and on the product's library side by side: call by call, and
-//! then the calls of the list as one replay, as they are and spoilt. First come the check of every pair of maps of
-//! eight blocks and lists that are always the same, which meet all that can be met; then fresh ones.
+//! Random lists and damaged memories, on the model and on the product's library side by side: call by call, then the calls
+//! of the list as one replay, as they are and spoilt, then runs of records on what the list left. First come the check of
+//! every pair of maps of eight blocks, and of every A-map of eight blocks with every figure, and lists that are always the
+//! same, which meet all that can be met; then fresh ones.
 
 use crate::lists::damaging::{some_damage, AIMS};
 use crate::lists::families::{random as random_calls, some_shape, FAMILIES};
 use crate::lists::file::Entry;
 use crate::lists::generate::Desk;
 use crate::lists::random::Random;
+use crate::lists::runs::{some_records, some_run};
+use crate::lists::section_lists::sections;
 use crate::lists::spoiling::some_replay;
-use crate::product::compare::{call_by_call, replayed, Library};
+use crate::product::compare::{call_by_call, ran, replayed, Library};
 use crate::product::met::{Met, PAIRS_OF_MAPS, TOO_MANY_BLOCKS};
 use crate::product::shrink::shrink;
 use crate::Call;
@@ -17,18 +20,23 @@ use std::time::{Duration, Instant};
 /// After the first difference the search goes on for so many seconds, for a shorter list that shows one.
 const FURTHER: Duration = Duration::from_secs(5);
 
+/// So many runs of records on what a list left.
+const RUNS: usize = 6;
+
 /// A difference, with the length of the list that shows it.
 struct Found {
     length: usize,
     text: String,
 }
 
-/// Checks all pairs of maps and the lists that are always the same, then runs fresh lists for so many seconds. What
-/// was met, and a difference, as text.
+/// Checks all pairs of maps, all figures and the lists that are always the same, then runs fresh lists for so many seconds.
+/// What was met, and a difference, as text.
 pub fn fuzz(seconds: u64, seed: u64, library: Library) -> (Met, Option<String>) {
     let mut met = Met::default();
-    if let Some(difference) = pairs_of_maps(library, &mut met) {
-        return (met, Some(difference));
+    let difference =
+        pairs_of_maps(library, &mut met).or_else(|| maps_with_figures(library, &mut met));
+    if difference.is_some() {
+        return (met, difference);
     }
     let mut end = Instant::now() + Duration::from_secs(seconds);
     let mut random = Random::new(seed);
@@ -68,8 +76,27 @@ fn pairs_of_maps(library: Library, met: &mut Met) -> Option<String> {
     })
 }
 
-/// The lists that are always the same, at each width: every family, every aim of damage on several heaps, and every
-/// call on too many blocks with buffers that fit. `Met::unmet` says what they would leave out.
+/// The check of every A-map of eight blocks with the figures 0 to 9, of which one is right: each used block is an object, and
+/// at width 1 a count of 1 needs no reference.
+fn maps_with_figures(library: Library, met: &mut Met) -> Option<String> {
+    let shape = [8, 1, 4];
+    (0..256).find_map(|a| {
+        let mut desk = Desk::new(Random::new(0), shape);
+        desk.call(Call::Format);
+        for (buffer, value) in [(0, a), (1, 255 - a), (2, a)] {
+            desk.load(buffer, 0, value);
+        }
+        for figure in 0..10 {
+            desk.load(6, 0, figure);
+            desk.call(Call::Check);
+            met.maps_with_figures += 1;
+        }
+        call_by_call(library, shape, &desk.entries, &mut Met::default())
+    })
+}
+
+/// The lists that are always the same, at each width: every family, every aim of damage on several heaps, sections, and
+/// every call on too many blocks with buffers that fit. `Met::unmet` says what they would leave out.
 fn always() -> Vec<Desk> {
     let mut lists = Vec::new();
     let mut list = |shape: [u64; 3], write: &dyn Fn(&mut Desk)| {
@@ -79,6 +106,10 @@ fn always() -> Vec<Desk> {
     };
     for width in 1..=4 {
         list([TOO_MANY_BLOCKS as u64, width, 4], &every_call);
+        // Of as many sections as the header says, for the replay.
+        for blocks in [256, 512, 1024] {
+            list([blocks, width, 4], &|desk| sections(desk, 60));
+        }
         for blocks in [8, 16, 32] {
             for (_, write) in FAMILIES {
                 list([blocks, width, 4], &|desk| write(desk, 60));
@@ -91,7 +122,7 @@ fn always() -> Vec<Desk> {
     lists
 }
 
-/// A list call by call, and its calls replayed, as they are and spoilt.
+/// A list call by call, its calls replayed, as they are and spoilt, and runs of records on what it left.
 fn try_list(library: Library, desk: &Desk, met: &mut Met) -> Option<Found> {
     let found = cut_down(&desk.entries, met, |entries, met| {
         call_by_call(library, desk.header, entries, met)
@@ -103,10 +134,20 @@ fn try_list(library: Library, desk: &Desk, met: &mut Met) -> Option<Found> {
     let mut random = desk.random.clone();
     let calls = calls_of(desk, &mut random);
     let seed = random.word();
-    [false, true].into_iter().find_map(|spoilt| {
+    let found = [false, true].into_iter().find_map(|spoilt| {
         cut_down(&calls, met, |calls, met| {
             let lent = some_replay(seed, desk.header, calls, spoilt);
             replayed(library, &lent, met)
+        })
+    });
+    if found.is_some() {
+        return found;
+    }
+    (0..RUNS).find_map(|_| {
+        let records = some_records(&mut random, desk.blocks(), desk.roots().max(1));
+        let seed = random.word();
+        cut_down(&records, met, |records, met| {
+            ran(library, &some_run(seed, &desk.bench, records), met)
         })
     })
 }
@@ -125,13 +166,13 @@ fn calls_of(desk: &Desk, random: &mut Random) -> Vec<[u64; 4]> {
 }
 
 /// The difference that a list shows, if any, shown by a list that is as short as can be.
-fn cut_down(
-    list: &[[u64; 4]],
+fn cut_down<T: Clone>(
+    list: &[T],
     met: &mut Met,
-    difference: impl Fn(&[[u64; 4]], &mut Met) -> Option<String>,
+    difference: impl Fn(&[T], &mut Met) -> Option<String>,
 ) -> Option<Found> {
     difference(list, met)?;
-    let again = |list: &[[u64; 4]]| difference(list, &mut Met::default());
+    let again = |list: &[T]| difference(list, &mut Met::default());
     let short = shrink(list, |list| again(list).is_some());
     Some(Found {
         length: short.len(),
@@ -152,6 +193,7 @@ fn some_list(random: &mut Random) -> Desk {
     shape[0] = match kind {
         0..=1 => own.pick(&[256, 512, 1024, 2048, 4096, 8192]),
         2 => TOO_MANY_BLOCKS as u64,
+        3..=5 => own.pick(&[256, 512, 1024]),
         _ => shape[0],
     };
     let mut desk = Desk::new(own, shape);
@@ -161,7 +203,8 @@ fn some_list(random: &mut Random) -> Desk {
         0 => damaged_calls(&mut desk, 16, aim),
         1 => random_calls(&mut desk, 16),
         2 => every_call(&mut desk),
-        3..=24 => damaged_calls(&mut desk, count, aim),
+        3..=5 => sections(&mut desk, 60),
+        6..=27 => damaged_calls(&mut desk, count, aim),
         _ => {
             let (_, write) = desk.random.pick(&FAMILIES);
             write(&mut desk, count);

@@ -1,13 +1,20 @@
 //! The product: the calls of its C library on the model's memories.
 
+use crate::history::figures::Figures;
+use crate::history::Run;
 use crate::product::compare::Library;
 use crate::rules::answers::Reply;
 use crate::rules::calls::Call;
 use crate::rules::heap::Memory;
 use huwekapo::lent::{self, Shared, Unique};
+use huwekapo::{SoFar, Tally};
 
 /// What the fuzz compares the model with.
-pub const LIBRARY: Library = Library { apply, replay };
+pub const LIBRARY: Library = Library {
+    apply,
+    replay,
+    run_records,
+};
 
 /// Carries out one call by the library, as `calls::apply` does by the model.
 pub fn apply(blocks: usize, width: usize, memory: &mut Memory, call: Call) -> Reply {
@@ -35,11 +42,57 @@ pub fn replay(
     reply_of(lent::replay(unique(blocks, width, memory), words, replies))
 }
 
+/// Makes a run by the library, as `run::run_records` does by the model.
+pub fn run_records(
+    blocks: usize,
+    width: usize,
+    memory: &mut Memory,
+    run: Run,
+    piece: &[u8],
+) -> (Reply, Run) {
+    let ran = lent::run_records(unique(blocks, width, memory), so_far(run), piece);
+    (reply_of(ran.reply), run_of(ran.run))
+}
+
 fn reply_of(reply: lent::Reply) -> Reply {
     Reply {
         number: reply.number,
         value: reply.value,
         second: reply.second,
+    }
+}
+
+/// Where a run stands, for the library.
+fn so_far(run: Run) -> SoFar {
+    let figures = run.figures;
+    let mut tally = Tally::default();
+    tally.allocations = figures.allocations;
+    tally.blocks = figures.blocks;
+    tally.largest = figures.largest;
+    tally.collections = figures.collections;
+    tally.peak = figures.most_in_use;
+    tally.stuck = figures.became_stuck;
+    SoFar {
+        number: run.number,
+        records: run.records as usize,
+        tally,
+    }
+}
+
+/// The same back.
+fn run_of(so_far: SoFar) -> Run {
+    let tally = so_far.tally;
+    Run {
+        number: so_far.number,
+        records: so_far.records as u64,
+        figures: Figures {
+            allocations: tally.allocations,
+            blocks: tally.blocks,
+            largest: tally.largest,
+            collections: tally.collections,
+            most_in_use: tally.peak,
+            became_stuck: tally.stuck,
+        },
     }
 }
 
@@ -54,6 +107,7 @@ pub fn unique(blocks: usize, width: usize, memory: &mut Memory) -> Unique<'_> {
         cells: &mut memory.cells,
         roots: &mut memory.roots,
         waiting: &mut memory.waiting,
+        sections: &mut memory.sections,
     }
 }
 
@@ -68,5 +122,6 @@ pub fn shared(blocks: usize, width: usize, memory: &Memory) -> Shared<'_> {
         cells: &memory.cells,
         roots: &memory.roots,
         waiting: &memory.waiting,
+        sections: &memory.sections,
     }
 }

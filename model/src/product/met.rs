@@ -6,31 +6,41 @@ use crate::rules::calls::Call;
 /// More blocks than a heap can have: "16,384 refused 1".
 pub const TOO_MANY_BLOCKS: usize = 16_384;
 
-/// Each call, by its code, with the numbers that it can answer, in document 01's order.
+/// Each call, by its code, with the numbers that it can answer, in the documents' order.
 pub const CALLS: [(&str, &[usize]); 9] = [
     ("format", &[0, 1]),
-    ("check", &[0, 1, 2]),
-    ("allocate", &[0, 1, 2, 3, 4, 5]),
-    ("store in a root", &[0, 1, 2, 4, 8]),
-    ("store in a cell", &[0, 1, 2, 6, 7, 8]),
-    ("collect", &[0, 1, 2]),
-    ("look", &[0, 1, 2, 6]),
-    ("free blocks", &[0, 1, 2]),
-    ("return", &[0, 1, 2, 4]),
+    ("check", &[0, 1, 2, 11]),
+    ("allocate", &[0, 1, 2, 11, 3, 4, 5]),
+    ("store in a root", &[0, 1, 2, 11, 4, 8]),
+    ("store in a cell", &[0, 1, 2, 11, 6, 7, 8]),
+    ("collect", &[0, 1, 2, 11]),
+    ("look", &[0, 1, 2, 11, 6]),
+    ("free blocks", &[0, 1, 2, 11]),
+    ("return", &[0, 1, 2, 11, 4]),
 ];
+
+/// One more than the largest number that a call can answer.
+pub const NUMBERS: usize = 12;
 
 /// The numbers that a replay can answer, in docs/DECISIONS.md's order.
 pub const REPLAY: [usize; 5] = [0, 1, 10, 9, 18];
 
+/// The numbers that a run of records can answer, in docs/DECISIONS.md's order with U4's; and those that can stop one.
+pub const RUN: [usize; 5] = [0, 1, 2, 11, 19];
+pub const STOPS: [usize; 8] = [0, 10, 9, 3, 4, 5, 6, 7];
+
 /// The pairs of an A-map and a B-map of eight blocks.
 pub const PAIRS_OF_MAPS: usize = 65_536;
+
+/// The A-maps of eight blocks, each with the figures 0 to 9.
+pub const MAPS_WITH_FIGURES: usize = 2_560;
 
 /// Calls one by one, and replays.
 #[derive(Clone, Debug, Default)]
 pub struct Met {
     pub lists: usize,
-    /// Replies by call and number, 0 to 8.
-    pub numbers: [[usize; 9]; CALLS.len()],
+    /// Replies by call and number, 0 to 8 and 11.
+    pub numbers: [[usize; NUMBERS]; CALLS.len()],
     /// Damage kinds by call and kind, 1 to 5.
     pub kinds: [[usize; 6]; CALLS.len()],
     /// Calls on too many blocks, by call.
@@ -42,6 +52,12 @@ pub struct Met {
     pub replayed_calls: usize,
     /// Replies to replays by number, 0 to 18.
     pub replay_numbers: [usize; 19],
+    /// A-maps whose figure was checked, with each figure.
+    pub maps_with_figures: usize,
+    /// Replies to runs of records by number, 0 to 19.
+    pub run_numbers: [usize; 20],
+    /// Accepted runs by the number that stopped them, 0 to 10.
+    pub stops: [usize; 11],
 }
 
 impl Met {
@@ -64,8 +80,17 @@ impl Met {
         self.replayed_calls += reply.value;
     }
 
+    /// Counts the reply to a run of records, and the number that stopped it.
+    pub fn run(&mut self, reply: Reply, stopped: usize) {
+        self.run_numbers[reply.number] += 1;
+        if reply.number == 0 {
+            self.stops[stopped] += 1;
+        }
+    }
+
     /// What can be met and was not: each number of each call, each damage kind in each call that has number 2, each
-    /// call on too many blocks, each pair of maps, each number of a replay.
+    /// call on too many blocks, each pair of maps, each map with each figure, each number of a replay and of a run, and
+    /// each that stops one.
     pub fn unmet(&self) -> Vec<String> {
         let mut unmet = Vec::new();
         let mut expect = |count: usize, what: String| {
@@ -88,8 +113,17 @@ impl Met {
             let count = self.replay_numbers[number];
             expect(count, format!("replay, number {number}"));
         }
+        for number in RUN {
+            let count = self.run_numbers[number];
+            expect(count, format!("run, number {number}"));
+        }
+        for number in STOPS {
+            expect(self.stops[number], format!("run, stopped by {number}"));
+        }
         let all_pairs = self.pairs_of_maps == PAIRS_OF_MAPS;
         expect(all_pairs as usize, "every pair of maps".to_string());
+        let all_figures = self.maps_with_figures == MAPS_WITH_FIGURES;
+        expect(all_figures as usize, "every map with figures".to_string());
         unmet
     }
 
@@ -101,22 +135,27 @@ impl Met {
             "lists {}, calls {}, accepted {}\n\
              refusals by number  {}\n\
              damage by kind      {}\n\
-             pairs of maps checked   {}\n\
+             pairs of maps checked   {}, maps with figures {}\n\
              calls on 16,384 blocks  {}\n\
              replays {}, accepted {}, calls in those {}\n\
-             refusals of replays {}\n",
+             refusals of replays {}\n\
+             runs of records {}, refusals {}, stopped by {}\n",
             self.lists,
-            (0..=8).map(number).sum::<usize>(),
+            (0..NUMBERS).map(number).sum::<usize>(),
             number(0),
-            by(1..=8, number),
+            by((1..=8).chain([11]), number),
             by(1..=5, kind),
             self.pairs_of_maps,
+            self.maps_with_figures,
             self.too_many_blocks.iter().sum::<usize>(),
             self.replays,
             self.replay_numbers[0],
             self.replayed_calls,
             by(REPLAY.into_iter().skip(1), |number| self.replay_numbers
                 [number]),
+            self.run_numbers.iter().sum::<usize>(),
+            by(RUN.into_iter().skip(1), |number| self.run_numbers[number]),
+            by(STOPS.into_iter().skip(1), |number| self.stops[number]),
         )
     }
 }

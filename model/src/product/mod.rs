@@ -1,5 +1,5 @@
 //! Against the product: its library beside the model (library, compare, fuzz, shrink, met), and its library and its
-//! program `report` beside the same algorithms in plain Rust (bench, history_bench, port).
+//! program `report` beside the same algorithms in plain Rust (bench, search_bench, history_bench, timing, port).
 
 #[cfg(feature = "library")]
 pub mod bench;
@@ -10,4 +10,6 @@ pub mod history_bench;
 pub mod library;
 pub mod met;
 pub mod port;
+pub mod search_bench;
 pub mod shrink;
+pub mod timing;

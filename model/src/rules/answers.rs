@@ -3,7 +3,7 @@
 //! "Each list is in order, and the first number that applies is given. No refusal is given when its
 //! condition is false."
 //!
-//! The numbers 1 and 2 stand first in every list: `refused_first`. The calls are for heaps that these don't apply to.
+//! The numbers 1, 2 and 11 stand first in every list: `refused_first`. The calls are for heaps that these don't apply to.
 //! Those that let go of a reference take the order in which objects that wait are freed (counting.rs).
 
 use crate::rules::calls::{is_chosen, Call};
@@ -14,6 +14,7 @@ use crate::rules::damage::damage;
 use crate::rules::heap::{
     capacity, count, free_count, is_first_block, misshapen, set_bit, set_count, size, Memory,
 };
+use crate::rules::sections::{figures, leave_list_true};
 
 /// "A reply is a number and a value (two values for the look). Number 0 is acceptance." Since U5 a store and an
 /// allocation have two values as well.
@@ -55,7 +56,7 @@ pub(crate) fn refused(number: usize) -> Reply {
 
 /// What stands first in the list of every call. "Format: 1 if N, w, the number of roots or any buffer's length is not as
 /// above." "A heap that a call formats isn't tested for more than 1." In all others: "1 as before; 2 if the heap is
-/// damaged."
+/// damaged." Document 02, U4: "11, the list doesn't match the maps, next after 2."
 pub fn refused_first(blocks: usize, width: usize, memory: &Memory, call: Call) -> Option<Reply> {
     if misshapen(blocks, width, memory) {
         return Some(refused(1));
@@ -64,6 +65,7 @@ pub fn refused_first(blocks: usize, width: usize, memory: &Memory, call: Call) -
         return None;
     }
     match damage(blocks, width, memory) {
+        0 if memory.sections != figures(blocks, memory) => Some(refused(11)),
         0 => None,
         kind => Some(Reply {
             number: 2,
@@ -79,14 +81,15 @@ fn leave_waiting_list_zero(memory: &mut Memory) {
     memory.waiting.fill(0);
 }
 
-/// "Format. A-map 0, B-map all ones, everything else 0. The value is 0."
-pub fn format(memory: &mut Memory) -> Reply {
+/// "Format. A-map 0, B-map all ones, everything else 0. The value is 0." U4: "format too, leaves the list true."
+pub fn format(blocks: usize, memory: &mut Memory) -> Reply {
     memory.a.fill(0);
     memory.b.fill(255);
     memory.counts.fill(0);
     memory.cells.fill(0);
     memory.roots.fill(0);
     leave_waiting_list_zero(memory);
+    leave_list_true(blocks, memory);
     accepted(0)
 }
 
@@ -221,7 +224,7 @@ pub fn store_cell(
 /// Document 02, U10: "A return lets go of all local variables together. Give one call a set of roots as a 64-bit
 /// number, bit r for root r."
 ///
-/// "It is refused with 4 if any bit is at or past the number of roots." Before that, 1 and 2.
+/// "It is refused with 4 if any bit is at or past the number of roots." Before that, 1, 2 and 11.
 pub fn return_roots(
     blocks: usize,
     width: usize,

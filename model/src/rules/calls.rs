@@ -3,6 +3,7 @@
 use crate::rules::answers::{self, Reply};
 use crate::rules::counting::{longest_waiting, Order};
 use crate::rules::heap::Memory;
+use crate::rules::sections::keep_list_true;
 
 /// One call with its own arguments.
 #[derive(Clone, Copy, Debug, PartialEq, Eq, Hash)]
@@ -105,15 +106,16 @@ pub fn apply_in_order(
     }
 }
 
-/// The same on a heap that is neither misshapen nor damaged: "A run of many calls may check once and then rely on the
-/// proved fact that calls keep a heap undamaged."
+/// The same on a heap that is neither misshapen nor damaged, and whose list of sections is true: "A run of many calls may
+/// check once and then rely on the proved fact that calls keep a heap undamaged."
 pub fn apply_undamaged(blocks: usize, width: usize, memory: &mut Memory, call: Call) -> Reply {
     carry_out(blocks, width, memory, call, &mut longest_waiting)
 }
 
 fn carry_out(blocks: usize, width: usize, memory: &mut Memory, call: Call, order: Order) -> Reply {
-    match call {
-        Call::Format => answers::format(memory),
+    let a_before = memory.a.clone();
+    let reply = match call {
+        Call::Format => answers::format(blocks, memory),
         Call::Check => answers::check(),
         Call::Allocate { n, r } => answers::allocate(blocks, width, memory, n, r, order),
         Call::StoreRoot { r, v } => answers::store_root(blocks, width, memory, r, v, order),
@@ -122,5 +124,10 @@ fn carry_out(blocks: usize, width: usize, memory: &mut Memory, call: Call, order
         Call::Look { a } => answers::look(blocks, width, memory, a),
         Call::FreeBlocks => answers::free_blocks(blocks, memory),
         Call::ReturnRoots { chosen } => answers::return_roots(blocks, width, memory, chosen, order),
+    };
+    // Document 02, U4: "every accepted call, format too, leaves the list true."
+    if reply.number == 0 {
+        keep_list_true(blocks, memory, &a_before);
     }
+    reply
 }

@@ -21,8 +21,18 @@ pub fn chunk_is_free(memory: &Memory, start: usize, s: usize) -> bool {
 
 /// "A chunk is s blocks starting at a multiple of s." "The lowest free chunk of s blocks is taken".
 pub fn lowest_free_chunk(blocks: usize, memory: &Memory, s: usize) -> Option<usize> {
-    let mut start = 0;
-    while start + s <= blocks {
+    lowest_free_chunk_between(memory, 0, blocks, s)
+}
+
+/// The lowest free chunk of s blocks in a part of the heap, which starts at a multiple of s.
+pub fn lowest_free_chunk_between(
+    memory: &Memory,
+    from: usize,
+    to: usize,
+    s: usize,
+) -> Option<usize> {
+    let mut start = from;
+    while start + s <= to {
         if chunk_is_free(memory, start, s) {
             return Some(start);
         }

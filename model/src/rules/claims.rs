@@ -9,6 +9,7 @@ use crate::rules::calls::{is_chosen, Call};
 use crate::rules::heap::{
     bit, capacity, count, first_blocks, free_count, is_allocated, is_first_block, size, Memory,
 };
+use crate::rules::section_claims::{other_address, untrue_list, wrong_about_list};
 use std::collections::BTreeSet;
 
 /// An object: its first block and its size.
@@ -315,8 +316,8 @@ fn strange_write(
     None
 }
 
-/// The first claim that this call broke, if any. The memory before is sound, or the call is refused, or it
-/// formats.
+/// The first claim that this call broke, if any. The memory before is sound and its list of sections true, or the call is
+/// refused, or it formats.
 pub fn broken_claim(
     blocks: usize,
     width: usize,
@@ -325,14 +326,20 @@ pub fn broken_claim(
     reply: Reply,
     after: &Memory,
 ) -> Option<String> {
+    if let Some(what) = wrong_about_list(blocks, width, before, call, reply) {
+        return Some(what);
+    }
     // "A refusal carries value 0, or the damage kind for number 2 ..., and changes no buffer."
     if reply.number != 0 {
         if before != after {
             return Some("a refusal changed a buffer".into());
         }
         let kinds = if reply.number == 2 { 1..=5 } else { 0..=0 };
-        if !kinds.contains(&reply.value) || reply.second != 0 || reply.number > 8 {
+        if !kinds.contains(&reply.value) || reply.second != 0 {
             return Some("a refusal with a wrong value".into());
+        }
+        if reply.number > 8 && reply.number != 11 {
+            return Some("a refusal that no call has".into());
         }
         if let (Call::Allocate { n, .. }, 5) = (call, reply.number) {
             return wrong_chunk(blocks, before, n, reply);
@@ -350,6 +357,13 @@ pub fn broken_claim(
         return Some("the waiting list is not all 0".into());
     }
     if let Some(what) = unsound(blocks, width, after) {
+        return Some(what);
+    }
+    // Document 02, U4: "every accepted call, format too, leaves the list true."
+    if let Some(what) = untrue_list(blocks, after) {
+        return Some(what);
+    }
+    if let Some(what) = other_address(blocks, after) {
         return Some(what);
     }
     if call == Call::Format {

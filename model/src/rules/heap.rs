@@ -1,9 +1,9 @@
-//! The lent heap: six buffers of plain numbers, and how blocks, counts and objects are read off them.
+//! The lent heap: seven buffers of plain numbers, and how blocks, counts and objects are read off them.
 //!
 //! The number of blocks and the count width are arguments everywhere; the number of roots is the length of
 //! the list of roots. All functions but `misshapen` are for memories that aren't misshapen.
 
-/// The six lent buffers.
+/// The seven lent buffers.
 #[derive(Clone, Debug, Default, PartialEq, Eq, Hash)]
 pub struct Memory {
     /// "A-map, N/8 bytes: 1 is allocated, 0 is free."
@@ -18,10 +18,13 @@ pub struct Memory {
     pub roots: Vec<u16>,
     /// "Waiting list: N unsigned 16-bit numbers of working space."
     pub waiting: Vec<u16>,
+    /// Document 02, U4: "An added lent list of 16-bit numbers, one for each section, holds the size of its largest free
+    /// aligned chunk, 0 if none."
+    pub sections: Vec<u16>,
 }
 
 impl Memory {
-    /// Six buffers of zeros, of the lengths that belong to these numbers. It isn't a formatted heap.
+    /// Seven buffers of zeros, of the lengths that belong to these numbers. It isn't a formatted heap.
     pub fn zeros(blocks: usize, width: usize, roots: usize) -> Memory {
         Memory {
             a: vec![0; blocks / 8],
@@ -30,6 +33,7 @@ impl Memory {
             cells: vec![0; 4 * blocks],
             roots: vec![0; roots],
             waiting: vec![0; blocks],
+            sections: vec![0; section_count(blocks)],
         }
     }
 
@@ -40,10 +44,22 @@ impl Memory {
             && self.counts == other.counts
             && self.cells == other.cells
             && self.roots == other.roots
+            && self.sections == other.sections
     }
 }
 
-/// "1 if N, w, the number of roots or any buffer's length is not as above."
+/// Document 02, U4: "Sections are 256 blocks, or N if N is smaller."
+pub fn section_length(blocks: usize) -> usize {
+    blocks.min(256)
+}
+
+/// "one for each section": up to 256 blocks are one section.
+pub fn section_count(blocks: usize) -> usize {
+    (blocks / 256).max(1)
+}
+
+/// "1 if N, w, the number of roots or any buffer's length is not as above." "Lengths and numbers of roots that later
+/// requests fix fall under 1 too, in every call that takes them".
 pub fn misshapen(blocks: usize, width: usize, memory: &Memory) -> bool {
     // "N is the number of blocks, a power of two from 8 to 8,192."
     let powers = [8, 16, 32, 64, 128, 256, 512, 1024, 2048, 4096, 8192];
@@ -63,6 +79,7 @@ pub fn misshapen(blocks: usize, width: usize, memory: &Memory) -> bool {
         || memory.counts.len() != width * (blocks / 8)
         || memory.cells.len() != 4 * blocks
         || memory.waiting.len() != blocks
+        || memory.sections.len() != section_count(blocks)
 }
 
 /// "Block i is bit i mod 8 (bit 0 is the least) of byte i div 8 of a bitmap."

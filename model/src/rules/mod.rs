@@ -1,7 +1,7 @@
 //! The rules of document 01, and what must hold of them.
 //!
-//! Read in this order: heap, chunks, counting, collection, damage, answers; then calls and replay. Then the claims, which
-//! are checked on what was done: claims (demand 3) and list_claims (U2).
+//! Read in this order: heap, chunks, sections, counting, collection, damage, answers; then calls and replay. Then the
+//! claims, which are checked on what was done: claims (demand 3), section_claims (U4) and list_claims (U2).
 
 pub mod answers;
 pub mod calls;
@@ -13,3 +13,5 @@ pub mod damage;
 pub mod heap;
 pub mod list_claims;
 pub mod replay;
+pub mod section_claims;
+pub mod sections;

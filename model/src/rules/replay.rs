@@ -33,7 +33,7 @@ pub fn replay(
     if replies.len() < 3 * calls.len() {
         return refused(18);
     }
-    format(memory);
+    format(blocks, memory);
     for (i, call) in calls.iter().enumerate() {
         let reply = apply(blocks, width, memory, *call);
         let numbers = [reply.number, reply.value, reply.second];

@@ -1,6 +1,6 @@
 //! Lists of calls as text, one entry a line. docs/FILES.md states the form.
 
-use crate::lists::file::{bytes, LENGTH, LOAD, NEW};
+use crate::lists::file::{bytes, BUFFERS, LENGTH, LOAD, NEW};
 use crate::texts::expect::numbers;
 use crate::texts::show::{buffer_name, entry_in_words};
 
@@ -113,11 +113,11 @@ fn chosen(roots: &[&str]) -> Option<u64> {
     Some(chosen)
 }
 
-/// A buffer by its name, or as `buffer 6`.
+/// A buffer by its name, or as `buffer 7`.
 fn buffer(name: &[&str]) -> Option<u64> {
     match name {
         ["buffer", buffer] => number(buffer),
-        [name] => (0..6).find(|buffer| buffer_name(*buffer) == *name),
+        [name] => (0..BUFFERS as u64).find(|buffer| buffer_name(*buffer) == *name),
         _ => None,
     }
 }

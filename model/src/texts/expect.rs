@@ -1,7 +1,7 @@
 //! What the program `calls` must print for a file. docs/FILES.md states the rules; they are
 //! followed in order.
 
-use crate::lists::file::{Bench, Entry};
+use crate::lists::file::{Bench, Entry, BUFFERS};
 use crate::rules::heap::Memory;
 use std::fmt::{Display, Write};
 
@@ -10,8 +10,8 @@ use std::fmt::{Display, Write};
 pub struct Tally {
     pub heaps: usize,
     pub calls: usize,
-    /// Replies by number, 0 to 8.
-    pub numbers: [usize; 9],
+    /// Replies by number, 0 to 8 and 11.
+    pub numbers: [usize; 12],
     /// Damage kinds reported, by kind, 1 to 5.
     pub kinds: [usize; 6],
     /// Lines that say what is wrong with an entry.
@@ -96,7 +96,7 @@ pub fn expect(file: &[u8]) -> (String, Tally) {
     (out, tally)
 }
 
-/// The six buffers, a line each.
+/// The seven buffers, a line each.
 pub fn print_buffers(out: &mut String, memory: &Memory) {
     for line in buffer_lines(memory) {
         out.push_str(&line);
@@ -104,8 +104,8 @@ pub fn print_buffers(out: &mut String, memory: &Memory) {
     }
 }
 
-/// "decimal numbers parted by one space", for each of the six buffers.
-pub fn buffer_lines(memory: &Memory) -> [String; 6] {
+/// "decimal numbers parted by one space", for each of the seven buffers.
+pub fn buffer_lines(memory: &Memory) -> [String; BUFFERS] {
     [
         numbers(&memory.a),
         numbers(&memory.b),
@@ -113,6 +113,7 @@ pub fn buffer_lines(memory: &Memory) -> [String; 6] {
         numbers(&memory.cells),
         numbers(&memory.roots),
         numbers(&memory.waiting),
+        numbers(&memory.sections),
     ]
 }
 

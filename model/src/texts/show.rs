@@ -1,6 +1,6 @@
 //! Entries and replies in words, and the paper cases beside what the program `calls` printed for them.
 
-use crate::lists::file::Entry;
+use crate::lists::file::{Entry, BUFFERS};
 use crate::lists::paper::{cases, Case, Part, Step, BLOCKS, ROOTS};
 use crate::rules::calls::{is_chosen, Call};
 use std::fmt::Write;
@@ -50,7 +50,7 @@ fn chosen_in_words(chosen: u64) -> String {
 
 /// The name of a buffer by its number.
 pub fn buffer_name(buffer: u64) -> String {
-    let names = ["a", "b", "counts", "cells", "roots", "waiting"];
+    let names = ["a", "b", "counts", "cells", "roots", "waiting", "sections"];
     match names.get(buffer as usize) {
         Some(name) => name.to_string(),
         None => format!("buffer {buffer}"),
@@ -184,10 +184,10 @@ impl Shown<'_> {
         numbers?.try_into().ok()
     }
 
-    /// The six lines of a heap of eight blocks: the bytes of its A-map and its B-map.
+    /// The seven lines of a heap of eight blocks: the bytes of its A-map and its B-map.
     fn maps(&mut self) -> Option<[usize; 2]> {
         let maps = [self.numbers::<1>(), self.numbers::<1>()];
-        let others = [(); 4].map(|()| self.lines.next());
+        let others = [(); BUFFERS - 2].map(|()| self.lines.next());
         let complete = others.iter().all(|line| line.is_some());
         match maps {
             [Some([a]), Some([b])] if complete => Some([a, b]),

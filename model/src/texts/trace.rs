@@ -11,17 +11,19 @@ use crate::rules::heap::Memory;
 use crate::texts::expect::buffer_lines;
 use std::fmt::Write;
 
-/// A random list, one call a line, with its reply and the six buffers after it.
+/// A random list, one call a line, with its reply and the seven buffers after it.
 pub fn trace(seed: u64, count: usize, blocks: usize, width: usize) -> String {
     // Another list for each N and w, not the same one again.
     let mut random = Random::new(seed + ((blocks as u64) << 32) + ((width as u64) << 48));
     let roots = 1 + random.below(4);
     let shape = [blocks as u64, width as u64, roots as u64];
     let mut desk = Desk::new(random, shape);
-    // Rubbish in the waiting list: the first accepted call leaves it all 0.
-    for i in 0..blocks {
-        let v = desk.random.word() % 65_536;
-        desk.load(5, i, v);
+    // Rubbish in the waiting list and in that of sections: the first accepted call leaves one all 0, the other true.
+    for (buffer, length) in [(5, blocks), (6, desk.bench.length(6))] {
+        for i in 0..length {
+            let v = desk.random.word() % 65_536;
+            desk.load(buffer, i, v);
+        }
     }
     let mut out = format!("{blocks} {width} {roots}\n");
     writeln!(out, "{}", buffers(&desk.bench.memory)).unwrap();
@@ -68,7 +70,7 @@ pub fn damaged(seed: u64, count: usize) -> String {
 }
 
 /// Single calls, one a line, each on a small used memory of its own: before, call, reply, after. The waiting
-/// list holds rubbish before; one memory in eight is damaged too.
+/// list holds rubbish before; one memory in eight is damaged too, or its list of sections untrue.
 pub fn steps(seed: u64, count: usize) -> String {
     let mut random = Random::new(seed);
     let mut out = String::new();
@@ -167,7 +169,7 @@ fn tangle(desk: &mut Desk) {
     }
 }
 
-/// The six buffers on one line.
+/// The seven buffers on one line.
 fn buffers(memory: &Memory) -> String {
     buffer_lines(memory).join(" | ")
 }

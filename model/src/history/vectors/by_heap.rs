@@ -1,4 +1,4 @@
-//! Histories about the heap: what is let go, forced collections, stuck counts, long chains, figures, and lengths.
+//! Histories about the heap: what is let go, forced collections, stuck counts, long chains, figures, sections, and lengths.
 //!
 //! Many end by asking for the whole heap. That is accepted at once where everything was let go, after a forced collection
 //! where something was garbage, and refused 5 where a root still leads to something.
@@ -16,6 +16,7 @@ pub fn histories(shelf: &mut Shelf) {
     stuck(shelf);
     at_once(shelf);
     figures(shelf);
+    sections(shelf);
     lengths(shelf);
 }
 
@@ -180,7 +181,11 @@ fn stuck(shelf: &mut Shelf) {
     let clears: Vec<Operation> = (1..7).map(clear).collect();
     let stick = [&[allocate(1, 0)], &copies[..]].concat();
     shelf.operations("prints-1-1-1-0-1-1-stuck", &stick);
-    let more = [&stick[..], &[copy(0, 7), copy(0, 8), write(0, 0, 0), copy(0, 0)]].concat();
+    let more = [
+        &stick[..],
+        &[copy(0, 7), copy(0, 8), write(0, 0, 0), copy(0, 0)],
+    ]
+    .concat();
     shelf.operations("prints-1-1-1-0-1-1-more-than-stuck", &more);
     let again = [&stick[..], &clears, &[COLLECT], &copies].concat();
     shelf.operations("prints-1-1-1-1-1-2-stuck-again", &again);
@@ -188,7 +193,10 @@ fn stuck(shelf: &mut Shelf) {
     shelf.operations("prints-1-1-1-1-1-1-stuck-through-a-collection", &not_again);
     let no_room = [&cycle(4096, 10)[..], &[clear(10), allocate(4096, 11)]].concat();
     let forced = [&stick[..], &clears, &no_room, &copies].concat();
-    shelf.operations("prints-3-8193-4096-1-4097-2-stuck-again-after-a-forced-one", &forced);
+    shelf.operations(
+        "prints-3-8193-4096-1-4097-2-stuck-again-after-a-forced-one",
+        &forced,
+    );
     // Stuck garbage fills the heap: the forced collection frees all of it.
     let mut full = Vec::new();
     for _ in 0..8 {
@@ -250,6 +258,39 @@ fn figures(shelf: &mut Shelf) {
     shelf.operations("prints-600-4915200-8192-0-8192-0-many", &many);
     many.push(clear(64));
     shelf.operations("gives-4-behind-many", &many);
+}
+
+/// Where objects lie among the sections of 256 blocks (U4): what is asked for next has no other place.
+fn sections(shelf: &mut Shelf) {
+    let fill: Vec<Operation> = (0..32).map(|d| allocate(256, d)).collect();
+    let neighbours = [&fill[..], &[clear(5), clear(6)]].concat();
+    let no_chunk = [&neighbours[..], &[allocate(257, 40)]].concat();
+    shelf.operations("gives-5-neighbours-are-no-chunk", &no_chunk);
+    let one_each = [&neighbours[..], &[allocate(256, 40), allocate(200, 41)]].concat();
+    shelf.operations("prints-34-8648-256-0-8192-0-one-section-each", &one_each);
+    let both = [&fill[..], &[clear(6), clear(7), allocate(257, 40)]].concat();
+    shelf.operations("prints-33-8449-257-0-8192-0-two-sections", &both);
+    // 0 to 299; 512; 384; 320; then 0 again, and all that is left but for a few blocks.
+    let across = [
+        allocate(300, 0),
+        allocate(200, 1),
+        allocate(128, 2),
+        allocate(64, 3),
+        clear(0),
+        allocate(256, 4),
+        allocate(4096, 5),
+        allocate(2048, 6),
+        allocate(1024, 7),
+        allocate(256, 8),
+        allocate(32, 9),
+    ];
+    shelf.operations("prints-10-8404-4096-0-8104-0-across-a-border", &across);
+    // All but the last block, that one, and one more.
+    let halves = (0..13).map(|d| allocate(4096 >> d, d));
+    let last: Vec<Operation> = halves.chain([allocate(1, 13)]).collect();
+    shelf.operations("prints-14-8192-4096-0-8192-0-the-last-block", &last);
+    let one_more = [&last[..], &[allocate(1, 14)]].concat();
+    shelf.operations("gives-5-behind-the-last-block", &one_more);
 }
 
 /// Files about as long as a piece that a program reads at once.

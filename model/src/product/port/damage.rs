@@ -1,6 +1,7 @@
 //! The shape test and the damage kinds.
 
 use super::blocks::{chunk_size, get_bit, get_count, is_first, is_reference, object_size};
+use super::sections::{is_stale, section_length};
 use super::{acceptance, refusal, Answer, Lent};
 
 const MAX_BLOCKS: usize = 8192;
@@ -18,6 +19,7 @@ pub fn is_shaped(blocks: usize, width: usize, m: &Lent) -> bool {
         && m.counts.len() == width * (blocks / 8)
         && m.cells.len() == 4 * blocks
         && m.waiting.len() == blocks
+        && m.sections.len() == blocks / section_length(blocks)
 }
 
 fn has_end_on_free(blocks: usize, a: &[u8], b: &[u8]) -> bool {
@@ -99,7 +101,7 @@ fn has_bad_count(blocks: usize, width: usize, m: &Lent) -> bool {
     false
 }
 
-/// Numbers 1 and 2.
+/// Numbers 1, 2 and 11.
 pub fn check(blocks: usize, width: usize, m: &Lent) -> Answer {
     if !is_shaped(blocks, width, m) {
         return refusal(1);
@@ -114,6 +116,8 @@ pub fn check(blocks: usize, width: usize, m: &Lent) -> Answer {
         4
     } else if has_bad_count(blocks, width, m) {
         5
+    } else if is_stale(blocks, m.a, m.sections) {
+        return refusal(11);
     } else {
         return acceptance(0);
     };

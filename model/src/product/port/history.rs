@@ -2,8 +2,7 @@
 
 use super::blocks::{count_zeros, object_size};
 use super::damage::check;
-use super::references::collect;
-use super::replay::{allocate, format, put_in_cell, put_in_root, search};
+use super::replay::{allocate, format, full_collection, put_in_cell, put_in_root, search};
 use super::{lend, refusal, Answer, Lent};
 use crate::rules::heap::Memory;
 use std::fmt;
@@ -130,7 +129,7 @@ fn allocate_or_collect(blocks: usize, width: usize, m: &mut Lent, n: usize, r: u
     let (mut answer, mut freed) = allocate(&search, blocks, width, m, n, r);
     let collected = answer.number == 5;
     if collected {
-        let by_collection = collect(blocks, width, m);
+        let by_collection = full_collection(blocks, width, m);
         (answer, freed) = allocate(&search, blocks, width, m, n, r);
         freed += by_collection;
     }
@@ -157,7 +156,7 @@ fn act(blocks: usize, width: usize, m: &mut Lent, plan: Plan) -> Done {
         }
         Plan::Collect => Done {
             collected: true,
-            ..done(0, collect(blocks, width, m), 0)
+            ..done(0, full_collection(blocks, width, m), 0)
         },
     }
 }
@@ -241,7 +240,10 @@ impl fmt::Display for SoFar {
             stuck,
         } = self.tally;
         match self.number {
-            0 => writeln!(to, "{allocations} {blocks} {largest} {collections} {peak} {stuck}"),
+            0 => writeln!(
+                to,
+                "{allocations} {blocks} {largest} {collections} {peak} {stuck}"
+            ),
             number => writeln!(to, "refused {number} at record {}", self.records),
         }
     }
@@ -254,7 +256,7 @@ pub fn report(mut history: impl Read) -> io::Result<String> {
     const PIECE: usize = 65_536;
     let mut memory = Memory::zeros(BLOCKS, WIDTH, 64);
     let mut lent = lend(&mut memory);
-    format(&mut lent);
+    format(BLOCKS, &mut lent);
     let mut run = SoFar::default();
     let mut piece = vec![0; PIECE];
     loop {

@@ -6,6 +6,7 @@ mod damage;
 mod history;
 mod references;
 mod replay;
+mod sections;
 mod two_passes;
 
 use crate::rules::heap::Memory;
@@ -13,11 +14,11 @@ use crate::rules::heap::Memory;
 pub use blocks::{lowest_chunk, Searched};
 pub use damage::check;
 pub use history::{report, run_records, SoFar, Tally};
-pub use references::collect;
-pub use replay::{replay, replay_by, step};
+pub use replay::{full_collection, replay, replay_without_list, search_in_one_walk, step};
+pub use sections::{find_chunk, renew, section_length, UNKNOWN};
 pub use two_passes::search_in_two_passes;
 
-/// The six lent buffers.
+/// The seven lent buffers.
 pub struct Lent<'a> {
     pub a: &'a mut [u8],
     pub b: &'a mut [u8],
@@ -25,6 +26,7 @@ pub struct Lent<'a> {
     pub cells: &'a mut [u16],
     pub roots: &'a mut [u16],
     pub waiting: &'a mut [u16],
+    pub sections: &'a mut [u16],
 }
 
 /// A memory, lent to the port.
@@ -36,6 +38,7 @@ pub fn lend(memory: &mut Memory) -> Lent<'_> {
         cells: &mut memory.cells,
         roots: &mut memory.roots,
         waiting: &mut memory.waiting,
+        sections: &mut memory.sections,
     }
 }
 

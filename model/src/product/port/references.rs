@@ -1,6 +1,8 @@
-//! Counting, release, the two stores, placing, and the collection.
+//! Counting, release, the two stores, placing, and the collection. What is placed or freed leaves the figures of its
+//! sections unknown.
 
 use super::blocks::{clear_extent, get_count, is_first, mark_extent, object_size, set_count};
+use super::sections::mark_unknown;
 use super::Lent;
 
 fn capacity(width: usize) -> u8 {
@@ -54,6 +56,7 @@ fn let_go(blocks: usize, width: usize, m: &mut Lent, v: u16) -> usize {
         m.waiting[top] = 0;
         let n = object_size(blocks, m.b, i);
         clear_extent(m.a, m.b, i, n);
+        mark_unknown(blocks, m.sections, i, n);
         for j in 4 * i..4 * i + 4 * n {
             let v = m.cells[j];
             m.cells[j] = 0;
@@ -115,6 +118,7 @@ pub fn store_cell(blocks: usize, width: usize, m: &mut Lent, c: usize, v: u16) -
 
 pub fn place(blocks: usize, width: usize, m: &mut Lent, n: usize, r: usize, i: usize) -> Stored {
     mark_extent(m.a, m.b, i, n);
+    mark_unknown(blocks, m.sections, i, n);
     set_count(m.counts, blocks / 8, width, i, 1);
     for j in 4 * i..4 * i + 4 * n {
         m.cells[j] = 0;
@@ -177,6 +181,7 @@ pub fn collect(blocks: usize, width: usize, m: &mut Lent) -> usize {
         if is_first(blocks, m.a, m.b, i) && get_count(m.counts, blocks / 8, width, i) == 0 {
             let n = object_size(blocks, m.b, i);
             clear_extent(m.a, m.b, i, n);
+            mark_unknown(blocks, m.sections, i, n);
             for j in 4 * i..4 * i + 4 * n {
                 m.cells[j] = 0;
             }

@@ -1,27 +1,36 @@
-//! A list of calls on a heap that is formatted first: the inner calls, with no further test for damage.
+//! A list of calls on a heap that is formatted first: the inner calls, with no further test for damage. Each that placed or
+//! freed something finds the unknown figures of sections anew.
 
 use super::blocks::{
     chunk_size, count_zeros, get_count, is_first, is_reference, lowest_chunk, object_size,
 };
 use super::damage::is_shaped;
-use super::references::{collect, place, return_roots, store_cell, store_root};
+use super::references::{collect, place, return_roots, store_cell, store_root, Stored};
+use super::sections::{find_chunk, renew, section_length};
 use super::{acceptance, refusal, telling, Answer, Lent};
 
-pub fn format(m: &mut Lent) {
+pub fn format(blocks: usize, m: &mut Lent) {
     m.a.fill(0);
     m.b.fill(255);
     m.counts.fill(0);
     m.cells.fill(0);
     m.roots.fill(0);
     m.waiting.fill(0);
+    m.sections.fill(section_length(blocks) as u16);
 }
 
-/// A search of a map of so many blocks for the lowest free chunk of a size: its first block, or the number of blocks.
-pub trait Search: Fn(&[u8], usize, usize) -> usize {}
+/// A search of a heap of so many blocks, with its A-map and its list of sections, for the lowest free chunk of a size: its
+/// first block, or the number of blocks.
+pub trait Search: Fn(usize, &[u8], &[u16], usize) -> usize {}
 
-impl<F: Fn(&[u8], usize, usize) -> usize> Search for F {}
+impl<F: Fn(usize, &[u8], &[u16], usize) -> usize> Search for F {}
 
-pub fn search(a: &[u8], blocks: usize, size: usize) -> usize {
+pub fn search(blocks: usize, a: &[u8], sections: &[u16], size: usize) -> usize {
+    find_chunk(blocks, a, sections, size).at
+}
+
+/// The search as it was before request U4.
+pub fn search_in_one_walk(a: &[u8], blocks: usize, size: usize) -> usize {
     lowest_chunk(a, 0, blocks, size).at
 }
 
@@ -40,12 +49,20 @@ pub fn allocate(
     if m.roots.len() <= r {
         return (refusal(4), 0);
     }
-    let at = find(m.a, blocks, chunk_size(n));
+    let at = find(blocks, m.a, m.sections, chunk_size(n));
     if at == blocks {
         return (refusal(5), 0);
     }
     let placed = place(blocks, width, m, n, r, at);
+    renew(blocks, m.a, m.sections);
     (telling(at, placed.stuck), placed.freed)
+}
+
+fn stored_answer(blocks: usize, m: &mut Lent, stored: Stored) -> Answer {
+    if stored.freed != 0 {
+        renew(blocks, m.a, m.sections);
+    }
+    telling(stored.freed, stored.stuck)
 }
 
 pub fn put_in_root(blocks: usize, width: usize, m: &mut Lent, r: usize, v: usize) -> Answer {
@@ -56,7 +73,7 @@ pub fn put_in_root(blocks: usize, width: usize, m: &mut Lent, r: usize, v: usize
         return refusal(8);
     }
     let stored = store_root(blocks, width, m, r, v as u16);
-    telling(stored.freed, stored.stuck)
+    stored_answer(blocks, m, stored)
 }
 
 pub fn put_in_cell(
@@ -77,7 +94,7 @@ pub fn put_in_cell(
         return refusal(8);
     }
     let stored = store_cell(blocks, width, m, 4 * at + j, v as u16);
-    telling(stored.freed, stored.stuck)
+    stored_answer(blocks, m, stored)
 }
 
 fn let_go_of(blocks: usize, width: usize, m: &mut Lent, chosen: u64) -> Answer {
@@ -85,7 +102,18 @@ fn let_go_of(blocks: usize, width: usize, m: &mut Lent, chosen: u64) -> Answer {
     if m.roots.len() < 64 && chosen >> m.roots.len() != 0 {
         return refusal(4);
     }
-    acceptance(return_roots(blocks, width, m, chosen))
+    let freed = return_roots(blocks, width, m, chosen);
+    let stuck = false;
+    stored_answer(blocks, m, Stored { freed, stuck })
+}
+
+/// A collection, and what it leaves of the list of sections.
+pub fn full_collection(blocks: usize, width: usize, m: &mut Lent) -> usize {
+    let freed = collect(blocks, width, m);
+    if freed != 0 {
+        renew(blocks, m.a, m.sections);
+    }
+    freed
 }
 
 fn look(blocks: usize, width: usize, m: &Lent, at: usize) -> Answer {
@@ -108,13 +136,13 @@ fn step_by(find: &impl Search, blocks: usize, width: usize, m: &mut Lent, call: 
     let (x, y) = (call[1] as usize, call[2] as usize);
     match call[0] {
         0 => {
-            format(m);
+            format(blocks, m);
             acceptance(0)
         }
         2 => allocate(find, blocks, width, m, x, y).0,
         3 => put_in_root(blocks, width, m, x, y),
         4 => put_in_cell(blocks, width, m, x, y, call[3] as usize),
-        5 => acceptance(collect(blocks, width, m)),
+        5 => acceptance(full_collection(blocks, width, m)),
         6 => look(blocks, width, m, x),
         7 => acceptance(count_zeros(m.a)),
         8 => let_go_of(blocks, width, m, call[1]),
@@ -135,12 +163,16 @@ pub fn replay(
     calls: &[u64],
     replies: &mut [u64],
 ) -> Answer {
+    if !is_shaped(blocks, width, m) {
+        return refusal(1);
+    }
     replay_by(&search, blocks, width, m, calls, replies)
 }
 
-/// The same with another search.
-pub fn replay_by(
-    find: &impl Search,
+/// The same as it was before request U4, by another search. The list of sections is put aside, so that there are no figures
+/// to mark or to find.
+pub fn replay_without_list(
+    find: impl Fn(&[u8], usize, usize) -> usize,
     blocks: usize,
     width: usize,
     m: &mut Lent,
@@ -150,6 +182,21 @@ pub fn replay_by(
     if !is_shaped(blocks, width, m) {
         return refusal(1);
     }
+    let aside = std::mem::take(&mut m.sections);
+    let find = |blocks: usize, a: &[u8], _: &[u16], size: usize| find(a, blocks, size);
+    let answer = replay_by(&find, blocks, width, m, calls, replies);
+    m.sections = aside;
+    answer
+}
+
+fn replay_by(
+    find: &impl Search,
+    blocks: usize,
+    width: usize,
+    m: &mut Lent,
+    calls: &[u64],
+    replies: &mut [u64],
+) -> Answer {
     if !calls.len().is_multiple_of(4) {
         return refusal(10);
     }
@@ -160,7 +207,7 @@ pub fn replay_by(
     if replies.len() / 3 < count {
         return refusal(18);
     }
-    format(m);
+    format(blocks, m);
     for (call, reply) in calls.chunks_exact(4).zip(replies.chunks_exact_mut(3)) {
         let answer = step_by(find, blocks, width, m, call);
         reply[0] = answer.number as u64;

@@ -1,0 +1,140 @@
+//! Sections: their figures, the marks on those that have to be found anew, and the search by them.
+
+use super::blocks::{lowest_chunk, Searched};
+
+const MAX_SECTION: usize = 256;
+
+/// A figure that no section has: it has to be found anew.
+pub const UNKNOWN: u16 = 65_535;
+
+/// The largest free chunk of four blocks, by their bits: 16 numbers of four bits each.
+const FOUR_BLOCKS: u64 = 77142912912204324;
+
+pub fn section_length(blocks: usize) -> usize {
+    if blocks < MAX_SECTION {
+        return blocks;
+    }
+    MAX_SECTION
+}
+
+fn byte_figure(byte: u8) -> usize {
+    if byte == 0 {
+        return 8;
+    }
+    let lower = (FOUR_BLOCKS >> (byte % 16 * 4)) % 16;
+    let upper = (FOUR_BLOCKS >> (byte / 16 * 4)) % 16;
+    if lower < upper {
+        return upper as usize;
+    }
+    lower as usize
+}
+
+/// The figure of a chunk from those of its halves, of `half` blocks each.
+fn of_halves(lower: usize, upper: usize, half: usize) -> usize {
+    if lower < upper {
+        return upper;
+    }
+    if upper == half {
+        return half + half;
+    }
+    lower
+}
+
+fn of_byte(a: &[u8], i: usize) -> usize {
+    byte_figure(a[i])
+}
+
+fn of_two_bytes(a: &[u8], i: usize) -> usize {
+    of_halves(of_byte(a, i), of_byte(a, i + 1), 8)
+}
+
+fn of_four_bytes(a: &[u8], i: usize) -> usize {
+    of_halves(of_two_bytes(a, i), of_two_bytes(a, i + 2), 16)
+}
+
+fn of_eight_bytes(a: &[u8], i: usize) -> usize {
+    of_halves(of_four_bytes(a, i), of_four_bytes(a, i + 4), 32)
+}
+
+fn of_few_bytes(a: &[u8], i: usize, size: usize) -> usize {
+    if size == 64 {
+        return of_eight_bytes(a, i);
+    }
+    if size == 32 {
+        return of_four_bytes(a, i);
+    }
+    if size == 16 {
+        return of_two_bytes(a, i);
+    }
+    of_byte(a, i)
+}
+
+fn largest_free(a: &[u8], at: usize, size: usize) -> usize {
+    if size <= 64 {
+        return of_few_bytes(a, at / 8, size);
+    }
+    let half = size / 2;
+    let lower = largest_free(a, at, half);
+    let upper = largest_free(a, at + half, half);
+    of_halves(lower, upper, half)
+}
+
+fn section_figure(blocks: usize, a: &[u8], s: usize) -> usize {
+    let size = section_length(blocks);
+    largest_free(a, s * size, size)
+}
+
+/// Whether a number of the list differs from its section's figure.
+pub fn is_stale(blocks: usize, a: &[u8], sections: &[u16]) -> bool {
+    for (s, number) in sections.iter().enumerate() {
+        if *number as usize != section_figure(blocks, a, s) {
+            return true;
+        }
+    }
+    false
+}
+
+/// Finds the unknown figures anew.
+pub fn renew(blocks: usize, a: &[u8], sections: &mut [u16]) {
+    for (s, number) in sections.iter_mut().enumerate() {
+        if *number == UNKNOWN {
+            *number = section_figure(blocks, a, s) as u16;
+        }
+    }
+}
+
+/// Marks the sections that an extent touches. A list that isn't lent has none.
+pub fn mark_unknown(blocks: usize, sections: &mut [u16], i: usize, n: usize) {
+    let length = section_length(blocks);
+    let touched = (i + n - 1) / length + 1;
+    for number in sections.iter_mut().take(touched).skip(i / length) {
+        *number = UNKNOWN;
+    }
+}
+
+fn lowest_section(sections: &[u16], size: usize) -> usize {
+    let mut s = 0;
+    while s < sections.len() {
+        if size <= sections[s] as usize {
+            return s;
+        }
+        s += 1;
+    }
+    s
+}
+
+/// The first block of the lowest free chunk, or `blocks`, with the list true.
+pub fn find_chunk(blocks: usize, a: &[u8], sections: &[u16], size: usize) -> Searched {
+    let length = section_length(blocks);
+    if length < size {
+        return lowest_chunk(a, 0, blocks, size);
+    }
+    let s = lowest_section(sections, size);
+    if s == sections.len() {
+        return Searched {
+            at: blocks,
+            looks: 0,
+        };
+    }
+    lowest_chunk(a, s * length, s * length + length, size)
+}
