@@ -117,12 +117,12 @@ int main(void) {
         void (*call)(void);
         size_t most;
     } each[] = {
-        {"format", format, 2000},          {"check", check, 17500},
-        {"allocate", allocate, 17500},     {"store_root", store_root, 17500},
-        {"store_cell", store_cell, 17500}, {"return_roots", return_roots, 17500},
-        {"collect", collect, 17500},       {"look", look, 17500},
-        {"free_blocks", free_blocks, 17500}, {"replay", replay, 2000},
-        {"run_records", run_records, 17500},
+        {"format", format, 2000},          {"check", check, 18000},
+        {"allocate", allocate, 18000},     {"store_root", store_root, 18000},
+        {"store_cell", store_cell, 18000}, {"return_roots", return_roots, 18000},
+        {"collect", collect, 18000},       {"look", look, 18000},
+        {"free_blocks", free_blocks, 18000}, {"replay", replay, 2000},
+        {"run_records", run_records, 18000},
     };
     write_lists();
     size_t thread = measure(nothing);

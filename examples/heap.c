@@ -1,5 +1,5 @@
-/* A list of three objects, through the struct of huwekapo_heap.h: built, walked, let go; and a pair that only a collection
- * frees. */
+/* A list of three objects, through the struct of huwekapo_heap.h: built, walked, let go; the largest free chunk beside it; and
+ * a pair that only a collection frees. */
 #include "huwekapo_heap.h"
 
 #include <stdio.h>
@@ -31,6 +31,9 @@ int main(void) {
         struct huwekapo_reply look = huwekapo_heap_look(&heap, HUWEKAPO_BLOCK(v));
         printf("an object of %zu blocks at block %zu, count %zu\n", look.value, HUWEKAPO_BLOCK(v), look.second);
     }
+    /* One section: the heap has fewer than 256 blocks. */
+    printf("%zu blocks are free, at most %d of them in one chunk\n", value("free blocks", huwekapo_heap_free_blocks(&heap)),
+           heap.sections[0]);
     printf("clearing the root frees %zu blocks\n", value("store", huwekapo_heap_store_root(&heap, LIST, 0)));
 
     size_t first = value("allocate", huwekapo_heap_allocate(&heap, 2, LIST));

@@ -9,11 +9,12 @@
 enum { BLOCKS = 8, WIDTH = 2, ROOTS = 4 };
 
 static uint8_t a[BLOCKS / 8], b[BLOCKS / 8], counts[WIDTH * BLOCKS / 8];
-static uint16_t cells[4 * BLOCKS], roots[ROOTS], waiting[BLOCKS];
+static uint16_t cells[4 * BLOCKS], roots[ROOTS], waiting[BLOCKS], sections[HUWEKAPO_SECTIONS_LENGTH(BLOCKS)];
 
-/* The six lent buffers. */
+/* The seven lent buffers. */
 #define HEAP \
-    BLOCKS, WIDTH, a, sizeof a, b, sizeof b, counts, sizeof counts, cells, 4 * BLOCKS, roots, ROOTS, waiting, BLOCKS
+    BLOCKS, WIDTH, a, sizeof a, b, sizeof b, counts, sizeof counts, cells, 4 * BLOCKS, roots, ROOTS, waiting, BLOCKS, \
+        sections, HUWEKAPO_SECTIONS_LENGTH(BLOCKS)
 
 /* P1 as a list for replay, with one word behind the replies. */
 static const uint64_t p1[] = {2, 2, 0, 0, 2, 1, 1, 0, 2, 3, 2, 0, 6, 4, 0, 0};
@@ -33,10 +34,17 @@ static void expect(const char *call, struct huwekapo_reply reply, size_t number,
     verdict(reply.number == number && reply.value == value && reply.second == second);
 }
 
-/* The two maps of P1. */
+/* The size of the largest free chunk of the one section. */
+static void expect_section(int figure) {
+    printf("sections = %d  ", sections[0]);
+    verdict(sections[0] == figure);
+}
+
+/* The two maps of P1; blocks 3 and 7 are free. */
 static void expect_maps(void) {
     printf("A = %d, B = %d  ", a[0], b[0]);
     verdict(a[0] == 119 && b[0] == 185);
+    expect_section(1);
 }
 
 /* The reply of a call of the list. */
@@ -78,6 +86,16 @@ static void store_wide(void) {
     verdict(roots[0] == 1 && cells[16] == 0);
 }
 
+/* A list that is not the maps': refused 11, before anything that the arguments say. Nothing is written. */
+static void stale_sections(void) {
+    sections[0] = 2;
+    expect("check, the list stale", huwekapo_check(HEAP), HUWEKAPO_STALE_SECTIONS, 0, 0);
+    expect("allocate 9 into root 4", huwekapo_allocate(HEAP, 9, 4), HUWEKAPO_STALE_SECTIONS, 0, 0);
+    expect("look at 8", huwekapo_look(HEAP, 8), HUWEKAPO_STALE_SECTIONS, 0, 0);
+    expect_section(2);
+    sections[0] = 1;
+}
+
 /* The same values in a list, which goes on behind each: allocate 2 into root 0, store each, look at 0. */
 static const uint64_t wide_list[] = {
     2, 2, 0, 0, 3, 0, 65537, 0, 3, 0, UINT64_C(1) << 32, 0, 4, 0, 0, UINT64_MAX, 6, 0, 0, 0,
@@ -94,6 +112,7 @@ static void replay_wide(void) {
 
 int main(void) {
     expect("format", huwekapo_format(HEAP), HUWEKAPO_ACCEPTED, 0, 0);
+    expect_section(BLOCKS);
     expect("allocate 2 into root 0", huwekapo_allocate(HEAP, 2, 0), HUWEKAPO_ACCEPTED, 0, 0);
     expect("allocate 1 into root 1", huwekapo_allocate(HEAP, 1, 1), HUWEKAPO_ACCEPTED, 2, 0);
     expect("allocate 3 into root 2", huwekapo_allocate(HEAP, 3, 2), HUWEKAPO_ACCEPTED, 4, 0);
@@ -104,6 +123,7 @@ int main(void) {
     expect("allocate 2 into root 3", huwekapo_allocate(HEAP, 2, 3), HUWEKAPO_NO_CHUNK, 0, 0);
     expect("free blocks", huwekapo_free_blocks(HEAP), HUWEKAPO_ACCEPTED, 2, 0);
     store_wide();
+    stale_sections();
     /* The rest of the calls, so that each is linked and called once. */
     expect("store 1 in cell 0 of 2", huwekapo_store_cell(HEAP, 2, 0, 1), HUWEKAPO_ACCEPTED, 0, 0);
     expect("store 0 in root 1", huwekapo_store_root(HEAP, 1, 0), HUWEKAPO_ACCEPTED, 1, 0);

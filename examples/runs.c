@@ -9,11 +9,12 @@
 enum { BLOCKS = 8192, WIDTH = 3, ROOTS = 64 };
 
 static uint8_t a[BLOCKS / 8], b[BLOCKS / 8], counts[WIDTH * BLOCKS / 8];
-static uint16_t cells[4 * BLOCKS], roots[ROOTS], waiting[BLOCKS];
+static uint16_t cells[4 * BLOCKS], roots[ROOTS], waiting[BLOCKS], sections[HUWEKAPO_SECTIONS_LENGTH(BLOCKS)];
 
-/* The six lent buffers. */
+/* The seven lent buffers. */
 #define HEAP \
-    BLOCKS, WIDTH, a, sizeof a, b, sizeof b, counts, sizeof counts, cells, 4 * BLOCKS, roots, ROOTS, waiting, BLOCKS
+    BLOCKS, WIDTH, a, sizeof a, b, sizeof b, counts, sizeof counts, cells, 4 * BLOCKS, roots, ROOTS, waiting, BLOCKS, \
+        sections, HUWEKAPO_SECTIONS_LENGTH(BLOCKS)
 
 /* The most records of a history. */
 #define MOST_RECORDS ((size_t)4294967295u)
@@ -82,6 +83,12 @@ static void expect_free(size_t free_blocks) {
     verdict(reply.number == HUWEKAPO_ACCEPTED && reply.value == free_blocks);
 }
 
+/* The size of the largest free chunk of a section. */
+static void expect_section(size_t section, int figure) {
+    printf("largest free chunk of section %-8zu %3d  ", section, sections[section]);
+    verdict(sections[section] == figure);
+}
+
 /* A history and what it comes to; in two pieces of whole records it comes to the same. */
 static void whole_and_pieces(const char *what, const uint8_t *bytes, size_t length, struct huwekapo_run end,
                              size_t free_blocks) {
@@ -125,6 +132,13 @@ static void limit(void) {
     expect_free(BLOCKS - 2);
 }
 
+/* Refused before the run is looked at, which is out of range itself. */
+static void expect_refused(const char *what, size_t number, size_t value) {
+    struct huwekapo_ran ran = huwekapo_run_records(HEAP, run_of(0, 0, 1, 0, 0, 0, 0, 0), history, EXAMPLE);
+    printf("%-38s %2zu | %zu  ", what, ran.reply.number, ran.reply.value);
+    verdict(ran.reply.number == number && ran.reply.value == value && same_run(ran.run, new_run));
+}
+
 /* Refused 19: the run answered is all 0, and nothing is written. */
 static void out_of_range(void) {
     (void)huwekapo_format(HEAP);
@@ -154,15 +168,19 @@ int main(void) {
     whole_and_pieces("the example", history, EXAMPLE, run_of(0, 3, 3, 6, 3, 0, 6, 0), BLOCKS - 6);
     whole_and_pieces("cut off", history, EXAMPLE + 5, run_of(10, 3, 3, 6, 3, 0, 6, 0), BLOCKS - 6);
     whole_and_pieces("no room", no_room, sizeof no_room, run_of(5, 3, 3, 6145, 4096, 1, 6145, 0), BLOCKS - 6145);
+    /* Block 4096 is in use, and from there to block 6144 nothing else is. */
+    expect_section(15, 0);
+    expect_section(16, 128);
+    expect_section(17, 256);
+    expect_section(24, 0);
     stopped();
     limit();
     out_of_range();
-    /* Damage comes before 19. */
+    /* A stale list comes before 19, and damage before both. */
+    sections[31] = 255;
+    expect_refused("a stale list of sections", HUWEKAPO_STALE_SECTIONS, 0);
     b[0] = 254;
-    struct huwekapo_ran damaged = huwekapo_run_records(HEAP, run_of(0, 0, 1, 0, 0, 0, 0, 0), history, EXAMPLE);
-    printf("%-38s %2zu | %zu  ", "damaged", damaged.reply.number, damaged.reply.value);
-    verdict(damaged.reply.number == HUWEKAPO_DAMAGED && damaged.reply.value == HUWEKAPO_END_ON_FREE &&
-            same_run(damaged.run, new_run));
+    expect_refused("damaged", HUWEKAPO_DAMAGED, HUWEKAPO_END_ON_FREE);
     puts(failures == 0 ? "runs: ok" : "runs: DIFFERENT");
     return failures != 0;
 }

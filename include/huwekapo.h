@@ -1,37 +1,40 @@
 /* Huwekapo: a heap of 16-byte blocks in bitmaps, with limited reference counts.
  *
- * The caller lends the heap's six buffers to every call, each as a pointer and a length in elements, in this order:
+ * The caller lends the heap's seven buffers to every call, each as a pointer and a length in elements, in this order:
  *
- *   a        blocks / 8 bytes           A-map: 1 is allocated, 0 is free
- *   b        blocks / 8 bytes           B-map: 0 on the last block of each object, 1 everywhere else
- *   counts   width * blocks / 8 bytes   count maps, the least significant bit first
- *   cells    4 * blocks numbers         cells 4i to 4i + 3 for block i: 0, or 1 + the first block of an object
- *   roots    1 to 64 numbers            filled as cells are
- *   waiting  blocks numbers             working space
+ *   a         blocks / 8 bytes           A-map: 1 is allocated, 0 is free
+ *   b         blocks / 8 bytes           B-map: 0 on the last block of each object, 1 everywhere else
+ *   counts    width * blocks / 8 bytes   count maps, the least significant bit first
+ *   cells     4 * blocks numbers         cells 4i to 4i + 3 for block i: 0, or 1 + the first block of an object
+ *   roots     1 to 64 numbers            filled as cells are
+ *   waiting   blocks numbers             working space
+ *   sections  blocks / 256 numbers       the size of the largest free chunk of each section, 0 where it has none
  *
  * blocks is a power of two from 8 to 8,192; width, the count width, is 1 to 4 bits. Block i is bit i % 8 (bit 0 is the
- * least) of byte i / 8 of a map.
+ * least) of byte i / 8 of a map. A chunk is s blocks starting at a multiple of s, s a power of two. A section is 256 blocks;
+ * below 256 blocks it is all of them, and `sections` is one number.
  *
  * Every call may be made with any arguments and any content of the buffers: what is wrong is refused by a number, and a
  * refusal changes no buffer. Arguments are whole words, and nothing of them is cut off: a v of 65,537 is refused 8. Format,
- * allocate, both stores, the return, collect, replay and runs of records leave `waiting` all 0 when accepted; check, look and
- * free blocks write nothing.
+ * allocate, both stores, the return, collect, replay and runs of records leave `waiting` all 0, and `sections` as it must be,
+ * when accepted; check, look and free blocks write nothing.
  *
  * The buffers, the two lists of replay and the bytes of a run must not overlap, and each pointer must be good for its length,
  * and not null even where that is 0.
  *
- * huwekapo_heap.h has the six buffers as one struct, and the same calls on it.
+ * huwekapo_heap.h has the seven buffers as one struct, and the same calls on it.
  *
  * Link libhuwekapo, which `bash install.sh PREFIX` makes (`pkg-config --cflags --libs huwekapo`), or libcapi.a, which it is made
  * of. What a device has to bring:
  *
  *   - x86-64, and of a C library memset alone. Nothing is allocated, nothing is printed, and there is no global state: heaps in
  *     different buffers may be used by different threads at once. Calls on one heap must not overlap in time.
- *   - Stack: about 17,000 bytes in every call but format and replay, which take less than 2,000, whatever the size of the heap.
- *     No call calls itself.
+ *   - Stack: less than 18,000 bytes in every call but format and replay, which take less than 2,000, whatever the size of the heap.
+ *     Recursion goes three deep at most, over the halves of a section.
  *   - Time: every call but format and replay tests the whole heap before it does anything, and a run of records tests it once for
  *     each piece. Many calls at a time are therefore best made by replay, or by a run of records in long pieces.
- *   - Alignment: the numbers of cells, roots and waiting are aligned as uint16_t is, those of replay's lists as uint64_t is.
+ *   - Alignment: the numbers of cells, roots, waiting and sections are aligned as uint16_t is, those of replay's lists as
+ *     uint64_t is.
  */
 #ifndef HUWEKAPO_H
 #define HUWEKAPO_H
@@ -59,6 +62,10 @@
 #define HUWEKAPO_COUNTS_LENGTH(blocks, width) ((width) * ((blocks) / 8))
 #define HUWEKAPO_CELLS_LENGTH(blocks) (4 * (blocks))
 #define HUWEKAPO_WAITING_LENGTH(blocks) (blocks)
+#define HUWEKAPO_SECTIONS_LENGTH(blocks) ((blocks) < 256 ? 1 : (blocks) / 256)
+
+/* The blocks of a section. */
+#define HUWEKAPO_SECTION_BLOCKS(blocks) ((blocks) / HUWEKAPO_SECTIONS_LENGTH(blocks))
 
 /* The lengths of replay's lists, for so many calls. */
 #define HUWEKAPO_CALLS_LENGTH(calls) (4 * (calls))
@@ -106,6 +113,7 @@ enum huwekapo_number {
                                    field that the operation does not name is not 0 */
     HUWEKAPO_CUT_OFF = 10,      /* the list ends inside a call. A history ends inside a record, or goes on past
                                    4,294,967,295 records */
+    HUWEKAPO_STALE_SECTIONS = 11, /* a number of `sections` is not the size of the largest free chunk of its section */
     HUWEKAPO_SHORT_REPLIES = 18, /* `replies` is too short for the replies of all calls */
     HUWEKAPO_BAD_RUN = 19       /* the run handed in is out of range */
 };
@@ -145,26 +153,29 @@ enum huwekapo_operation {
     HUWEKAPO_RECORD_COLLECT = 6
 };
 
-/* Makes an empty heap of whatever the buffers held: b is all ones, every other buffer all 0. The value is 0. Refusals: 1. */
+/* Makes an empty heap of whatever the buffers held: b is all ones, each number of sections the blocks of a section,
+ * every other buffer all 0. The value is 0. Refusals: 1. */
 struct huwekapo_reply huwekapo_format(size_t blocks, size_t width,
                                       uint8_t *a, size_t a_length,
                                       uint8_t *b, size_t b_length,
                                       uint8_t *counts, size_t counts_length,
                                       uint16_t *cells, size_t cells_length,
                                       uint16_t *roots, size_t roots_length,
-                                      uint16_t *waiting, size_t waiting_length);
+                                      uint16_t *waiting, size_t waiting_length,
+                                      uint16_t *sections, size_t sections_length);
 
-/* Tests the whole heap. The value is 0. Refusals: 1, 2. */
+/* Tests the whole heap. The value is 0. Refusals: 1, 2, 11. */
 struct huwekapo_reply huwekapo_check(size_t blocks, size_t width,
                                      const uint8_t *a, size_t a_length,
                                      const uint8_t *b, size_t b_length,
                                      const uint8_t *counts, size_t counts_length,
                                      const uint16_t *cells, size_t cells_length,
                                      const uint16_t *roots, size_t roots_length,
-                                     const uint16_t *waiting, size_t waiting_length);
+                                     const uint16_t *waiting, size_t waiting_length,
+                                     const uint16_t *sections, size_t sections_length);
 
 /* Allocates n blocks into root r. The value is the first block, `second` whether the new object is stuck, as it is at width 1.
- * Refusals: 1, 2, 3, 4, 5. */
+ * Refusals: 1, 2, 11, 3, 4, 5. */
 struct huwekapo_reply huwekapo_allocate(size_t blocks, size_t width,
                                         uint8_t *a, size_t a_length,
                                         uint8_t *b, size_t b_length,
@@ -172,10 +183,11 @@ struct huwekapo_reply huwekapo_allocate(size_t blocks, size_t width,
                                         uint16_t *cells, size_t cells_length,
                                         uint16_t *roots, size_t roots_length,
                                         uint16_t *waiting, size_t waiting_length,
+                                        uint16_t *sections, size_t sections_length,
                                         size_t n, size_t r);
 
 /* Stores v in root r. The value is the number of blocks freed, `second` whether the object that v names became stuck. Where
- * the root holds v already, only the waiting list is written. Refusals: 1, 2, 4, 8. */
+ * the root holds v already, only the waiting list is written. Refusals: 1, 2, 11, 4, 8. */
 struct huwekapo_reply huwekapo_store_root(size_t blocks, size_t width,
                                           uint8_t *a, size_t a_length,
                                           uint8_t *b, size_t b_length,
@@ -183,10 +195,11 @@ struct huwekapo_reply huwekapo_store_root(size_t blocks, size_t width,
                                           uint16_t *cells, size_t cells_length,
                                           uint16_t *roots, size_t roots_length,
                                           uint16_t *waiting, size_t waiting_length,
+                                          uint16_t *sections, size_t sections_length,
                                           size_t r, size_t v);
 
 /* Stores v in cell j of the object at block `at`. The value is the number of blocks freed, `second` whether the object that v
- * names became stuck. Where the cell holds v already, only the waiting list is written. Refusals: 1, 2, 6, 7, 8. */
+ * names became stuck. Where the cell holds v already, only the waiting list is written. Refusals: 1, 2, 11, 6, 7, 8. */
 struct huwekapo_reply huwekapo_store_cell(size_t blocks, size_t width,
                                           uint8_t *a, size_t a_length,
                                           uint8_t *b, size_t b_length,
@@ -194,10 +207,11 @@ struct huwekapo_reply huwekapo_store_cell(size_t blocks, size_t width,
                                           uint16_t *cells, size_t cells_length,
                                           const uint16_t *roots, size_t roots_length,
                                           uint16_t *waiting, size_t waiting_length,
+                                          uint16_t *sections, size_t sections_length,
                                           size_t at, size_t j, size_t v);
 
 /* Clears the roots of a set, bit r of `chosen` for root r, as stores of 0 do one after another. The value is the number of
- * blocks freed in all. Refusals: 1, 2, 4. */
+ * blocks freed in all. Refusals: 1, 2, 11, 4. */
 struct huwekapo_reply huwekapo_return_roots(size_t blocks, size_t width,
                                             uint8_t *a, size_t a_length,
                                             uint8_t *b, size_t b_length,
@@ -205,19 +219,21 @@ struct huwekapo_reply huwekapo_return_roots(size_t blocks, size_t width,
                                             uint16_t *cells, size_t cells_length,
                                             uint16_t *roots, size_t roots_length,
                                             uint16_t *waiting, size_t waiting_length,
+                                            uint16_t *sections, size_t sections_length,
                                             uint64_t chosen);
 
 /* Frees the objects that no root reaches, and counts the references of the others anew. The value is the number of blocks
- * freed. Refusals: 1, 2. */
+ * freed. Refusals: 1, 2, 11. */
 struct huwekapo_reply huwekapo_collect(size_t blocks, size_t width,
                                        uint8_t *a, size_t a_length,
                                        uint8_t *b, size_t b_length,
                                        uint8_t *counts, size_t counts_length,
                                        uint16_t *cells, size_t cells_length,
                                        const uint16_t *roots, size_t roots_length,
-                                       uint16_t *waiting, size_t waiting_length);
+                                       uint16_t *waiting, size_t waiting_length,
+                                       uint16_t *sections, size_t sections_length);
 
-/* Looks at the object at block `at`. The value is its size in blocks, `second` its count. Refusals: 1, 2, 6. */
+/* Looks at the object at block `at`. The value is its size in blocks, `second` its count. Refusals: 1, 2, 11, 6. */
 struct huwekapo_reply huwekapo_look(size_t blocks, size_t width,
                                     const uint8_t *a, size_t a_length,
                                     const uint8_t *b, size_t b_length,
@@ -225,16 +241,18 @@ struct huwekapo_reply huwekapo_look(size_t blocks, size_t width,
                                     const uint16_t *cells, size_t cells_length,
                                     const uint16_t *roots, size_t roots_length,
                                     const uint16_t *waiting, size_t waiting_length,
+                                    const uint16_t *sections, size_t sections_length,
                                     size_t at);
 
-/* Counts the free blocks. The value is their number. Refusals: 1, 2. */
+/* Counts the free blocks. The value is their number. Refusals: 1, 2, 11. */
 struct huwekapo_reply huwekapo_free_blocks(size_t blocks, size_t width,
                                            const uint8_t *a, size_t a_length,
                                            const uint8_t *b, size_t b_length,
                                            const uint8_t *counts, size_t counts_length,
                                            const uint16_t *cells, size_t cells_length,
                                            const uint16_t *roots, size_t roots_length,
-                                           const uint16_t *waiting, size_t waiting_length);
+                                           const uint16_t *waiting, size_t waiting_length,
+                                           const uint16_t *sections, size_t sections_length);
 
 /* Formats the heap and runs a list of calls, each an entry of four words, a code and arguments:
  *
@@ -258,6 +276,7 @@ struct huwekapo_reply huwekapo_replay(size_t blocks, size_t width,
                                       uint16_t *cells, size_t cells_length,
                                       uint16_t *roots, size_t roots_length,
                                       uint16_t *waiting, size_t waiting_length,
+                                      uint16_t *sections, size_t sections_length,
                                       const uint64_t *calls, size_t calls_length,
                                       uint64_t *replies, size_t replies_length);
 
@@ -310,9 +329,9 @@ struct huwekapo_ran {
  * records run leave; the record that stopped the run has changed nothing, save by a collection that it forced. `waiting` is all
  * 0. A run handed in stopped is handed back as it is, and only `waiting` is written.
  *
- * Refusals, which change no buffer and answer a run of all 0: 1, 2, then 19 for a `run` of more than 4,294,967,295 records, of
- * more allocations than records, of more blocks than 8,192 for each record, of more objects that became stuck than records, or
- * of more collections than records (one more where its number is not 0). */
+ * Refusals, which change no buffer and answer a run of all 0: 1, 2, 11, then 19 for a `run` of more than 4,294,967,295
+ * records, of more allocations than records, of more blocks than 8,192 for each record, of more objects that became stuck than
+ * records, or of more collections than records (one more where its number is not 0). */
 struct huwekapo_ran huwekapo_run_records(size_t blocks, size_t width,
                                          uint8_t *a, size_t a_length,
                                          uint8_t *b, size_t b_length,
@@ -320,6 +339,7 @@ struct huwekapo_ran huwekapo_run_records(size_t blocks, size_t width,
                                          uint16_t *cells, size_t cells_length,
                                          uint16_t *roots, size_t roots_length,
                                          uint16_t *waiting, size_t waiting_length,
+                                         uint16_t *sections, size_t sections_length,
                                          struct huwekapo_run run,
                                          const uint8_t *bytes, size_t bytes_length);
 

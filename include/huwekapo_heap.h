@@ -1,5 +1,5 @@
-/* Huwekapo's six buffers as one struct, and the calls on it: each wrapper lends the buffers to the function of the same name in
- * huwekapo.h, at the lengths that belong to the struct's numbers.
+/* Huwekapo's seven buffers as one struct, and the calls on it: each wrapper lends the buffers to the function of the same name
+ * in huwekapo.h, at the lengths that belong to the struct's numbers.
  *
  * The caller has to see to it that each pointer of the struct is good for its length. huwekapo_heap_in makes the struct from one
  * piece of memory:
@@ -28,11 +28,13 @@ struct huwekapo_heap {
     uint16_t *cells;
     uint16_t *roots;
     uint16_t *waiting;
+    uint16_t *sections;
 };
 
-/* The numbers of 16 bits that hold all six buffers: cells, roots and waiting, and two bytes of the maps in each of the rest. */
+/* The numbers of 16 bits that hold all seven buffers: cells, roots, waiting and sections, and two bytes of the maps in each of
+ * the rest. */
 #define HUWEKAPO_HEAP_LENGTH(blocks, width, roots) \
-    (HUWEKAPO_CELLS_LENGTH(blocks) + (roots) + HUWEKAPO_WAITING_LENGTH(blocks) + \
+    (HUWEKAPO_CELLS_LENGTH(blocks) + (roots) + HUWEKAPO_WAITING_LENGTH(blocks) + HUWEKAPO_SECTIONS_LENGTH(blocks) + \
      (HUWEKAPO_A_LENGTH(blocks) + HUWEKAPO_B_LENGTH(blocks) + HUWEKAPO_COUNTS_LENGTH(blocks, width) + 1) / 2)
 
 /* A heap in one piece of memory, of HUWEKAPO_HEAP_LENGTH numbers. It is not formatted. */
@@ -44,7 +46,8 @@ static inline struct huwekapo_heap huwekapo_heap_in(uint16_t *memory, size_t blo
     heap.cells = memory;
     heap.roots = heap.cells + HUWEKAPO_CELLS_LENGTH(blocks);
     heap.waiting = heap.roots + roots;
-    heap.a = (uint8_t *)(heap.waiting + HUWEKAPO_WAITING_LENGTH(blocks));
+    heap.sections = heap.waiting + HUWEKAPO_WAITING_LENGTH(blocks);
+    heap.a = (uint8_t *)(heap.sections + HUWEKAPO_SECTIONS_LENGTH(blocks));
     heap.b = heap.a + HUWEKAPO_A_LENGTH(blocks);
     heap.counts = heap.b + HUWEKAPO_B_LENGTH(blocks);
     return heap;
@@ -58,7 +61,8 @@ static inline struct huwekapo_heap huwekapo_heap_in(uint16_t *memory, size_t blo
     (heap)->counts, HUWEKAPO_COUNTS_LENGTH((heap)->blocks, (heap)->width), \
     (heap)->cells, HUWEKAPO_CELLS_LENGTH((heap)->blocks), \
     (heap)->roots, (heap)->roots_length, \
-    (heap)->waiting, HUWEKAPO_WAITING_LENGTH((heap)->blocks)
+    (heap)->waiting, HUWEKAPO_WAITING_LENGTH((heap)->blocks), \
+    (heap)->sections, HUWEKAPO_SECTIONS_LENGTH((heap)->blocks)
 
 static inline struct huwekapo_reply huwekapo_heap_format(struct huwekapo_heap *heap) {
     return huwekapo_format(HUWEKAPO_LEND_(heap));

@@ -11,6 +11,8 @@ package itself.
     Look(size=3, count=1)
     >>> heap.a[0], heap.b[0]
     (119, 185)
+    >>> heap.sections.tolist(), heap.free_blocks()
+    ([1], 2)
     >>> try:
     ...     heap.allocate(2, 3)
     ... except Refused as refused:

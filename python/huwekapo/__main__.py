@@ -10,7 +10,8 @@ from typing import Callable, Iterator, List, Optional, Sequence
 
 from . import __version__
 from .examples import PROGRAMS
-from .history import History, run
+from .heap import Heap
+from .history import History
 from .library import REPORT_BLOCKS, REPORT_ROOTS, REPORT_WIDTH
 from .measures import FIGURE_WORDS
 from .progress import Bar
@@ -65,7 +66,8 @@ def arguments() -> argparse.ArgumentParser:
     blocks(made, False, [REPORT_BLOCKS])
     made.add_argument("--width", type=positive, default=REPORT_WIDTH, metavar="W", help=f"count width, 1 to 4 bits ({REPORT_WIDTH})")
     roots(made)
-    made.add_argument("--line", action="store_true", help="the line alone")
+    made.add_argument("--line", action="store_true", help="the line without the figures named")
+    made.add_argument("--sections", action="store_true", help="also a table of the largest free chunk in each 256 blocks at the end")
 
     made = command("widths", _widths, "A table of a history by count width and size of heap.")
     history(made)
@@ -123,15 +125,19 @@ def _history(name: str, again: bool = False) -> Iterator[History]:
 
 
 def _report(chosen: argparse.Namespace) -> int:
+    heap = Heap(chosen.blocks, chosen.width, chosen.roots)
     with _history(chosen.file) as history, Bar("records", history.size()) as bar:
-        found = run(history, chosen.blocks, chosen.width, chosen.roots, bar.done)
+        found = history.run(heap, bar.done)
     sys.stdout.write(found.line())
-    if chosen.line:
-        return 0
-    if found.stopped:
-        print(f"{found.number}: {found.stop_in_words()}. The records before it:")
-    for name, number in found.figures._asdict().items():
-        print(f"  {FIGURE_WORDS[name]:<40}{number:>15,}")
+    if not chosen.line:
+        if found.stopped:
+            print(f"{found.number}: {found.stop_in_words()}. The records before it:")
+        for name, number in found.figures._asdict().items():
+            print(f"  {FIGURE_WORDS[name]:<40}{number:>15,}")
+    if chosen.sections:
+        from .sections import text
+
+        sys.stdout.write(text(heap))
     return 0
 
 

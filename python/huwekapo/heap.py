@@ -8,7 +8,7 @@ import threading
 from typing import Any, Iterable, NamedTuple, Sequence, Union
 
 from . import library
-from .library import MAX_BLOCKS, MAX_ROOTS, MAX_WIDTH, REPORT_BLOCKS, REPORT_ROOTS, REPORT_WIDTH
+from .library import MAX_BLOCKS, MAX_ROOTS, MAX_SECTION, MAX_WIDTH, REPORT_BLOCKS, REPORT_ROOTS, REPORT_WIDTH
 from .refused import Refused
 from .runs import Run
 
@@ -38,8 +38,8 @@ class Heap:
     call of the library, and hands on what it answers: a refusal is raised as `Refused`, and has changed nothing. References are 0, or
     1 + the first block of an object.
 
-    The buffers are readable as memoryviews: `a`, `b` and `counts` of bytes, `cells`, `roots` and `waiting` of 16-bit numbers. They show
-    the heap as it is, also after later calls. A heap may be used from several threads: its calls wait for each other.
+    The buffers are readable as memoryviews: `a`, `b` and `counts` of bytes, `cells`, `roots`, `waiting` and `sections` of 16-bit
+    numbers. They show the heap as it is, also after later calls. A heap may be used from several threads: its calls wait for each other.
     """
 
     def __init__(self, blocks: int = REPORT_BLOCKS, width: int = REPORT_WIDTH, roots: int = REPORT_ROOTS) -> None:
@@ -140,42 +140,54 @@ class Heap:
         """The working space. It is no part of what the heap holds."""
         return self._view("waiting")
 
+    @property
+    def sections(self) -> memoryview:
+        """The size of the largest free chunk of each section, 0 where it has none. A chunk is s blocks starting at a multiple of s, s a
+        power of two."""
+        return self._view("sections")
+
+    @property
+    def section_blocks(self) -> int:
+        """The blocks of a section: 256, or all where there are fewer."""
+        return min(self._blocks, MAX_SECTION)
+
     def format(self) -> None:
         """Makes an empty heap of whatever the buffers held. Refusals: 1."""
         self._value("format")
 
     def check(self) -> None:
-        """Tests the whole heap. Refusals: 1, 2."""
+        """Tests the whole heap. Refusals: 1, 2, 11."""
         self._value("check")
 
     def allocate(self, n: int, r: int) -> int:
-        """Allocates n blocks into root r. The value is the first block. Refusals: 1, 2, 3, 4, 5."""
+        """Allocates n blocks into root r. The value is the first block. Refusals: 1, 2, 11, 3, 4, 5."""
         return self._stored("allocate", n, r)
 
     def store_root(self, r: int, v: int) -> int:
-        """Stores v in root r. The value is the number of blocks freed. Refusals: 1, 2, 4, 8."""
+        """Stores v in root r. The value is the number of blocks freed. Refusals: 1, 2, 11, 4, 8."""
         return self._stored("store_root", r, v)
 
     def store_cell(self, at: int, j: int, v: int) -> int:
-        """Stores v in cell j of the object at block `at`. The value is the number of blocks freed. Refusals: 1, 2, 6, 7, 8."""
+        """Stores v in cell j of the object at block `at`. The value is the number of blocks freed. Refusals: 1, 2, 11, 6, 7, 8."""
         return self._stored("store_cell", at, j, v)
 
     def return_roots(self, chosen: int) -> int:
-        """Clears the roots of a set, bit r of `chosen` for root r. The value is the number of blocks freed in all. Refusals: 1, 2, 4."""
+        """Clears the roots of a set, bit r of `chosen` for root r. The value is the number of blocks freed in all.
+        Refusals: 1, 2, 11, 4."""
         return self._value("return_roots", chosen)
 
     def collect(self) -> int:
         """Frees the objects that no root reaches, and counts the references of the others anew. The value is the number of blocks
-        freed. Refusals: 1, 2."""
+        freed. Refusals: 1, 2, 11."""
         return self._value("collect")
 
     def look(self, at: int) -> Look:
-        """Looks at the object at block `at`. Refusals: 1, 2, 6."""
+        """Looks at the object at block `at`. Refusals: 1, 2, 11, 6."""
         reply = _accepted(self._call("look", _word(at)))
         return Look(reply.value, reply.second)
 
     def free_blocks(self) -> int:
-        """The number of free blocks. Refusals: 1, 2."""
+        """The number of free blocks. Refusals: 1, 2, 11."""
         return self._value("free_blocks")
 
     def replay(self, calls: Iterable[Sequence[int]]) -> list[Reply]:
@@ -195,7 +207,7 @@ class Heap:
 
     def run_records(self, run: Run, piece: Bytes) -> Run:
         """Runs a piece of a history from where `run` stands, and answers where it stands then. Only the last piece may end inside a
-        record, since that stops the run; a run that was stopped is answered as it is. Refusals: 1, 2, 19."""
+        record, since that stops the run; a run that was stopped is answered as it is. Refusals: 1, 2, 11, 19."""
         array = (ctypes.c_uint8 * len(piece)).from_buffer_copy(piece)
         return self._run(run, ctypes.addressof(array), len(array))
 

@@ -26,6 +26,9 @@ MAX_BLOCKS = 8192
 MAX_WIDTH = 4
 MAX_ROOTS = 64
 
+#: The blocks of a section; a smaller heap is one section.
+MAX_SECTION = 256
+
 #: The heap of the program `report`.
 REPORT_BLOCKS = 8192
 REPORT_WIDTH = 3
@@ -48,6 +51,7 @@ BUFFERS = (
     Buffer("cells", ctypes.c_uint16, lambda blocks, width, roots: 4 * blocks),
     Buffer("roots", ctypes.c_uint16, lambda blocks, width, roots: roots),
     Buffer("waiting", ctypes.c_uint16, lambda blocks, width, roots: blocks),
+    Buffer("sections", ctypes.c_uint16, lambda blocks, width, roots: max(1, blocks // MAX_SECTION)),
 )
 
 

@@ -20,6 +20,7 @@ class Number(enum.IntEnum):
     BAD_REFERENCE = 8
     NO_CALL = 9
     CUT_OFF = 10
+    STALE_SECTIONS = 11
     SHORT_REPLIES = 18
     BAD_RUN = 19
 
@@ -45,6 +46,7 @@ _CALL_WORDS: Dict[int, str] = {
     Number.BAD_REFERENCE: "v is neither 0 nor 1 + a first block",
     Number.NO_CALL: "an entry is no call: its code is above 8",
     Number.CUT_OFF: "the list ends inside a call",
+    Number.STALE_SECTIONS: "a number of `sections` is not the size of the largest free chunk of its section",
     Number.SHORT_REPLIES: "`replies` is too short for the replies of all calls",
     Number.BAD_RUN: "no run leaves these numbers",
 }

@@ -115,7 +115,7 @@ class Calls(unittest.TestCase):
         self.assertEqual(pickle.loads(pickle.dumps(Refused(2, 3))).name, "UNALIGNED")
 
     def test_damage(self) -> None:
-        fresh = {"counts": [0, 0], "cells": 32 * [0], "roots": 4 * [0]}
+        fresh = {"counts": [0, 0], "cells": 32 * [0], "roots": 4 * [0], "sections": [8]}
         for a, b, kind in [(0, 254, "END_ON_FREE"), (1, 255, "OPEN_END"), (6, 251, "UNALIGNED")]:
             heap = Heap.from_buffers(8, 2, a=[a], b=[b], **fresh)
             with self.subTest(kind=kind), self.refused(2, Damage[kind], kind):
@@ -146,13 +146,14 @@ class Calls(unittest.TestCase):
 
     def test_views(self) -> None:
         heap = Heap(16, 3, 5)
-        views = {name: getattr(heap, name) for name in ["a", "b", "counts", "cells", "roots", "waiting"]}
+        views = {name: getattr(heap, name) for name in ["a", "b", "counts", "cells", "roots", "waiting", "sections"]}
         lengths = {name: len(view) for name, view in views.items()}
-        self.assertEqual(lengths, {"a": 2, "b": 2, "counts": 6, "cells": 64, "roots": 5, "waiting": 16})
+        self.assertEqual(lengths, {"a": 2, "b": 2, "counts": 6, "cells": 64, "roots": 5, "waiting": 16, "sections": 1})
         with self.assertRaises(TypeError):
             views["roots"][0] = 1
         heap.allocate(1, 4)
         self.assertEqual(list(views["roots"]), [0, 0, 0, 0, 1])
+        self.assertEqual(list(views["sections"]), [8])
 
     def test_threads(self) -> None:
         heap = Heap(1024, 4, 8)

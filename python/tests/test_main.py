@@ -52,6 +52,19 @@ class Commands(unittest.TestCase):
         stopped = self.start("report", self.three, "--blocks", 8, "--width", 1, "--roots", 2)[0]
         self.assertTrue(stopped.startswith("refused 4 at record 2\n4: a root is not below the number of roots."), stopped)
 
+    def test_report_of_sections(self) -> None:
+        named = self.start("report", self.three)[0]
+        shown = self.start("report", "--sections", self.three)[0]
+        self.assertTrue(shown.startswith(named), shown)
+        title, *rows = shown[len(named) :].splitlines()
+        self.assertEqual(title, "largest free chunk of each section of 256 blocks, from block:")
+        self.assertEqual(rows[0].split(), ["0:", "128", *(7 * ["256"])])
+        self.assertEqual([row.split() for row in rows[1:]], [[f"{at:,}:", *(8 * ["256"])] for at in (2048, 4096, 6144)])
+        # Beside the line alone, of a heap that is one section, where the run stopped.
+        shown = self.start("report", "--line", "--sections", self.three, "--blocks", 8, "--roots", 2)[0]
+        self.assertEqual(shown.splitlines()[0], "refused 4 at record 2")
+        self.assertEqual(shown.splitlines()[1:], ["largest free chunk of each section of 8 blocks, from block:", "       0:    4"])
+
     def test_wrong_words(self) -> None:
         for words, part in [
             (["report", self.three, "--blocks", "100"], "refused 1 MISSHAPEN"),

@@ -19,6 +19,8 @@ extern "C" {
         roots_length: usize,
         waiting: *mut Ref,
         waiting_length: usize,
+        sections: *mut u16,
+        sections_length: usize,
     ) -> Reply;
 
     pub fn huwekapo_check(
@@ -36,6 +38,8 @@ extern "C" {
         roots_length: usize,
         waiting: *const Ref,
         waiting_length: usize,
+        sections: *const u16,
+        sections_length: usize,
     ) -> Reply;
 
     pub fn huwekapo_allocate(
@@ -53,6 +57,8 @@ extern "C" {
         roots_length: usize,
         waiting: *mut Ref,
         waiting_length: usize,
+        sections: *mut u16,
+        sections_length: usize,
         n: usize,
         r: usize,
     ) -> Reply;
@@ -72,6 +78,8 @@ extern "C" {
         roots_length: usize,
         waiting: *mut Ref,
         waiting_length: usize,
+        sections: *mut u16,
+        sections_length: usize,
         r: usize,
         v: usize,
     ) -> Reply;
@@ -91,6 +99,8 @@ extern "C" {
         roots_length: usize,
         waiting: *mut Ref,
         waiting_length: usize,
+        sections: *mut u16,
+        sections_length: usize,
         at: usize,
         j: usize,
         v: usize,
@@ -111,6 +121,8 @@ extern "C" {
         roots_length: usize,
         waiting: *mut Ref,
         waiting_length: usize,
+        sections: *mut u16,
+        sections_length: usize,
         chosen: u64,
     ) -> Reply;
 
@@ -129,6 +141,8 @@ extern "C" {
         roots_length: usize,
         waiting: *mut Ref,
         waiting_length: usize,
+        sections: *mut u16,
+        sections_length: usize,
     ) -> Reply;
 
     pub fn huwekapo_look(
@@ -146,6 +160,8 @@ extern "C" {
         roots_length: usize,
         waiting: *const Ref,
         waiting_length: usize,
+        sections: *const u16,
+        sections_length: usize,
         at: usize,
     ) -> Reply;
 
@@ -164,6 +180,8 @@ extern "C" {
         roots_length: usize,
         waiting: *const Ref,
         waiting_length: usize,
+        sections: *const u16,
+        sections_length: usize,
     ) -> Reply;
 
     pub fn huwekapo_replay(
@@ -181,6 +199,8 @@ extern "C" {
         roots_length: usize,
         waiting: *mut Ref,
         waiting_length: usize,
+        sections: *mut u16,
+        sections_length: usize,
         calls: *const u64,
         calls_length: usize,
         replies: *mut u64,
@@ -202,6 +222,8 @@ extern "C" {
         roots_length: usize,
         waiting: *mut Ref,
         waiting_length: usize,
+        sections: *mut u16,
+        sections_length: usize,
         run: SoFar,
         bytes: *const u8,
         bytes_length: usize,

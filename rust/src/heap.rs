@@ -3,7 +3,7 @@
 use crate::lent::{self, Reply, Shared, Unique};
 use crate::{Ref, Refusal, SoFar};
 
-/// The six buffers of a heap, as [`lent`](crate::lent) has them. Two are equal where all but the waiting lists are: that
+/// The seven buffers of a heap, as [`lent`](crate::lent) has them. Two are equal where all but the waiting lists are: that
 /// list is working space.
 #[derive(Clone, Debug, Default)]
 pub struct Buffers {
@@ -19,6 +19,8 @@ pub struct Buffers {
     pub roots: Vec<Ref>,
     /// The waiting list.
     pub waiting: Vec<Ref>,
+    /// The size of the largest free chunk of each section.
+    pub sections: Vec<u16>,
 }
 
 impl PartialEq for Buffers {
@@ -30,14 +32,16 @@ impl PartialEq for Buffers {
             cells,
             roots,
             waiting: _,
+            sections,
         } = self;
-        (a, b, counts, cells, roots)
+        (a, b, counts, cells, roots, sections)
             == (
                 &other.a,
                 &other.b,
                 &other.counts,
                 &other.cells,
                 &other.roots,
+                &other.sections,
             )
     }
 }
@@ -45,8 +49,8 @@ impl PartialEq for Buffers {
 impl Eq for Buffers {}
 
 /// A heap of some number of blocks, with counts of some width. Format, allocate, both stores, the return, collect, replay
-/// and runs of records leave `waiting` all 0 when accepted; check, look and free blocks write nothing. Two heaps are equal
-/// where blocks, width and all buffers but the waiting lists are.
+/// and runs of records leave `waiting` all 0, and `sections` as it must be, when accepted; check, look and free blocks write
+/// nothing. Two heaps are equal where blocks, width and all buffers but the waiting lists are.
 #[derive(Clone, Debug, PartialEq, Eq)]
 #[must_use = "a heap does nothing by itself"]
 pub struct Heap {
@@ -69,14 +73,16 @@ impl Heap {
     /// roots. Refusals: 1.
     pub fn new(blocks: usize, width: usize, roots: usize) -> Result<Heap, Refusal> {
         // Numbers that are too large are refused by the library; no buffers of that size are made for it.
-        let bytes = blocks.min(8192) / 8;
+        let most = blocks.min(8192);
+        let bytes = most / 8;
         let buffers = Buffers {
             a: vec![0; bytes],
             b: vec![0; bytes],
             counts: vec![0; width.min(4) * bytes],
-            cells: vec![0; 4 * blocks.min(8192)],
+            cells: vec![0; 4 * most],
             roots: vec![0; roots.min(65)],
-            waiting: vec![0; blocks.min(8192)],
+            waiting: vec![0; most],
+            sections: vec![0; (most / 256).max(1)],
         };
         let mut heap = Heap::from_buffers(blocks, width, buffers);
         heap.format()?;
@@ -110,6 +116,13 @@ impl Heap {
         &self.buffers.roots
     }
 
+    /// The size of the largest free chunk of each section, 0 where it has none: a section is 256 blocks, or all of them
+    /// where there are fewer, and a chunk is s blocks starting at a multiple of s, s a power of two.
+    #[must_use]
+    pub fn sections(&self) -> &[u16] {
+        &self.buffers.sections
+    }
+
     /// The buffers as they are.
     #[must_use]
     pub fn buffers(&self) -> &Buffers {
@@ -122,46 +135,47 @@ impl Heap {
         self.buffers
     }
 
-    /// Makes an empty heap of whatever the buffers held: b is all ones, every other buffer all 0. Refusals: 1.
+    /// Makes an empty heap of whatever the buffers held: b is all ones, each number of sections the blocks of a section,
+    /// every other buffer all 0. Refusals: 1.
     pub fn format(&mut self) -> Result<(), Refusal> {
         value(lent::format(self.unique())).map(|_| ())
     }
 
-    /// Tests the whole heap. Refusals: 1, 2.
+    /// Tests the whole heap. Refusals: 1, 2, 11.
     pub fn check(&self) -> Result<(), Refusal> {
         value(lent::check(self.shared())).map(|_| ())
     }
 
-    /// Allocates n blocks into root r. The value is the first block. Refusals: 1, 2, 3, 4, 5.
+    /// Allocates n blocks into root r. The value is the first block. Refusals: 1, 2, 11, 3, 4, 5.
     pub fn allocate(&mut self, n: usize, r: usize) -> Result<usize, Refusal> {
         value(lent::allocate(self.unique(), n, r))
     }
 
     /// Stores v in root r. The value is the number of blocks freed. Where the root holds v already, nothing but the
-    /// waiting list is written. Refusals: 1, 2, 4, 8.
+    /// waiting list is written. Refusals: 1, 2, 11, 4, 8.
     pub fn store_root(&mut self, r: usize, v: usize) -> Result<usize, Refusal> {
         value(lent::store_root(self.unique(), r, v))
     }
 
     /// Stores v in cell j of the object at block `at`. The value is the number of blocks freed. Where the cell holds v
-    /// already, nothing but the waiting list is written. Refusals: 1, 2, 6, 7, 8.
+    /// already, nothing but the waiting list is written. Refusals: 1, 2, 11, 6, 7, 8.
     pub fn store_cell(&mut self, at: usize, j: usize, v: usize) -> Result<usize, Refusal> {
         value(lent::store_cell(self.unique(), at, j, v))
     }
 
     /// Clears the roots of a set, bit r of `chosen` for root r, as stores of 0 do one after another. The value is
-    /// the number of blocks freed in all. Refusals: 1, 2, 4.
+    /// the number of blocks freed in all. Refusals: 1, 2, 11, 4.
     pub fn return_roots(&mut self, chosen: u64) -> Result<usize, Refusal> {
         value(lent::return_roots(self.unique(), chosen))
     }
 
     /// Frees the objects that no root reaches, and counts the references of the others anew. The value is the
-    /// number of blocks freed. Refusals: 1, 2.
+    /// number of blocks freed. Refusals: 1, 2, 11.
     pub fn collect(&mut self) -> Result<usize, Refusal> {
         value(lent::collect(self.unique()))
     }
 
-    /// Looks at the object at block `at`: its size in blocks and its count. Refusals: 1, 2, 6.
+    /// Looks at the object at block `at`: its size in blocks and its count. Refusals: 1, 2, 11, 6.
     pub fn look(&self, at: usize) -> Result<Look, Refusal> {
         let reply = lent::look(self.shared(), at);
         let size = value(reply)?;
@@ -171,7 +185,7 @@ impl Heap {
         })
     }
 
-    /// Counts the free blocks. The value is their number. Refusals: 1, 2.
+    /// Counts the free blocks. The value is their number. Refusals: 1, 2, 11.
     pub fn free_blocks(&self) -> Result<usize, Refusal> {
         value(lent::free_blocks(self.shared()))
     }
@@ -183,7 +197,7 @@ impl Heap {
     }
 
     /// Runs the records of a history, or of a piece of it, from where `run` stands, and answers where it stands then:
-    /// [`lent::run_records`] states how. [`Run`](crate::Run) does this for a whole history. Refusals: 1, 2, 19.
+    /// [`lent::run_records`] states how. [`Run`](crate::Run) does this for a whole history. Refusals: 1, 2, 11, 19.
     pub fn run_records(&mut self, run: SoFar, bytes: &[u8]) -> Result<SoFar, Refusal> {
         let ran = lent::run_records(self.unique(), run, bytes);
         value(ran.reply).map(|_| ran.run)
@@ -199,6 +213,7 @@ impl Heap {
             cells: &self.buffers.cells,
             roots: &self.buffers.roots,
             waiting: &self.buffers.waiting,
+            sections: &self.buffers.sections,
         }
     }
 
@@ -212,6 +227,7 @@ impl Heap {
             cells: &mut self.buffers.cells,
             roots: &mut self.buffers.roots,
             waiting: &mut self.buffers.waiting,
+            sections: &mut self.buffers.sections,
         }
     }
 }

@@ -1,21 +1,23 @@
-//! The calls on buffers that the caller lends. The heap's six buffers, with their lengths in elements:
+//! The calls on buffers that the caller lends. The heap's seven buffers, with their lengths in elements:
 //!
 //! ```text
-//! a        blocks / 8 bytes           A-map: 1 is allocated, 0 is free
-//! b        blocks / 8 bytes           B-map: 0 on the last block of each object, 1 everywhere else
-//! counts   width * blocks / 8 bytes   count maps, the least significant bit first
-//! cells    4 * blocks numbers         cells 4i to 4i + 3 for block i: 0, or 1 + the first block of an object
-//! roots    1 to 64 numbers            filled as cells are
-//! waiting  blocks numbers             working space
+//! a         blocks / 8 bytes           A-map: 1 is allocated, 0 is free
+//! b         blocks / 8 bytes           B-map: 0 on the last block of each object, 1 everywhere else
+//! counts    width * blocks / 8 bytes   count maps, the least significant bit first
+//! cells     4 * blocks numbers         cells 4i to 4i + 3 for block i: 0, or 1 + the first block of an object
+//! roots     1 to 64 numbers            filled as cells are
+//! waiting   blocks numbers             working space
+//! sections  blocks / 256 numbers       the size of the largest free chunk of each section, 0 where it has none
 //! ```
 //!
 //! blocks is a power of two from 8 to 8,192; width, the count width, is 1 to 4 bits. Block i is bit i % 8 (bit 0 is
-//! the least) of byte i / 8 of a map.
+//! the least) of byte i / 8 of a map. A chunk is s blocks starting at a multiple of s, s a power of two. A section is
+//! 256 blocks; below 256 blocks it is all of them, and `sections` is one number.
 //!
 //! Every call may be made with any arguments and any content of the buffers: what is wrong is refused by a number,
 //! and a refusal changes no buffer. Arguments are whole words, and nothing of them is cut off: a v of 65,537 is
 //! refused 8. Format, allocate, both stores, the return, collect, replay and runs of records leave
-//! `waiting` all 0 when accepted; check, look and free blocks write nothing.
+//! `waiting` all 0, and `sections` as it must be, when accepted; check, look and free blocks write nothing.
 
 use crate::{foreign, Ref, SoFar};
 
@@ -48,7 +50,7 @@ pub struct Ran {
     pub run: SoFar,
 }
 
-/// The six buffers, to be read.
+/// The seven buffers, to be read.
 #[derive(Clone, Copy, Debug)]
 pub struct Shared<'a> {
     /// The number of blocks.
@@ -67,9 +69,11 @@ pub struct Shared<'a> {
     pub roots: &'a [Ref],
     /// The waiting list.
     pub waiting: &'a [Ref],
+    /// The size of the largest free chunk of each section.
+    pub sections: &'a [u16],
 }
 
-/// The six buffers, to be written.
+/// The seven buffers, to be written.
 #[derive(Debug)]
 pub struct Unique<'a> {
     /// The number of blocks.
@@ -88,6 +92,8 @@ pub struct Unique<'a> {
     pub roots: &'a mut [Ref],
     /// The waiting list.
     pub waiting: &'a mut [Ref],
+    /// The size of the largest free chunk of each section.
+    pub sections: &'a mut [u16],
 }
 
 /// Calls a function of the library with the blocks, the width, each buffer as a pointer and a length, and
@@ -113,59 +119,61 @@ macro_rules! lend {
                 heap.roots.len(),
                 heap.waiting.$pointer(),
                 heap.waiting.len(),
+                heap.sections.$pointer(),
+                heap.sections.len(),
                 $($argument),*
             )
         }
     }};
 }
 
-/// Makes an empty heap of whatever the buffers held: b is all ones, every other buffer all 0. The value is 0.
-/// Refusals: 1.
+/// Makes an empty heap of whatever the buffers held: b is all ones, each number of sections the blocks of a section,
+/// every other buffer all 0. The value is 0. Refusals: 1.
 pub fn format(heap: Unique) -> Reply {
     lend!(huwekapo_format, heap, as_mut_ptr, as_mut_ptr)
 }
 
-/// Tests the whole heap. The value is 0. Refusals: 1, 2.
+/// Tests the whole heap. The value is 0. Refusals: 1, 2, 11.
 pub fn check(heap: Shared) -> Reply {
     lend!(huwekapo_check, heap, as_ptr, as_ptr)
 }
 
 /// Allocates n blocks into root r. The value is the first block, `second` whether the new object is stuck, as it is at
-/// width 1. Refusals: 1, 2, 3, 4, 5.
+/// width 1. Refusals: 1, 2, 11, 3, 4, 5.
 pub fn allocate(heap: Unique, n: usize, r: usize) -> Reply {
     lend!(huwekapo_allocate, heap, as_mut_ptr, as_mut_ptr, n, r)
 }
 
 /// Stores v in root r. The value is the number of blocks freed, `second` whether the object that v names became stuck.
-/// Refusals: 1, 2, 4, 8.
+/// Refusals: 1, 2, 11, 4, 8.
 pub fn store_root(heap: Unique, r: usize, v: usize) -> Reply {
     lend!(huwekapo_store_root, heap, as_mut_ptr, as_mut_ptr, r, v)
 }
 
 /// Stores v in cell j of the object at block `at`. The value is the number of blocks freed, `second` whether the object
-/// that v names became stuck. Refusals: 1, 2, 6, 7, 8.
+/// that v names became stuck. Refusals: 1, 2, 11, 6, 7, 8.
 pub fn store_cell(heap: Unique, at: usize, j: usize, v: usize) -> Reply {
     lend!(huwekapo_store_cell, heap, as_mut_ptr, as_ptr, at, j, v)
 }
 
 /// Clears the roots of a set, bit r of `chosen` for root r, as stores of 0 do one after another. The value is the
-/// number of blocks freed in all. Refusals: 1, 2, 4.
+/// number of blocks freed in all. Refusals: 1, 2, 11, 4.
 pub fn return_roots(heap: Unique, chosen: u64) -> Reply {
     lend!(huwekapo_return_roots, heap, as_mut_ptr, as_mut_ptr, chosen)
 }
 
 /// Frees the objects that no root reaches, and counts the references of the others anew. The value is the number of
-/// blocks freed. Refusals: 1, 2.
+/// blocks freed. Refusals: 1, 2, 11.
 pub fn collect(heap: Unique) -> Reply {
     lend!(huwekapo_collect, heap, as_mut_ptr, as_ptr)
 }
 
-/// Looks at the object at block `at`. The value is its size in blocks, `second` its count. Refusals: 1, 2, 6.
+/// Looks at the object at block `at`. The value is its size in blocks, `second` its count. Refusals: 1, 2, 11, 6.
 pub fn look(heap: Shared, at: usize) -> Reply {
     lend!(huwekapo_look, heap, as_ptr, as_ptr, at)
 }
 
-/// Counts the free blocks. The value is their number. Refusals: 1, 2.
+/// Counts the free blocks. The value is their number. Refusals: 1, 2, 11.
 pub fn free_blocks(heap: Shared) -> Reply {
     lend!(huwekapo_free_blocks, heap, as_ptr, as_ptr)
 }
@@ -233,10 +241,11 @@ pub fn replay(heap: Unique, calls: &[u64], replies: &mut [u64]) -> Reply {
 /// changed nothing, save by a collection that it forced. A run handed in stopped is handed back as it is, and only `waiting`
 /// is written.
 ///
-/// Refusals, which change no buffer and answer a run of all 0: 1, 2, 19.
+/// Refusals, which change no buffer and answer a run of all 0: 1, 2, 11, 19.
 ///
 /// - 19: the run has more than 4,294,967,295 records, more allocations than records, more blocks than 8,192 for each
-///   record, or more collections than records (one more where its number is not 0)
+///   record, more objects that became stuck than records, or more collections than records (one more where its number is
+///   not 0)
 pub fn run_records(heap: Unique, run: SoFar, bytes: &[u8]) -> Ran {
     lend!(
         huwekapo_run_records,

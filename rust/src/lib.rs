@@ -22,6 +22,7 @@
 //!      n or more"
 //! );
 //! assert_eq!(heap.free_blocks()?, 2);
+//! assert_eq!(heap.sections(), [1]);
 //!
 //! // Clearing root 2 lets go of the object at block 4.
 //! assert_eq!(heap.store_root(2, 0)?, 3);

@@ -28,6 +28,8 @@ pub enum Refusal {
     NoCall,
     /// 10: a replay's list ends inside a call.
     CutOff,
+    /// 11: a number of `sections` is not the size of the largest free chunk of its section.
+    StaleSections,
     /// 18: a replay's `replies` is too short.
     ShortReplies,
     /// 19: a run of records is out of range.
@@ -66,6 +68,7 @@ impl Refusal {
             8 => Some(Refusal::BadReference),
             9 => Some(Refusal::NoCall),
             10 => Some(Refusal::CutOff),
+            11 => Some(Refusal::StaleSections),
             18 => Some(Refusal::ShortReplies),
             19 => Some(Refusal::BadRun),
             number => unreachable!("the library has no refusal {number}"),
@@ -86,6 +89,7 @@ impl Refusal {
             Refusal::BadReference => 8,
             Refusal::NoCall => 9,
             Refusal::CutOff => 10,
+            Refusal::StaleSections => 11,
             Refusal::ShortReplies => 18,
             Refusal::BadRun => 19,
         }
@@ -137,10 +141,13 @@ impl fmt::Display for Refusal {
             Refusal::BadReference => "v is neither 0 nor 1 + a first block",
             Refusal::NoCall => "an entry is no call: its code is above 8",
             Refusal::CutOff => "the list ends inside a call",
+            Refusal::StaleSections => {
+                "a number of `sections` is not the size of the largest free chunk of its section"
+            }
             Refusal::ShortReplies => "`replies` is too short for the replies of all calls",
             Refusal::BadRun => {
-                "the run has more records than there can be, or more allocations, blocks or collections than its \
-                 records can have made"
+                "the run has more records than there can be, or more allocations, blocks, collections or stuck objects \
+                 than its records can have made"
             }
         };
         write!(f, "{}: {words}", self.number())

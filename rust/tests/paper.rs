@@ -181,12 +181,13 @@ fn equality_leaves_out_the_waiting_list() {
     assert_ne!(rubbish.buffers().waiting, heap.buffers().waiting);
     assert_eq!(rubbish, heap);
     assert_eq!(rubbish.buffers(), heap.buffers());
-    let others: [fn(&mut Buffers); 5] = [
+    let others: [fn(&mut Buffers); 6] = [
         |buffers| buffers.a[0] = 1,
         |buffers| buffers.b[0] = 1,
         |buffers| buffers.counts[0] = 1,
         |buffers| buffers.cells[0] = 1,
         |buffers| buffers.roots[0] = 1,
+        |buffers| buffers.sections[0] = 1,
     ];
     for other in others.map(with) {
         assert_ne!(other, heap);
@@ -203,6 +204,7 @@ fn getters() {
     assert_eq!(heap.allocate(2, 1), Ok(0));
     assert_eq!(heap.allocate(1, 3), Ok(2));
     assert_eq!(heap.roots(), [0, 1, 0, 3]);
+    assert_eq!(heap.sections(), [4]);
 }
 
 #[test]
@@ -218,5 +220,9 @@ fn words() {
     assert_eq!(
         Refusal::CutOff.to_string(),
         "10: the list ends inside a call"
+    );
+    assert_eq!(
+        Refusal::StaleSections.to_string(),
+        "11: a number of `sections` is not the size of the largest free chunk of its section"
     );
 }

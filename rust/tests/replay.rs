@@ -15,6 +15,7 @@ fn used() -> Buffers {
         cells: vec![77; 32],
         roots: vec![88; 4],
         waiting: vec![99; 8],
+        sections: vec![66; 1],
     }
 }
 
@@ -28,6 +29,7 @@ fn lend(blocks: usize, buffers: &mut Buffers) -> Unique<'_> {
         cells: &mut buffers.cells,
         roots: &mut buffers.roots,
         waiting: &mut buffers.waiting,
+        sections: &mut buffers.sections,
     }
 }
 
@@ -67,6 +69,7 @@ fn p1() {
     assert_eq!(&buffers, heap.buffers());
     assert_eq!(buffers.waiting, [0; 8]);
     assert_eq!((buffers.a[0], buffers.b[0]), (119, 185));
+    assert_eq!(buffers.sections, [1]);
 }
 
 /// The same on a heap that owns its buffers, with the refusals by name.

@@ -125,4 +125,9 @@ fn damage_comes_first() {
     buffers.waiting.pop();
     let mut heap = Heap::from_buffers(8, 2, buffers);
     assert_eq!(heap.return_roots(16), Err(Refusal::Misshapen));
+
+    let mut buffers = fresh().into_buffers();
+    buffers.sections[0] = 7;
+    let mut heap = Heap::from_buffers(8, 2, buffers);
+    assert_eq!(heap.return_roots(16), Err(Refusal::StaleSections));
 }

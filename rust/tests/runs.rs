@@ -76,7 +76,7 @@ fn line(history: &[u8]) -> String {
     run_on(report_heap(), history).0.to_string()
 }
 
-/// All six buffers, the waiting list too.
+/// All seven buffers, the waiting list too.
 fn lists(buffers: &Buffers) -> impl PartialEq + std::fmt::Debug {
     (buffers.clone(), buffers.waiting.clone())
 }
@@ -420,6 +420,7 @@ fn refused(width: usize, buffers: &Buffers, run: SoFar, bytes: &[u8]) -> Reply {
         cells: &mut lent.cells,
         roots: &mut lent.roots,
         waiting: &mut lent.waiting,
+        sections: &mut lent.sections,
     };
     let Ran { reply, run } = lent::run_records(unique, run, bytes);
     assert_ne!(reply.number, 0);
@@ -428,7 +429,7 @@ fn refused(width: usize, buffers: &Buffers, run: SoFar, bytes: &[u8]) -> Reply {
     reply
 }
 
-/// 1, 2, 19, in this order; a refusal writes nothing and answers a run of all 0.
+/// 1, 2, 11, 19, in this order; a refusal writes nothing and answers a run of all 0.
 #[test]
 fn refusals() {
     let reply = |number, value| Reply {
@@ -441,7 +442,9 @@ fn refusals() {
     let bad = so_far(0, 3, [4, 6, 3, 0, 6, 0]);
     let mut buffers = small_heap().into_buffers();
     buffers.waiting.fill(99);
-    let mut damaged = buffers.clone();
+    let mut stale = buffers.clone();
+    stale.sections[0] = 4;
+    let mut damaged = stale.clone();
     damaged.b[0] = 254;
     let mut short = damaged.clone();
     short.waiting.pop();
@@ -449,6 +452,7 @@ fn refusals() {
         assert_eq!(refused(1, &buffers, run, &record), reply(1, 0));
         assert_eq!(refused(2, &short, run, &record), reply(1, 0));
         assert_eq!(refused(2, &damaged, run, &record), reply(2, 1));
+        assert_eq!(refused(2, &stale, run, &record), reply(11, 0));
     }
     assert_eq!(refused(2, &buffers, bad, &record), reply(19, 0));
 
