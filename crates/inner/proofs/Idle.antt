@@ -12,6 +12,7 @@ use Rattle.rules.specs.Calls.{Call, Answer, settled, answer}
 use Rattle.rules.specs.Promise.{Promise}
 use Rattle.rules.specs.declared.Reply.{Reply}
 use Rattle.rules.proofs.Shape.{shape-facts, shape-test, shaped-blocks}
+use Rattle.sections.specs.Figures.{Upkeep}
 use Rattle.references.specs.Ready.{Ready}
 use Rattle.theory.specs.Statements.{Undamaged}
 use Rattle.theory.proofs.Memories.Healthy.{Healthy}
@@ -52,6 +53,12 @@ module _ (N w : ℕ) (h : Memory) where
 
     pub usable-ready : Ready N w h
     usable-ready = subst (λ (g : Memory). Ready N w g) cleared-same (fit-ready N w h usable-fit)
+
+    -- where nothing was freed, the list is the true one still
+    pub list-untouched : (freed : ℕ) (a sections : List ℕ) → Upkeep N freed (h .a) (h .sections) a sections → freed ≡ 0 → sections ≡ figures N a
+    list-untouched freed a sections upkeep none =
+        let same = upkeep .untouched none in
+        same .1 ∙ usable-fit .listed ∙ ap (figures N) (sym (same .0))
 
   pub promised : (c : Call) (y : Answer) → answer N w h c ≡ y → (x : Reply) (g : Memory) → x ≡ y .0 → g ≡ y .1 → Promise N w c h x g
   promised c y e x g reply after =

@@ -1,5 +1,5 @@
 // The work of the calls that write, once their tests are passed: on an undamaged heap with a cleared waiting list, which they leave
-// cleared. The figures of the sections that the work touched are found anew at its end.
+// cleared. The figures of the sections that the work touched are found anew at its end; a store that freed nothing touched none.
 ghost use mathlib.Core.Path.{_≡_};
 ghost use lib.ListN.{length};
 ghost use Rattle.rules.specs.Lent.{before, after, lent};
@@ -93,7 +93,7 @@ pub fn store_root(
         r,
         v as Ref,
     );
-    sections::renew(blocks, a, sections);
+    sections::renew_after(blocks, a, sections, stored.freed);
     tests::telling(stored.freed, stored.stuck)
 }
 
@@ -131,7 +131,7 @@ pub fn store_cell(
         4 * at + j,
         v as Ref,
     );
-    sections::renew(blocks, a, sections);
+    sections::renew_after(blocks, a, sections, written.freed);
     tests::telling(written.freed, written.stuck)
 }
 

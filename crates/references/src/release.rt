@@ -6,7 +6,7 @@ ghost use Prim.Native.Nat.{ℕ, _+_, _≤_};
 ghost use lib.ListN.{length, getD, replicate};
 ghost use Rattle.rules.specs.Heap.{memory};
 ghost use Rattle.rules.specs.Store.{work, countDown, countDownEach, clearCells, release, letGo};
-ghost use Rattle.sections.specs.Figures.{Coherent};
+ghost use Rattle.sections.specs.Figures.{Coherent, Upkeep};
 ghost use Rattle.references.specs.Ready.{Planes, Extents};
 ghost use Rattle.references.specs.Stack.{topFirst, counted, Stack, Down};
 ghost use Rattle.references.specs.Blocks.{releasedBlocks, letGoBlocks};
@@ -104,7 +104,7 @@ fn release_all(
         (memory (now (a .entry)) (now (b .entry)) (now (counts .entry)) (now (cells .entry)) [] [])
         (topFirst (now (waiting .entry)) top))
         × (now (waiting .exit) ≡ replicate blocks 0)
-        × Coherent blocks (now (a .exit)) (now (sections .exit)) ⌝ }
+        × Upkeep blocks r (now (a .entry)) (now (sections .entry)) (now (a .exit)) (now (sections .exit)) ⌝ }
 {
     let mut freed: usize = 0;
     let mut t = top;
@@ -141,7 +141,7 @@ pub fn let_go(
         × (r
         ≡ letGoBlocks blocks width
         (memory (now (a .entry)) (now (b .entry)) (now (counts .entry)) (now (cells .entry)) [] (now (waiting .entry))) v)
-        × Coherent blocks (now (a .exit)) (now (sections .exit)) ⌝ }
+        × Upkeep blocks r (now (a .entry)) (now (sections .entry)) (now (a .exit)) (now (sections .exit)) ⌝ }
 {
     let top = count_down(blocks, width, counts, waiting, v, 0);
     release_all(blocks, width, a, b, counts, cells, waiting, sections, top)

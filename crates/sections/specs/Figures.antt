@@ -24,6 +24,11 @@ pub record Coherent (N : ℕ) (a sections : List ℕ) : Type 0 where
   pub length-is : length sections ≡ sectionCount N
   pub each : (s : ℕ) → s < sectionCount N → (getD sections s 0 ≡ figure N a s) ⊎ (getD sections s 0 ≡ 65535)
 
+-- Work that freed so many blocks keeps the list coherent; where it freed none, the map and the list are as they were.
+pub record Upkeep (N freed : ℕ) (a sections a′ sections′ : List ℕ) : Type 0 where
+  pub coherent : Coherent N a′ sections′
+  pub untouched : freed ≡ 0 → (a′ ≡ a) × (sections′ ≡ sections)
+
 -- the figures of the sections in which the n blocks from block i on lie are unknown, and all others are as they were
 pub record Forgotten (N i n : ℕ) (sections after : List ℕ) : Type 0 where
   pub same-length : length after ≡ length sections

@@ -179,6 +179,17 @@ pub fn renew(blocks: usize, a: &[u8], sections: &mut [Ref])
     }
 }
 
+// The same after work that freed so many blocks: where it freed none, no figure is unknown, and the list is not looked at.
+pub fn renew_after(blocks: usize, a: &[u8], sections: &mut [Ref], freed: usize)
+    requires { ⌜ Coherent blocks (now a) (now sections) × (blocks ≤ 8 * length (now a))
+        × (freed ≡ 0 → now sections ≡ figures blocks (now a)) ⌝ }
+    ensures { λ _. ⌜ now (sections .exit) ≡ figures blocks (now (a .entry)) ⌝ }
+{
+    if freed != 0 {
+        renew(blocks, a, sections);
+    }
+}
+
 // The figures of a heap without objects: each section is one free chunk.
 pub fn fill_free(blocks: usize, sections: &mut [Ref])
     requires { ⌜ (isBlocks blocks ≡ true) × (length (now sections) ≡ sectionCount blocks) ⌝ }

@@ -8,7 +8,7 @@ ghost use lib.ListN.{length, getD};
 ghost use Rattle.rules.specs.Heap.{withSections};
 ghost use Rattle.rules.specs.Lent.{before, after, lent};
 ghost use Rattle.rules.specs.Store.{putRoot, storeRootIn, storeCellIn, storeSticks, birthSticks, allocateIn};
-ghost use Rattle.sections.specs.Figures.{Coherent};
+ghost use Rattle.sections.specs.Figures.{Coherent, Upkeep};
 ghost use Rattle.references.specs.Ready.{Ready};
 ghost use Rattle.stores.specs.Blocks.{putRootBlocks, storeRootBlocks, storeCellBlocks, allocateBlocks};
 use blocks::Ref;
@@ -40,7 +40,7 @@ fn put_root(
         ⌜ ((x : List ℕ) → withSections x (after a b counts cells roots waiting sections)
         ≡ putRoot blocks width (withSections x (before a b counts cells roots waiting sections)) r v)
         × ((x : List ℕ) → freed ≡ putRootBlocks blocks width (withSections x (before a b counts cells roots waiting sections)) r v)
-        × Coherent blocks (now (a .exit)) (now (sections .exit)) ⌝ }
+        × Upkeep blocks freed (now (a .entry)) (now (sections .entry)) (now (a .exit)) (now (sections .exit)) ⌝ }
 {
     let old = roots[r];
     roots[r] = v;
@@ -67,7 +67,7 @@ pub fn store_root(
         ≡ storeRootIn blocks width (before a b counts cells roots waiting sections) r v)
         × (done .freed ≡ storeRootBlocks blocks width (before a b counts cells roots waiting sections) r v)
         × (done .stuck ≡ storeSticks blocks width (now (counts .entry)) (getD (now (roots .entry)) r 0) v)
-        × Coherent blocks (now (a .exit)) (now (sections .exit)) ⌝ }
+        × Upkeep blocks (done .freed) (now (a .entry)) (now (sections .entry)) (now (a .exit)) (now (sections .exit)) ⌝ }
 {
     if roots[r] == v {
         return Stored {
@@ -115,7 +115,7 @@ pub fn store_cell(
         ≡ storeCellIn blocks width (before a b counts cells roots waiting sections) c v)
         × (done .freed ≡ storeCellBlocks blocks width (before a b counts cells roots waiting sections) c v)
         × (done .stuck ≡ storeSticks blocks width (now (counts .entry)) (getD (now (cells .entry)) c 0) v)
-        × Coherent blocks (now (a .exit)) (now (sections .exit)) ⌝ }
+        × Upkeep blocks (done .freed) (now (a .entry)) (now (sections .entry)) (now (a .exit)) (now (sections .exit)) ⌝ }
 {
     let old = cells[c];
     if old == v {

@@ -68,7 +68,7 @@ returns c =
       place-done _ _ _ _ _ _ _ _ _ _ _ _ _ _ _ (extent .0) (extent .1) counts cells _ _ (put c .put-root .ensures .0 _),
       place-blocks _ _ _ _ _ _ _ _ _ _ _ _ _ _ _ (extent .0) (extent .1) counts cells _ _ (put c .put-root .ensures .1 _),
       ap (λ (most : ℕ). eqb most 1) (marked count .before .before .before .before .capacity-of .ensures .0),
-      put c .put-root .ensures .2,
+      put c .put-root .ensures .2 .coherent,
     )
 
 pub place-spec : {M : Type 1} → statement M

@@ -1,6 +1,6 @@
 -- `stores::store_cell` meets its contract: letting go is the same beside the roots, with the counts counted up and the cell written; where
 -- the value is present nothing is done.
-use mathlib.Core.Path.{_∙_}
+use mathlib.Core.Path.{refl, _∙_}
 use native.Mathlib.Omega.{arith}
 use lib.ListN.{length-set}
 use borrow.Author.Needs.{needs}
@@ -25,7 +25,8 @@ slice-read-old c = search needs
 returns : tie.Need-returns
 returns c =
     let same = cell-present _ _ _ _ _ (c .if1 .taken) in
-    (same .0, same .1, same .2, c .before .before .before .before .before .before .before .before .before .pre .0 .coherent)
+    let ready = c .before .before .before .before .before .before .before .before .before .pre .0 in
+    (same .0, same .1, same .2, record { coherent = ready .coherent; untouched = λ _. (refl, refl) })
 
 count-up-requires : tie.Need-count-up-requires
 count-up-requires c κs = search needs

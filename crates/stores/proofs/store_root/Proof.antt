@@ -1,5 +1,5 @@
 -- `stores::store_root` meets its contract: the counts that are handed on are those counted up; where the value is present nothing is done.
-use mathlib.Core.Path.{_∙_}
+use mathlib.Core.Path.{refl, _∙_}
 use native.Mathlib.Omega.{arith}
 use borrow.Author.Needs.{needs}
 use Rattle.stores.proofs.Storing.{ready-counts, root-present, root-changed, store-root-done, store-root-blocks}
@@ -22,7 +22,8 @@ slice-read-if1 c = search needs
 returns : tie.Need-returns
 returns c =
     let same = root-present _ _ _ _ _ (c .if1 .taken) in
-    (same .0, same .1, same .2, c .before .before .before .before .before .before .before .before .before .pre .0 .coherent)
+    let ready = c .before .before .before .before .before .before .before .before .before .pre .0 in
+    (same .0, same .1, same .2, record { coherent = ready .coherent; untouched = λ _. (refl, refl) })
 
 count-up-requires : tie.Need-count-up-requires
 count-up-requires c κs = search needs

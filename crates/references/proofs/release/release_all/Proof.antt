@@ -6,7 +6,7 @@ use Prim.Native.Nat.{_+_, _-_}
 use native.Mathlib.Omega.{arith}
 use Rattle.rules.specs.Heap.{memory}
 use Rattle.rules.specs.Store.{release}
-use Rattle.sections.specs.Figures.{Coherent}
+use Rattle.sections.specs.Figures.{Upkeep}
 use Rattle.references.specs.Stack.{topFirst, counted}
 use Rattle.references.specs.Blocks.{releasedBlocks}
 use Rattle.references.proofs.Stack.{stack-pop}
@@ -20,7 +20,7 @@ Inv-loop blocks width a₀ b₀ counts₀ cells₀ waiting₀ sections₀ top fr
     (release blocks blocks width (memory a₀ b₀ counts₀ cells₀ [] []) (topFirst waiting₀ top))
     (releasedBlocks blocks blocks width (memory a₀ b₀ counts₀ cells₀ [] []) (topFirst waiting₀ top))
     a b counts cells waiting t freed
-    × Coherent blocks a sections
+    × Upkeep blocks freed a₀ sections₀ a sections
 
 abbrev μ-loop : tie.MeasureT-loop
 μ-loop blocks width a₀ b₀ counts₀ cells₀ waiting₀ sections₀ top freed₀ t₀ a b counts cells waiting sections freed t =
@@ -28,8 +28,10 @@ abbrev μ-loop : tie.MeasureT-loop
 
 loop-holds : tie.Need-loop-holds Inv-loop μ-loop
 loop-holds c =
-    let start = c .before .before .before .before .before .before in
-    (releasing-start _ _ _ _ _ _ _ _ (start .pre .0) (start .pre .1) (start .pre .2), start .pre .3)
+    let start = c .before .before .before .before .before .before in (
+      releasing-start _ _ _ _ _ _ _ _ (start .pre .0) (start .pre .1) (start .pre .2),
+      record { coherent = start .pre .3; untouched = λ _. (refl, refl) },
+    )
 
 sub-t : tie.Need-sub-t Inv-loop μ-loop
 sub-t c = omega arith
@@ -61,7 +63,7 @@ clear-extent-requires c κs =
     let sized = c .before .before .before in
     let l = sized .before .before .before .before .loop in
     let inv = l .inv .0 in (
-      l .inv .1,
+      l .inv .1 .coherent,
       inv .extents .a-length,
       inv .extents .b-length,
       omega (arith, sized .object-size .ensures .1, inv .stack .blocks (l .t - 1) (omega arith)),
@@ -115,7 +117,7 @@ loop-again c =
     let cells = dropped .drop-cells .ensures in (
       releasing-step _ _ _ _ _ _ _ _ _ (l .t) _ _ _ _ _ _ _ _ _ (test .loop-test .taken) refl (size .0) (size .2)
           (extent .0) (extent .1) (cells .1) (cells .0) (l .inv .0),
-      extent .2,
+      record { coherent = extent .2; untouched = λ none. absurd (omega (arith, none, size .1)) },
     )
 
 same-length : tie.Need-same-length Inv-loop μ-loop
@@ -134,7 +136,7 @@ same-length-5 : tie.Need-same-length-5 Inv-loop μ-loop
 same-length-5 c = c .before .loop .inv .0 .stack .length-is ∙ sym (c .before .before .before .before .before .before .before .before .pre .2 .length-is)
 
 same-length-6 : tie.Need-same-length-6 Inv-loop μ-loop
-same-length-6 c = c .before .loop .inv .1 .length-is ∙ sym (c .before .before .before .before .before .before .before .before .pre .3 .length-is)
+same-length-6 c = c .before .loop .inv .1 .coherent .length-is ∙ sym (c .before .before .before .before .before .before .before .before .pre .3 .length-is)
 
 returns : tie.Need-returns Inv-loop μ-loop
 returns c =
