@@ -33,7 +33,7 @@ use Rattle.theory.specs.Moments.{NoneUntold, CollectionSticksNone}
 use Rattle.theory.specs.Theory.{Theory}
 use Rattle.theory.proofs.Maps.Extents.{Represents, sizesOf, inner, represents-delimited}
 use Rattle.rules.proofs.Sections.{sections-find-lowest}
-use Rattle.theory.proofs.Maps.Sections.{figures-are-largest}
+use Rattle.theory.proofs.Maps.Sections.{figures-are-largest, stale-exactly}
 use Rattle.theory.proofs.Maps.LowestChunk.{lowest-some, room, refused-none-free, none-free-refused}
 use Rattle.theory.proofs.Maps.Parse.{parse}
 use Rattle.theory.proofs.Maps.Totals.{objects-ends}
@@ -55,7 +55,7 @@ use Rattle.theory.proofs.EachCall.Balance.{blocks-add-up}
 use Rattle.theory.proofs.EachCall.Moments as moments
 
 intact-healthy : (N w : ℕ) (h : Memory) → Intact N w h → Healthy N w h
-intact-healthy N w h u = healthy-facts N w h (u .right-shape) (u .undamaged)
+intact-healthy N w h u = healthy-facts N w h (u .right-shape) (u .no-damage)
 
 pub calls-keep-undamaged : CallsKeepUndamaged
 calls-keep-undamaged N w h u call = fit-undamaged N w (answer N w h call .1) (answer-fit N w h (undamaged-fit N w h u) call)
@@ -239,6 +239,7 @@ theory =
       return-refused-exactly = return-refused-exactly;
       sections-find-lowest = sections-find-lowest;
       figures-are-largest = figures-are-largest;
+      stale-exactly = stale-exactly;
       list-left-true = list-left-true;
       stuck-told = moments.stuck-told;
       none-untold = none-untold;

@@ -1,11 +1,12 @@
 -- Request U4: what is proved of the figures of sections, and of the lent list that holds them.
 use Prim.Native.Nat.{ℕ, _+_, _*_, _^_, _≤_}
 use mathlib.Core.Path.{_≡_}
-use mathlib.Core.Logic.{_≢_}
-use mathlib.Core.Bool.{true}
+use mathlib.Core.Logic.{_≢_, _↔_}
+use mathlib.Core.Bool.{true, false}
 use mathlib.Core.List.{List}
-use Rattle.rules.specs.Heap.{Memory, isBlocks, chunkFree, lowestFree, sectionLength}
-use Rattle.rules.specs.Sections.{figure, figures, lowestBySections}
+use lib.ListN.{length}
+use Rattle.rules.specs.Heap.{Memory, isBlocks, chunkFree, lowestFree, sectionLength, sectionCount}
+use Rattle.rules.specs.Sections.{figure, figures, staleFigures, lowestBySections}
 use Rattle.rules.specs.Calls.{Call, answer}
 
 -- "For every heap the address, or the lack of one, must be that of document 01": the lowest section whose figure suffices has the heap's
@@ -27,6 +28,12 @@ pub record Largest (N : ℕ) (a : List ℕ) (s : ℕ) : Type 0 where
 
 abbrev pub FiguresAreLargest : Type 0
 FiguresAreLargest = (N : ℕ) (a : List ℕ) → isBlocks N ≡ true → (s : ℕ) → Largest N a s
+
+-- "11, the list doesn't match the maps", if and only if: a list of as many numbers as there are sections passes exactly where each is its
+-- section's figure
+abbrev pub StaleExactly : Type 0
+StaleExactly =
+    (N : ℕ) (a sections : List ℕ) → length sections ≡ sectionCount N → (staleFigures N a sections ≡ false) ↔ (sections ≡ figures N a)
 
 -- "every accepted call, format too, leaves the list true": whatever the memory held
 abbrev pub ListLeftTrue : Type 0

@@ -22,7 +22,7 @@ use Rattle.theory.specs.Demand.{Chain, Claim}
 -- right shape and no damage, whatever the list of sections holds: refused with neither 1 nor 2
 pub record Intact (N w : ℕ) (h : Memory) : Type 0 where
   pub right-shape : shaped N w h ≡ true
-  pub undamaged : damage N w h ≡ 0
+  pub no-damage : damage N w h ≡ 0
 
 -- right shape, no damage and a true list of sections: refused with none of 1, 2 and 11
 pub record Undamaged (N w : ℕ) (h : Memory) : Type 0 where

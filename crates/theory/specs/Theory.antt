@@ -6,7 +6,7 @@ use Rattle.theory.specs.Statements.{NStepsSuffice, ObjectsAreEnds}
 use Rattle.theory.specs.Orders.{OrderUnseen}
 use Rattle.theory.specs.Balance.{BlocksBalance, BlocksAddUp}
 use Rattle.theory.specs.Returns.{ReturnInAnyOrder, ReturnRefusedExactly}
-use Rattle.theory.specs.Sections.{SectionsFindLowest, FiguresAreLargest, ListLeftTrue}
+use Rattle.theory.specs.Sections.{SectionsFindLowest, FiguresAreLargest, StaleExactly, ListLeftTrue}
 use Rattle.theory.specs.Moments.{StuckTold, NoneUntold, CollectionSticksNone}
 
 pub record Theory : Type 0 where
@@ -38,6 +38,7 @@ pub record Theory : Type 0 where
   pub return-refused-exactly : ReturnRefusedExactly
   pub sections-find-lowest : SectionsFindLowest
   pub figures-are-largest : FiguresAreLargest
+  pub stale-exactly : StaleExactly
   pub list-left-true : ListLeftTrue
   pub stuck-told : StuckTold
   pub none-untold : NoneUntold

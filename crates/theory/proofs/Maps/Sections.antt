@@ -1,4 +1,4 @@
--- Request U4: the figure of a section is the size of its largest free chunk.
+-- Request U4: the figure of a section is the size of its largest free chunk, and a list is stale unless it has them all.
 use mathlib.Core.Path.{_≡_, sym, ap, subst, _∙_}
 use mathlib.Core.Bool.{true}
 use mathlib.Core.List.{List}
@@ -7,10 +7,11 @@ use native.Mathlib.Nat.{mul-assoc, mul-le-mul-right, le-of-mul-le-mul-right}
 use native.Mathlib.Omega.{arith}
 use lib.Pow.{pow-add, pow-pos}
 use Rattle.rules.specs.Heap.{exponent, chunkFree, sectionLength}
-use Rattle.rules.specs.Sections.{largestFree, figure}
+use Rattle.rules.specs.Sections.{largestFree, figure, staleFigures}
 use Rattle.rules.proofs.Figures.{there-is, none-larger}
+use Rattle.rules.proofs.TrueList.{fresh-true, true-fresh}
 use Rattle.rules.proofs.Sections.{Divided, divided, exponents}
-use Rattle.theory.specs.Sections.{FreeWithin, FiguresAreLargest}
+use Rattle.theory.specs.Sections.{FreeWithin, FiguresAreLargest, StaleExactly}
 
 module _ (N : ℕ) (a : List ℕ) (d : Divided N) (s t k : ℕ) (sum : t + k ≡ exponent (sectionLength N)) where
   -- a section is 2 ^ t chunks of 2 ^ k blocks, and begins with one
@@ -53,3 +54,6 @@ figures-are-largest N a blocks s =
           let sum : m - k + k ≡ m = omega (arith, exponents N k d (omega (arith, w .from, w .to))) in
           subst (λ (e : ℕ). 2 ^ k ≤ largestFree e a (s * sectionLength N)) sum (larger N a d s (m - k) k sum c w);
     }
+
+pub stale-exactly : StaleExactly
+stale-exactly N a sections long = (fresh-true N a sections long, λ e. ap (staleFigures N a) e ∙ true-fresh N a)
