@@ -5,11 +5,12 @@ ghost use lib.ListN.{length};
 ghost use Rattle.rules.specs.Heap.{memory};
 ghost use Rattle.rules.specs.Lent.{before};
 ghost use Rattle.rules.specs.Calls.{Call};
-ghost use Rattle.inner.specs.Replies.{storeRootTest, storeCellTest, allocateReply};
-ghost use Rattle.returns.specs.Returns.{returnTest};
+ghost use Rattle.arguments.specs.Replies.{storeRootTest, storeCellTest, returnTest, allocateReply};
 ghost use Rattle.gates.specs.Gated.{Gated};
+use arguments::allocating;
+use arguments::returning;
+use arguments::storing;
 use blocks::Ref;
-use inner::tests;
 use rules::Reply;
 
 // The tests of an allocation of n blocks into root r. The value is the block where the object can start.
@@ -35,7 +36,7 @@ pub fn allocate(
     if number != 0 {
         return checked;
     }
-    tests::allocate_reply(blocks, a, sections, roots.len(), n, r)
+    allocating::allocate_reply(blocks, a, sections, roots.len(), n, r)
 }
 
 // The tests of a store in root r.
@@ -61,7 +62,7 @@ pub fn store_root(
     if number != 0 {
         return checked;
     }
-    tests::store_root_test(blocks, a, b, roots, r, v)
+    storing::store_root_test(blocks, a, b, roots, r, v)
 }
 
 // The tests of a store in cell j of the object at block `at`.
@@ -88,7 +89,7 @@ pub fn store_cell(
     if number != 0 {
         return checked;
     }
-    tests::store_cell_test(blocks, a, b, at, j, v)
+    storing::store_cell_test(blocks, a, b, at, j, v)
 }
 
 // The tests of a return of the roots of a set.
@@ -113,5 +114,5 @@ pub fn return_roots(
     if number != 0 {
         return checked;
     }
-    returns::return_test(roots.len(), chosen)
+    returning::return_test(roots.len(), chosen)
 }

@@ -3,11 +3,11 @@
 ghost use mathlib.Core.Path.{_≡_};
 ghost use Rattle.rules.specs.Lent.{before, after};
 ghost use Rattle.history.specs.Promised.{runReply, refusal, Promised};
+use arguments::replies;
 use blocks::Ref;
 use blocks::extents;
 use figures::tally;
 use figures::tally::Run;
-use inner::tests;
 use rules::Reply;
 
 mod run;
@@ -52,9 +52,9 @@ fn run_reply(
         return checked;
     }
     if !tally::in_range(run) {
-        return tests::refusal(19);
+        return replies::refusal(19);
     }
-    tests::acceptance(0)
+    replies::acceptance(0)
 }
 
 // Runs the records of a piece of a history, from where the run stands, and answers where it stands then. Only the last piece may end inside

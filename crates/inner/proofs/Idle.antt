@@ -1,17 +1,14 @@
--- A usable heap is fit and ready for the calls that write, and an undamaged one is usable once its waiting list is cleared. And the
--- promise of a call whose answer is known.
+-- A usable heap is fit and ready for the calls that write, and an undamaged one is usable once its waiting list is cleared. And what an
+-- act leaves, from what it left beside its list of sections.
 use mathlib.Core.Path.{_≡_, refl, sym, ap, _∙_, subst}
-use mathlib.Core.Bool.{true}
 use mathlib.Core.List.{List}
 use Prim.Native.Nat.{ℕ}
 use lib.ListN.{length-replicate, replicate}
-use Rattle.rules.specs.Heap.{Memory, isBlocks, withWaiting, withSections}
+use Rattle.rules.specs.Heap.{Memory, withWaiting, withSections}
 use Rattle.rules.specs.Damage.{endOnFree, openEnd, unaligned, badCell, badRoot, badCount, damage}
 use Rattle.rules.specs.Sections.{figures}
-use Rattle.rules.specs.Calls.{Call, Answer, settled, answer}
-use Rattle.rules.specs.Promise.{Promise}
-use Rattle.rules.specs.declared.Reply.{Reply}
-use Rattle.rules.proofs.Shape.{shape-facts, shape-test, shaped-blocks}
+use Rattle.rules.specs.Calls.{settled}
+use Rattle.rules.proofs.Shape.{shape-facts, shape-test}
 use Rattle.sections.specs.Figures.{Upkeep}
 use Rattle.references.specs.Ready.{Ready}
 use Rattle.theory.specs.Statements.{Undamaged}
@@ -22,9 +19,6 @@ use Rattle.bridge.proofs.ReadyHeap.{fit-ready}
 use Rattle.inner.specs.Usable.{Usable}
 
 module _ (N w : ℕ) (h : Memory) where
-  pub healthy-blocks : Healthy N w h → isBlocks N ≡ true
-  healthy-blocks healthy = shaped-blocks N w h (healthy .shape)
-
   pub cleared-usable : Undamaged N w h → Usable N w (withWaiting (replicate N 0) h)
   unfolding damage endOnFree openEnd unaligned badCell badRoot badCount
   cleared-usable fit =
@@ -59,10 +53,6 @@ module _ (N w : ℕ) (h : Memory) where
     list-untouched freed a sections upkeep none =
         let same = upkeep .untouched none in
         same .1 ∙ usable-fit .listed ∙ ap (figures N) (sym (same .0))
-
-  pub promised : (c : Call) (y : Answer) → answer N w h c ≡ y → (x : Reply) (g : Memory) → x ≡ y .0 → g ≡ y .1 → Promise N w c h x g
-  promised c y e x g reply after =
-      record { reply-is = reply ∙ ap (λ (z : Answer). z .0) (sym e); after-is = after ∙ ap (λ (z : Answer). z .1) (sym e) }
 
 -- what a call leaves, from what it left beside its list of sections, with the waiting list cleared and the list true
 pub left-settled :

@@ -1,6 +1,4 @@
-pub mod Places
 pub mod Idle
-pub mod Passed
 pub mod Stored
 pub mod Allocated
 pub mod Collected

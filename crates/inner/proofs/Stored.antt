@@ -13,14 +13,15 @@ use Rattle.rules.specs.Calls.{Call, storeRoot, storeCell, reply, freeing, settl
 use Rattle.rules.specs.Promise.{Promise}
 use Rattle.rules.specs.declared.Reply.{Reply}
 use Rattle.rules.proofs.Tests.{require-true}
+use Rattle.rules.proofs.Promised.{promised}
 use Rattle.stores.specs.Blocks.{storeRootBlocks, storeCellBlocks}
 use Rattle.theory.proofs.Memories.Fit.{Fit}
 use Rattle.theory.proofs.EachCall.Served.{on-undamaged}
 use Rattle.theory.proofs.Memories.WaitingUnread.{store-root-waiting, store-cell-waiting}
 use Rattle.bridge.proofs.Freed.{store-root-freed, store-cell-freed}
+use Rattle.arguments.proofs.Passed.{RootPassed, CellPassed}
 use Rattle.inner.specs.Usable.{Usable}
-use Rattle.inner.proofs.Idle.{cleared-same, usable-fit, usable-healthy, left-settled, promised}
-use Rattle.inner.proofs.Passed.{RootPassed, CellPassed}
+use Rattle.inner.proofs.Idle.{cleared-same, usable-fit, usable-healthy, left-settled}
 
 -- whether the store makes an object stuck
 abbrev pub rootSticks : (N w : ℕ) → Memory → (r v : ℕ) → Bool

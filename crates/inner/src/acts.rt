@@ -7,8 +7,8 @@ ghost use Rattle.rules.specs.Calls.{Call, reply};
 ghost use Rattle.rules.specs.Promise.{Promise};
 ghost use Rattle.inner.specs.Allocating.{Allocating};
 ghost use Rattle.inner.specs.Usable.{Usable};
-ghost use Rattle.inner.specs.Replies.{storeRootTest, storeCellTest, allocateReply};
-use crate::tests;
+ghost use Rattle.arguments.specs.Replies.{storeRootTest, storeCellTest, allocateReply};
+use arguments::replies;
 use blocks::Ref;
 use rules::Reply;
 
@@ -53,7 +53,7 @@ pub fn allocate(
         at,
     );
     sections::renew(blocks, a, sections);
-    let reply = tests::telling(at, placed.stuck);
+    let reply = replies::telling(at, placed.stuck);
     Allocated {
         reply: reply,
         freed: placed.freed,
@@ -94,7 +94,7 @@ pub fn store_root(
         v as Ref,
     );
     sections::renew_after(blocks, a, sections, stored.freed);
-    tests::telling(stored.freed, stored.stuck)
+    replies::telling(stored.freed, stored.stuck)
 }
 
 // Stores v in cell j of the object at block `at`. The passed test shows that v fits a cell.
@@ -132,7 +132,7 @@ pub fn store_cell(
         v as Ref,
     );
     sections::renew_after(blocks, a, sections, written.freed);
-    tests::telling(written.freed, written.stuck)
+    replies::telling(written.freed, written.stuck)
 }
 
 // Collects.
@@ -153,5 +153,5 @@ pub fn collect(
 {
     let freed = collector::collect(blocks, width, a, b, counts, cells, roots, waiting, sections);
     sections::renew(blocks, a, sections);
-    tests::acceptance(freed)
+    replies::acceptance(freed)
 }

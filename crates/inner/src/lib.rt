@@ -2,4 +2,3 @@
 // calls test once and come here; a run of many calls starts from a formatted heap and stays here.
 pub mod acts;
 pub mod steps;
-pub mod tests;

@@ -6,7 +6,8 @@ ghost use Rattle.inner.specs.Allocating.{Allocating};
 ghost use Rattle.inner.specs.Usable.{Usable};
 use crate::acts;
 use crate::acts::Allocated;
-use crate::tests;
+use arguments::allocating;
+use arguments::storing;
 use blocks::Ref;
 use rules::Reply;
 
@@ -28,7 +29,7 @@ pub fn allocate(
     ensures { λ done.
         ⌜ Allocating blocks width n r (before a b counts cells roots waiting sections) done (after a b counts cells roots waiting sections) ⌝ }
 {
-    let test = tests::allocate_reply(blocks, a, sections, roots.len(), n, r);
+    let test = allocating::allocate_reply(blocks, a, sections, roots.len(), n, r);
     let number = test.number;
     if number != 0 {
         return Allocated {
@@ -72,7 +73,7 @@ pub fn store_root(
         ⌜ Promise blocks width (Call.storeRoot r v) (before a b counts cells roots waiting sections) reply
         (after a b counts cells roots waiting sections) ⌝ }
 {
-    let test = tests::store_root_test(blocks, a, b, roots, r, v);
+    let test = storing::store_root_test(blocks, a, b, roots, r, v);
     let number = test.number;
     if number != 0 {
         return test;
@@ -112,7 +113,7 @@ pub fn store_cell(
         ⌜ Promise blocks width (Call.storeCell at j v) (before a b counts cells roots waiting sections) reply
         (after a b counts cells roots waiting sections) ⌝ }
 {
-    let test = tests::store_cell_test(blocks, a, b, at, j, v);
+    let test = storing::store_cell_test(blocks, a, b, at, j, v);
     let number = test.number;
     if number != 0 {
         return test;

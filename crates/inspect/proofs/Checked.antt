@@ -13,7 +13,7 @@ use Rattle.rules.specs.Promise.{Promise}
 use Rattle.rules.specs.declared.Reply.{Reply}
 use Rattle.rules.proofs.Replies.{on-undamaged-passed, on-undamaged-next, on-undamaged-refused}
 use Rattle.theory.specs.Statements.{Undamaged}
-use Rattle.inner.specs.Replies.{lookReply}
+use Rattle.arguments.specs.Replies.{lookReply}
 
 module _ (N w : ℕ) (h : Memory) where
   -- ---- the check itself

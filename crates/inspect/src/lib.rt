@@ -2,10 +2,11 @@
 ghost use Rattle.rules.specs.Lent.{before, after};
 ghost use Rattle.rules.specs.Calls.{Call};
 ghost use Rattle.rules.specs.Promise.{Promise};
+use arguments::looking;
+use arguments::replies;
 use blocks::Ref;
 use damage::kinds;
 use damage::shape;
-use inner::tests;
 use rules::Reply;
 
 // Whether the heap has the right shape, is undamaged and has a true list of sections: number 1, or 2 with the damage kind, or 11, or 0.
@@ -35,7 +36,7 @@ pub fn check(
         waiting.len(),
         sections.len(),
     ) {
-        return tests::refusal(1);
+        return replies::refusal(1);
     }
     let kind = kinds::damage_kind(blocks, width, a, b, counts, cells, roots, waiting, sections);
     if kind != 0 {
@@ -46,9 +47,9 @@ pub fn check(
         };
     }
     if sections::is_stale(blocks, a, sections) {
-        return tests::refusal(11);
+        return replies::refusal(11);
     }
-    tests::acceptance(0)
+    replies::acceptance(0)
 }
 
 // The number of free blocks.
@@ -72,7 +73,7 @@ pub fn free_blocks(
     if number != 0 {
         return check_reply;
     }
-    tests::acceptance(bitmap::count_zeros(a))
+    replies::acceptance(bitmap::count_zeros(a))
 }
 
 // The size and the count of the object at block `at`.
@@ -97,5 +98,5 @@ pub fn look(
     if number != 0 {
         return checked;
     }
-    tests::look_reply(blocks, width, a, b, counts, at)
+    looking::look_reply(blocks, width, a, b, counts, at)
 }

@@ -9,9 +9,9 @@ use Rattle.rules.specs.Calls.{Answer, check, look, freeBlocks, reply, accepted,
 use Rattle.rules.specs.Promise.{Promise}
 use Rattle.rules.specs.declared.Reply.{Reply}
 use Rattle.rules.proofs.Replies.{on-undamaged-next}
+use Rattle.rules.proofs.Promised.{promised}
+use Rattle.arguments.specs.Replies.{lookReply}
 use Rattle.inner.specs.Usable.{Usable}
-use Rattle.inner.specs.Replies.{lookReply}
-use Rattle.inner.proofs.Idle.{promised}
 
 module _ (N w : ℕ) (h : Memory) (usable : Usable N w h) where
   passed : (next : Answer) → onUndamaged N w h next ≡ next

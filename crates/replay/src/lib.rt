@@ -49,7 +49,7 @@ pub fn replay(
     if number != 0 {
         return test;
     }
-    mutate::format(blocks, width, a, b, counts, cells, roots, waiting, sections);
+    formatter::format(blocks, width, a, b, counts, cells, roots, waiting, sections);
     run::run_all(
         blocks,
         width,

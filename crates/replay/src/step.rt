@@ -2,10 +2,11 @@
 ghost use Rattle.rules.specs.Lent.{before, after, lent};
 ghost use Rattle.inner.specs.Usable.{Usable};
 ghost use Rattle.replay.specs.Steps.{Stepped};
+use arguments::looking;
+use arguments::replies;
 use blocks::Ref;
 use inner::acts;
 use inner::steps;
-use inner::tests;
 use rules::Reply;
 
 // The call that the four words stand for. All other codes are answered 9.
@@ -30,8 +31,8 @@ pub(crate) fn step(
         (after a b counts cells roots waiting sections) ⌝ }
 {
     match code {
-        0 => mutate::format(blocks, width, a, b, counts, cells, roots, waiting, sections),
-        1 => tests::acceptance(0),
+        0 => formatter::format(blocks, width, a, b, counts, cells, roots, waiting, sections),
+        1 => replies::acceptance(0),
         2 => {
             let done = steps::allocate(
                 blocks,
@@ -76,8 +77,8 @@ pub(crate) fn step(
             z as usize,
         ),
         5 => acts::collect(blocks, width, a, b, counts, cells, roots, waiting, sections),
-        6 => tests::look_reply(blocks, width, a, b, counts, x as usize),
-        7 => tests::acceptance(bitmap::count_zeros(a)),
+        6 => looking::look_reply(blocks, width, a, b, counts, x as usize),
+        7 => replies::acceptance(bitmap::count_zeros(a)),
         8 => returns::return_roots(
             blocks,
             width,
@@ -90,6 +91,6 @@ pub(crate) fn step(
             sections,
             x,
         ),
-        _ => tests::refusal(9),
+        _ => replies::refusal(9),
     }
 }

@@ -5,9 +5,9 @@ ghost use lib.ListN.{length};
 ghost use Rattle.rules.specs.Heap.{shape};
 ghost use Rattle.replay.specs.Encoding.{isCall, areCalls};
 ghost use Rattle.replay.specs.Replay.{replyOn};
+use arguments::replies::acceptance;
+use arguments::replies::refusal;
 use damage::shape;
-use inner::tests::acceptance;
-use inner::tests::refusal;
 use rules::Reply;
 
 // Whether a code is that of a call. All other codes are answered 9.

@@ -1,4 +1,4 @@
--- A return (request U10): its answer, passed or refused, and its work root by root.
+-- A return (request U10): its answer once its test is passed, and its work root by root.
 use mathlib.Core.Path.{_≡_, refl, sym, ap, _∙_}
 use mathlib.Core.Bool.{Bool, true, false}
 use Prim.Native.Nat.{ℕ, _+_, _-_, _≤_, _<_}
@@ -16,13 +16,13 @@ use Rattle.theory.proofs.Memories.Fit.{Fit}
 use Rattle.theory.proofs.EachCall.Served.{on-undamaged}
 use Rattle.theory.proofs.EachCall.Clearing.{none-ref, root-cleared}
 use Rattle.theory.proofs.Memories.WaitingUnread.{store-root-waiting}
+use Rattle.arguments.specs.Replies.{storeRootTest, returnTest}
+use Rattle.arguments.proofs.Passed.{root-passed}
 use Rattle.inner.specs.Usable.{Usable}
-use Rattle.inner.specs.Replies.{storeRootTest}
-use Rattle.inner.proofs.Idle.{cleared-same, usable-fit, left-settled, promised}
-use Rattle.inner.proofs.Passed.{root-passed}
+use Rattle.inner.proofs.Idle.{cleared-same, usable-fit, left-settled}
 use Rattle.inner.proofs.Stored.{root-answered, freeing-promised}
 use Rattle.inner.proofs.Kept.{usable-kept}
-use Rattle.returns.specs.Returns.{returnTest, Turn}
+use Rattle.returns.specs.Returns.{Turn}
 use Rattle.returns.proofs.SectionsUnread.{store-root-sections}
 
 -- ---- the answer
@@ -45,18 +45,6 @@ module _ (N w : ℕ) (h : Memory) (fit : Fit N w h) (chosen : ℕ) where
       go : (t : Bool) → outcome t .number ≡ 0 → require t 4 h done ≡ done
       go true e = refl
       go false e = absurd (omega arith)
-
-  return-stopped : (test .number ≡ 0 → ⊥) → answer N w h (returnRoots chosen) ≡ (test, h)
-  unfolding answer returnTest outcome require
-  return-stopped fails = on-undamaged N w h fit _ ∙ go (chosenBelow chosen (length (h .roots))) fails
-    where
-      go : (t : Bool) → (outcome t .number ≡ 0 → ⊥) → require t 4 h done ≡ (outcome t, h)
-      go true n = absurd (n refl)
-      go false n = refl
-
-  pub return-refused : (x : Reply) → x ≡ test → (x .number ≡ 0 → ⊥) → Promise N w (returnRoots chosen) h x h
-  return-refused x tested fails =
-      promised N w h (returnRoots chosen) (test, h) (return-stopped (λ e. fails (ap (λ (y : Reply). y .number) tested ∙ e))) x h tested refl
 
 -- ---- one root
 

@@ -1,32 +1,19 @@
 // The return of a set of roots (request U10) on a heap that is known to be undamaged, with a cleared waiting list and a true list of sections:
-// its test, and its work. Bit r of `chosen` says whether root r is one of the set.
+// its work, and its test with it. Bit r of `chosen` says whether root r is one of the set.
 ghost use mathlib.Core.Path.{_≡_};
-ghost use Prim.Native.Nat.{_≤_, _<_};
+ghost use Prim.Native.Nat.{_<_};
 ghost use lib.ListN.{length};
 ghost use Rattle.rules.specs.Lent.{before, after, lent};
 ghost use Rattle.rules.specs.Calls.{Call};
 ghost use Rattle.rules.specs.Promise.{Promise};
+ghost use Rattle.arguments.specs.Replies.{returnTest};
 ghost use Rattle.inner.specs.Usable.{Usable};
-ghost use Rattle.returns.specs.Returns.{returnTest, Turn};
+ghost use Rattle.returns.specs.Returns.{Turn};
+use arguments::replies;
+use arguments::returning;
 use blocks::Ref;
 use inner::acts;
-use inner::tests;
 use rules::Reply;
-
-// The test of a return: a set with a bit at or past the number of roots is refused.
-pub fn return_test(roots: usize, chosen: u64) -> Reply
-    requires { ⌜ roots ≤ 64 ⌝ }
-    ensures { λ t. ⌜ t ≡ returnTest roots chosen ⌝ }
-{
-    // All 64 bits name roots, and a shift by 64 would be none.
-    if 64 <= roots {
-        return tests::acceptance(0);
-    }
-    if chosen >> roots != 0 {
-        return tests::refusal(4);
-    }
-    tests::acceptance(0)
-}
 
 // Clears root r where it is one of the set. The number of blocks freed.
 fn clear_chosen(
@@ -108,7 +95,7 @@ pub fn clear_roots(
         freed += more;
         r += 1;
     }
-    tests::acceptance(freed)
+    replies::acceptance(freed)
 }
 
 // The test, and the work where it passes.
@@ -129,7 +116,7 @@ pub fn return_roots(
         ⌜ Promise blocks width (Call.returnRoots chosen) (before a b counts cells roots waiting sections) reply
         (after a b counts cells roots waiting sections) ⌝ }
 {
-    let test = return_test(roots.len(), chosen);
+    let test = returning::return_test(roots.len(), chosen);
     let number = test.number;
     if number != 0 {
         return test;

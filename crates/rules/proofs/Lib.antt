@@ -10,4 +10,5 @@ pub mod Chunks
 pub mod Figures
 pub mod Sections
 pub mod Replies
+pub mod Promised
 pub mod Counting

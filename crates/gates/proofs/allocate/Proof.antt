@@ -3,8 +3,8 @@ use mathlib.Core.Path.{refl}
 use native.Mathlib.Omega.{arith}
 use borrow.Author.Needs.{needs}
 use Rattle.rules.specs.Calls.{allocate, answer}
-use Rattle.inner.proofs.Idle.{healthy-blocks}
-use Rattle.inner.proofs.Allocated.{allocate-refused}
+use Rattle.rules.proofs.Shape.{shaped-blocks}
+use Rattle.arguments.proofs.Found.{allocate-refused}
 use Rattle.gates.proofs.Checked.{checked-passed, gate-shut, gate-open}
 use Rattle.gates.proofs.allocate.Statement.{statement}
 use Rattle.gates.proofs.allocate.Tie as tie
@@ -19,7 +19,7 @@ returns c = gate-shut _ _ _ _ (c .before .check .ensures) (c .if1 .taken) (alloc
 allocate-reply-requires : tie.Need-allocate-reply-requires
 allocate-reply-requires c κs =
     let fit = checked-passed _ _ _ _ (c .before .check .ensures) (c .if1 .left) in
-    (healthy-blocks _ _ _ (fit .healthy), omega (arith, fit .healthy .shape .length-a, fit .healthy .shape .whole-bytes), fit .listed)
+    (shaped-blocks _ _ _ (fit .healthy .shape), omega (arith, fit .healthy .shape .length-a, fit .healthy .shape .whole-bytes), fit .listed)
 
 returns-2 : tie.Need-returns-2
 returns-2 c =

@@ -2,7 +2,7 @@
 use mathlib.Core.Path.{refl}
 use borrow.Author.Needs.{needs}
 use Rattle.rules.specs.Calls.{returnRoots, answer}
-use Rattle.returns.proofs.Returned.{return-refused}
+use Rattle.arguments.proofs.Passed.{return-refused}
 use Rattle.gates.proofs.Checked.{checked-passed, gate-shut, gate-open}
 use Rattle.gates.proofs.return_roots.Statement.{statement}
 use Rattle.gates.proofs.return_roots.Tie as tie

@@ -3,7 +3,7 @@ use mathlib.Core.Path.{refl}
 use native.Mathlib.Omega.{arith}
 use borrow.Author.Needs.{needs}
 use Rattle.rules.specs.Calls.{storeCell, answer}
-use Rattle.inner.proofs.Passed.{cell-refused}
+use Rattle.arguments.proofs.Passed.{cell-refused}
 use Rattle.gates.proofs.Checked.{checked-passed, gate-shut, gate-open}
 use Rattle.gates.proofs.store_cell.Statement.{statement}
 use Rattle.gates.proofs.store_cell.Tie as tie

@@ -3,7 +3,7 @@ use mathlib.Core.Path.{refl}
 use native.Mathlib.Omega.{arith}
 use borrow.Author.Needs.{needs}
 use Rattle.rules.specs.Calls.{storeRoot, answer}
-use Rattle.inner.proofs.Passed.{root-refused}
+use Rattle.arguments.proofs.Passed.{root-refused}
 use Rattle.gates.proofs.Checked.{checked-passed, gate-shut, gate-open}
 use Rattle.gates.proofs.store_root.Statement.{statement}
 use Rattle.gates.proofs.store_root.Tie as tie

@@ -1,7 +1,7 @@
 -- `mutate::allocate` meets its contract: the gate, and then the work on the cleared heap.
 use mathlib.Core.Path.{refl, _∙_}
 use borrow.Author.Needs.{needs}
-use Rattle.inner.proofs.Allocated.{allocate-accepts}
+use Rattle.arguments.proofs.Found.{allocate-accepts}
 use Rattle.mutate.proofs.Cleared.{cleared-usable, allocate-cleared}
 use Rattle.mutate.proofs.allocate.Statement.{statement}
 use Rattle.mutate.proofs.allocate.Tie as tie

@@ -41,7 +41,7 @@ returns c =
     }
 
 format-requires : tie.Need-format-requires
-format-requires c κs = search needs
+format-requires c κs = passed (tested c) .right-shape
 
 run-all-requires : tie.Need-run-all-requires
 run-all-requires c κs =

@@ -1,8 +1,9 @@
 -- `inner::steps::allocate` meets its contract.
 use mathlib.Core.Path.{refl}
 use native.Mathlib.Omega.{arith}
-use Rattle.inner.proofs.Idle.{healthy-blocks, usable-fit}
-use Rattle.inner.proofs.Allocated.{allocate-accepts, allocate-refused}
+use Rattle.rules.proofs.Shape.{shaped-blocks}
+use Rattle.arguments.proofs.Found.{allocate-accepts, allocate-refused}
+use Rattle.inner.proofs.Idle.{usable-fit}
 use Rattle.inner.proofs.Balanced.{allocate-refusing}
 use borrow.Author.Needs.{needs}
 use Rattle.inner.proofs.steps.allocate.Statement.{statement}
@@ -16,7 +17,7 @@ allocate-reply-requires : tie.Need-allocate-reply-requires
 allocate-reply-requires c κs =
     let fit = usable-fit _ _ _ (c .before .before .before .before .before .before .before .before .before .pre) in
     let shape = fit .healthy .shape in
-    (healthy-blocks _ _ _ (fit .healthy), omega (arith, shape .length-a, shape .whole-bytes), fit .listed)
+    (shaped-blocks _ _ _ shape, omega (arith, shape .length-a, shape .whole-bytes), fit .listed)
 
 returns : tie.Need-returns
 returns c =

@@ -34,7 +34,7 @@ abbrev returned : tie.After-slice-known47 → tie.After-return-roots
 returned c = c .before .before .before .before .before .before .before .before .before .before .before .before .before .before
 
 format-requires : tie.Need-format-requires
-format-requires c κs = search needs
+format-requires c κs = entry (c .before .before .before .before .before .before .before .before) .pre .undamaged .right-shape
 
 acceptance-requires : tie.Need-acceptance-requires
 acceptance-requires c κs = search needs
