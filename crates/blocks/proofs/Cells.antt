@@ -1,13 +1,12 @@
--- Laws of a run of cells made 0, `clearCells`, and of a bound of all cells.
+-- Laws of a run of cells made 0, `clearCells`.
 use mathlib.Core.Path.{_≡_, refl, sym, ap, _∙_}
 use mathlib.Core.Logic.{_⊎_, inl, inr, ⊎-elim}
 use mathlib.Core.List.{List}
 use Prim.Native.Nat.{ℕ, zero, suc, _+_, _≤_, _<_}
 use native.Mathlib.Numerals.{add-one}
-use native.Mathlib.Decide.{ℕ-discrete, decLt}
 use native.Mathlib.Omega.{arith}
 use lib.ListN.{length, getD, set, length-set}
-use lib.Seq.{getD-set-same, getD-set-other, set-out}
+use lib.Seq.{getD-set-other}
 use Rattle.rules.specs.Store.{clearCells}
 
 -- one cell more
@@ -27,19 +26,3 @@ clear-out cells j zero k o = refl
 clear-out cells j (suc n) k o =
     getD-set-other (clearCells cells j n) (j + n) k 0 0 (⊎-elim (λ l e. omega arith) (λ l e. omega arith) o)
     ∙ clear-out cells j n k (⊎-elim (λ l. inl l) (λ l. inr (omega arith)) o)
-
--- a bound of all cells stays one when a cell gets a number within it
-pub set-within : (bound : ℕ) (cells : List ℕ) (k v : ℕ) → v ≤ bound → ((j : ℕ) → getD cells j 0 ≤ bound)
-    → (j : ℕ) → getD (set cells k v) j 0 ≤ bound
-set-within bound cells k v hv h j = go (ℕ-discrete j k) (decLt k (length cells))
-  where
-    go : Dec (j ≡ k) → Dec (k < length cells) → getD (set cells k v) j 0 ≤ bound
-    go (yes e) (yes l) = rw (e, getD-set-same) hv
-    go (yes e) (no l) = rw (set-out cells k v (omega arith)) (h j)
-    go (no d) l = rw (getD-set-other cells k j) (h j)
-
-pub clear-within : (bound : ℕ) (cells : List ℕ) (j n : ℕ) → ((k : ℕ) → getD cells k 0 ≤ bound)
-    → (k : ℕ) → getD (clearCells cells j n) k 0 ≤ bound
-unfolding clearCells
-clear-within bound cells j zero h = h
-clear-within bound cells j (suc n) h = set-within bound (clearCells cells j n) (j + n) 0 (omega arith) (clear-within bound cells j n h)

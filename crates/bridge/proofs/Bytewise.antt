@@ -4,7 +4,7 @@ use mathlib.Core.List.{List, [], _∷_}
 use Prim.Native.Nat.{ℕ, zero, suc, _+_, _-_, _*_, _/_, min}
 use native.Mathlib.Omega.{arith}
 use lib.ListN.{length, getD, replicate}
-use lib.Dec.{eqb}
+use lib.Dec.{ltb, eqb}
 use Rattle.bitmap.specs.Bit.{Bytes}
 use Rattle.bitmap.proofs.Maps.{bytes-set-bit, bytes-replicate}
 use Rattle.bitmap.proofs.Runs.{bytes-fill}
@@ -71,7 +71,7 @@ module _ (N w : ℕ) where
 
   visit-bytes : (s : Work) (v : ℕ) → Bytes (s .counts) → Bytes ((visit N w s v) .counts)
   unfolding visit
-  visit-bytes s v bytes = choose (λ (t : Work). Bytes (t .counts)) (eqb v 0) {x = s} bytes (up-bytes (s .counts) v bytes)
+  visit-bytes s v bytes = choose (λ (t : Work). Bytes (t .counts)) (eqb v 0 || ltb N v) {x = s} bytes (up-bytes (s .counts) v bytes)
 
   visit-each-bytes : (s : Work) (refs : List ℕ) (j n : ℕ) → Bytes (s .counts) → Bytes ((visitEach N w s refs j n) .counts)
   unfolding visitEach

@@ -9,7 +9,7 @@ use native.Mathlib.Omega.{arith}
 use lib.ListN.{length, getD, replicate, length-replicate, getD-replicate}
 use lib.Seq.{getD-append-add, ext-getD}
 use lib.Dec.{eqb}
-use borrow.Author.Tests.{ne-eqb}
+use borrow.Author.Tests.{le-ltb, ne-eqb}
 use Rattle.planes.specs.Plane.{countAt}
 use Rattle.planes.proofs.Counts.{count-all-zero}
 use Rattle.rules.specs.Heap.{Memory, capacity, sizeAt}
@@ -38,16 +38,16 @@ met c b stack = elim (eqb c 0) [ true ↦ b ∷ stack | false ↦ stack ]
 
 module _ (N w : ℕ) (whole : 8 * (N / 8) ≡ N) (counts : List ℕ) (len : length counts ≡ w * (N / 8)) (stack : List ℕ) where
   visit-some :
-      (v : ℕ) → v ≢ 0
+      (v : ℕ) → v ≢ 0 → v ≤ N
       → visit N w (work counts stack) v ≡ work (countUp N w counts v) (met (countAt (N / 8) w counts (v - 1)) (v - 1) stack)
   unfolding visit
-  visit-some v some = rw (ne-eqb v 0 some, visit)
+  visit-some v some l = rw (ne-eqb v 0 some, le-ltb N v l, visit)
 
   visit-next :
-      (b : ℕ) → visit N w (work counts stack) (suc b) ≡ work (countUp N w counts (suc b)) (met (countAt (N / 8) w counts b) b stack)
-  visit-next b =
+      (b : ℕ) → b < N → visit N w (work counts stack) (suc b) ≡ work (countUp N w counts (suc b)) (met (countAt (N / 8) w counts b) b stack)
+  visit-next b l =
       let back : suc b - 1 ≡ b = omega arith in
-      rw back at (visit-some (suc b) (omega arith))
+      rw back at (visit-some (suc b) (omega arith) (omega arith))
 
   visit-shows :
       (v : ℕ) → v ≤ N
@@ -57,10 +57,10 @@ module _ (N w : ℕ) (whole : 8 * (N / 8) ≡ N) (counts : List ℕ) (len : leng
   visit-shows zero l = record { length-is = len; counts-are = refl; stack-is = refl }
   visit-shows (suc b) l =
       record {
-        length-is = ap (λ (s : Work). length (s .counts)) (visit-next b) ∙ length-up N w whole counts len (suc b) ∙ len;
-        counts-are = ap (λ (s : Work). countsOf N w (s .counts)) (visit-next b) ∙ counts-up N w whole counts len (suc b) l;
+        length-is = ap (λ (s : Work). length (s .counts)) (visit-next b (omega arith)) ∙ length-up N w whole counts len (suc b) ∙ len;
+        counts-are = ap (λ (s : Work). countsOf N w (s .counts)) (visit-next b (omega arith)) ∙ counts-up N w whole counts len (suc b) l;
         stack-is =
-            ap (λ (s : Work). s .stack) (visit-next b)
+            ap (λ (s : Work). s .stack) (visit-next b (omega arith))
             ∙ ap (λ (c : ℕ). met c b stack) (sym (getD-tabulate 0 N (countAt (N / 8) w counts) b (omega arith)));
       }
 

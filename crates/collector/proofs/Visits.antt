@@ -11,7 +11,7 @@ use lib.ListN.{length, getD, set, length-set}
 use lib.Seq.{getD-set-same, getD-set-other}
 use lib.Dec.{eqb}
 use lib.Pow.{pow-mono}
-use borrow.Author.Tests.{eq-eqb, ne-eqb}
+use borrow.Author.Tests.{lt-ltb, le-ltb, eq-eqb, ne-eqb}
 use Rattle.bitmap.specs.Bit.{one}
 use Rattle.planes.specs.Plane.{countAt, setCount}
 use Rattle.planes.proofs.Counts.{length-set-count}
@@ -35,6 +35,10 @@ module _ (N w : ℕ) (counts waiting : List ℕ) (v top : ℕ) (p : Planes N w c
   unfolding visit
   visit-none e = record { result = rw (eq-eqb v 0 e, visit); planes = p; stack = s; left-is = refl }
 
+  pub visit-past : v ≢ 0 → N < v → Visited counts waiting top
+  unfolding visit
+  visit-past named past = record { result = rw (ne-eqb v 0 named, lt-ltb N v past, visit); planes = p; stack = s; left-is = refl }
+
   module _ (within : v ≤ N) (named : v ≢ 0) (count : ℕ) (reads : count ≡ countAt (N / 8) w counts (v - 1)) where
     count-goes-up : count ≢ capacity w → countUp N w counts v ≡ setCount (N / 8) w counts (v - 1) (count + 1)
     unfolding countUp
@@ -46,11 +50,11 @@ module _ (N w : ℕ) (counts waiting : List ℕ) (v top : ℕ) (p : Planes N w c
 
     pushes : (stack : List ℕ) → count ≡ 0 → visit N w (work counts stack) v ≡ work (countUp N w counts v) ((v - 1) ∷ stack)
     unfolding visit
-    pushes stack z = rw (ne-eqb v 0 named, ← reads, eq-eqb count 0 z, visit)
+    pushes stack z = rw (ne-eqb v 0 named, le-ltb N v within, ← reads, eq-eqb count 0 z, visit)
 
     keeps : (stack : List ℕ) → count ≢ 0 → visit N w (work counts stack) v ≡ work (countUp N w counts v) stack
     unfolding visit
-    keeps stack n = rw (ne-eqb v 0 named, ← reads, ne-eqb count 0 n, visit)
+    keeps stack n = rw (ne-eqb v 0 named, le-ltb N v within, ← reads, ne-eqb count 0 n, visit)
 
     -- a count that leaves 0 is one more, any other is none more
     first-counted : count ≡ 0 → counted N w (setCount (N / 8) w counts (v - 1) 1) ≡ counted N w counts + 1

@@ -2,19 +2,19 @@
 -- the stack when its count leaves 0. That this gives the rules' collection is shown for undamaged heaps in crate `bridge`
 -- (CollectorProcedure).
 use Prim.Native.Nat.{ℕ, zero, suc, _+_, _-_, _*_, _/_}
-use mathlib.Core.Bool.{true, false}
+use mathlib.Core.Bool.{true, false, _||_}
 use mathlib.Core.List.{List, [], _∷_}
 use lib.ListN.{length, getD, replicate}
-use lib.Dec.{eqb}
+use lib.Dec.{ltb, eqb}
 use Rattle.planes.specs.Plane.{countAt}
 use Rattle.rules.specs.Heap.{Memory, sizeAt}
 use Rattle.rules.specs.Store.{Work, work, countUp}
 
--- the object named by v, if any, is counted up, and waits to be scanned where its count was 0
+-- The object named by v, if any, is counted up, and waits to be scanned where its count was 0. As in `countDown`, a number above N names none.
 unfoldable pub visit : ℕ → ℕ → Work → ℕ → Work
 visit N w s v =
     let c = countAt (N / 8) w (s .counts) (v - 1) in
-    elim (eqb v 0) [
+    elim (eqb v 0 || ltb N v) [
       | true ↦ s
       | false ↦ work (countUp N w (s .counts) v) (elim (eqb c 0) [ true ↦ (v - 1) ∷ s .stack | false ↦ s .stack ])
     ]

@@ -1,8 +1,8 @@
 // Marking by counting anew.
 ghost use mathlib.Core.Path.{_≡_};
 ghost use mathlib.Core.List.{[]};
-ghost use Prim.Native.Nat.{ℕ, _+_, _*_, _/_, _≤_};
-ghost use lib.ListN.{length, getD, replicate};
+ghost use Prim.Native.Nat.{_+_, _*_, _/_, _≤_};
+ghost use lib.ListN.{length, replicate};
 ghost use Rattle.rules.specs.Heap.{memory};
 ghost use Rattle.rules.specs.Store.{work};
 ghost use Rattle.references.specs.Ready.{Planes};
@@ -20,12 +20,16 @@ fn visit_one(
     v: Ref,
     top: usize,
 ) -> usize
-    requires { ⌜ Planes blocks width (now counts) × MarkStack blocks width (now counts) (now waiting) top × (v ≤ blocks) ⌝ }
+    requires { ⌜ Planes blocks width (now counts) × MarkStack blocks width (now counts) (now waiting) top ⌝ }
     ensures { λ r.
         ⌜ Marking blocks width (visit blocks width (work (now (counts .entry)) (topFirst (now (waiting .entry)) top)) v)
         (unscanned blocks width (now (counts .entry)) top) (now (counts .exit)) (now (waiting .exit)) r ⌝ }
 {
     if v == 0 {
+        return top;
+    }
+    // Past the last block: it names no object.
+    if blocks < v as usize {
         return top;
     }
     let block = v as usize - 1;
@@ -53,7 +57,7 @@ fn visit_each(
     top: usize,
 ) -> usize
     requires { ⌜ Planes blocks width (now counts) × MarkStack blocks width (now counts) (now waiting) top
-        × (j + n ≤ length (now refs)) × ((k : ℕ) → getD (now refs) k 0 ≤ blocks) ⌝ }
+        × (j + n ≤ length (now refs)) ⌝ }
     ensures { λ r.
         ⌜ Marking blocks width
         (visitEach blocks width (work (now (counts .entry)) (topFirst (now (waiting .entry)) top)) (now (refs .entry)) j n)
@@ -79,7 +83,7 @@ fn scan_all(
     top: usize,
 )
     requires { ⌜ Planes blocks width (now counts) × MarkStack blocks width (now counts) (now waiting) top
-        × (length (now b) ≡ blocks / 8) × (length (now cells) ≡ 4 * blocks) × ((k : ℕ) → getD (now cells) k 0 ≤ blocks) ⌝ }
+        × (length (now b) ≡ blocks / 8) × (length (now cells) ≡ 4 * blocks) ⌝ }
     ensures { λ _.
         ⌜ (now (counts .exit)
         ≡ scan blocks blocks width (memory [] (now (b .entry)) [] (now (cells .entry)) [] [])
@@ -107,7 +111,7 @@ pub fn mark(
     waiting: &mut [Ref],
 )
     requires { ⌜ Planes blocks width (now counts) × (length (now b) ≡ blocks / 8) × (length (now cells) ≡ 4 * blocks)
-        × ((k : ℕ) → getD (now cells) k 0 ≤ blocks) × ((r : ℕ) → getD (now roots) r 0 ≤ blocks) × (now waiting ≡ replicate blocks 0) ⌝ }
+        × (now waiting ≡ replicate blocks 0) ⌝ }
     ensures { λ _.
         ⌜ (now (counts .exit) ≡ markCounts blocks width (memory [] (now (b .entry)) [] (now (cells .entry)) (now (roots .entry)) []))
         × (now (waiting .exit) ≡ replicate blocks 0) ⌝ }

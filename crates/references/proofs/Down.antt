@@ -11,7 +11,7 @@ use lib.Pow.{pow-mono}
 use lib.Dec.{eqb}
 use lib.ListN.{length, getD, set, length-set}
 use lib.Seq.{getD-set-same, getD-set-other}
-use borrow.Author.Tests.{eq-eqb, ne-eqb}
+use borrow.Author.Tests.{lt-ltb, le-ltb, eq-eqb, ne-eqb}
 use Rattle.bitmap.specs.Bit.{one}
 use Rattle.planes.specs.Plane.{countAt, setCount}
 use Rattle.planes.proofs.Counts.{count-lt, length-set-count, set-count-there}
@@ -44,15 +44,21 @@ module _ (N w : ℕ) (counts waiting : List ℕ) (top v : ℕ) (p : Planes N w c
   unfolding countDown
   down-none e = same (rw (eq-eqb v 0 e, countDown))
 
-  -- a block that v names has count 0 already, which is below the capacity: writing 0 once more changes nothing
-  pub down-zero : v ≢ 0 → countAt (N / 8) w counts (v - 1) ≡ 0
+  -- no block is named by v
+  pub down-past : v ≢ 0 → N < v
       → Down N w (countDown N w (work counts (topFirst waiting top)) v) (top + counted N w counts) counts waiting top
   unfolding countDown
-  down-zero nv zero-there =
+  down-past nv past = same (rw (ne-eqb v 0 nv, lt-ltb N v past, countDown))
+
+  -- a block that v names has count 0 already, which is below the capacity: writing 0 once more changes nothing
+  pub down-zero : v ≢ 0 → v ≤ N → countAt (N / 8) w counts (v - 1) ≡ 0
+      → Down N w (countDown N w (work counts (topFirst waiting top)) v) (top + counted N w counts) counts waiting top
+  unfolding countDown
+  down-zero nv inside zero-there =
       let least : 2 ^ 1 ≤ 2 ^ w = pow-mono {i = 1} (p .some) in
       let below : countAt (N / 8) w counts (v - 1) ≢ capacity w = λ d. omega arith in
       same
-      (rw (ne-eqb v 0 nv, ne-eqb _ _ below, zero-there, countDown)
+      (rw (ne-eqb v 0 nv, le-ltb N v inside, ne-eqb _ _ below, zero-there, countDown)
       (ap (λ (l : List ℕ). work l (topFirst waiting top)) (sym (set-count-there (N / 8) w counts (v - 1) 0 zero-there))))
 
   -- v names a block; its count was read as x, and y is the capacity
@@ -60,7 +66,7 @@ module _ (N w : ℕ) (counts waiting : List ℕ) (top v : ℕ) (p : Planes N w c
     pub down-stuck : x ≡ y
         → Down N w (countDown N w (work counts (topFirst waiting top)) v) (top + counted N w counts) counts waiting top
     unfolding countDown
-    down-stuck e = same (rw (ne-eqb v 0 nv, eq-eqb _ _ (sym ex ∙ e ∙ ey), countDown))
+    down-stuck e = same (rw (ne-eqb v 0 nv, le-ltb N v inside, eq-eqb _ _ (sym ex ∙ e ∙ ey), countDown))
 
     -- the count was written: it is x - 1 now, and x was neither 0 nor the capacity
     module _ (counts′ : List ℕ) (written : counts′ ≡ setCount (N / 8) w counts (v - 1) (x - 1)) (nx : x ≢ 0) (ny : x ≢ y) where
@@ -127,7 +133,7 @@ module _ (N w : ℕ) (counts waiting : List ℕ) (top v : ℕ) (p : Planes N w c
           let none : one (not (eqb (x - 1) 0)) ≡ 0 = rw e in
           record {
             result =
-                rw (ne-eqb v 0 nv, ne-eqb _ _ below, eq-eqb _ 1 (sym ex ∙ e), ← ex, countDown)
+                rw (ne-eqb v 0 nv, le-ltb N v inside, ne-eqb _ _ below, eq-eqb _ 1 (sym ex ∙ e), ← ex, countDown)
                 (ap₂ (λ (c l : List ℕ). work c l) written (top-first-push waiting top (v - 1) (place e)));
             planes = planes-left;
             stack = pushed e;
@@ -142,7 +148,7 @@ module _ (N w : ℕ) (counts waiting : List ℕ) (top v : ℕ) (p : Planes N w c
           let left = counted-left in
           record {
             result =
-                rw (ne-eqb v 0 nv, ne-eqb _ _ below, ne-eqb _ 1 (λ e. d (ex ∙ e)), ← ex, countDown)
+                rw (ne-eqb v 0 nv, le-ltb N v inside, ne-eqb _ _ below, ne-eqb _ 1 (λ e. d (ex ∙ e)), ← ex, countDown)
                 (ap (λ (c : List ℕ). work c (topFirst waiting top)) written);
             planes = planes-left;
             stack = record {

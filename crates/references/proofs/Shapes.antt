@@ -1,12 +1,12 @@
 -- What keeps the shapes that the inner calls ask for: `Planes` of the count maps, `Extents` of the two maps and the cells.
 use mathlib.Core.Path.{_≡_, ap, _∙_}
 use mathlib.Core.List.{List}
-use Prim.Native.Nat.{ℕ, _≤_}
+use Prim.Native.Nat.{ℕ}
 use lib.ListN.{length, set, length-set}
 use Rattle.bitmap.specs.Bit.{setBit, fillBits}
 use Rattle.bitmap.proofs.Maps.{length-set-bit}
 use Rattle.bitmap.proofs.Runs.{length-fill}
-use Rattle.blocks.proofs.Cells.{length-clear, clear-within, set-within}
+use Rattle.blocks.proofs.Cells.{length-clear}
 use Rattle.rules.specs.Store.{clearCells}
 use Rattle.references.specs.Ready.{Planes, Extents}
 
@@ -29,14 +29,12 @@ extents-written N a b cells a′ b′ cells′ i n x last y j m ea eb ee e = rec
   a-length = ap length ea ∙ length-fill a i n x ∙ e .a-length;
   b-length = ap length eb ∙ length-set-bit b last y ∙ e .b-length;
   cells-length = ap length ee ∙ length-clear cells j m ∙ e .cells-length;
-  named = rw ee (clear-within N cells j m (e .named));
 }
 
--- a cell that gets a reference within the heap
-pub extents-cell : (N : ℕ) (a b cells : List ℕ) (c v : ℕ) → v ≤ N → Extents N a b cells → Extents N a b (set cells c v)
-extents-cell N a b cells c v l e = record {
+-- a cell written
+pub extents-cell : (N : ℕ) (a b cells : List ℕ) (c v : ℕ) → Extents N a b cells → Extents N a b (set cells c v)
+extents-cell N a b cells c v e = record {
   a-length = e .a-length;
   b-length = e .b-length;
   cells-length = length-set cells c v ∙ e .cells-length;
-  named = set-within N cells c v l (e .named);
 }

@@ -1,10 +1,10 @@
--- What counting, stores and collection ask of the lent lists: their lengths, that no reference points past the heap, a cleared waiting
--- list, and no figure of a section that is wrong. An undamaged heap of right shape meets it once its waiting list is cleared. For contracts
--- of inner functions.
+-- What counting, stores and collection ask of the lent lists: their lengths, a cleared waiting list, and no figure of a section that is
+-- wrong. What cells and roots hold is left open: a number past the heap names no object, and is passed over. An undamaged heap of right shape
+-- meets it once its waiting list is cleared. For contracts of inner functions.
 use Prim.Native.Nat.{ℕ, _*_, _/_, _≤_}
 use mathlib.Core.Path.{_≡_}
 use mathlib.Core.List.{List}
-use lib.ListN.{length, getD, replicate}
+use lib.ListN.{length, replicate}
 use Rattle.rules.specs.Heap.{Memory, maxBlocks}
 use Rattle.sections.specs.Figures.{Coherent}
 
@@ -21,11 +21,9 @@ pub record Extents (N : ℕ) (a b cells : List ℕ) : Type 0 where
   pub a-length : length a ≡ N / 8
   pub b-length : length b ≡ N / 8
   pub cells-length : length cells ≡ 4 * N
-  pub named : (j : ℕ) → getD cells j 0 ≤ N
 
 pub record Ready (N w : ℕ) (h : Memory) : Type 0 where
   pub planes : Planes N w (h .counts)
   pub extents : Extents N (h .a) (h .b) (h .cells)
-  pub named : (r : ℕ) → getD (h .roots) r 0 ≤ N
   pub idle : h .waiting ≡ replicate N 0
   pub coherent : Coherent N (h .a) (h .sections)

@@ -2,8 +2,8 @@
 // become free are left unknown.
 ghost use mathlib.Core.Path.{_≡_};
 ghost use mathlib.Core.List.{[]};
-ghost use Prim.Native.Nat.{ℕ, _+_, _≤_};
-ghost use lib.ListN.{length, getD, replicate};
+ghost use Prim.Native.Nat.{_+_, _≤_};
+ghost use lib.ListN.{length, replicate};
 ghost use Rattle.rules.specs.Heap.{memory};
 ghost use Rattle.rules.specs.Store.{work, countDown, countDownEach, clearCells, release, letGo};
 ghost use Rattle.sections.specs.Figures.{Coherent, Upkeep};
@@ -22,7 +22,7 @@ fn count_down(
     v: Ref,
     top: usize,
 ) -> usize
-    requires { ⌜ Planes blocks width (now counts) × Stack blocks width (now counts) (now waiting) top × (v ≤ blocks) ⌝ }
+    requires { ⌜ Planes blocks width (now counts) × Stack blocks width (now counts) (now waiting) top ⌝ }
     ensures { λ r.
         ⌜ Down blocks width
         (countDown blocks width (work (now (counts .entry)) (topFirst (now (waiting .entry)) top)) v)
@@ -30,6 +30,10 @@ fn count_down(
         (now (counts .exit)) (now (waiting .exit)) r ⌝ }
 {
     if v == 0 {
+        return top;
+    }
+    // Past the last block: it names no object.
+    if blocks < v as usize {
         return top;
     }
     let block = v as usize - 1;
@@ -61,7 +65,7 @@ fn drop_cells(
     top: usize,
 ) -> usize
     requires { ⌜ Planes blocks width (now counts) × Stack blocks width (now counts) (now waiting) top
-        × ((k : ℕ) → getD (now cells) k 0 ≤ blocks) × (j + n ≤ length (now cells)) ⌝ }
+        × (j + n ≤ length (now cells)) ⌝ }
     ensures { λ r.
         ⌜ Down blocks width
         (countDownEach blocks width (work (now (counts .entry)) (topFirst (now (waiting .entry)) top)) (now (cells .entry)) j n)
@@ -132,7 +136,7 @@ pub fn let_go(
     sections: &mut [Ref],
     v: Ref,
 ) -> usize
-    requires { ⌜ Planes blocks width (now counts) × Extents blocks (now a) (now b) (now cells) × (now waiting ≡ replicate blocks 0) × (v ≤ blocks)
+    requires { ⌜ Planes blocks width (now counts) × Extents blocks (now a) (now b) (now cells) × (now waiting ≡ replicate blocks 0)
         × Coherent blocks (now a) (now sections) ⌝ }
     ensures { λ r.
         ⌜ (memory (now (a .exit)) (now (b .exit)) (now (counts .exit)) (now (cells .exit)) [] (now (waiting .exit))

@@ -39,6 +39,10 @@ distinctions =
     ∷ case 2 (fresh 2) 1 254
     ((allocate 1 0, gives 0) ∷ (allocate 1 1, gives 1) ∷ (storeCell 0 3 2, gives 0) ∷ (storeRoot 1 0, gives 0) ∷ (storeCell 0 3 0, gives 1)
     ∷ [])
+    -- the old object at the last block, which is named by N: by a root, then by a cell of what is freed
+    ∷ case 2 (fresh 2) 0 255
+    ((allocate 7 0, gives 0) ∷ (allocate 1 1, gives 7) ∷ (storeCell 0 27 8, gives 0) ∷ (storeRoot 1 0, gives 0) ∷ (look 7, shows 1 1)
+    ∷ (storeRoot 0 0, gives 8) ∷ [])
     -- "An object is reached if a root names it or a cell of a reached object does."
     ∷ case 2 (fresh 2) 7 248
     ((allocate 1 0, gives 0) ∷ (allocate 1 1, gives 1) ∷ (allocate 1 2, gives 2) ∷ (storeCell 0 0 2, gives 0) ∷ (storeCell 1 0 3, gives 0)

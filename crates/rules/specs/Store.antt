@@ -3,7 +3,7 @@ use Prim.Native.Nat.{ℕ, zero, suc, _+_, _-_, _*_, _/_, _^_}
 use mathlib.Core.Bool.{Bool, true, false, not, _&&_, _||_}
 use mathlib.Core.List.{List, [], _∷_}
 use lib.ListN.{getD, set, replicate}
-use lib.Dec.{eqb}
+use lib.Dec.{ltb, eqb}
 use Rattle.bitmap.specs.Bit.{bitOf, setBit, fillBits}
 use Rattle.planes.specs.Plane.{countAt, setCount}
 use Rattle.rules.specs.Heap.{Memory, lentMemory, withA, withB, withCounts, withCells, withRoots, capacity, sizeAt}
@@ -36,11 +36,12 @@ pub record Work : Type 0 where
 abbrev pub work : List ℕ → List ℕ → Work
 work counts stack = record { counts = counts; stack = stack }
 
--- the object named by v, if any, is counted down; where its count comes to 0 it waits to be freed
+-- "then the old object, if any, is counted down": 0 names none, and a number above N none either, since the last block is named by N. Where
+-- the object's count comes to 0 it waits to be freed.
 unfoldable pub countDown : ℕ → ℕ → Work → ℕ → Work
 countDown N w s v =
     let c = countAt (N / 8) w (s .counts) (v - 1) in
-    let stays = eqb v 0 || eqb c (capacity w) in
+    let stays = eqb v 0 || ltb N v || eqb c (capacity w) in
     elim stays [
       | true ↦ s
       | false ↦

@@ -84,7 +84,6 @@ module _ (N w : ℕ) (a b counts cells roots waiting sections : List ℕ) where
   ready-counts counts₁ e ready = record {
     planes = planes-same N w counts counts₁ (ready .planes) e;
     extents = ready .extents;
-    named = ready .named;
     idle = ready .idle;
     coherent = ready .coherent;
   }
@@ -129,7 +128,6 @@ module _ (N w : ℕ) (a b counts cells roots waiting sections : List ℕ) where
       planes = planes-same N w counts counts₁ (ready .planes) (ap length ec ∙ length-set-count (N / 8) w counts i 1);
       extents =
           extents-written N a b cells a₁ b₁ cells₁ i n 1 (i + n - 1) 0 (4 * i) (4 * n) ea eb ee (ready .extents);
-      named = ready .named;
       idle = ready .idle;
       coherent = coherent;
     }

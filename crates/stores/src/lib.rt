@@ -1,4 +1,4 @@
-// The two stores and the placing of a new object. They ask for `Ready` lists (lengths, ranges, a cleared waiting list, no wrong figure of a
+// The two stores and the placing of a new object. They ask for `Ready` lists (lengths, a cleared waiting list, no wrong figure of a
 // section) and leave the waiting list cleared. Figures of sections that they touch are left unknown; of all other lists the contracts say
 // what they hold, with the list of sections beside them as it was.
 ghost use mathlib.Core.Path.{_≡_};

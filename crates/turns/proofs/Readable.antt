@@ -5,7 +5,8 @@ use Prim.Native.Nat.{ℕ}
 use native.Mathlib.Omega.{arith}
 use Rattle.rules.specs.Heap.{Memory, memory}
 use Rattle.inner.specs.Usable.{Usable}
-use Rattle.inner.proofs.Idle.{usable-healthy, usable-ready}
+use Rattle.theory.proofs.Memories.Stores.{roots-named}
+use Rattle.inner.proofs.Idle.{usable-healthy}
 use Rattle.records.specs.declared.Fields.{Fields}
 use Rattle.records.specs.declared.Plan.{Plan}
 use Rattle.records.specs.Meaning.{meaning}
@@ -22,7 +23,7 @@ usable-readable N w h usable =
       most = shape .blocks-max;
       b-length = omega (arith, shape .length-b, shape .whole-bytes);
       cells-length = shape .length-cells;
-      named = usable-ready N w h usable .named;
+      named = roots-named N w h (usable-healthy N w h usable);
     }
 
 -- what is asked for on the three buffers is what is asked for on the heap

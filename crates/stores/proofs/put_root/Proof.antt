@@ -1,5 +1,4 @@
 -- `stores::put_root` meets its contract: letting go is the same beside the roots, of which one is written, and whatever list of sections.
-use native.Mathlib.Omega.{arith}
 use borrow.Author.Needs.{needs}
 use Rattle.rules.specs.Store.{putRoot}
 use Rattle.stores.specs.Blocks.{putRootBlocks}
@@ -27,7 +26,7 @@ let-go-requires : tie.Need-let-go-requires
 let-go-requires c κs =
     let start = c .before .before .before .before .before .before .before .before .before .before .before .before .before .before in
     let ready = start .pre .0 in
-    (ready .planes, ready .extents, ready .idle, omega (arith, ready .named (start .args .r)), ready .coherent)
+    (ready .planes, ready .extents, ready .idle, ready .coherent)
 
 same-length-5 : tie.Need-same-length-5
 same-length-5 c = search needs

@@ -42,9 +42,8 @@ let-go-requires c κs =
     let start = c .before .before .before .before .before .before .before .before .before .before .before .before .before .before .before .before .before .before .before in
     let ready = start .pre .0 in (
       planes-same _ _ _ _ (ready .planes) (omega arith),
-      extents-cell _ _ _ _ (start .args .c) _ (start .pre .2) (ready .extents),
+      extents-cell _ _ _ _ (start .args .c) _ (ready .extents),
       ready .idle,
-      ready .extents .named (start .args .c),
       ready .coherent,
     )
 

@@ -7,7 +7,7 @@ use Prim.Native.Nat.{ℕ, zero, suc, _+_, _-_, _*_, _/_, _<_}
 use native.Mathlib.Omega.{arith}
 use lib.ListN.{length, getD, take, drop}
 use lib.Seq.{take-append-seam, drop-append-seam}
-use lib.Dec.{eqb}
+use lib.Dec.{ltb, eqb}
 use Rattle.bitmap.proofs.Rewrites.{Rewritten, same, bit, rewritten-length, rewritten-trans, rewritten-fill, rewritten-ext}
 use Rattle.planes.specs.Plane.{countAt, setCount}
 use Rattle.planes.proofs.Counts.{rewritten-set-count, counts-bits}
@@ -42,7 +42,7 @@ choose P false p q = q
 pub down-rewritten : (N w : ℕ) (s : Work) (v : ℕ) → Rewritten (s .counts) ((countDown N w s v) .counts)
 unfolding countDown
 down-rewritten N w s v =
-    choose (λ (t : Work). Rewritten (s .counts) (t .counts)) (eqb v 0 || eqb (countAt (N / 8) w (s .counts) (v - 1)) (capacity w))
+    choose (λ (t : Work). Rewritten (s .counts) (t .counts)) (eqb v 0 || ltb N v || eqb (countAt (N / 8) w (s .counts) (v - 1)) (capacity w))
     {x = s} same (rewritten-set-count (N / 8) w (s .counts) (v - 1) (countAt (N / 8) w (s .counts) (v - 1) - 1))
 
 each-rewritten : (N w : ℕ) (s : Work) (cells : List ℕ) (j n : ℕ) → Rewritten (s .counts) ((countDownEach N w s cells j n) .counts)

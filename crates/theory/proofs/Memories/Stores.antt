@@ -5,9 +5,9 @@ use mathlib.Core.Bool.{true}
 use mathlib.Core.List.{List, []}
 use Prim.Native.Nat.{ℕ, zero, suc, _+_, _-_, _*_, _/_, _≤_, _<_}
 use native.Mathlib.Numerals.{add-one}
-use native.Mathlib.Decide.{ℕ-discrete}
+use native.Mathlib.Decide.{ℕ-discrete, decLt}
 use native.Mathlib.Omega.{arith}
-use lib.ListN.{length, getD, set, length-set, length-append}
+use lib.ListN.{length, getD, set, length-set, length-append, List·getD-eq-default}
 use lib.Seq.{set-append-left, ext-getD}
 use Rattle.bitmap.specs.Bit.{setBit, fillBits}
 use Rattle.bitmap.proofs.Maps.{length-set-bit}
@@ -137,6 +137,13 @@ module _ (N w : ℕ) (h : Memory) (healthy : Healthy N w h) where
   -- every slot names a block of the heap, or none
   pub slots-named : (s : ℕ) → slot (view N w h) s ≤ N
   slots-named = slot-le N w h (healthy .shape) positive (healthy .whole .balanced)
+
+  pub roots-named : (r : ℕ) → getD (h .roots) r 0 ≤ N
+  roots-named r =
+      elim (decLt r (length (h .roots))) [
+        | yes l ↦ rw (← root-slot h r l) (slots-named r)
+        | no l ↦ rw (List·getD-eq-default (h .roots) 0 {n = r} (omega arith)) (omega arith)
+      ]
 
   pub slots-length : length (slotsIn h) ≡ length (h .roots) + 4 * N
   slots-length = length-append (h .roots) (h .cells) ∙ ap (λ (n : ℕ). length (h .roots) + n) (healthy .shape .length-cells)

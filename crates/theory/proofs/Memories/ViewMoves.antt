@@ -9,7 +9,7 @@ use native.Mathlib.Decide.{ℕ-discrete}
 use native.Mathlib.Omega.{arith}
 use lib.ListN.{length, getD, set, length-set}
 use lib.Seq.{getD-set-same, getD-set-other, set-getD, ext-getD}
-use borrow.Author.Tests.{eq-eqb, ne-eqb}
+use borrow.Author.Tests.{le-ltb, eq-eqb, ne-eqb}
 use Rattle.planes.specs.Plane.{countAt, setCount}
 use Rattle.planes.proofs.Counts.{count-lt, count-set-same, count-set-other, length-set-count}
 use Rattle.rules.specs.Heap.{capacity}
@@ -116,23 +116,24 @@ module _ (N w : ℕ) (whole : 8 * (N / 8) ≡ N) (counts : List ℕ) (len : leng
   -- ---- counting down: likewise, and what comes to 0 waits
 
   module _ (stack : List ℕ) where
-    down-stuck : (b : ℕ) → countAt (N / 8) w counts b ≡ capacity w → countDown N w (work counts stack) (suc b) ≡ work counts stack
+    down-stuck : (b : ℕ) → b < N → countAt (N / 8) w counts b ≡ capacity w → countDown N w (work counts stack) (suc b) ≡ work counts stack
     unfolding countDown
-    down-stuck b e = rw (ne-eqb (suc b) 0 (omega arith), back b, eq-eqb (countAt (N / 8) w counts b) (capacity w) e, countDown)
+    down-stuck b l e =
+        rw (ne-eqb (suc b) 0 (omega arith), le-ltb N (suc b) (omega arith), back b, eq-eqb (countAt (N / 8) w counts b) (capacity w) e, countDown)
 
     down-past :
-        (v : ℕ) → v ≢ 0 → countAt (N / 8) w counts (v - 1) ≢ capacity w
+        (v : ℕ) → v ≢ 0 → v ≤ N → countAt (N / 8) w counts (v - 1) ≢ capacity w
         → countDown N w (work counts stack) v
         ≡ work (setCount (N / 8) w counts (v - 1) (countAt (N / 8) w counts (v - 1) - 1))
         (pushLast (capacity w) (countAt (N / 8) w counts (v - 1)) (v - 1) stack)
     unfolding countDown pushLast
-    down-past v some d = rw (ne-eqb v 0 some, ne-eqb (countAt (N / 8) w counts (v - 1)) (capacity w) d, countDown, pushLast)
+    down-past v some l d = rw (ne-eqb v 0 some, le-ltb N v l, ne-eqb (countAt (N / 8) w counts (v - 1)) (capacity w) d, countDown, pushLast)
 
     down-other :
-        (b : ℕ) → countAt (N / 8) w counts b ≢ capacity w
+        (b : ℕ) → b < N → countAt (N / 8) w counts b ≢ capacity w
         → countDown N w (work counts stack) (suc b)
         ≡ work (setCount (N / 8) w counts b (countAt (N / 8) w counts b - 1)) (pushLast (capacity w) (countAt (N / 8) w counts b) b stack)
-    down-other b d = rw (back b) at (down-past (suc b) (omega arith) (rw (back b) d))
+    down-other b l d = rw (back b) at (down-past (suc b) (omega arith) (omega arith) (rw (back b) d))
 
     pub down-shows :
         (v : ℕ) → v ≤ N
@@ -144,22 +145,22 @@ module _ (N w : ℕ) (whole : 8 * (N / 8) ≡ N) (counts : List ℕ) (len : leng
         elim (ℕ-discrete (countAt (N / 8) w counts b) (capacity w)) [
           | yes e ↦
               record {
-                length-is = ap (λ (s : Work). length (s .counts)) (down-stuck b e) ∙ len;
-                counts-are = ap (λ (s : Work). countsOf N w (s .counts)) (down-stuck b e)
+                length-is = ap (λ (s : Work). length (s .counts)) (down-stuck b (omega arith) e) ∙ len;
+                counts-are = ap (λ (s : Work). countsOf N w (s .counts)) (down-stuck b (omega arith) e)
                     ∙ sym (ap (set (countsOf N w counts) b) (lowered-stuck (capacity w) (getD (countsOf N w counts) b 0) (here ∙ e))
                     ∙ set-getD (countsOf N w counts) b 0);
-                stack-is = ap (λ (s : Work). s .stack) (down-stuck b e)
+                stack-is = ap (λ (s : Work). s .stack) (down-stuck b (omega arith) e)
                     ∙ sym (push-stuck (capacity w) (getD (countsOf N w counts) b 0) b stack (here ∙ e));
               }
           | no d ↦
               record {
-                length-is = ap (λ (s : Work). length (s .counts)) (down-other b d)
+                length-is = ap (λ (s : Work). length (s .counts)) (down-other b (omega arith) d)
                     ∙ length-set-count (N / 8) w counts b (countAt (N / 8) w counts b - 1) ∙ len;
-                counts-are = ap (λ (s : Work). countsOf N w (s .counts)) (down-other b d)
+                counts-are = ap (λ (s : Work). countsOf N w (s .counts)) (down-other b (omega arith) d)
                     ∙ counts-set b (countAt (N / 8) w counts b - 1) (omega arith) (omega (arith, count-lt (N / 8) w counts b))
                     ∙ ap (set (countsOf N w counts) b)
                     (sym (ap (lowered (capacity w)) here ∙ lowered-other (capacity w) (countAt (N / 8) w counts b) d));
-                stack-is = ap (λ (s : Work). s .stack) (down-other b d) ∙ ap (λ (c : ℕ). pushLast (capacity w) c b stack) (sym here);
+                stack-is = ap (λ (s : Work). s .stack) (down-other b (omega arith) d) ∙ ap (λ (c : ℕ). pushLast (capacity w) c b stack) (sym here);
               }
         ]
       where

@@ -34,6 +34,9 @@ fn count_down(
     if v == 0 {
         return top;
     }
+    if blocks < v as usize {
+        return top;
+    }
     let block = v as usize - 1;
     let count = get_count(counts, blocks / 8, width, block);
     if count == 0 || count == capacity(width) {
@@ -139,6 +142,9 @@ fn visit(
     top: usize,
 ) -> usize {
     if v == 0 {
+        return top;
+    }
+    if blocks < v as usize {
         return top;
     }
     let block = v as usize - 1;

@@ -18,7 +18,7 @@ visit-each-requires : tie.Need-visit-each-requires
 visit-each-requires c κs =
     let f = c .before .before .before .before in
     let s = f .before .before .before .before .before .before .before in
-    (planes-same _ _ _ _ (s .pre .0) (omega arith), mark-stack-empty _ _ _ _ (s .pre .5), omega arith, search needs)
+    (planes-same _ _ _ _ (s .pre .0) (omega arith), mark-stack-empty _ _ _ _ (s .pre .3), omega arith)
 
 scan-all-requires : tie.Need-scan-all-requires
 scan-all-requires c κs = search needs

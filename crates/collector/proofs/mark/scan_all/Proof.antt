@@ -68,8 +68,7 @@ mul-visit-each-2 c = omega arith
 visit-each-requires : tie.Need-visit-each-requires Inv-loop μ-loop
 visit-each-requires c κs =
     let l = c .before .before .before .before .before in
-    let s = l .before .before .before .before .before in
-    (l .loop .inv .0, mark-stack-pop _ _ _ _ _ (omega arith) (l .loop .inv .1), omega arith, s .pre .4)
+    (l .loop .inv .0, mark-stack-pop _ _ _ _ _ (omega arith) (l .loop .inv .1), omega arith)
 
 loop-less : tie.Need-loop-less Inv-loop μ-loop
 loop-less c =

@@ -1,7 +1,7 @@
 -- `collector::mark::visit_each` meets its contract: after i turns the counts and the stack are those that i visits give. The measure is
 -- what is left of n.
 use mathlib.Core.Path.{_≡_, refl}
-use Prim.Native.Nat.{_≤_, _-_, _+_}
+use Prim.Native.Nat.{_≤_, _-_}
 use native.Mathlib.Omega.{arith}
 use Rattle.rules.specs.Store.{work}
 use Rattle.references.specs.Stack.{topFirst}
@@ -38,8 +38,7 @@ shared-slice-read-visit-one c = omega arith
 visit-one-requires : tie.Need-visit-one-requires Inv-loop μ-loop
 visit-one-requires c κs =
     let l = c .before .before .before .before in
-    let s = l .before .before .before .before in
-    (l .loop .inv .1 .planes, l .loop .inv .1 .stack, s .pre .3 (s .args .j + l .loop .i))
+    (l .loop .inv .1 .planes, l .loop .inv .1 .stack)
 
 add-i : tie.Need-add-i Inv-loop μ-loop
 add-i c = omega arith

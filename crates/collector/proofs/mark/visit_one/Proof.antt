@@ -2,12 +2,18 @@
 use Prim.Native.Nat.{_<_}
 use native.Mathlib.Omega.{arith}
 use borrow.Author.Needs.{needs}
-use Rattle.collector.proofs.Visits.{visit-none, room-to-push, visit-first, visit-again, visit-stuck}
+use Rattle.collector.proofs.Visits.{visit-none, visit-past, room-to-push, visit-first, visit-again, visit-stuck}
 use Rattle.collector.proofs.mark.visit_one.Statement.{statement}
 use Rattle.collector.proofs.mark.visit_one.Tie as tie
 
 returns : tie.Need-returns
 returns c = search visit-none
+
+returns-2 : tie.Need-returns-2
+returns-2 c =
+    let some = c .before in
+    let start = some .before .before .before in
+    visit-past _ _ _ _ _ _ (start .pre .0) (start .pre .1) (some .if1 .left) (c .if2 .taken)
 
 sub-block : tie.Need-sub-block
 sub-block c = search needs
@@ -23,8 +29,8 @@ sub-waiting c = search needs
 
 -- there is room for a push
 room : (c : tie.After-slice-known3)
-    → c .before .before .before .before .before .before .before .before .before .before .args .top
-    < c .before .before .before .before .before .before .before .before .before .before .args .blocks
+    → c .before .before .before .before .before .before .before .before .before .before .before .args .top
+    < c .before .before .before .before .before .before .before .before .before .before .before .args .blocks
 room c = search room-to-push
 
 mul-waiting : tie.Need-mul-waiting
@@ -42,8 +48,8 @@ same-length c = search needs
 same-length-2 : tie.Need-same-length-2
 same-length-2 c = search needs
 
-returns-2 : tie.Need-returns-2
-returns-2 c = search visit-first
+returns-3 : tie.Need-returns-3
+returns-3 c = search visit-first
 
 capacity-of-requires : tie.Need-capacity-of-requires
 capacity-of-requires c κs = search needs
@@ -57,20 +63,21 @@ set-count-requires-2 c κs = search needs
 same-length-3 : tie.Need-same-length-3
 same-length-3 c = search needs
 
-returns-3 : tie.Need-returns-3
-returns-3 c = search visit-again
+returns-4 : tie.Need-returns-4
+returns-4 c = search visit-again
 
 same-length-4 : tie.Need-same-length-4
 same-length-4 c = search needs
 
-returns-4 : tie.Need-returns-4
-returns-4 c = search visit-stuck
+returns-5 : tie.Need-returns-5
+returns-5 c = search visit-stuck
 
 pub visit-one-spec : {M : Type 1} → statement M
 visit-one-spec =
     tie.close
     (tie.spec
     returns
+    returns-2
     sub-block
     get-count-requires
     set-count-requires
@@ -80,11 +87,11 @@ visit-one-spec =
     add-result
     same-length
     same-length-2
-    returns-2
+    returns-3
     capacity-of-requires
     add-set-count
     set-count-requires-2
     same-length-3
-    returns-3
+    returns-4
     same-length-4
-    returns-4)
+    returns-5)

@@ -4,10 +4,10 @@ use mathlib.Core.Path.{_≡_, refl, sym, ap, _∙_}
 use mathlib.Core.List.{List}
 use Prim.Native.Nat.{ℕ, _+_, _-_, _≤_}
 use native.Mathlib.Omega.{arith}
-use lib.ListN.{length, getD, set}
+use lib.ListN.{length, set}
 use Rattle.rules.specs.Store.{work, countDownEach, clearCells}
 use Rattle.references.specs.Stack.{topFirst, counted, Down}
-use Rattle.blocks.proofs.Cells.{clear-more, length-clear, clear-within}
+use Rattle.blocks.proofs.Cells.{clear-more, length-clear}
 use Rattle.references.proofs.Down.{each-more}
 use Rattle.references.proofs.release.drop_cells.Statement.{statement}
 use Rattle.references.proofs.release.drop_cells.Tie as tie
@@ -55,10 +55,7 @@ count-down-requires : tie.Need-count-down-requires Inv-loop μ-loop
 count-down-requires c κs =
     let l = c .before .before .before .before in
     let inv = l .loop .inv in
-    let start = l .before .before .before .before in
-    let named = clear-within _ (start .args .cells .now) (start .args .j) (l .loop .i) (start .pre .2) in
-    let held : getD (l .loop .cells) (start .args .j + l .loop .i) 0 ≤ start .args .blocks = rw (inv .1) (named _) in
-    (inv .2 .planes, inv .2 .stack, omega arith)
+    (inv .2 .planes, inv .2 .stack)
 
 add-i : tie.Need-add-i Inv-loop μ-loop
 add-i c = omega arith

@@ -85,7 +85,6 @@ drop-cells-requires c κs =
     let size = sized .object-size .ensures in (
       l .inv .0 .planes,
       stack-pop _ _ _ _ (l .t) (test .loop-test .taken) (l .inv .0 .stack),
-      l .inv .0 .extents .named,
       omega (arith, l .inv .0 .extents .cells-length),
     )
 
