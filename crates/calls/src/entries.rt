@@ -2,8 +2,7 @@
 ghost use Prim.Native.Nat.{_+_, _^_, _<_, _≤_};
 use libc::STDIN_FILENO;
 
-// The kinds of entries: the calls are those from 0 to LAST_CALL, and what is no call stands at the end of a byte's numbers, out of the way
-// of calls to come.
+// The kinds of entries: calls, from 0 to LAST_CALL; and, at the end of a byte's numbers, out of the way of calls to come, what is none.
 pub const LAST_CALL: usize = 8;
 
 pub const LOAD: usize = 253;
@@ -15,26 +14,16 @@ pub const NEW: usize = 255;
 // What is left of an entry after which nothing follows; in a file this kind is unknown.
 pub const END: usize = 256;
 
-// An entry: how many of its bytes were read, its kind, its numbers (of a call its arguments, of a heap its blocks, width and roots), and the
-// number of the next one.
+// An entry: how many of its bytes were read, its kind, and its numbers (of a call its arguments, of a heap its blocks, width and roots).
 pub struct Entry {
     pub bytes: usize,
     pub kind: usize,
     pub x: usize,
     pub y: usize,
     pub z: usize,
-    pub next: usize,
 }
 
-impl Entry {
-    // The same, as another kind.
-    pub fn with_kind(mut self, kind: usize) -> Entry {
-        self.kind = kind;
-        self
-    }
-}
-
-fn wide(byte: u8) -> usize
+pub fn wide(byte: u8) -> usize
     ensures { λ r. ⌜ r < 256 ⌝ }
 {
     byte as usize
@@ -59,7 +48,7 @@ fn word(bytes: &[u8; 32], at: usize) -> usize
 }
 
 // Reads an entry from byte `start` of its 32 on; a header is an entry without the eight bytes of its kind.
-pub fn read_entry(start: usize, next: usize) -> Entry
+pub fn read_entry(start: usize) -> Entry
     requires { ⌜ start ≤ 32 ⌝ }
 {
     let mut bytes = [0u8; 32];
@@ -70,6 +59,5 @@ pub fn read_entry(start: usize, next: usize) -> Entry
         x: word(&bytes, 8),
         y: word(&bytes, 16),
         z: word(&bytes, 24),
-        next: next,
     }
 }

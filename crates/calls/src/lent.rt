@@ -6,8 +6,7 @@ ghost use Rattle.calls.specs.Within.{Within};
 use crate::entries::Entry;
 use blocks::MAX_BLOCKS;
 
-// The largest width and the largest number of roots, one more than a heap may have; the longest section; and the largest length of each
-// buffer.
+// The largest width and number of roots, one more than a heap may have; the longest section; the largest length of each buffer.
 const MAX_WIDTH: usize = 5;
 
 pub const MAX_ROOTS: usize = 65;

@@ -1,4 +1,5 @@
 // Standard output. A failed write is said on standard error. A function says whether its last write was made.
+use crate::entries;
 use blocks::Ref;
 use libc::STDERR_FILENO;
 use libc::STDOUT_FILENO;
@@ -12,11 +13,11 @@ pub fn say(text: &[u8]) -> bool {
     false
 }
 
-fn end_line() -> bool {
+pub fn end_line() -> bool {
     say(b"\n")
 }
 
-fn say_number(number: usize) -> bool {
+pub fn say_number(number: usize) -> bool {
     let mut digits = [0u8; 20];
     let n = io::decimal(number as u64, &mut digits);
     say(&digits[..n])
@@ -45,16 +46,6 @@ pub fn say_wrong(call: usize, text: &[u8]) -> bool {
     say(text)
 }
 
-pub fn say_unknown(call: usize, kind: usize) {
-    say_wrong(call, b"unknown call ");
-    say_number(kind);
-    end_line();
-}
-
-fn wide_byte(byte: u8) -> usize {
-    byte as usize
-}
-
 fn wide_ref(number: Ref) -> usize {
     number as usize
 }
@@ -63,7 +54,7 @@ fn wide_ref(number: Ref) -> usize {
 pub fn say_bytes(list: &[u8]) -> bool {
     let mut i = 0;
     while i < list.len() {
-        if !say_item(i, wide_byte(list[i])) {
+        if !say_item(i, entries::wide(list[i])) {
             return false;
         }
         i += 1;

@@ -1,5 +1,4 @@
-// The run over the whole input: one heap after another, each with buffers of the largest lengths, of which parts are lent.
-ghost use Prim.Native.Nat.{_^_, _<_};
+// The run over the whole input, on buffers of the largest lengths, of which parts are lent.
 ghost use Rattle.calls.specs.Within.{Within};
 use crate::entries;
 use crate::entries::Entry;
@@ -8,42 +7,53 @@ use crate::output;
 use crate::perform;
 use blocks::MAX_BLOCKS;
 use blocks::Ref;
+use rules::Reply;
 
 // More entries than any input has: together they are longer than 2^64 bytes.
 const MOST: usize = 1152921504606846976;
 
 // Entry number k. A length is set here, and what is wrong with an entry is said here: then nothing is left to do, as of a length.
 fn next_entry(lengths: &mut [usize; lent::BUFFERS], k: usize) -> Entry
-    requires { ⌜ Within (now lengths) × (k < 2 ^ 60) ⌝ }
+    requires { ⌜ Within (now lengths) ⌝ }
     ensures { λ _. ⌜ Within (now (lengths .exit)) ⌝ }
 {
-    let e = entries::read_entry(0, k + 1);
+    let mut e = entries::read_entry(0);
     let kind = e.kind;
     if e.bytes < 32 {
         if e.bytes > 0 {
             output::say_wrong(k, b"cut off\n");
         }
-        return e.with_kind(entries::END);
-    }
-    if kind == entries::LENGTH {
+        e.kind = entries::END;
+    } else if kind == entries::LENGTH {
         if !lent::set_length(lengths, e.x, e.y) {
             output::say_wrong(k, b"length out of range\n");
         }
-        return e;
-    }
-    if kind == entries::NEW && lent::is_too_large(e) {
+    } else if kind == entries::NEW && lent::is_too_large(e) {
         output::say_wrong(k, b"too large\n");
-        return e.with_kind(entries::LENGTH);
+        e.kind = entries::LENGTH;
+    } else if kind > entries::LAST_CALL && kind != entries::LOAD && kind != entries::NEW {
+        output::say_wrong(k, b"unknown call ");
+        output::say_number(kind);
+        output::end_line();
+        e.kind = entries::LENGTH;
     }
-    if kind <= entries::LAST_CALL || kind == entries::LOAD || kind == entries::NEW {
-        return e;
-    }
-    output::say_unknown(k, kind);
-    e.with_kind(entries::LENGTH)
+    e
 }
 
-// The entries of a heap, whose buffers start as zeros, and what these hold at the end. The entry that ended it.
-fn run_heap(heap: Entry) -> Entry {
+// Says what came of entry number k; false where the last write failed.
+fn say_outcome(kind: usize, reply: Reply, k: usize) -> bool {
+    if kind <= entries::LAST_CALL {
+        return output::say_reply(reply);
+    }
+    if kind == entries::LOAD && reply.number != 0 {
+        return output::say_wrong(k, b"load out of range\n");
+    }
+    reply.number == 0
+}
+
+// The entries of all heaps, each of which starts with zeros.
+pub fn run(first: Entry) {
+    let mut heap = first;
     let mut a = [0u8; lent::MAX_BYTES];
     let mut b = [0u8; lent::MAX_BYTES];
     let mut counts = [0u8; lent::MAX_COUNTS];
@@ -52,7 +62,7 @@ fn run_heap(heap: Entry) -> Entry {
     let mut waiting = [0 as Ref; MAX_BLOCKS];
     let mut sections = [0 as Ref; lent::MAX_SECTIONS];
     let mut lengths = lent::lengths(heap);
-    let mut k = heap.next;
+    let mut k = 0;
     while k < MOST {
         let e = next_entry(&mut lengths, k);
         let la = lengths[0];
@@ -62,7 +72,7 @@ fn run_heap(heap: Entry) -> Entry {
         let lroots = lengths[4];
         let lwaiting = lengths[5];
         let lsections = lengths[6];
-        if !perform::perform(
+        let reply = perform::perform(
             heap,
             &mut a[..la],
             &mut b[..lb],
@@ -72,24 +82,21 @@ fn run_heap(heap: Entry) -> Entry {
             &mut waiting[..lwaiting],
             &mut sections[..lsections],
             e,
-            k,
-        ) {
-            break;
-        }
-        if e.kind >= entries::NEW {
-            return e;
+        );
+        if !say_outcome(e.kind, reply, k) || e.kind == entries::END {
+            return;
         }
         k += 1;
-    }
-    heap.with_kind(entries::END)
-}
-
-// One heap after another.
-pub fn run_heaps(first: Entry) {
-    let mut e = run_heap(first);
-    let mut n = 0;
-    while n < MOST && e.kind == entries::NEW {
-        e = run_heap(e);
-        n += 1;
+        if e.kind == entries::NEW {
+            heap = e;
+            a = [0u8; lent::MAX_BYTES];
+            b = [0u8; lent::MAX_BYTES];
+            counts = [0u8; lent::MAX_COUNTS];
+            cells = [0 as Ref; lent::MAX_CELLS];
+            roots = [0 as Ref; lent::MAX_ROOTS];
+            waiting = [0 as Ref; MAX_BLOCKS];
+            sections = [0 as Ref; lent::MAX_SECTIONS];
+            lengths = lent::lengths(e);
+        }
     }
 }

@@ -11,53 +11,20 @@ Inv-loop list i₀ i = i ≤ length list
 abbrev μ-loop : tie.MeasureT-loop
 μ-loop list i₀ i = length list - i
 
-loop-holds : tie.Need-loop-holds Inv-loop μ-loop
-loop-holds c = search needs
-
-mul-wide-ref : tie.Need-mul-wide-ref Inv-loop μ-loop
-mul-wide-ref c = search needs
-
-shared-slice-read-wide-ref : tie.Need-shared-slice-read-wide-ref Inv-loop μ-loop
-shared-slice-read-wide-ref c = search needs
-
-wide-ref-requires : tie.Need-wide-ref-requires Inv-loop μ-loop
-wide-ref-requires c κs = search needs
-
-say-item-requires : tie.Need-say-item-requires Inv-loop μ-loop
-say-item-requires c κs = search needs
-
-returns : tie.Need-returns Inv-loop μ-loop
-returns c = search needs
-
-add-i : tie.Need-add-i Inv-loop μ-loop
-add-i c = search needs
-
-loop-less : tie.Need-loop-less Inv-loop μ-loop
-loop-less c = search needs
-
-loop-again : tie.Need-loop-again Inv-loop μ-loop
-loop-again c = search needs
-
-end-line-requires : tie.Need-end-line-requires Inv-loop μ-loop
-end-line-requires c κs = search needs
-
-returns-2 : tie.Need-returns-2 Inv-loop μ-loop
-returns-2 c = search needs
-
 pub say-refs-spec : {M : Type 1} → statement M
 say-refs-spec =
     tie.close
     (tie.spec
     Inv-loop
     μ-loop
-    loop-holds
-    mul-wide-ref
-    shared-slice-read-wide-ref
-    wide-ref-requires
-    say-item-requires
-    returns
-    add-i
-    loop-less
-    loop-again
-    end-line-requires
-    returns-2)
+    (λ c. search needs)
+    (λ c. search needs)
+    (λ c. search needs)
+    (λ c κs. search needs)
+    (λ c κs. search needs)
+    (λ c. search needs)
+    (λ c. search needs)
+    (λ c. search needs)
+    (λ c. search needs)
+    (λ c κs. search needs)
+    (λ c. search needs))

@@ -1,12 +1,27 @@
--- The call hands the buffers back as long as they were, and so does a load.
+-- Each call hands its buffers back as long as they were, and so does a load.
 use mathlib.Core.Path.{refl}
 use borrow.Author.Needs.{needs}
 use Rattle.calls.proofs.perform.perform.Statement.{statement}
 use Rattle.calls.proofs.perform.perform.Tie as tie
 
--- the call has returned
-abbrev called : tie.After-say-reply → tie.After-call
-called c = c .before .before .before .before .before .before .before .before .before .before .before .before .before .before .before
+-- the places: in each arm the call has returned
+abbrev formatted : tie.After-slice-known21 → tie.After-format
+formatted c = c .before .before .before .before .before .before .before .before .before .before .before .before .before .before
+
+abbrev allocated : tie.After-slice-known28 → tie.After-allocate
+allocated c = c .before .before .before .before .before .before .before .before .before .before .before .before .before .before
+
+abbrev root-stored : tie.After-slice-known35 → tie.After-store-root
+root-stored c = c .before .before .before .before .before .before .before .before .before .before .before .before .before .before
+
+abbrev cell-stored : tie.After-slice-known41 → tie.After-store-cell
+cell-stored c = c .before .before .before .before .before .before .before .before .before .before .before .before
+
+abbrev collected : tie.After-slice-known47 → tie.After-collect
+collected c = c .before .before .before .before .before .before .before .before .before .before .before .before
+
+abbrev returned : tie.After-slice-known54 → tie.After-return-roots
+returned c = c .before .before .before .before .before .before .before .before .before .before .before .before .before .before
 
 pub perform-spec : {M : Type 1} → statement M
 perform-spec =
@@ -14,38 +29,11 @@ perform-spec =
     (tie.spec
     (λ c κs. search needs)
     (λ c κs. search needs)
-    (λ c. called c .call .kept .1 .0)
-    (λ c. called c .call .kept .1 .1 .0)
-    (λ c. called c .call .kept .1 .1 .1 .0)
-    (λ c. called c .call .kept .1 .1 .1 .1 .0)
-    (λ c. called c .call .kept .1 .1 .1 .1 .1 .0)
-    (λ c. called c .call .kept .1 .1 .1 .1 .1 .1 .0)
-    (λ c. called c .call .kept .1 .1 .1 .1 .1 .1 .1 .0)
-    (λ _. search needs)
     (λ c κs. search needs)
     (λ c κs. search needs)
     (λ c κs. search needs)
     (λ c κs. search needs)
     (λ c κs. search needs)
-    (λ c κs. search needs)
-    (λ c κs. search needs)
-    (λ _. refl)
-    (λ _. refl)
-    (λ _. refl)
-    (λ _. refl)
-    (λ _. refl)
-    (λ _. refl)
-    (λ _. refl)
-    (λ _. search needs)
-    (λ _. search needs)
-    (λ c κs. search needs)
-    (λ c κs. search needs)
-    (λ c κs. search needs)
-    (λ c κs. search needs)
-    (λ c κs. search needs)
-    (λ c κs. search needs)
-    (λ c κs. search needs)
-    (λ _. search needs)
     (λ c κs. search needs)
     (λ c. c .before .before .load-byte .kept .0)
     (λ _. search needs)
@@ -61,4 +49,67 @@ perform-spec =
     (λ _. search needs)
     (λ c. c .before .before .load-ref4 .kept .0)
     (λ _. search needs)
+    (λ _. search needs)
+    (λ c κs. search needs)
+    (λ c κs. search needs)
+    (λ c κs. search needs)
+    (λ c κs. search needs)
+    (λ c κs. search needs)
+    (λ c κs. search needs)
+    (λ c κs. search needs)
+    (λ c. formatted c .format .kept .1 .1 .0)
+    (λ c. formatted c .format .kept .1 .1 .1 .0)
+    (λ c. formatted c .format .kept .1 .1 .1 .1 .0)
+    (λ c. formatted c .format .kept .1 .1 .1 .1 .1 .0)
+    (λ c. formatted c .format .kept .1 .1 .1 .1 .1 .1 .0)
+    (λ c. formatted c .format .kept .1 .1 .1 .1 .1 .1 .1 .0)
+    (λ c. formatted c .format .kept .1 .1 .1 .1 .1 .1 .1 .1 .0)
+    (λ _. search needs)
+    (λ c. allocated c .allocate .kept .1 .1 .0)
+    (λ c. allocated c .allocate .kept .1 .1 .1 .0)
+    (λ c. allocated c .allocate .kept .1 .1 .1 .1 .0)
+    (λ c. allocated c .allocate .kept .1 .1 .1 .1 .1 .0)
+    (λ c. allocated c .allocate .kept .1 .1 .1 .1 .1 .1 .0)
+    (λ c. allocated c .allocate .kept .1 .1 .1 .1 .1 .1 .1 .0)
+    (λ c. allocated c .allocate .kept .1 .1 .1 .1 .1 .1 .1 .1 .0)
+    (λ _. search needs)
+    (λ c. root-stored c .store-root .kept .1 .1 .0)
+    (λ c. root-stored c .store-root .kept .1 .1 .1 .0)
+    (λ c. root-stored c .store-root .kept .1 .1 .1 .1 .0)
+    (λ c. root-stored c .store-root .kept .1 .1 .1 .1 .1 .0)
+    (λ c. root-stored c .store-root .kept .1 .1 .1 .1 .1 .1 .0)
+    (λ c. root-stored c .store-root .kept .1 .1 .1 .1 .1 .1 .1 .0)
+    (λ c. root-stored c .store-root .kept .1 .1 .1 .1 .1 .1 .1 .1 .0)
+    (λ _. search needs)
+    (λ c. cell-stored c .store-cell .kept .1 .1 .0)
+    (λ c. cell-stored c .store-cell .kept .1 .1 .1 .0)
+    (λ c. cell-stored c .store-cell .kept .1 .1 .1 .1 .0)
+    (λ c. cell-stored c .store-cell .kept .1 .1 .1 .1 .1 .0)
+    (λ _. refl)
+    (λ c. cell-stored c .store-cell .kept .1 .1 .1 .1 .1 .1 .1 .0)
+    (λ c. cell-stored c .store-cell .kept .1 .1 .1 .1 .1 .1 .1 .1 .0)
+    (λ _. search needs)
+    (λ c. collected c .collect .kept .1 .1 .0)
+    (λ c. collected c .collect .kept .1 .1 .1 .0)
+    (λ c. collected c .collect .kept .1 .1 .1 .1 .0)
+    (λ c. collected c .collect .kept .1 .1 .1 .1 .1 .0)
+    (λ _. refl)
+    (λ c. collected c .collect .kept .1 .1 .1 .1 .1 .1 .1 .0)
+    (λ c. collected c .collect .kept .1 .1 .1 .1 .1 .1 .1 .1 .0)
+    (λ _. search needs)
+    (λ c. returned c .return-roots .kept .1 .1 .0)
+    (λ c. returned c .return-roots .kept .1 .1 .1 .0)
+    (λ c. returned c .return-roots .kept .1 .1 .1 .1 .0)
+    (λ c. returned c .return-roots .kept .1 .1 .1 .1 .1 .0)
+    (λ c. returned c .return-roots .kept .1 .1 .1 .1 .1 .1 .0)
+    (λ c. returned c .return-roots .kept .1 .1 .1 .1 .1 .1 .1 .0)
+    (λ c. returned c .return-roots .kept .1 .1 .1 .1 .1 .1 .1 .1 .0)
+    (λ _. search needs)
+    (λ _. refl)
+    (λ _. refl)
+    (λ _. refl)
+    (λ _. refl)
+    (λ _. refl)
+    (λ _. refl)
+    (λ _. refl)
     (λ _. search needs))

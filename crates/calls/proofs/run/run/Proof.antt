@@ -6,15 +6,15 @@ use lib.ListN.{length, getD}
 use lib.Seq.{length-front, length-take-le}
 use borrow.Author.Needs.{needs}
 use Rattle.calls.proofs.Lengths.{Held}
-use Rattle.calls.proofs.run.run_heap.Statement.{statement}
-use Rattle.calls.proofs.run.run_heap.Tie as tie
+use Rattle.calls.proofs.run.run.Statement.{statement}
+use Rattle.calls.proofs.run.run.Tie as tie
 
 abbrev Inv-loop : tie.InvT-loop
-Inv-loop heap a₀ b₀ counts₀ cells₀ roots₀ waiting₀ sections₀ lengths₀ k₀ a b counts cells roots waiting sections lengths k =
+Inv-loop heap₀ a₀ b₀ counts₀ cells₀ roots₀ waiting₀ sections₀ lengths₀ k₀ heap a b counts cells roots waiting sections lengths k =
     Held a b counts cells roots waiting sections lengths
 
 abbrev μ-loop : tie.MeasureT-loop
-μ-loop heap a₀ b₀ counts₀ cells₀ roots₀ waiting₀ sections₀ lengths₀ k₀ a b counts cells roots waiting sections lengths k =
+μ-loop heap₀ a₀ b₀ counts₀ cells₀ roots₀ waiting₀ sections₀ lengths₀ k₀ heap a b counts cells roots waiting sections lengths k =
     1152921504606846976 - k
 
 -- the places: a turn's beginning, and the entry performed
@@ -22,7 +22,7 @@ abbrev turn : tie.After-next-entry Inv-loop μ-loop → tie.In-loop Inv-loop μ-
 turn c = c .before .before
 
 abbrev performed : tie.Else2 Inv-loop μ-loop → tie.After-perform Inv-loop μ-loop
-performed c = c .before .before .before .before .before .before .before .before .before .before
+performed c = c .before .before .before .before .before .before .before .before .before .before .before
 
 abbrev entry : tie.After-perform Inv-loop μ-loop → tie.After-next-entry Inv-loop μ-loop
 entry c = c .before .before .before .before .before .before .before .before
@@ -49,9 +49,6 @@ fits-waiting c = omega (arith, turn c .before .loop .inv .length-waiting, c .nex
 fits-sections : (c : tie.After-next-entry Inv-loop μ-loop) → getD (c .next-entry .last .0) 6 0 ≤ length (turn c .before .loop .sections)
 fits-sections c = omega (arith, turn c .before .loop .inv .length-sections, c .next-entry .ensures 6)
 
-lengths-requires : tie.Need-lengths-requires Inv-loop μ-loop
-lengths-requires c κs = search needs
-
 loop-holds : tie.Need-loop-holds Inv-loop μ-loop
 loop-holds c =
     record {
@@ -66,24 +63,34 @@ loop-holds c =
     }
 
 next-entry-requires : tie.Need-next-entry-requires Inv-loop μ-loop
-next-entry-requires c κs = (c .before .before .loop .inv .within, omega arith)
-
-perform-requires : tie.Need-perform-requires Inv-loop μ-loop
-perform-requires c κs = search needs
-
-returns : tie.Need-returns Inv-loop μ-loop
-returns c = search needs
+next-entry-requires c κs = c .before .before .loop .inv .within
 
 add-k : tie.Need-add-k Inv-loop μ-loop
 add-k c = omega (arith, turn (entry (performed c)) .loop-test .taken)
 
 loop-less : tie.Need-loop-less Inv-loop μ-loop
-loop-less c = omega (arith, turn (entry (performed c)) .loop-test .taken)
+loop-less c = omega (arith, turn (entry (performed (c .before .before .before))) .loop-test .taken)
 
 loop-again : tie.Need-loop-again Inv-loop μ-loop
 loop-again c =
-    let done = performed c .perform in
-    let read = entry (performed c) in
+    record {
+      length-a = refl;
+      length-b = refl;
+      length-counts = refl;
+      length-cells = refl;
+      length-roots = refl;
+      length-waiting = refl;
+      length-sections = refl;
+      within = c .lengths3 .ensures;
+    }
+
+loop-less-2 : tie.Need-loop-less-2 Inv-loop μ-loop
+loop-less-2 c = omega (arith, turn (entry (performed (c .before .before))) .loop-test .taken)
+
+loop-again-2 : tie.Need-loop-again-2 Inv-loop μ-loop
+loop-again-2 c =
+    let done = performed (c .before .before) .perform in
+    let read = entry (performed (c .before .before)) in
     let l = turn read .before .loop in
     record {
       length-a = length-front (l .a) (done .last .1 .0) (getD (read .next-entry .last .0) 0 0) (done .kept .1 .0) ∙ l .inv .length-a;
@@ -96,19 +103,13 @@ loop-again c =
       within = read .next-entry .ensures;
     }
 
-with-kind-requires : tie.Need-with-kind-requires Inv-loop μ-loop
-with-kind-requires c κs = search needs
-
-returns-2 : tie.Need-returns-2 Inv-loop μ-loop
-returns-2 c = search needs
-
-pub run-heap-spec : {M : Type 1} → statement M
-run-heap-spec =
+pub run-spec : {M : Type 1} → statement M
+run-spec =
     tie.close
     (tie.spec
     Inv-loop
     μ-loop
-    lengths-requires
+    (λ c κs. search needs)
     loop-holds
     next-entry-requires
     (λ _. search needs)
@@ -132,10 +133,13 @@ run-heap-spec =
     (λ c. sym (length-take-le _ _ (fits-waiting (c .before .before .before .before .before .before))))
     (λ c. fits-sections (c .before .before .before .before .before .before))
     (λ c. sym (length-take-le _ _ (fits-sections (c .before .before .before .before .before .before .before))))
-    perform-requires
-    returns
+    (λ c κs. search needs)
+    (λ c κs. search needs)
+    (λ _. search needs)
     add-k
+    (λ c κs. search needs)
     loop-less
     loop-again
-    with-kind-requires
-    returns-2)
+    loop-less-2
+    loop-again-2
+    (λ _. search needs))
