@@ -1,10 +1,11 @@
--- `acts::allocate` meets its contract: one try, or a collection and a second one where no chunk was free.
+-- `allocate` meets its contract: one try, or a collection and a second one where no chunk was free.
 use mathlib.Core.Path.{_∙_}
 use borrow.Author.Needs.{needs}
 use Rattle.inner.proofs.Kept.{usable-kept}
-use Rattle.turns.proofs.Turns.{acted-once, freed-fits, acted-twice}
-use Rattle.turns.proofs.acts.allocate.Statement.{statement}
-use Rattle.turns.proofs.acts.allocate.Tie as tie
+use Rattle.turns.proofs.FirstTry.{acted-once}
+use Rattle.turns.proofs.SecondTry.{freed-fits, acted-twice}
+use Rattle.retries.proofs.allocate.Statement.{statement}
+use Rattle.retries.proofs.allocate.Tie as tie
 
 -- the places, from the last back: the second try, the collection, that no chunk was free, the first try (or the only one), the start
 abbrev second : tie.After-slice-known27 → tie.After-allocate2

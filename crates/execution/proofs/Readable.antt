@@ -11,9 +11,9 @@ use Rattle.records.specs.declared.Plan.{Plan}
 use Rattle.records.specs.Meaning.{meaning}
 use Rattle.records.specs.Readable.{Readable}
 use Rattle.records.specs.Records.{Asked, onRoots, copying, writing, reading, clearing, operation, asked}
-use Rattle.turns.specs.declared.acts.Done.{Done}
+use Rattle.turns.specs.declared.outcome.Done.{Done}
 use Rattle.turns.specs.Turns.{turnOf}
 use Rattle.turns.specs.Steps.{Acted}
 
 pub usable-readable : (N w : ℕ) (h : Memory) → Usable N w h → Readable N (h .b) (h .cells) (h .roots)
 usable-readable N w h usable =

@@ -1,9 +1,9 @@
 -- `step` meets its contract: the plan, its calls, and what came of them noted.
 use Rattle.inner.proofs.Idle.{usable-healthy}
 use Rattle.turns.proofs.Notes.{can-note, noted-stepped}
-use Rattle.turns.proofs.Readable.{usable-readable, planned}
-use Rattle.turns.proofs.step.Statement.{statement}
-use Rattle.turns.proofs.step.Tie as tie
+use Rattle.execution.proofs.Readable.{usable-readable, planned}
+use Rattle.execution.proofs.step.Statement.{statement}
+use Rattle.execution.proofs.step.Tie as tie
 
 -- the places: the calls made, the plan known, the start
 abbrev acted : tie.After-slice-known14 → tie.After-act

@@ -1,9 +1,9 @@
--- `acts::done_after` meets its contract.
+-- `outcome::done_after` meets its contract.
 use borrow.Author.Tests.{eq-eqb, ne-eqb}
-use Rattle.turns.specs.Steps.{doneAfter}
+use Rattle.turns.specs.Outcomes.{doneAfter}
 use borrow.Author.Needs.{needs}
-use Rattle.turns.proofs.acts.done_after.Statement.{statement}
-use Rattle.turns.proofs.acts.done_after.Tie as tie
+use Rattle.turns.proofs.outcome.done_after.Statement.{statement}
+use Rattle.turns.proofs.outcome.done_after.Tie as tie
 
 add-freed : tie.Need-add-freed
 add-freed c = search needs

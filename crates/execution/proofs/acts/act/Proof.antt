@@ -1,9 +1,11 @@
 -- `acts::act` meets its contract: each plan's call is the one made.
 use mathlib.Core.Path.{refl}
 use borrow.Author.Needs.{needs}
-use Rattle.turns.proofs.Turns.{acted-plan, acted-stop, acted-root, acted-cell, acted-collect}
-use Rattle.turns.proofs.acts.act.Statement.{statement}
-use Rattle.turns.proofs.acts.act.Tie as tie
+use Rattle.turns.proofs.Turns.{acted-plan}
+use Rattle.turns.proofs.Stores.{acted-stop, acted-root, acted-cell}
+use Rattle.turns.proofs.Collections.{acted-collect}
+use Rattle.execution.proofs.acts.act.Statement.{statement}
+use Rattle.execution.proofs.acts.act.Tie as tie
 
 -- the places: each arm's call made, from where the arm returns
 abbrev allocated : tie.After-slice-known14 → tie.After-allocate
