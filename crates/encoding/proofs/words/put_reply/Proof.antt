@@ -3,9 +3,9 @@ use mathlib.Core.Path.{refl}
 use native.Mathlib.Omega.{arith}
 use lib.ListN.{length-set}
 use borrow.Author.Needs.{needs}
-use Rattle.replay.specs.Steps.{withReply}
-use Rattle.replay.proofs.words.put_reply.Statement.{statement}
-use Rattle.replay.proofs.words.put_reply.Tie as tie
+use Rattle.encoding.specs.Words.{withReply}
+use Rattle.encoding.proofs.words.put_reply.Statement.{statement}
+use Rattle.encoding.proofs.words.put_reply.Tie as tie
 
 mul-to : tie.Need-mul-to
 mul-to c = search needs

@@ -3,8 +3,8 @@ ghost use mathlib.Core.Path.{_≡_};
 ghost use Prim.Native.Nat.{_*_, _≤_};
 ghost use lib.ListN.{length};
 ghost use Rattle.rules.specs.Heap.{shape};
-ghost use Rattle.replay.specs.Encoding.{isCall, areCalls};
-ghost use Rattle.replay.specs.Replay.{replyOn};
+ghost use Rattle.encoding.specs.Encoding.{isCall, areCalls};
+ghost use Rattle.encoding.specs.Refusals.{replyOn};
 use damage::shape;
 use inner::tests::acceptance;
 use inner::tests::refusal;
@@ -33,7 +33,7 @@ fn are_calls(calls: &[u64], n: usize) -> bool
 }
 
 // The reply of a replay, from the lengths and the calls.
-pub(crate) fn replay_reply(
+pub fn replay_reply(
     blocks: usize,
     width: usize,
     a: usize,

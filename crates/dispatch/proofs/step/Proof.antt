@@ -1,15 +1,15 @@
--- `step::step` meets its contract: each code's call is the one made, and every other code is answered 9.
+-- `step` meets its contract: each code's call is the one made, and every other code is answered 9.
 use mathlib.Core.Path.{refl, sym, ap, _∙_}
 use Prim.Native.Nat.{ℕ}
 use native.Mathlib.Omega.{arith}
 use borrow.Author.Needs.{needs}
 use Rattle.rules.specs.Calls.{reply}
 use Rattle.inner.proofs.Idle.{usable-healthy}
-use Rattle.replay.specs.Encoding.{decoded}
-use Rattle.replay.proofs.Codes.{stepped-as, stepped-none, past-codes}
-use Rattle.replay.proofs.Reading.{check-promise, look-promise, free-promise}
-use Rattle.replay.proofs.step.step.Statement.{statement}
-use Rattle.replay.proofs.step.step.Tie as tie
+use Rattle.encoding.specs.Encoding.{decoded}
+use Rattle.dispatch.proofs.Codes.{stepped-as, stepped-none, past-codes}
+use Rattle.dispatch.proofs.Reading.{check-promise, look-promise, free-promise}
+use Rattle.dispatch.proofs.step.Statement.{statement}
+use Rattle.dispatch.proofs.step.Tie as tie
 
 -- the places: the entry, and in each arm the call that has just returned
 abbrev entry : tie.After-slice-known7 → tie.Start

@@ -7,10 +7,10 @@ use lib.ListN.{length}
 use borrow.Author.Needs.{needs}
 use borrow.Author.Tests.{not-true, not-false, le-leb, lt-leb, eq-eqb, ne-eqb}
 use Rattle.rules.specs.Heap.{shape}
-use Rattle.replay.specs.Encoding.{areCalls}
-use Rattle.replay.specs.Replay.{unlessFails, replyOn}
-use Rattle.replay.proofs.tests.replay_reply.Statement.{statement}
-use Rattle.replay.proofs.tests.replay_reply.Tie as tie
+use Rattle.encoding.specs.Encoding.{areCalls}
+use Rattle.encoding.specs.Refusals.{unlessFails, replyOn}
+use Rattle.encoding.proofs.tests.replay_reply.Statement.{statement}
+use Rattle.encoding.proofs.tests.replay_reply.Tie as tie
 
 -- past the first test the shape is right, past the third each call is a call
 shaped : (c : tie.Else1) →

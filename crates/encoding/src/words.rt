@@ -2,11 +2,11 @@
 ghost use mathlib.Core.Path.{_≡_};
 ghost use Prim.Native.Nat.{_+_, _*_, _<_};
 ghost use lib.ListN.{length};
-ghost use Rattle.replay.specs.Steps.{wordsAt, withReply};
+ghost use Rattle.encoding.specs.Words.{wordsAt, withReply};
 use rules::Reply;
 
 // The four words of a call.
-pub(crate) struct Words {
+pub struct Words {
     pub code: u64,
     pub x: u64,
     pub y: u64,
@@ -14,7 +14,7 @@ pub(crate) struct Words {
 }
 
 // The words of call number i.
-pub(crate) fn call_at(calls: &[u64], i: usize) -> Words
+pub fn call_at(calls: &[u64], i: usize) -> Words
     requires { ⌜ 4 * i + 3 < length (now calls) ⌝ }
     ensures { λ w. ⌜ w ≡ wordsAt (now (calls .entry)) i ⌝ }
 {
@@ -28,7 +28,7 @@ pub(crate) fn call_at(calls: &[u64], i: usize) -> Words
 }
 
 // Writes the reply of call number i.
-pub(crate) fn put_reply(replies: &mut [u64], i: usize, reply: Reply)
+pub fn put_reply(replies: &mut [u64], i: usize, reply: Reply)
     requires { ⌜ 3 * i + 2 < length (now replies) ⌝ }
     ensures { λ _. ⌜ now (replies .exit) ≡ withReply (now (replies .entry)) i reply ⌝ }
 {

@@ -1,7 +1,7 @@
 // One call of the list, on an undamaged heap.
 ghost use Rattle.rules.specs.Lent.{before, after, lent};
 ghost use Rattle.inner.specs.Usable.{Usable};
-ghost use Rattle.replay.specs.Steps.{Stepped};
+ghost use Rattle.dispatch.specs.Steps.{Stepped};
 use blocks::Ref;
 use inner::acts;
 use inner::steps;
@@ -9,7 +9,7 @@ use inner::tests;
 use rules::Reply;
 
 // The call that the four words stand for. All other codes are answered 9.
-pub(crate) fn step(
+pub fn step(
     blocks: usize,
     width: usize,
     a: &mut [u8],

@@ -1,8 +1,8 @@
 -- `tests::is_call` meets its contract.
 use mathlib.Core.Path.{refl}
-use Rattle.replay.specs.Encoding.{isCall}
-use Rattle.replay.proofs.tests.is_call.Statement.{statement}
-use Rattle.replay.proofs.tests.is_call.Tie as tie
+use Rattle.encoding.specs.Encoding.{isCall}
+use Rattle.encoding.proofs.tests.is_call.Statement.{statement}
+use Rattle.encoding.proofs.tests.is_call.Tie as tie
 
 returns : tie.Need-returns
 unfolding isCall

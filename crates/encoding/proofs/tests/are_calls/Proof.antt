@@ -6,10 +6,10 @@ use native.Mathlib.Omega.{arith}
 use borrow.Author.Count.{below-more}
 use borrow.Author.Needs.{needs}
 use borrow.Author.Tests.{not-true, not-false}
-use Rattle.replay.specs.Encoding.{isCallAt}
-use Rattle.replay.proofs.Codes.{calls-pass, calls-fail}
-use Rattle.replay.proofs.tests.are_calls.Statement.{statement}
-use Rattle.replay.proofs.tests.are_calls.Tie as tie
+use Rattle.encoding.specs.Encoding.{isCallAt}
+use Rattle.encoding.proofs.Calls.{calls-pass, calls-fail}
+use Rattle.encoding.proofs.tests.are_calls.Statement.{statement}
+use Rattle.encoding.proofs.tests.are_calls.Tie as tie
 
 abbrev Inv-loop : tie.InvT-loop
 Inv-loop calls n i₀ i = (i ≤ n) × ((j : ℕ) → j < i → isCallAt calls j ≡ true)
