@@ -22,7 +22,8 @@ use Rattle.inner.proofs.Idle.{cleared-usable as Idle·cleared-usable, usable-fi
 use Rattle.figures.specs.declared.tally.Run.{Run}
 use Rattle.figures.specs.Figures.{inRange}
 use Rattle.figures.proofs.Ranges.{in-range-within}
-use Rattle.turns.specs.Steps.{running, Going}
+use Rattle.turns.specs.Outcomes.{running}
+use Rattle.turns.specs.Steps.{Going}
 use Rattle.history.specs.declared.Ran.{Ran}
 use Rattle.history.specs.Runs.{wholeRecords, ended, ranFrom, ran}
 use Rattle.history.specs.RunBy.{RunBy}

@@ -41,7 +41,7 @@ fn run_whole(
     let mut i = 0;
     while i < n {
         let f = records::fields_at(bytes, 8 * i);
-        state = turns::step(
+        state = execution::step(
             blocks,
             width,
             a,

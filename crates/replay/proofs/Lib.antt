@@ -1,4 +1,2 @@
-pub mod Codes
-pub mod Reading
 pub mod Start
-pub mod Turns
+pub mod Progress

@@ -17,9 +17,10 @@ use Rattle.rules.proofs.Tests.{require-true}
 use Rattle.rules.proofs.Shape.{shape-facts}
 use Rattle.theory.proofs.Theorems.{calls-keep-undamaged, format-makes-undamaged, demand-3}
 use Rattle.inner.specs.Usable.{Usable}
-use Rattle.replay.specs.Encoding.{callsIn, replyWords}
-use Rattle.replay.specs.Steps.{AsRun}
-use Rattle.replay.specs.Replay.{replyOn, unlessFails, Ran, ReplayIsCalls}
+use Rattle.encoding.specs.Encoding.{callsIn, replyWords}
+use Rattle.replay.specs.Run.{AsRun}
+use Rattle.encoding.specs.Refusals.{unlessFails, replyOn}
+use Rattle.replay.specs.Replay.{Ran, ReplayIsCalls}
 
 module _ (N w : ℕ) (lent : Memory) (fits : shaped N w lent ≡ true) where
   -- what an accepted format leaves

@@ -1,3 +1,2 @@
-pub mod Encoding
 pub mod Replay
-pub mod Steps
+pub mod Run

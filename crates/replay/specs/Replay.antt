@@ -1,32 +1,18 @@
 -- What replaying a list of calls promises: its reply, and that demand 3 holds of the calls it made, of which its replies and buffers are.
-use Prim.Native.Nat.{ℕ, _*_, _/_, _%_}
+use Prim.Native.Nat.{ℕ, _*_, _/_}
 use mathlib.Core.Path.{_≡_}
-use mathlib.Core.Bool.{Bool, true, false}
 use mathlib.Core.List.{List, _∷_, _++_}
 use lib.ListN.{length, drop}
-use lib.Dec.{leb, eqb}
 use Rattle.rules.specs.Heap.{Memory, shaped}
 use Rattle.rules.specs.Store.{formatted}
-use Rattle.rules.specs.Calls.{format, reply, run, lastMemory}
+use Rattle.rules.specs.Calls.{format, run, lastMemory}
 use Rattle.theory.specs.Words.{Made, callsOf, answersOf, leftBy}
 use Rattle.theory.specs.Demand.{Finds, Chain, Claim}
 use Rattle.rules.specs.declared.Reply.{Reply}
-use Rattle.replay.specs.Encoding.{areCalls, callsIn, replyWords}
+use Rattle.encoding.specs.Encoding.{callsIn, replyWords}
+use Rattle.encoding.specs.Refusals.{replyOn}
 
--- the next reply where the test passes, and a refusal with the number where not
-unfoldable pub unlessFails : Bool → ℕ → Reply → Reply
-unlessFails test number next = elim test [ true ↦ next | false ↦ reply number 0 0 ]
-
--- The reply, from whether the shape is right, the words and the room for replies: 1 for the shape, as in format; 10 for a list that ends
--- inside a call; 9 for an unknown code; 18 for a list of replies that is too short for all of them; else the number of calls.
-unfoldable pub replyOn : (shape : Bool) → List ℕ → (room : ℕ) → Reply
-replyOn shape words room =
-    unlessFails shape 1
-    (unlessFails (eqb (length words % 4) 0) 10
-    (unlessFails (areCalls words (length words / 4)) 9
-    (unlessFails (leb (3 * (length words / 4)) room) 18
-    (reply 0 (length words / 4) 0))))
-
+-- the reply, from the lent memory
 abbrev pub replayReply : ℕ → ℕ → Memory → List ℕ → (room : ℕ) → Reply
 replayReply N w h words room = replyOn (shaped N w h) words room
 

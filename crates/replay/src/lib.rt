@@ -3,12 +3,10 @@
 ghost use Rattle.rules.specs.Lent.{before, after};
 ghost use Rattle.replay.specs.Replay.{Replayed};
 use blocks::Ref;
+use encoding::tests;
 use rules::Reply;
 
 mod run;
-mod step;
-mod tests;
-mod words;
 
 // Formats the heap and runs the calls: four words each, the replies three words each. The value is the number of calls. Refused lists, and
 // their numbers, are those of `replayReply`: nothing is written then.

@@ -5,11 +5,10 @@ ghost use Prim.Native.Nat.{_*_, _/_, _≤_};
 ghost use lib.ListN.{length};
 ghost use Rattle.rules.specs.Lent.{before, after, lent};
 ghost use Rattle.inner.specs.Usable.{Usable};
-ghost use Rattle.replay.specs.Encoding.{areCalls};
-ghost use Rattle.replay.specs.Steps.{AsRun};
-use crate::step;
-use crate::words;
+ghost use Rattle.encoding.specs.Encoding.{areCalls};
+ghost use Rattle.replay.specs.Run.{AsRun};
 use blocks::Ref;
+use encoding::words;
 
 // Makes every call, and writes every reply.
 pub(crate) fn run_all(
@@ -38,7 +37,7 @@ pub(crate) fn run_all(
     let mut i = 0;
     while i < n {
         let call = words::call_at(calls, i);
-        let reply = step::step(
+        let reply = dispatch::step(
             blocks,
             width,
             a,

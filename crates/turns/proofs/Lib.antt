@@ -1,5 +1,10 @@
 pub mod Refusals
+pub mod Blocks
+pub mod Figures
 pub mod Turns
+pub mod Stores
+pub mod Collections
+pub mod FirstTry
+pub mod SecondTry
 pub mod Kept
 pub mod Notes
-pub mod Readable

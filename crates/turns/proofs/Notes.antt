@@ -11,10 +11,11 @@ use Rattle.figures.specs.declared.tally.Tally.{Tally}
 use Rattle.figures.specs.declared.tally.Run.{Run}
 use Rattle.figures.specs.Figures.{collected, used, momentIn, run}
 use Rattle.figures.proofs.Ranges.{Within, in-range-within, within-in-range, going-collections, stopped-collections}
-use Rattle.turns.specs.declared.acts.Done.{Done}
+use Rattle.turns.specs.declared.outcome.Done.{Done}
 use Rattle.turns.specs.declared.noting.Running.{Running}
 use Rattle.turns.specs.Turns.{Turn, afterTurn}
-use Rattle.turns.specs.Steps.{running, withCollection, withAllocation, figuresOf, Acted, Going, CanNote, notedBy, Stepped}
+use Rattle.turns.specs.Outcomes.{running, withCollection, withAllocation, figuresOf, CanNote, notedBy}
+use Rattle.turns.specs.Steps.{Acted, Going, Stepped}
 
 -- ---- figures grow by little
 

@@ -2,8 +2,8 @@
 ghost use mathlib.Core.Path.{_≡_};
 ghost use Prim.Native.Nat.{_+_, _<_, _^_};
 ghost use Rattle.figures.specs.Figures.{momentIn};
-ghost use Rattle.turns.specs.Steps.{withCollection, withAllocation, CanNote, notedBy};
-use crate::acts::Done;
+ghost use Rattle.turns.specs.Outcomes.{withCollection, withAllocation, CanNote, notedBy};
+use crate::outcome::Done;
 use figures::tally::Run;
 use figures::tally::Tally;
 
@@ -48,7 +48,7 @@ fn with_moment(t: Tally, done: Done) -> Tally
 }
 
 // The run with what came of a record noted.
-pub(crate) fn noted(state: Running, done: Done) -> Running
+pub fn noted(state: Running, done: Done) -> Running
     requires { ⌜ CanNote done state ⌝ }
     ensures { λ r. ⌜ r ≡ notedBy done state ⌝ }
 {

@@ -4,7 +4,7 @@ use lib.ListN.{length}
 use borrow.Author.Needs.{needs}
 use Rattle.rules.specs.Heap.{lentMemory, shaped}
 use Rattle.rules.specs.declared.Reply.{Reply}
-use Rattle.replay.proofs.Codes.{Passed, accepted-passed}
+use Rattle.encoding.proofs.Calls.{Passed, accepted-passed}
 use Rattle.replay.proofs.Start.{started-usable, replayed}
 use Rattle.replay.proofs.replay.Statement.{statement}
 use Rattle.replay.proofs.replay.Tie as tie

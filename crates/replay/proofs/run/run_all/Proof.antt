@@ -6,8 +6,8 @@ use lib.ListN.{length}
 use Rattle.rules.specs.Heap.{lentMemory}
 use Rattle.rules.proofs.Shape.{Shaped}
 use Rattle.inner.proofs.Idle.{usable-healthy}
-use Rattle.replay.proofs.Codes.{call-at, call-made}
-use Rattle.replay.proofs.Turns.{Progress, progress-start, progress-next, progress-done}
+use Rattle.encoding.proofs.Calls.{call-at}
+use Rattle.replay.proofs.Progress.{call-made, Progress, progress-start, progress-next, progress-done}
 use Rattle.replay.proofs.run.run_all.Statement.{statement}
 use Rattle.replay.proofs.run.run_all.Tie as tie
 

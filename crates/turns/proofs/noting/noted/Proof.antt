@@ -5,7 +5,7 @@ use native.Mathlib.Omega.{arith}
 use borrow.Author.Tests.{eq-eqb, ne-eqb}
 use Rattle.figures.specs.declared.tally.Tally.{Tally}
 use Rattle.figures.specs.Figures.{run, used, momentIn}
-use Rattle.turns.specs.Steps.{running, withAllocation, figuresOf, notedBy}
+use Rattle.turns.specs.Outcomes.{running, withAllocation, figuresOf, notedBy}
 use Rattle.turns.proofs.Notes.{collection-grows, allocation-grows}
 use borrow.Author.Needs.{needs}
 use Rattle.turns.proofs.noting.noted.Statement.{statement}

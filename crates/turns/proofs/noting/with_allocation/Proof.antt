@@ -1,6 +1,6 @@
 -- `noting::with_allocation` meets its contract.
 use borrow.Author.Tests.{eq-eqb, ne-eqb}
-use Rattle.turns.specs.Steps.{withAllocation}
+use Rattle.turns.specs.Outcomes.{withAllocation}
 use borrow.Author.Needs.{needs}
 use Rattle.turns.proofs.noting.with_allocation.Statement.{statement}
 use Rattle.turns.proofs.noting.with_allocation.Tie as tie

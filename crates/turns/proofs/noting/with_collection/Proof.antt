@@ -1,5 +1,5 @@
 -- `noting::with_collection` meets its contract.
-use Rattle.turns.specs.Steps.{withCollection}
+use Rattle.turns.specs.Outcomes.{withCollection}
 use borrow.Author.Needs.{needs}
 use Rattle.turns.proofs.noting.with_collection.Statement.{statement}
 use Rattle.turns.proofs.noting.with_collection.Tie as tie

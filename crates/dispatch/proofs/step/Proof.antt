@@ -1,0 +1,219 @@
+-- `step` meets its contract: each code's call is the one made, and every other code is answered 9.
+use mathlib.Core.Path.{refl, sym, ap, _∙_}
+use Prim.Native.Nat.{ℕ}
+use native.Mathlib.Omega.{arith}
+use borrow.Author.Needs.{needs}
+use Rattle.rules.specs.Calls.{reply}
+use Rattle.inner.proofs.Idle.{usable-healthy}
+use Rattle.encoding.specs.Encoding.{decoded}
+use Rattle.dispatch.proofs.Codes.{stepped-as, stepped-none, past-codes}
+use Rattle.dispatch.proofs.Reading.{check-promise, look-promise, free-promise}
+use Rattle.dispatch.proofs.step.Statement.{statement}
+use Rattle.dispatch.proofs.step.Tie as tie
+
+-- the places: the entry, and in each arm the call that has just returned
+abbrev entry : tie.After-slice-known7 → tie.Start
+entry c = c .before .before .before .before .before .before .before
+
+abbrev formatted : tie.After-slice-known14 → tie.After-format
+formatted c = c .before .before .before .before .before .before .before .before .before .before .before .before .before .before
+
+abbrev allocated : tie.After-result → tie.After-allocate
+allocated c = c .before .before .before .before .before .before .before .before .before .before .before .before .before .before .before
+
+abbrev root-stored : tie.After-slice-known28 → tie.After-store-root
+root-stored c = c .before .before .before .before .before .before .before .before .before .before .before .before .before .before
+
+abbrev cell-stored : tie.After-slice-known34 → tie.After-store-cell
+cell-stored c = c .before .before .before .before .before .before .before .before .before .before .before .before
+
+abbrev collected : tie.After-slice-known40 → tie.After-collect
+collected c = c .before .before .before .before .before .before .before .before .before .before .before .before
+
+abbrev returned : tie.After-slice-known47 → tie.After-return-roots
+returned c = c .before .before .before .before .before .before .before .before .before .before .before .before .before .before
+
+format-requires : tie.Need-format-requires
+format-requires c κs = entry (c .before .before .before .before .before .before .before .before) .pre .undamaged .right-shape
+
+acceptance-requires : tie.Need-acceptance-requires
+acceptance-requires c κs = search needs
+
+allocate-requires : tie.Need-allocate-requires
+allocate-requires c κs = search needs
+
+store-root-requires : tie.Need-store-root-requires
+store-root-requires c κs = search needs
+
+store-cell-requires : tie.Need-store-cell-requires
+store-cell-requires c κs = search needs
+
+collect-requires : tie.Need-collect-requires
+collect-requires c κs = search needs
+
+look-reply-requires : tie.Need-look-reply-requires
+look-reply-requires c κs =
+    let shape = usable-healthy _ _ _ (entry (c .before .before .before .before) .pre) .shape in (
+      sym (shape .whole-bytes),
+      omega (arith, shape .length-a, shape .whole-bytes),
+      omega (arith, shape .length-b, shape .whole-bytes),
+      shape .width-max,
+      shape .length-counts,
+    )
+
+count-zeros-requires : tie.Need-count-zeros-requires
+count-zeros-requires c κs =
+    let shape = usable-healthy _ _ _ (entry (c .before .before) .pre) .shape in
+    omega (arith, shape .length-a, shape .whole-bytes, shape .blocks-max)
+
+acceptance-requires-2 : tie.Need-acceptance-requires-2
+acceptance-requires-2 c κs = search needs
+
+return-roots-requires : tie.Need-return-roots-requires
+return-roots-requires c κs = search needs
+
+refusal-requires : tie.Need-refusal-requires
+refusal-requires c κs = search needs
+
+returns : tie.Need-returns
+unfolding decoded
+returns c =
+    let called = formatted c in
+    stepped-as _ _ 0 _ _ _ (omega arith) (called .before .before .before .before .before .before .before .before .match .keys1)
+    (called .format .ensures)
+
+returns-2 : tie.Need-returns-2
+unfolding decoded
+returns-2 c =
+    let chosen = c .before in
+    stepped-as _ _ 1 _ _ _ (omega arith) (chosen .match .keys2) (check-promise _ _ _ (entry (chosen .before) .pre) _
+    (c .acceptance .ensures))
+
+returns-3 : tie.Need-returns-3
+unfolding decoded
+returns-3 c =
+    let called = allocated c in
+    stepped-as _ _ 2 _ _ _ (omega arith) (called .before .before .before .before .before .before .before .before .match .keys3)
+    (called .allocate .ensures .promise)
+
+returns-4 : tie.Need-returns-4
+unfolding decoded
+returns-4 c =
+    let called = root-stored c in
+    stepped-as _ _ 3 _ _ _ (omega arith) (called .before .before .before .before .before .before .before .before .match .keys4)
+    (called .store-root .ensures)
+
+returns-5 : tie.Need-returns-5
+unfolding decoded
+returns-5 c =
+    let called = cell-stored c in
+    stepped-as _ _ 4 _ _ _ (omega arith) (called .before .before .before .before .before .before .before .before .match .keys5)
+    (called .store-cell .ensures)
+
+returns-6 : tie.Need-returns-6
+unfolding decoded
+returns-6 c =
+    let called = collected c in
+    stepped-as _ _ 5 _ _ _ (omega arith) (called .before .before .before .before .before .before .before .before .match .keys6)
+    (called .collect .ensures)
+
+returns-7 : tie.Need-returns-7
+unfolding decoded
+returns-7 c =
+    let chosen = c .before .before .before .before in
+    stepped-as _ _ 6 _ _ _ (omega arith) (chosen .match .keys7) (look-promise _ _ _ (entry (chosen .before) .pre) _ _
+    (c .look-reply .ensures))
+
+returns-8 : tie.Need-returns-8
+unfolding decoded
+returns-8 c =
+    let chosen = c .before .before .before in
+    let counted = c .acceptance2 .ensures ∙ ap (λ (n : ℕ). reply 0 n 0) (c .before .count-zeros .ensures .0) in
+    stepped-as _ _ 7 _ _ _ (omega arith) (chosen .match .keys8) (free-promise _ _ _ (entry (chosen .before) .pre) _ counted)
+
+returns-9 : tie.Need-returns-9
+unfolding decoded
+returns-9 c =
+    let called = returned c in
+    stepped-as _ _ 8 _ _ _ (omega arith) (called .before .before .before .before .before .before .before .before .match .keys9)
+    (called .return-roots .ensures)
+
+returns-10 : tie.Need-returns-10
+returns-10 c =
+    let rest = c .before .match .rest in
+    let past =
+    past-codes _ (rest .0 .0 .0 .0 .0 .0 .0 .0 .1) (rest .0 .0 .0 .0 .0 .0 .0 .1) (rest .0 .0 .0 .0 .0 .0 .1) (rest .0 .0 .0 .0 .0 .1)
+    (rest .0 .0 .0 .0 .1) (rest .0 .0 .0 .1) (rest .0 .0 .1) (rest .0 .1) (rest .1) in
+    stepped-none _ _ _ _ _ _ past (c .refusal .ensures)
+
+pub step-spec : {M : Type 1} → statement M
+step-spec =
+    tie.close
+    (tie.spec
+    format-requires
+    acceptance-requires
+    allocate-requires
+    store-root-requires
+    store-cell-requires
+    collect-requires
+    look-reply-requires
+    count-zeros-requires
+    acceptance-requires-2
+    return-roots-requires
+    refusal-requires
+    (λ c. formatted c .format .kept .1 .1 .0)
+    (λ c. formatted c .format .kept .1 .1 .1 .0)
+    (λ c. formatted c .format .kept .1 .1 .1 .1 .0)
+    (λ c. formatted c .format .kept .1 .1 .1 .1 .1 .0)
+    (λ c. formatted c .format .kept .1 .1 .1 .1 .1 .1 .0)
+    (λ c. formatted c .format .kept .1 .1 .1 .1 .1 .1 .1 .0)
+    (λ c. formatted c .format .kept .1 .1 .1 .1 .1 .1 .1 .1 .0)
+    returns
+    returns-2
+    (λ c. allocated c .allocate .kept .1 .1 .0)
+    (λ c. allocated c .allocate .kept .1 .1 .1 .0)
+    (λ c. allocated c .allocate .kept .1 .1 .1 .1 .0)
+    (λ c. allocated c .allocate .kept .1 .1 .1 .1 .1 .0)
+    (λ c. allocated c .allocate .kept .1 .1 .1 .1 .1 .1 .0)
+    (λ c. allocated c .allocate .kept .1 .1 .1 .1 .1 .1 .1 .0)
+    (λ c. allocated c .allocate .kept .1 .1 .1 .1 .1 .1 .1 .1 .0)
+    returns-3
+    (λ c. root-stored c .store-root .kept .1 .1 .0)
+    (λ c. root-stored c .store-root .kept .1 .1 .1 .0)
+    (λ c. root-stored c .store-root .kept .1 .1 .1 .1 .0)
+    (λ c. root-stored c .store-root .kept .1 .1 .1 .1 .1 .0)
+    (λ c. root-stored c .store-root .kept .1 .1 .1 .1 .1 .1 .0)
+    (λ c. root-stored c .store-root .kept .1 .1 .1 .1 .1 .1 .1 .0)
+    (λ c. root-stored c .store-root .kept .1 .1 .1 .1 .1 .1 .1 .1 .0)
+    returns-4
+    (λ c. cell-stored c .store-cell .kept .1 .1 .0)
+    (λ c. cell-stored c .store-cell .kept .1 .1 .1 .0)
+    (λ c. cell-stored c .store-cell .kept .1 .1 .1 .1 .0)
+    (λ c. cell-stored c .store-cell .kept .1 .1 .1 .1 .1 .0)
+    (λ _. refl)
+    (λ c. cell-stored c .store-cell .kept .1 .1 .1 .1 .1 .1 .1 .0)
+    (λ c. cell-stored c .store-cell .kept .1 .1 .1 .1 .1 .1 .1 .1 .0)
+    returns-5
+    (λ c. collected c .collect .kept .1 .1 .0)
+    (λ c. collected c .collect .kept .1 .1 .1 .0)
+    (λ c. collected c .collect .kept .1 .1 .1 .1 .0)
+    (λ c. collected c .collect .kept .1 .1 .1 .1 .1 .0)
+    (λ _. refl)
+    (λ c. collected c .collect .kept .1 .1 .1 .1 .1 .1 .1 .0)
+    (λ c. collected c .collect .kept .1 .1 .1 .1 .1 .1 .1 .1 .0)
+    returns-6
+    (λ _. refl)
+    (λ _. refl)
+    (λ _. refl)
+    returns-7
+    (λ _. refl)
+    returns-8
+    (λ c. returned c .return-roots .kept .1 .1 .0)
+    (λ c. returned c .return-roots .kept .1 .1 .1 .0)
+    (λ c. returned c .return-roots .kept .1 .1 .1 .1 .0)
+    (λ c. returned c .return-roots .kept .1 .1 .1 .1 .1 .0)
+    (λ c. returned c .return-roots .kept .1 .1 .1 .1 .1 .1 .0)
+    (λ c. returned c .return-roots .kept .1 .1 .1 .1 .1 .1 .1 .0)
+    (λ c. returned c .return-roots .kept .1 .1 .1 .1 .1 .1 .1 .1 .0)
+    returns-9
+    returns-10)

@@ -1,0 +1,96 @@
+// One call of the list, on an undamaged heap.
+ghost use Rattle.rules.specs.Lent.{before, after, lent};
+ghost use Rattle.inner.specs.Usable.{Usable};
+ghost use Rattle.dispatch.specs.Steps.{Stepped};
+use arguments::looking;
+use arguments::replies;
+use blocks::Ref;
+use inner::acts;
+use inner::steps;
+use rules::Reply;
+
+// The call that the four words stand for. All other codes are answered 9.
+pub fn step(
+    blocks: usize,
+    width: usize,
+    a: &mut [u8],
+    b: &mut [u8],
+    counts: &mut [u8],
+    cells: &mut [Ref],
+    roots: &mut [Ref],
+    waiting: &mut [Ref],
+    sections: &mut [Ref],
+    code: u64,
+    x: u64,
+    y: u64,
+    z: u64,
+) -> Reply
+    requires { ⌜ Usable blocks width (lent a b counts cells roots waiting sections) ⌝ }
+    ensures { λ reply.
+        ⌜ Stepped blocks width code x y z (before a b counts cells roots waiting sections) reply
+        (after a b counts cells roots waiting sections) ⌝ }
+{
+    match code {
+        0 => formatter::format(blocks, width, a, b, counts, cells, roots, waiting, sections),
+        1 => replies::acceptance(0),
+        2 => {
+            let done = steps::allocate(
+                blocks,
+                width,
+                a,
+                b,
+                counts,
+                cells,
+                roots,
+                waiting,
+                sections,
+                x as usize,
+                y as usize,
+            );
+            done.reply
+        }
+        3 => steps::store_root(
+            blocks,
+            width,
+            a,
+            b,
+            counts,
+            cells,
+            roots,
+            waiting,
+            sections,
+            x as usize,
+            y as usize,
+        ),
+        4 => steps::store_cell(
+            blocks,
+            width,
+            a,
+            b,
+            counts,
+            cells,
+            roots,
+            waiting,
+            sections,
+            x as usize,
+            y as usize,
+            z as usize,
+        ),
+        5 => acts::collect(blocks, width, a, b, counts, cells, roots, waiting, sections),
+        6 => looking::look_reply(blocks, width, a, b, counts, x as usize),
+        7 => replies::acceptance(bitmap::count_zeros(a)),
+        8 => returns::return_roots(
+            blocks,
+            width,
+            a,
+            b,
+            counts,
+            cells,
+            roots,
+            waiting,
+            sections,
+            x,
+        ),
+        _ => replies::refusal(9),
+    }
+}

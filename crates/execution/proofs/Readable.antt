@@ -1,0 +1,35 @@
+-- A usable heap can be read by the plan of a record, which looks at three of its buffers alone.
+use mathlib.Core.Path.{_≡_, subst}
+use mathlib.Core.List.{[]}
+use Prim.Native.Nat.{ℕ}
+use native.Mathlib.Omega.{arith}
+use Rattle.rules.specs.Heap.{Memory, memory}
+use Rattle.inner.specs.Usable.{Usable}
+use Rattle.theory.proofs.Memories.Stores.{roots-named}
+use Rattle.inner.proofs.Idle.{usable-healthy}
+use Rattle.records.specs.declared.Fields.{Fields}
+use Rattle.records.specs.declared.Plan.{Plan}
+use Rattle.records.specs.Meaning.{meaning}
+use Rattle.records.specs.Readable.{Readable}
+use Rattle.records.specs.Records.{Asked, onRoots, copying, writing, reading, clearing, operation, asked}
+use Rattle.turns.specs.declared.outcome.Done.{Done}
+use Rattle.turns.specs.Turns.{turnOf}
+use Rattle.turns.specs.Steps.{Acted}
+
+pub usable-readable : (N w : ℕ) (h : Memory) → Usable N w h → Readable N (h .b) (h .cells) (h .roots)
+usable-readable N w h usable =
+    let shape = usable-healthy N w h usable .shape in
+    record {
+      most = shape .blocks-max;
+      b-length = omega (arith, shape .length-b, shape .whole-bytes);
+      cells-length = shape .length-cells;
+      named = roots-named N w h (usable-healthy N w h usable);
+    }
+
+-- what is asked for on the three buffers is what is asked for on the heap
+pub planned :
+    (N w : ℕ) (h : Memory) (f : Fields) (plan : Plan) {d : Done} {g : Memory}
+    → meaning plan ≡ asked N (memory [] (h .b) [] (h .cells) (h .roots) []) f → Acted N h (turnOf N w h (meaning plan)) d g
+    → Acted N h (turnOf N w h (asked N h f)) d g
+unfolding asked operation copying writing reading clearing onRoots
+planned N w h f plan {d} {g} e acted = subst (λ (x : Asked). Acted N h (turnOf N w h x) d g) e acted

@@ -1,0 +1,125 @@
+-- `acts::act` meets its contract: each plan's call is the one made.
+use mathlib.Core.Path.{refl}
+use borrow.Author.Needs.{needs}
+use Rattle.turns.proofs.Turns.{acted-plan}
+use Rattle.turns.proofs.Stores.{acted-stop, acted-root, acted-cell}
+use Rattle.turns.proofs.Collections.{acted-collect}
+use Rattle.execution.proofs.acts.act.Statement.{statement}
+use Rattle.execution.proofs.acts.act.Tie as tie
+
+-- the places: each arm's call made, from where the arm returns
+abbrev allocated : tie.After-slice-known14 → tie.After-allocate
+allocated c = c .before .before .before .before .before .before .before .before .before .before .before .before .before .before
+
+abbrev root-stored : tie.After-struct-known → tie.After-store-root
+root-stored c = c .before .before .before .before .before .before .before .before .before .before .before .before .before .before .before
+
+abbrev cell-stored : tie.After-struct-known2 → tie.After-store-cell
+cell-stored c = c .before .before .before .before .before .before .before .before .before .before .before .before .before
+
+abbrev collected : tie.After-slice-known33 → tie.After-collect
+collected c = c .before .before .before .before .before .before .before .before .before .before .before .before
+
+enum-known-plan : tie.Need-enum-known-plan
+enum-known-plan c = search needs
+
+enum-known-plan-2 : tie.Need-enum-known-plan-2
+enum-known-plan-2 c = search needs
+
+allocate-requires : tie.Need-allocate-requires
+allocate-requires c κs =
+    c .before .before .before .before .before .before .before .before .before .before .before .before .before .before .before .before .before .pre
+
+enum-known-plan-3 : tie.Need-enum-known-plan-3
+enum-known-plan-3 c = search needs
+
+store-root-requires : tie.Need-store-root-requires
+store-root-requires c κs =
+    c .before .before .before .before .before .before .before .before .before .before .before .before .before .before .before .before .before .pre
+
+enum-known-plan-4 : tie.Need-enum-known-plan-4
+enum-known-plan-4 c = search needs
+
+store-cell-requires : tie.Need-store-cell-requires
+store-cell-requires c κs =
+    c .before .before .before .before .before .before .before .before .before .before .before .before .before .before .before .before .before .pre
+
+enum-told : tie.Need-enum-told
+enum-told c = search needs
+
+collect-requires : tie.Need-collect-requires
+collect-requires c κs =
+    c .before .before .before .before .before .before .before .before .before .before .before .before .before .before .before .before .pre
+
+returns : tie.Need-returns
+returns c = acted-plan _ (c .before .plan .given .1) (acted-stop _ _ _ _)
+
+returns-2 : tie.Need-returns-2
+returns-2 c =
+    let arm = allocated c .before .before .before .before .before .before .before .before .before in
+    acted-plan _ (arm .plan2 .given .1) (allocated c .allocate .ensures)
+
+returns-3 : tie.Need-returns-3
+returns-3 c =
+    let arm = root-stored c .before .before .before .before .before .before .before .before .before in
+    let start = arm .before .before .before .before .before .before .before .before .before in
+    acted-plan _ (arm .plan3 .given .1) (acted-root _ _ _ (start .pre) _ _ (root-stored c .store-root .ensures))
+
+returns-4 : tie.Need-returns-4
+returns-4 c =
+    let arm = cell-stored c .before .before .before .before .before .before .before .before .before in
+    let start = arm .before .before .before .before .before .before .before .before .before in
+    acted-plan _ (arm .plan4 .given .1) (acted-cell _ _ _ (start .pre) _ _ _ (cell-stored c .store-cell .ensures))
+
+returns-5 : tie.Need-returns-5
+returns-5 c =
+    let arm = collected c .before .before .before .before .before .before .before .before in
+    let start = arm .before .before .before .before .before .before .before .before .before in
+    acted-plan _ (arm .enum-told .given .1) (acted-collect _ _ _ (start .pre) (collected c .collect .ensures))
+
+pub act-spec : {M : Type 1} → statement M
+act-spec =
+    tie.close
+    (tie.spec
+    enum-known-plan
+    enum-known-plan-2
+    allocate-requires
+    enum-known-plan-3
+    store-root-requires
+    enum-known-plan-4
+    store-cell-requires
+    enum-told
+    collect-requires
+    returns
+    (λ c. allocated c .allocate .kept .1 .1 .0)
+    (λ c. allocated c .allocate .kept .1 .1 .1 .0)
+    (λ c. allocated c .allocate .kept .1 .1 .1 .1 .0)
+    (λ c. allocated c .allocate .kept .1 .1 .1 .1 .1 .0)
+    (λ c. allocated c .allocate .kept .1 .1 .1 .1 .1 .1 .0)
+    (λ c. allocated c .allocate .kept .1 .1 .1 .1 .1 .1 .1 .0)
+    (λ c. allocated c .allocate .kept .1 .1 .1 .1 .1 .1 .1 .1 .0)
+    returns-2
+    (λ c. root-stored c .store-root .kept .1 .1 .0)
+    (λ c. root-stored c .store-root .kept .1 .1 .1 .0)
+    (λ c. root-stored c .store-root .kept .1 .1 .1 .1 .0)
+    (λ c. root-stored c .store-root .kept .1 .1 .1 .1 .1 .0)
+    (λ c. root-stored c .store-root .kept .1 .1 .1 .1 .1 .1 .0)
+    (λ c. root-stored c .store-root .kept .1 .1 .1 .1 .1 .1 .1 .0)
+    (λ c. root-stored c .store-root .kept .1 .1 .1 .1 .1 .1 .1 .1 .0)
+    returns-3
+    (λ c. cell-stored c .store-cell .kept .1 .1 .0)
+    (λ c. cell-stored c .store-cell .kept .1 .1 .1 .0)
+    (λ c. cell-stored c .store-cell .kept .1 .1 .1 .1 .0)
+    (λ c. cell-stored c .store-cell .kept .1 .1 .1 .1 .1 .0)
+    (λ c. refl)
+    (λ c. cell-stored c .store-cell .kept .1 .1 .1 .1 .1 .1 .1 .0)
+    (λ c. cell-stored c .store-cell .kept .1 .1 .1 .1 .1 .1 .1 .1 .0)
+    returns-4
+    (λ c. collected c .collect .kept .1 .1 .0)
+    (λ c. collected c .collect .kept .1 .1 .1 .0)
+    (λ c. collected c .collect .kept .1 .1 .1 .1 .0)
+    (λ c. collected c .collect .kept .1 .1 .1 .1 .1 .0)
+    (λ c. refl)
+    (λ c. collected c .collect .kept .1 .1 .1 .1 .1 .1 .1 .0)
+    (λ c. collected c .collect .kept .1 .1 .1 .1 .1 .1 .1 .1 .0)
+    returns-5)

@@ -1,0 +1,51 @@
+-- `step` meets its contract: the plan, its calls, and what came of them noted.
+use Rattle.inner.proofs.Idle.{usable-healthy}
+use Rattle.turns.proofs.Notes.{can-note, noted-stepped}
+use Rattle.execution.proofs.Readable.{usable-readable, planned}
+use Rattle.execution.proofs.step.Statement.{statement}
+use Rattle.execution.proofs.step.Tie as tie
+
+-- the places: the calls made, the plan known, the start
+abbrev acted : tie.After-slice-known14 → tie.After-act
+acted c = c .before .before .before .before .before .before .before .before .before .before .before .before .before .before
+
+abbrev planned-at : tie.After-act → tie.After-plan-of
+planned-at c = c .before .before .before .before .before .before .before .before
+
+abbrev start : tie.After-plan-of → tie.Start
+start c = c .before .before .before .before .before .before .before .before .before .before .before
+
+plan-of-requires : tie.Need-plan-of-requires
+plan-of-requires c κs = usable-readable _ _ _ (c .before .before .before .before .before .before .before .before .before .before .pre .0)
+
+act-requires : tie.Need-act-requires
+act-requires c κs = start (c .before .before .before .before .before .before .before) .pre .0
+
+noted-requires : tie.Need-noted-requires
+noted-requires c κs =
+    let pre = start (planned-at (acted c)) .pre in
+    can-note _ (usable-healthy _ _ _ (pre .0) .shape .blocks-max) _ _ (pre .1) _ _ _ (acted c .act .ensures)
+
+returns : tie.Need-returns
+returns c =
+    let act = acted (c .before) in
+    let plan = planned-at act in
+    let pre = start plan .pre in
+    noted-stepped _ (usable-healthy _ _ _ (pre .0) .shape .blocks-max) _ _ (pre .1) _ _ _
+    (planned _ _ _ _ (plan .plan-of .result) (plan .plan-of .ensures) (act .act .ensures)) _ (c .noted .ensures)
+
+pub step-spec : {M : Type 1} → statement M
+step-spec =
+    tie.close
+    (tie.spec
+    plan-of-requires
+    act-requires
+    noted-requires
+    (λ c. acted (c .before) .act .kept .1 .1 .0)
+    (λ c. acted (c .before) .act .kept .1 .1 .1 .0)
+    (λ c. acted (c .before) .act .kept .1 .1 .1 .1 .0)
+    (λ c. acted (c .before) .act .kept .1 .1 .1 .1 .1 .0)
+    (λ c. acted (c .before) .act .kept .1 .1 .1 .1 .1 .1 .0)
+    (λ c. acted (c .before) .act .kept .1 .1 .1 .1 .1 .1 .1 .0)
+    (λ c. acted (c .before) .act .kept .1 .1 .1 .1 .1 .1 .1 .1 .0)
+    returns)

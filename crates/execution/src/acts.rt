@@ -1,0 +1,109 @@
+// The calls of one record, on an undamaged heap with a cleared waiting list.
+ghost use Rattle.rules.specs.Lent.{before, after, lent};
+ghost use Rattle.inner.specs.Usable.{Usable};
+ghost use Rattle.records.specs.Meaning.{meaning};
+ghost use Rattle.turns.specs.Turns.{turnOf};
+ghost use Rattle.turns.specs.Steps.{Acted};
+use blocks::Ref;
+use inner::acts;
+use inner::steps;
+use records::Plan;
+use turns::outcome::Done;
+
+// The calls that a plan asks for.
+pub(crate) fn act(
+    blocks: usize,
+    width: usize,
+    a: &mut [u8],
+    b: &mut [u8],
+    counts: &mut [u8],
+    cells: &mut [Ref],
+    roots: &mut [Ref],
+    waiting: &mut [Ref],
+    sections: &mut [Ref],
+    plan: Plan,
+) -> Done
+    requires { ⌜ Usable blocks width (lent a b counts cells roots waiting sections) ⌝ }
+    ensures { λ done.
+        ⌜ Acted blocks (before a b counts cells roots waiting sections)
+        (turnOf blocks width (before a b counts cells roots waiting sections) (meaning plan)) done
+        (after a b counts cells roots waiting sections) ⌝ }
+{
+    match plan {
+        Plan::Stop(number) => Done {
+            number: number,
+            allocated: 0,
+            collected: false,
+            freed: 0,
+            stuck: false,
+        },
+        Plan::Allocate { n, r } => retries::allocate(
+            blocks,
+            width,
+            a,
+            b,
+            counts,
+            cells,
+            roots,
+            waiting,
+            sections,
+            n,
+            r,
+        ),
+        Plan::StoreRoot { r, v } => {
+            let reply = steps::store_root(
+                blocks,
+                width,
+                a,
+                b,
+                counts,
+                cells,
+                roots,
+                waiting,
+                sections,
+                r,
+                v,
+            );
+            Done {
+                number: reply.number,
+                allocated: 0,
+                collected: false,
+                freed: reply.value,
+                stuck: reply.second == 1,
+            }
+        }
+        Plan::StoreCell { at, j, v } => {
+            let reply = steps::store_cell(
+                blocks,
+                width,
+                a,
+                b,
+                counts,
+                cells,
+                roots,
+                waiting,
+                sections,
+                at,
+                j,
+                v,
+            );
+            Done {
+                number: reply.number,
+                allocated: 0,
+                collected: false,
+                freed: reply.value,
+                stuck: reply.second == 1,
+            }
+        }
+        Plan::Collect => {
+            let reply = acts::collect(blocks, width, a, b, counts, cells, roots, waiting, sections);
+            Done {
+                number: 0,
+                allocated: 0,
+                collected: true,
+                freed: reply.value,
+                stuck: false,
+            }
+        }
+    }
+}

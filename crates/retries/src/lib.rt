@@ -1,0 +1,67 @@
+// An allocation of a record, on an undamaged heap with a cleared waiting list: its try, and where no chunk is free a collection and a
+// second one.
+ghost use Rattle.rules.specs.Lent.{before, after, lent};
+ghost use Rattle.rules.specs.Calls.{Call};
+ghost use Rattle.inner.specs.Usable.{Usable};
+ghost use Rattle.records.specs.Records.{makes};
+ghost use Rattle.turns.specs.Turns.{turnOf};
+ghost use Rattle.turns.specs.Steps.{Acted};
+use blocks::Ref;
+use inner::acts;
+use inner::steps;
+use turns::outcome;
+use turns::outcome::Done;
+
+// Allocates n blocks into root r; where no chunk is free, collects and tries once more.
+pub fn allocate(
+    blocks: usize,
+    width: usize,
+    a: &mut [u8],
+    b: &mut [u8],
+    counts: &mut [u8],
+    cells: &mut [Ref],
+    roots: &mut [Ref],
+    waiting: &mut [Ref],
+    sections: &mut [Ref],
+    n: usize,
+    r: usize,
+) -> Done
+    requires { ⌜ Usable blocks width (lent a b counts cells roots waiting sections) ⌝ }
+    ensures { λ done.
+        ⌜ Acted blocks (before a b counts cells roots waiting sections)
+        (turnOf blocks width (before a b counts cells roots waiting sections) (makes (Call.allocate n r))) done
+        (after a b counts cells roots waiting sections) ⌝ }
+{
+    let first = steps::allocate(
+        blocks,
+        width,
+        a,
+        b,
+        counts,
+        cells,
+        roots,
+        waiting,
+        sections,
+        n,
+        r,
+    );
+    let number = first.reply.number;
+    if number != 5 {
+        return outcome::done_after(first, n, false, 0);
+    }
+    let forced = acts::collect(blocks, width, a, b, counts, cells, roots, waiting, sections);
+    let second = steps::allocate(
+        blocks,
+        width,
+        a,
+        b,
+        counts,
+        cells,
+        roots,
+        waiting,
+        sections,
+        n,
+        r,
+    );
+    outcome::done_after(second, n, true, forced.value)
+}

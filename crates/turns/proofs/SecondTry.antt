@@ -1,0 +1,123 @@
+-- What came of an allocation that was tried twice: first of the collection and the second try, then of the whole record.
+use mathlib.Core.Path.{_≡_, refl, sym, ap, _∙_}
+use mathlib.Core.Bool.{true, false}
+use mathlib.Core.List.{[], _∷_}
+use Prim.Native.Nat.{ℕ, _+_, _^_, _≤_, _<_}
+use native.Mathlib.Decide.{ℕ-discrete}
+use native.Mathlib.Omega.{arith}
+use lib.Dec.{eqb}
+use borrow.Author.Tests.{eq-eqb, ne-eqb}
+use Rattle.rules.specs.Heap.{Memory}
+use Rattle.rules.specs.Calls.{collect, allocate, answer}
+use Rattle.rules.specs.Promise.{Promise}
+use Rattle.rules.specs.declared.Reply.{Reply}
+use Rattle.inner.specs.Usable.{Usable}
+use Rattle.inner.specs.Allocating.{Allocating}
+use Rattle.inner.specs.declared.acts.Allocated.{Allocated}
+use Rattle.inner.proofs.Idle.{usable-healthy}
+use Rattle.inner.proofs.Kept.{usable-kept}
+use Rattle.records.specs.Records.{makes}
+use Rattle.figures.specs.declared.tally.Tally.{Tally}
+use Rattle.figures.specs.Figures.{collected, momentIn, noted, notedAll}
+use Rattle.turns.specs.Turns.{madeOn, Turn, turn, triedAgain, turnOf}
+use Rattle.turns.specs.Outcomes.{done, doneAfter, withCollection, withAllocation}
+use Rattle.turns.specs.Steps.{Acted}
+use Rattle.turns.proofs.Figures.{with-allocated}
+use Rattle.turns.proofs.Turns.{acted-as}
+use Rattle.turns.proofs.Collections.{collect-noted, collect-balance}
+use Rattle.turns.proofs.FirstTry.{reply-number, refused-noted, refused-balance, size-fits, accepted-noted, accepted-balance, acted-again}
+
+module _ (N w : ℕ) (h : Memory) (usable : Usable N w h) (n r : ℕ) (y : Reply) (k : Memory) (forced : Promise N w collect h y k)
+    (second : Allocated) (g : Memory) (tried : Allocating N w n r k second g) where
+  forced-usable : Usable N w k
+  forced-usable = usable-kept N w h usable collect y k forced
+
+  abbrev again : Turn
+  again =
+      turn (answer N w k (allocate n r) .0 .number) (madeOn N w h collect ∷ madeOn N w k (allocate n r) ∷ [])
+      (answer N w k (allocate n r) .1)
+
+  tried-again : triedAgain N w h (allocate n r) ≡ again
+  unfolding triedAgain
+  tried-again =
+      ap
+      (λ (m : Memory).
+      turn (answer N w m (allocate n r) .0 .number) (madeOn N w h collect ∷ madeOn N w m (allocate n r) ∷ [])
+      (answer N w m (allocate n r) .1))
+      (sym (forced .after-is))
+
+  -- the two calls noted, one after the other
+  both-noted : (t : Tally) → notedAll (again .made) t ≡ noted (madeOn N w k (allocate n r)) (collected t)
+  unfolding notedAll
+  both-noted t = ap (noted (madeOn N w k (allocate n r))) (collect-noted N w h usable t)
+
+  -- together they free no more blocks than two heaps have
+  freed-few : y .value + second .freed ≤ N + N
+  freed-few = elim (ℕ-discrete (second .reply .number) 0) [
+    | yes e ↦
+        omega (
+          arith,
+          collect-balance N w h usable forced,
+          accepted-balance N w k forced-usable n r second g tried e,
+          size-fits N w k forced-usable n r second g tried e .1,
+        )
+    | no e ↦ omega (arith, collect-balance N w h usable forced, refused-balance N w k forced-usable n r second g tried e)
+  ]
+
+  again-refused :
+      (second .reply .number ≡ 0 → ⊥)
+      → Acted N h (triedAgain N w h (allocate n r)) (done (second .reply .number) 0 true (y .value + second .freed) false) g
+  unfolding withCollection withAllocation momentIn
+  again-refused refused =
+      acted-as tried-again
+      record {
+        number-is = sym (reply-number N w k forced-usable n r second g tried);
+        after-is = tried .promise .after-is;
+        figures-are = λ t. sym (both-noted t ∙ refused-noted N w k forced-usable n r second g tried refused (collected t));
+        balance =
+            omega (arith, collect-balance N w h usable forced, refused-balance N w k forced-usable n r second g tried refused);
+        allocated-few = omega arith;
+        refused-none = λ _. (refl, refl);
+      }
+
+  again-allocated :
+      second .reply .number ≡ 0 → Acted N h (triedAgain N w h (allocate n r)) (done 0 n true (y .value + second .freed) (eqb (second .reply .second) 1)) g
+  unfolding withCollection
+  again-allocated accepted =
+      let size = size-fits N w k forced-usable n r second g tried accepted in
+      acted-as tried-again
+      record {
+        number-is = sym (reply-number N w k forced-usable n r second g tried ∙ accepted);
+        after-is = tried .promise .after-is;
+        figures-are = λ t.
+            ap (momentIn (eqb (second .reply .second) 1))
+            (with-allocated n true 0 (y .value + second .freed) (eqb (second .reply .second) 1) (collected t) (size .0))
+            ∙ sym (both-noted t ∙ accepted-noted N w k forced-usable n r second g tried accepted (collected t));
+        balance =
+            omega (arith, collect-balance N w h usable forced, accepted-balance N w k forced-usable n r second g tried accepted);
+        allocated-few = size .1;
+        refused-none = λ some. absurd (some refl);
+      }
+
+  again-acted : Acted N h (triedAgain N w h (allocate n r)) (doneAfter second n true (y .value)) g
+  unfolding doneAfter
+  again-acted = elim (ℕ-discrete (second .reply .number) 0) [
+    | yes accepted ↦ rw (eq-eqb (second .reply .number) 0 accepted, doneAfter) (again-allocated accepted)
+    | no refused ↦ rw (ne-eqb (second .reply .number) 0 refused, doneAfter) (again-refused refused)
+  ]
+
+-- ---- an allocation that was tried twice: the first try left k, the collection l
+
+module _ (N w : ℕ) (h : Memory) (usable : Usable N w h) (n r : ℕ) (first : Allocated) (k : Memory) (tried : Allocating N w n r h first k)
+    (y : Reply) (l : Memory) (forced : Promise N w collect k y l) (second : Allocated) (g : Memory)
+    (retried : Allocating N w n r l second g) where
+  tried-usable : Usable N w k
+  tried-usable = usable-kept N w h usable (allocate n r) (first .reply) k (tried .promise)
+
+  pub freed-fits : y .value + second .freed < 2 ^ 64
+  freed-fits =
+      omega (arith, freed-few N w k tried-usable n r y l forced second g retried, usable-healthy N w h usable .shape .blocks-max)
+
+  pub acted-twice : first .reply .number ≡ 5 → Acted N h (turnOf N w h (makes (allocate n r))) (doneAfter second n true (y .value)) g
+  acted-twice none-free =
+      acted-again N w h usable n r first k tried none-free (again-acted N w k tried-usable n r y l forced second g retried)
