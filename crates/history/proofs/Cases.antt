@@ -6,10 +6,10 @@ use Rattle.records.specs.Records.{fieldsAt, unnamed, unless, onRoots, allocatin
 use Rattle.text.specs.Text.{decimalIn, decimal}
 use Rattle.figures.specs.Figures.{countedIn, toldStuck, momentIn, noted, notedAll}
 use Rattle.figures.specs.Line.{figuresLine, refusalLine, line}
-use Rattle.turns.specs.Turns.{triesAgain, triedAgain, turnOf, afterTurn}
+use Rattle.turns.specs.Turns.{triedAgain, turnOf, afterTurn}
 use Rattle.history.specs.Runs.{ranFrom, ended, ran}
 use Rattle.history.specs.Cases.{cases, outcome, bytesOf, expected}
 
 pub cases-hold : map outcome cases ≡ map expected cases
-unfolding computed fieldsAt unnamed unless onRoots allocating copying writing reading clearing operation asked decimalIn decimal countedIn toldStuck momentIn noted notedAll figuresLine refusalLine line triesAgain triedAgain turnOf afterTurn ranFrom ended ran outcome bytesOf expected cases
+unfolding computed fieldsAt unnamed unless onRoots allocating copying writing reading clearing operation asked decimalIn decimal countedIn toldStuck momentIn noted notedAll figuresLine refusalLine line triedAgain turnOf afterTurn ranFrom ended ran outcome bytesOf expected cases
 cases-hold = refl

@@ -1,6 +1,5 @@
 -- A run of records counts as the calls it makes.
 use mathlib.Core.Path.{_≡_, refl, sym, ap, _∙_, subst}
-use mathlib.Core.Logic.{inl, inr}
 use mathlib.Core.Bool.{Bool, true, false}
 use mathlib.Core.List.{List, [], _∷_, _++_}
 use Prim.Native.Nat.{ℕ, zero, suc, _+_, _*_}
@@ -13,7 +12,6 @@ use Rattle.rules.specs.Heap.{Memory}
 use Rattle.rules.specs.Calls.{Call, format, check, collect, freeBlocks, allocate, storeRoot, storeCell, look, returnRoots}
 use Rattle.rules.specs.Calls.{answer, lastMemory}
 use Rattle.rules.proofs.Shape.{shape-facts}
-use Rattle.rules.proofs.Tests.{test-cases}
 use Rattle.theory.specs.Words.{Made, leftBy}
 use Rattle.theory.specs.Demand.{Chain}
 use Rattle.theory.specs.Statements.{Undamaged}
@@ -23,7 +21,7 @@ use Rattle.records.specs.Records.{Asked, makes, stops, asked, fieldsAt, recordL
 use Rattle.figures.specs.declared.tally.Tally.{Tally}
 use Rattle.figures.specs.declared.tally.Run.{Run}
 use Rattle.figures.specs.Figures.{countedIn, momentIn, toldStuck, noted, notedAll, run}
-use Rattle.turns.specs.Turns.{madeOn, Turn, triesAgain, triedAgain, turnOf, afterTurn}
+use Rattle.turns.specs.Turns.{madeOn, Turn, triedAgain, turnOf, afterTurn}
 use Rattle.turns.proofs.Turns.{turn-once, turn-again}
 use Rattle.history.specs.Runs.{Came, came, recordAt, ranFrom, wholeRecords, ran}
 use Rattle.history.specs.Claims.{withPeak, RunsAreCalls}
@@ -155,9 +153,9 @@ module _ (N w : ℕ) where
       let first = one-call h u c in
       let forced = one-call _ (first .undamaged) collect in
       let second = one-call _ (forced .undamaged) c in
-      elim (test-cases (triesAgain c (answer N w h c .0))) [
-        | inl e ↦ subst (λ (x : Turn). Chained N w h (x .made) (x .after)) (sym (turn-again N w h c e)) (both first (both forced second))
-        | inr e ↦ subst (λ (x : Turn). Chained N w h (x .made) (x .after)) (sym (turn-once N w h c e)) first
+      elim (ℕ-discrete (answer N w h c .0 .number) 5) [
+        | yes e ↦ subst (λ (x : Turn). Chained N w h (x .made) (x .after)) (sym (turn-again N w h c e)) (both first (both forced second))
+        | no e ↦ subst (λ (x : Turn). Chained N w h (x .made) (x .after)) (sym (turn-once N w h c e)) first
       ]
 
 -- the figures after a turn, but the peak

@@ -15,7 +15,7 @@ use Rattle.inner.proofs.Collected.{collect-answered}
 use Rattle.records.specs.Records.{makes}
 use Rattle.figures.specs.declared.tally.Tally.{Tally}
 use Rattle.figures.specs.Figures.{collected, countedIn, toldStuck, momentIn, noted, notedAll}
-use Rattle.turns.specs.Turns.{madeOn, triesAgain, turnOf}
+use Rattle.turns.specs.Turns.{madeOn, turnOf}
 use Rattle.turns.specs.Outcomes.{done, withCollection, withAllocation}
 use Rattle.turns.specs.Steps.{Acted}
 use Rattle.turns.proofs.Blocks.{accepted-allocates, call-balance}
@@ -41,9 +41,9 @@ module _ (N w : ℕ) (h : Memory) (usable : Usable N w h) where
 
   pub acted-collect :
       {x : Reply} {g : Memory} → Promise N w collect h x g → Acted N h (turnOf N w h (makes collect)) (done 0 0 true (x .value) false) g
-  unfolding notedAll withCollection withAllocation triesAgain momentIn
+  unfolding notedAll withCollection withAllocation momentIn
   acted-collect {x} {g} promise =
-      acted-as (turn-once N w h collect refl)
+      acted-as (turn-once N w h collect (λ e. omega (arith, collect-accepted)))
       record {
         number-is = sym collect-accepted;
         after-is = promise .after-is;

@@ -21,7 +21,7 @@ use Rattle.records.specs.Records.{makes}
 use Rattle.figures.specs.declared.tally.Tally.{Tally}
 use Rattle.figures.specs.Figures.{allocated, countedIn, toldStuck, momentIn, noted, notedAll}
 use Rattle.turns.specs.declared.outcome.Done.{Done}
-use Rattle.turns.specs.Turns.{madeOn, Turn, triesAgain, triedAgain, turnOf}
+use Rattle.turns.specs.Turns.{madeOn, Turn, triedAgain, turnOf}
 use Rattle.turns.specs.Outcomes.{done, doneAfter, withCollection, withAllocation}
 use Rattle.turns.specs.Steps.{Acted}
 use Rattle.turns.proofs.Blocks.{accepted-allocates, refused-allocates, call-balance}
@@ -75,9 +75,8 @@ module _ (N w : ℕ) (h : Memory) (usable : Usable N w h) (n r : ℕ) where
       unfolding allocates
       accepted-balance = omega (arith, tried-balance, accepted-allocates (allocate n r) (done′ .reply) accepted)
 
-    once : (done′ .reply .number ≡ 5 → ⊥) → triesAgain (allocate n r) (answer N w h (allocate n r) .0) ≡ false
-    unfolding triesAgain
-    once other = ne-eqb (answer N w h (allocate n r) .0 .number) 5 (λ e. other (sym reply-number ∙ e))
+    once : (done′ .reply .number ≡ 5 → ⊥) → answer N w h (allocate n r) .0 .number ≡ 5 → ⊥
+    once other e = other (sym reply-number ∙ e)
 
     acted-refused :
         (done′ .reply .number ≡ 0 → ⊥) → (done′ .reply .number ≡ 5 → ⊥)
@@ -123,13 +122,13 @@ module _ (N w : ℕ) (h : Memory) (usable : Usable N w h) (n r : ℕ) where
     pub acted-again :
         done′ .reply .number ≡ 5 → {d : Done} {k : Memory} → Acted N g (triedAgain N w g (allocate n r)) d k
         → Acted N h (turnOf N w h (makes (allocate n r))) d k
-    unfolding notedAll triesAgain
+    unfolding notedAll
     acted-again none-free {d} {k} acted =
         let refused : done′ .reply .number ≡ 0 → ⊥ = λ z. omega arith in
         let there : triedAgain N w g (allocate n r) ≡ triedAgain N w (answer N w h (allocate n r) .1) (allocate n r) =
         ap (λ (m : Memory). triedAgain N w m (allocate n r)) (tried .promise .after-is) in
         let second = subst (λ (x : Turn). Acted N g x d k) there acted in
-        acted-as (turn-again N w h (allocate n r) (eq-eqb (answer N w h (allocate n r) .0 .number) 5 (reply-number ∙ none-free)))
+        acted-as (turn-again N w h (allocate n r) (reply-number ∙ none-free))
         record {
           number-is = second .number-is;
           after-is = second .after-is;

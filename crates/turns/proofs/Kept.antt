@@ -1,17 +1,15 @@
 -- What a record keeps: a usable heap stays usable. And the number of the run after it.
 use mathlib.Core.Path.{_≡_, refl, sym, subst}
-use mathlib.Core.Logic.{inl, inr}
 use Prim.Native.Nat.{ℕ}
 use native.Mathlib.Decide.{ℕ-discrete}
 use borrow.Author.Tests.{eq-eqb, ne-eqb}
 use Rattle.rules.specs.Heap.{Memory}
 use Rattle.rules.specs.Calls.{Call, collect, answer}
-use Rattle.rules.proofs.Tests.{test-cases}
 use Rattle.inner.specs.Usable.{Usable}
 use Rattle.inner.proofs.Kept.{usable-kept}
 use Rattle.records.specs.Records.{Asked, makes, stops}
 use Rattle.figures.specs.declared.tally.Run.{Run}
-use Rattle.turns.specs.Turns.{Turn, triesAgain, triedAgain, turnOf, afterTurn}
+use Rattle.turns.specs.Turns.{Turn, triedAgain, turnOf, afterTurn}
 use Rattle.turns.proofs.Turns.{turn-once, turn-again}
 
 call-usable : (N w : ℕ) (h : Memory) → Usable N w h → (c : Call) → Usable N w (answer N w h c .1)
@@ -24,9 +22,9 @@ turn-usable N w h usable (stops number) = usable
 turn-usable N w h usable (makes c) =
     let first = call-usable N w h usable c in
     let second = call-usable N w _ (call-usable N w _ first collect) c in
-    elim (test-cases (triesAgain c (answer N w h c .0))) [
-      | inl e ↦ subst (λ (x : Turn). Usable N w (x .after)) (sym (turn-again N w h c e)) second
-      | inr e ↦ subst (λ (x : Turn). Usable N w (x .after)) (sym (turn-once N w h c e)) first
+    elim (ℕ-discrete (answer N w h c .0 .number) 5) [
+      | yes e ↦ subst (λ (x : Turn). Usable N w (x .after)) (sym (turn-again N w h c e)) second
+      | no e ↦ subst (λ (x : Turn). Usable N w (x .after)) (sym (turn-once N w h c e)) first
     ]
 
 -- the run after a turn has the turn's number

@@ -18,7 +18,7 @@ use Rattle.inner.proofs.Idle.{usable-fit}
 use Rattle.records.specs.Records.{makes, stops}
 use Rattle.figures.specs.declared.tally.Tally.{Tally}
 use Rattle.figures.specs.Figures.{countedIn, toldStuck, momentIn, noted, notedAll}
-use Rattle.turns.specs.Turns.{madeOn, triesAgain, turnOf}
+use Rattle.turns.specs.Turns.{madeOn, turnOf}
 use Rattle.turns.specs.Outcomes.{done, withCollection, withAllocation}
 use Rattle.turns.specs.Steps.{Acted}
 use Rattle.turns.proofs.Refusals.{Keeps, store-root-keeps, store-cell-keeps}
@@ -38,9 +38,8 @@ acted-stop N w h number =
       refused-none = λ _. (refl, refl);
     }
 
--- a call that is made once, allocates nothing, is counted in no figure but the last, and whose value is the number of blocks freed
+-- a call that allocates nothing, is counted in no figure but the last, and whose value is the number of blocks freed
 record Plain (c : Call) : Type 0 where
-  once : (x : Reply) → triesAgain c x ≡ false
   uncounted : (t : Tally) → countedIn c t ≡ t
   told : (x : Reply) → toldStuck c x ≡ eqb (x .second) 1
   none-new : allocates c ≡ 0
@@ -48,10 +47,9 @@ record Plain (c : Call) : Type 0 where
   keeps : (N w : ℕ) (h : Memory) → Fit N w h → Keeps h (answer N w h c)
 
 store-root-plain : (r v : ℕ) → Plain (storeRoot r v)
-unfolding triesAgain countedIn toldStuck allocates
+unfolding countedIn toldStuck allocates
 store-root-plain r v =
     record {
-      once = λ x. refl;
       uncounted = λ t. refl;
       told = λ x. refl;
       none-new = refl;
@@ -60,10 +58,9 @@ store-root-plain r v =
     }
 
 store-cell-plain : (a j v : ℕ) → Plain (storeCell a j v)
-unfolding triesAgain countedIn toldStuck allocates
+unfolding countedIn toldStuck allocates
 store-cell-plain a j v =
     record {
-      once = λ x. refl;
       uncounted = λ t. refl;
       told = λ x. refl;
       none-new = refl;
@@ -77,7 +74,7 @@ module _ (N w : ℕ) (h : Memory) (usable : Usable N w h) where
       → Acted N h (turnOf N w h (makes c)) (done (x .number) 0 false (x .value) (eqb (x .second) 1)) g
   unfolding notedAll withCollection withAllocation momentIn
   acted-plain c plain {x} {g} promise =
-      acted-as (turn-once N w h c (plain .once (answer N w h c .0)))
+      acted-as (turn-once N w h c (plain .keeps N w h (usable-fit N w h usable) .other-number))
       record {
         number-is = ap (λ (y : Reply). y .number) (promise .reply-is);
         after-is = promise .after-is;

@@ -1,28 +1,28 @@
 -- A turn of one call, and of three; and what came of a turn that is equal to another.
 use mathlib.Core.Path.{_≡_, sym, subst}
-use mathlib.Core.Bool.{true, false}
 use mathlib.Core.List.{[], _∷_}
 use Prim.Native.Nat.{ℕ}
+use borrow.Author.Tests.{eq-eqb, ne-eqb}
 use Rattle.rules.specs.Heap.{Memory}
 use Rattle.rules.specs.Calls.{Call, answer}
 use Rattle.records.specs.declared.Plan.{Plan}
 use Rattle.records.specs.Meaning.{meaning}
 use Rattle.records.specs.Records.{makes}
 use Rattle.turns.specs.declared.outcome.Done.{Done}
-use Rattle.turns.specs.Turns.{madeOn, Turn, turn, triesAgain, triedAgain, turnOf}
+use Rattle.turns.specs.Turns.{madeOn, Turn, turn, triedAgain, turnOf}
 use Rattle.turns.specs.Steps.{Acted}
 
 module _ (N w : ℕ) (h : Memory) (c : Call) where
-  pub turn-once : triesAgain c (answer N w h c .0) ≡ false
+  pub turn-once : (answer N w h c .0 .number ≡ 5 → ⊥)
       → turnOf N w h (makes c) ≡ turn (answer N w h c .0 .number) (madeOn N w h c ∷ []) (answer N w h c .1)
   unfolding turnOf
-  turn-once e = rw (e, turnOf)
+  turn-once other = rw (ne-eqb (answer N w h c .0 .number) 5 other, turnOf)
 
-  pub turn-again : triesAgain c (answer N w h c .0) ≡ true
+  pub turn-again : answer N w h c .0 .number ≡ 5
       → let again = triedAgain N w (answer N w h c .1) c in
       turnOf N w h (makes c) ≡ turn (again .number) (madeOn N w h c ∷ again .made) (again .after)
   unfolding turnOf
-  turn-again e = rw (e, turnOf)
+  turn-again none-free = rw (eq-eqb (answer N w h c .0 .number) 5 none-free, turnOf)
 
 -- one equal to what came of a turn
 pub acted-as : {N : ℕ} {h : Memory} {x y : Turn} {d : Done} {g : Memory} → x ≡ y → Acted N h y d g → Acted N h x d g

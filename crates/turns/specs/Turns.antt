@@ -1,11 +1,10 @@
 -- Request U1: one record as it is run: the calls it makes on a heap, and the run after them.
 use Prim.Native.Nat.{ℕ, _+_}
-use mathlib.Core.Bool.{Bool, true, false}
+use mathlib.Core.Bool.{true, false}
 use mathlib.Core.List.{List, [], _∷_}
 use lib.Dec.{eqb}
 use Rattle.rules.specs.Heap.{Memory}
-use Rattle.rules.specs.Calls.{Call, format, check, collect, freeBlocks, allocate, storeRoot, storeCell, look, returnRoots, answer}
-use Rattle.rules.specs.declared.Reply.{Reply}
+use Rattle.rules.specs.Calls.{Call, collect, answer}
 use Rattle.theory.specs.Words.{Made}
 use Rattle.theory.specs.Balance.{inUse}
 use Rattle.records.specs.Records.{Asked, makes, stops}
@@ -25,31 +24,20 @@ pub record Turn : Type 0 where
 abbrev pub turn : ℕ → List Made → Memory → Turn
 turn number made after = record { number = number; made = made; after = after }
 
--- "When allocation gives 5 ..
-unfoldable pub triesAgain : Call → Reply → Bool
-triesAgain (allocate n r) x = eqb (x .number) 5
-triesAgain format x = false
-triesAgain check x = false
-triesAgain collect x = false
-triesAgain freeBlocks x = false
-triesAgain (storeRoot r v) x = false
-triesAgain (storeCell a j v) x = false
-triesAgain (look a) x = false
-triesAgain (returnRoots chosen) x = false
-
--- .. the run collects and tries once more."
+-- a collection, and the call tried once more
 unfoldable pub triedAgain : ℕ → ℕ → Memory → Call → Turn
 triedAgain N w h c =
     let forced = madeOn N w h collect in
     let second = madeOn N w (forced .after) c in
     turn (second .reply .number) (forced ∷ second ∷ []) (second .after)
 
+-- "When allocation gives 5 the run collects and tries once more." 5 is the number of an allocation alone.
 unfoldable pub turnOf : ℕ → ℕ → Memory → Asked → Turn
 turnOf N w h (stops number) = turn number [] h
 turnOf N w h (makes c) =
     let first = madeOn N w h c in
     let again = triedAgain N w (first .after) c in
-    elim (triesAgain c (first .reply)) [
+    elim (eqb (first .reply .number) 5) [
       | true ↦ turn (again .number) (first ∷ again .made) (again .after)
       | false ↦ turn (first .reply .number) (first ∷ []) (first .after)
     ]

@@ -1,7 +1,6 @@
 -- `replay` meets its contract: a refusal writes nothing, and an accepted list is formatted and run.
 use mathlib.Core.Path.{refl, sym, ap, _∙_}
 use lib.ListN.{length}
-use borrow.Author.Needs.{needs}
 use Rattle.rules.specs.Heap.{lentMemory, shaped}
 use Rattle.rules.specs.declared.Reply.{Reply}
 use Rattle.encoding.proofs.Calls.{Passed, accepted-passed}
@@ -30,7 +29,7 @@ passed : (c : tie.Else1) →
 passed c = accepted-passed _ _ _ (ap (λ (r : Reply). r .number) (sym (c .before .replay-reply .ensures)) ∙ c .if1 .left)
 
 replay-reply-requires : tie.Need-replay-reply-requires
-replay-reply-requires c κs = search needs
+replay-reply-requires c κs = tt
 
 returns : tie.Need-returns
 returns c =
