@@ -1,41 +1,24 @@
--- A refused store on an undamaged heap changes no buffer, and its values are 0.
-use mathlib.Core.Path.{_≡_, refl, sym, subst}
-use mathlib.Core.Bool.{Bool, true, false}
-use Prim.Native.Nat.{ℕ, _+_, _*_}
-use lib.Dec.{ltb}
-use lib.ListN.{length}
-use Rattle.rules.specs.Heap.{Memory, isFirst, sizeAt, isRef}
-use Rattle.rules.specs.Store.{storeRootIn, storeCellIn}
-use Rattle.rules.specs.Calls.{storeRoot, storeCell, Answer, require, onUndamaged, freeing, answer}
+-- A refused call on an undamaged heap changes no buffer, and its values are 0.
+use mathlib.Core.Path.{_≡_, refl, ap}
+use Prim.Native.Nat.{ℕ}
+use Rattle.rules.specs.Heap.{Memory}
+use Rattle.rules.specs.Calls.{Call, storeRoot, storeCell, Answer, answer}
+use Rattle.rules.proofs.Replies.{outcome-accepts, answer-either}
 use Rattle.theory.proofs.Memories.Fit.{Fit}
-use Rattle.theory.proofs.EachCall.Served.{on-undamaged}
+use Rattle.theory.proofs.EachCall.Accepted.{refused-plain}
 
 pub record Keeps (h : Memory) (x : Answer) : Type 0 where
   pub kept : (x .0 .number ≡ 0 → ⊥) → (x .1 ≡ h) × (x .0 .value ≡ 0) × (x .0 .second ≡ 0)
 
 module _ (N w : ℕ) (h : Memory) (fit : Fit N w h) where
-  freeing-keeps : (g : Memory) (second : ℕ) → Keeps h (freeing N h g second)
-  unfolding freeing
-  freeing-keeps g second = record { kept = λ refused. absurd (refused refl) }
-
-  require-keeps : {next : Answer} (test : Bool) (number : ℕ) → Keeps h next → Keeps h (require test number h next)
-  unfolding require
-  require-keeps true number next = next
-  require-keeps false number next = record { kept = λ _. (refl, refl, refl) }
-
-  on-undamaged-keeps : {next : Answer} → Keeps h next → Keeps h (onUndamaged N w h next)
-  on-undamaged-keeps {next} keeps = subst (λ (x : Answer). Keeps h x) (sym (on-undamaged N w h fit next)) keeps
+  answer-keeps : (c : Call) → Keeps h (answer N w h c)
+  answer-keeps c =
+      answer-either N w h c (Keeps h)
+      (λ number nonzero. record { kept = λ _. (refl, ap (λ (x : Answer). x .0 .value) (refused-plain N w h fit number), refl) })
+      (λ _. record { kept = λ refused. absurd (refused (outcome-accepts N w h c)) })
 
   pub store-root-keeps : (r v : ℕ) → Keeps h (answer N w h (storeRoot r v))
-  unfolding answer
-  store-root-keeps r v =
-      on-undamaged-keeps
-      (require-keeps (ltb r (length (h .roots))) 4 (require-keeps (isRef N h v) 8 (freeing-keeps (storeRootIn N w h r v) _)))
+  store-root-keeps r v = answer-keeps (storeRoot r v)
 
   pub store-cell-keeps : (a j v : ℕ) → Keeps h (answer N w h (storeCell a j v))
-  unfolding answer
-  store-cell-keeps a j v =
-      on-undamaged-keeps
-      (require-keeps (isFirst N h a) 6
-      (require-keeps (ltb j (4 * sizeAt N h a)) 7
-      (require-keeps (isRef N h v) 8 (freeing-keeps (storeCellIn N w h (4 * a + j) v) _))))
+  store-cell-keeps a j v = answer-keeps (storeCell a j v)
