@@ -1,22 +1,23 @@
 -- The reply of an allocation before it writes: where it accepts, what was found; where not, the answer of the call, with nothing written.
 use mathlib.Core.Path.{_≡_, refl, sym, ap, _∙_}
-use mathlib.Core.Bool.{Bool, true, false, _&&_}
-use mathlib.Core.List.{List}
+use mathlib.Core.Bool.{Bool, true, false, not, _&&_}
+use mathlib.Core.List.{List, [], _∷_}
 use mathlib.Core.Option.{Option, none, some}
 use Prim.Native.Nat.{ℕ, _+_, _≤_, _<_}
 use native.Mathlib.Omega.{arith}
 use lib.Dec.{leb, ltb}
 use lib.ListN.{length}
 use borrow.Author.Tests.{leb-true, ltb-true}
+use Rattle.rules.specs.Tools.{isSome, firstNumber}
 use Rattle.rules.specs.Heap.{Memory, exponent, lowestFree}
-use Rattle.rules.specs.Calls.{allocate, reply, require, allocation, answer}
+use Rattle.rules.specs.Calls.{allocate, Answer, reply, ownRefusals, answer}
 use Rattle.rules.specs.Promise.{Promise}
 use Rattle.rules.specs.declared.Reply.{Reply}
 use Rattle.rules.proofs.Tests.{and-true}
 use Rattle.rules.proofs.Promised.{promised}
 use Rattle.theory.proofs.Maps.LowestChunk.{room}
 use Rattle.theory.proofs.Memories.Fit.{Fit}
-use Rattle.theory.proofs.EachCall.Served.{on-undamaged}
+use Rattle.theory.proofs.EachCall.Accepted.{fit-refused}
 use Rattle.arguments.specs.Replies.{found, allocateReply}
 
 -- ---- the reply, over its two tests and its search
@@ -38,22 +39,28 @@ tested-accepts true true (some i) e = refl
 tested-accepts true false o e = absurd (omega arith)
 tested-accepts false p o e = absurd (omega arith)
 
-tested-stops :
-    (N w : ℕ) (h : Memory) (n r : ℕ) (s p : Bool) (o : Option ℕ) → (tested s p o .number ≡ 0 → ⊥)
-    → require s 3 h (require p 4 h (allocation N w h n r o)) ≡ (tested s p o, h)
-unfolding found require allocation
-tested-stops N w h n r true true none fails = refl
-tested-stops N w h n r true true (some i) fails = absurd (fails refl)
-tested-stops N w h n r true false o fails = refl
-tested-stops N w h n r false p o fails = refl
+-- its number is the first of the rules' that applies, and a refusal has no value
+tested-number :
+    (s p : Bool) (o : Option ℕ) → firstNumber ((3, not s) ∷ (4, not p) ∷ (5, not (isSome o)) ∷ []) ≡ tested s p o .number
+unfolding found firstNumber isSome
+tested-number true true none = refl
+tested-number true true (some i) = refl
+tested-number true false o = refl
+tested-number false p o = refl
+
+tested-plain : (s p : Bool) (o : Option ℕ) → (tested s p o .number ≡ 0 → ⊥) → reply (tested s p o .number) 0 0 ≡ tested s p o
+unfolding found
+tested-plain true true none fails = refl
+tested-plain true true (some i) fails = absurd (fails refl)
+tested-plain true false o fails = refl
+tested-plain false p o fails = refl
 
 -- ---- the call
 
 pub record Found (N : ℕ) (a : List ℕ) (roots n r at : ℕ) : Type 0 where
-  pub size-test : leb 1 n && leb n N ≡ true
-  pub place-test : ltb r roots ≡ true
   pub lowest : lowestFree N (exponent n) a ≡ some at
   pub some-blocks : 1 ≤ n
+  pub not-more : n ≤ N
   pub place : r < roots
   pub inside : at + n ≤ N
 
@@ -62,11 +69,11 @@ module _ (N : ℕ) (a : List ℕ) (roots n r : ℕ) where
   unfolding allocateReply
   allocate-passed at e =
       let parts = tested-passed (leb 1 n && leb n N) (ltb r roots) (lowestFree N (exponent n) a) at e in
+      let sizes = and-true (leb 1 n) (leb n N) (parts .0) in
       record {
-        size-test = parts .0;
-        place-test = parts .1;
         lowest = parts .2;
-        some-blocks = leb-true 1 n (and-true (leb 1 n) (leb n N) (parts .0) .0);
+        some-blocks = leb-true 1 n (sizes .0);
+        not-more = leb-true n N (sizes .1);
         place = ltb-true r roots (parts .1);
         inside = room N a n at (parts .2) .inside;
       }
@@ -81,10 +88,14 @@ module _ (N w : ℕ) (h : Memory) (n r : ℕ) where
   allocate-stopped :
       Fit N w h → (allocateReply N (h .a) (length (h .roots)) n r .number ≡ 0 → ⊥)
       → answer N w h (allocate n r) ≡ (allocateReply N (h .a) (length (h .roots)) n r, h)
-  unfolding answer allocateReply
+  unfolding ownRefusals allocateReply
   allocate-stopped fit fails =
-      on-undamaged N w h fit _
-      ∙ tested-stops N w h n r (leb 1 n && leb n N) (ltb r (length (h .roots))) (lowestFree N (exponent n) (h .a)) fails
+      let size : Bool = leb 1 n && leb n N in
+      let place : Bool = ltb r (length (h .roots)) in
+      let search : Option ℕ = lowestFree N (exponent n) (h .a) in
+      let number = tested-number size place search in
+      fit-refused N w h fit (allocate n r) (λ e. fails (sym number ∙ e))
+      ∙ ap {B = Answer} (λ k. (reply k 0 0, h)) number ∙ ap {B = Answer} (λ x. (x, h)) (tested-plain size place search fails)
 
   pub allocate-refused :
       Fit N w h → (x : Reply) → x ≡ allocateReply N (h .a) (length (h .roots)) n r → (x .number ≡ 0 → ⊥) → Promise N w (allocate n r) h x h

@@ -2,41 +2,38 @@
 -- test's reply, with nothing written.
 use mathlib.Core.Path.{_≡_, refl, sym, ap, _∙_}
 use mathlib.Core.Logic.{inl, inr}
-use mathlib.Core.Bool.{Bool, true, false}
+use mathlib.Core.Bool.{Bool, true, false, not}
 use mathlib.Core.List.{[]}
 use Prim.Native.Nat.{ℕ, _+_, _-_, _*_, _≤_, _<_}
 use native.Mathlib.Omega.{arith}
 use lib.ListN.{length}
-use lib.Dec.{ltb}
-use borrow.Author.Tests.{ltb-true}
-use Rattle.rules.specs.Heap.{Memory, memory, isFirst, sizeAt, isRef}
-use Rattle.rules.specs.Store.{chosenBelow}
-use Rattle.rules.specs.Calls.{storeRoot, storeCell, returnRoots, Answer, reply, accepted, require, answer}
+use Rattle.rules.specs.Heap.{Memory, memory, countOf, isFirst, sizeAt, isRef}
+use Rattle.rules.specs.Calls.{Call, storeRoot, storeCell, look, returnRoots, Answer, reply, ownRefusals, outcome, answer}
 use Rattle.rules.specs.Promise.{Promise}
 use Rattle.rules.specs.declared.Reply.{Reply}
-use Rattle.rules.proofs.Tests.{require-true, require-passed}
+use Rattle.rules.proofs.Replies.{Passed, own-passed}
+use Rattle.rules.proofs.Tests.{test-cases, first-found}
 use Rattle.rules.proofs.Objects.{first-facts, size-le, ref-facts}
 use Rattle.rules.proofs.Promised.{promised}
 use Rattle.theory.proofs.Memories.Fit.{Fit}
-use Rattle.theory.proofs.EachCall.Served.{on-undamaged}
-use Rattle.arguments.specs.Replies.{storeRootTest, storeCellTest, returnTest}
+use Rattle.theory.proofs.EachCall.Accepted.{fit-accepted, fit-refused}
+use Rattle.arguments.specs.Replies.{ownTest, storeRootTest, storeCellTest, returnTest, lookReply}
 
--- ---- any tests
+-- ---- any call
 
--- where x does not accept, y is its reply, with h kept
-abbrev Stops : Memory → Answer → Answer → Type 0
-Stops h x y = (x .0 .number ≡ 0 → ⊥) → y ≡ (x .0, h)
+module _ (N : ℕ) (h : Memory) (c : Call) where
+  test-passed : ownTest N h c .number ≡ 0 → Passed N h c
+  unfolding ownTest
+  test-passed = own-passed N h c
 
-require-stops : {h : Memory} (t : Bool) (number : ℕ) (x y : Answer) → Stops h x y → Stops h (require t number h x) (require t number h y)
-unfolding require
-require-stops true number x y s = s
-require-stops false number x y s = λ n. refl
+  module _ (x : Reply) (tested : x ≡ ownTest N h c) where
+    goes-on : x .number ≡ 0 → ownTest N h c .number ≡ 0
+    goes-on accepts = ap (λ (y : Reply). y .number) (sym tested) ∙ accepts
 
--- a test's reply does not depend on the memory that it would leave
-require-reply : (t : Bool) (number : ℕ) (h g : Memory) (x y : Answer) → x .0 ≡ y .0 → require t number h x .0 ≡ require t number g y .0
-unfolding require
-require-reply true number h g x y e = e
-require-reply false number h g x y e = refl
+    pub own-refused : (w : ℕ) → Fit N w h → (x .number ≡ 0 → ⊥) → Promise N w c h x h
+    unfolding ownTest
+    own-refused w fit fails =
+        promised N w h c (ownTest N h c, h) (fit-refused N w h fit c (λ e. fails (ap (λ (y : Reply). y .number) tested ∙ e))) x h tested refl
 
 -- a reference points to a block
 ref-inside : (N : ℕ) (h : Memory) (v : ℕ) → isRef N h v ≡ true → v ≤ N
@@ -51,43 +48,22 @@ pub record RootPassed (N : ℕ) (h : Memory) (r v : ℕ) : Type 0 where
 
 module _ (N : ℕ) (h : Memory) (r v : ℕ) where
   pub root-passed : storeRootTest N h r v .number ≡ 0 → RootPassed N h r v
-  unfolding storeRootTest
+  unfolding Passed
   root-passed e =
-      let rest : Answer = require (isRef N h v) 8 h (accepted h 0) in
-      let at = require-passed (ltb r (length (h .roots))) 4 h rest (omega arith) e in
-      let ref = require-passed (isRef N h v) 8 h (accepted h 0) (omega arith) (ap (λ (x : Answer). x .0 .number) (sym (require-true (ltb r (length (h .roots))) 4 h rest at)) ∙ e) in
-      record { place = ltb-true r (length (h .roots)) at; ref = ref; inside = ref-inside N h v ref }
+      let passed = test-passed N h (storeRoot r v) e in
+      record { place = passed .0; ref = passed .1; inside = ref-inside N h v (passed .1) }
 
   -- the test reads the maps and the roots alone
-  abbrev rootRead : Memory
-  rootRead = memory (h .a) (h .b) [] [] (h .roots) []
-
-  root-test-reads : storeRootTest N rootRead r v ≡ storeRootTest N h r v
-  unfolding storeRootTest
-  root-test-reads =
-      require-reply (ltb r (length (h .roots))) 4 rootRead h _ _ (require-reply (isRef N h v) 8 rootRead h (accepted rootRead 0) (accepted h 0) refl)
-
-  root-stopped :
-      (w : ℕ) → Fit N w h → (storeRootTest N h r v .number ≡ 0 → ⊥) → answer N w h (storeRoot r v) ≡ (storeRootTest N h r v, h)
-  unfolding answer storeRootTest
-  root-stopped w fit fails =
-      on-undamaged N w h fit _
-      ∙ require-stops (ltb r (length (h .roots))) 4 (require (isRef N h v) 8 h (accepted h 0)) _
-      (require-stops (isRef N h v) 8 (accepted h 0) _ (λ n. absurd (n refl)))
-      fails
-
-  module _ (x : Reply) (tested : x ≡ storeRootTest N rootRead r v) where
+  module _ (x : Reply) (tested : x ≡ storeRootTest N (memory (h .a) (h .b) [] [] (h .roots) []) r v) where
     same-root-test : x ≡ storeRootTest N h r v
-    same-root-test = tested ∙ root-test-reads
+    unfolding ownTest ownRefusals
+    same-root-test = tested
 
     pub root-goes-on : x .number ≡ 0 → storeRootTest N h r v .number ≡ 0
-    root-goes-on accepts = ap (λ (y : Reply). y .number) (sym same-root-test) ∙ accepts
+    root-goes-on = goes-on N h (storeRoot r v) x same-root-test
 
     pub root-refused : (w : ℕ) → Fit N w h → (x .number ≡ 0 → ⊥) → Promise N w (storeRoot r v) h x h
-    root-refused w fit fails =
-        promised N w h (storeRoot r v) (storeRootTest N h r v, h)
-        (root-stopped w fit (λ e. fails (ap (λ (y : Reply). y .number) same-root-test ∙ e)))
-        x h same-root-test refl
+    root-refused = own-refused N h (storeRoot r v) x same-root-test
 
 -- ---- a store in a cell
 
@@ -99,81 +75,50 @@ pub record CellPassed (N : ℕ) (h : Memory) (a j v : ℕ) : Type 0 where
   pub inside : v ≤ N
 
 module _ (N : ℕ) (h : Memory) (a j v : ℕ) where
-  abbrev refTest : Answer
-  refTest = require (isRef N h v) 8 h (accepted h 0)
-
-  abbrev cellTest : Answer
-  cellTest = require (ltb j (4 * sizeAt N h a)) 7 h refTest
-
   pub cell-passed : storeCellTest N h a j v .number ≡ 0 → CellPassed N h a j v
-  unfolding storeCellTest
+  unfolding Passed
   cell-passed e =
-      let first = require-passed (isFirst N h a) 6 h cellTest (omega arith) e in
-      let after : cellTest .0 .number ≡ 0 = ap (λ (x : Answer). x .0 .number) (sym (require-true (isFirst N h a) 6 h cellTest first)) ∙ e in
-      let at = require-passed (ltb j (4 * sizeAt N h a)) 7 h refTest (omega arith) after in
-      let ref = require-passed (isRef N h v) 8 h (accepted h 0) (omega arith) (ap (λ (x : Answer). x .0 .number) (sym (require-true (ltb j (4 * sizeAt N h a)) 7 h refTest at)) ∙ after) in
-      let place = ltb-true j (4 * sizeAt N h a) at in
+      let passed = test-passed N h (storeCell a j v) e in
       record {
-        first = first;
-        place = place;
-        ref = ref;
-        cell-inside = omega (arith, first-facts N (h .a) (h .b) a first .inside, size-le (N - a) (h .b) a);
-        inside = ref-inside N h v ref;
+        first = passed .0;
+        place = passed .1;
+        ref = passed .2;
+        cell-inside = omega (arith, passed .1, first-facts N (h .a) (h .b) a (passed .0) .inside, size-le (N - a) (h .b) a);
+        inside = ref-inside N h v (passed .2);
       }
 
   -- the test reads the maps alone
-  abbrev cellRead : Memory
-  cellRead = memory (h .a) (h .b) [] [] [] []
-
-  cell-test-reads : storeCellTest N cellRead a j v ≡ storeCellTest N h a j v
-  unfolding storeCellTest
-  cell-test-reads =
-      require-reply (isFirst N h a) 6 cellRead h _ _
-      (require-reply (ltb j (4 * sizeAt N h a)) 7 cellRead h _ _
-      (require-reply (isRef N h v) 8 cellRead h (accepted cellRead 0) (accepted h 0) refl))
-
-  cell-stopped :
-      (w : ℕ) → Fit N w h → (storeCellTest N h a j v .number ≡ 0 → ⊥) → answer N w h (storeCell a j v) ≡ (storeCellTest N h a j v, h)
-  unfolding answer storeCellTest
-  cell-stopped w fit fails =
-      on-undamaged N w h fit _
-      ∙ require-stops (isFirst N h a) 6 cellTest _
-      (require-stops (ltb j (4 * sizeAt N h a)) 7 refTest _
-      (require-stops (isRef N h v) 8 (accepted h 0) _ (λ n. absurd (n refl))))
-      fails
-
-  module _ (x : Reply) (tested : x ≡ storeCellTest N cellRead a j v) where
+  module _ (x : Reply) (tested : x ≡ storeCellTest N (memory (h .a) (h .b) [] [] [] []) a j v) where
     same-cell-test : x ≡ storeCellTest N h a j v
-    same-cell-test = tested ∙ cell-test-reads
+    unfolding ownTest ownRefusals
+    same-cell-test = tested
 
     pub cell-goes-on : x .number ≡ 0 → storeCellTest N h a j v .number ≡ 0
-    cell-goes-on accepts = ap (λ (y : Reply). y .number) (sym same-cell-test) ∙ accepts
+    cell-goes-on = goes-on N h (storeCell a j v) x same-cell-test
 
     pub cell-refused : (w : ℕ) → Fit N w h → (x .number ≡ 0 → ⊥) → Promise N w (storeCell a j v) h x h
-    cell-refused w fit fails =
-        promised N w h (storeCell a j v) (storeCellTest N h a j v, h)
-        (cell-stopped w fit (λ e. fails (ap (λ (y : Reply). y .number) same-cell-test ∙ e)))
-        x h same-cell-test refl
+    cell-refused = own-refused N h (storeCell a j v) x same-cell-test
 
 -- ---- a return
 
--- the test's reply, by its outcome
-outcome : Bool → Reply
-outcome t = elim t [ true ↦ reply 0 0 0 | false ↦ reply 4 0 0 ]
-
-outcome-stops : (t : Bool) (h : Memory) (x : Answer) → (outcome t .number ≡ 0 → ⊥) → require t 4 h x ≡ (outcome t, h)
-unfolding outcome require
-outcome-stops true h x n = absurd (n refl)
-outcome-stops false h x n = refl
-
 module _ (N w : ℕ) (h : Memory) (fit : Fit N w h) (chosen : ℕ) where
-  abbrev chosenTest : Reply
-  chosenTest = returnTest (length (h .roots)) chosen
+  pub return-refused : (x : Reply) → x ≡ returnTest (length (h .roots)) chosen → (x .number ≡ 0 → ⊥) → Promise N w (returnRoots chosen) h x h
+  unfolding ownTest ownRefusals returnTest
+  return-refused x tested = own-refused N h (returnRoots chosen) x tested w fit
 
-  return-stopped : (chosenTest .number ≡ 0 → ⊥) → answer N w h (returnRoots chosen) ≡ (chosenTest, h)
-  unfolding answer returnTest outcome
-  return-stopped fails = on-undamaged N w h fit _ ∙ outcome-stops (chosenBelow chosen (length (h .roots))) h _ fails
+-- ---- a look
 
-  pub return-refused : (x : Reply) → x ≡ chosenTest → (x .number ≡ 0 → ⊥) → Promise N w (returnRoots chosen) h x h
-  return-refused x tested fails =
-      promised N w h (returnRoots chosen) (chosenTest, h) (return-stopped (λ e. fails (ap (λ (y : Reply). y .number) tested ∙ e))) x h tested refl
+module _ (N w : ℕ) (h : Memory) (fit : Fit N w h) (a : ℕ) where
+  -- it reads the maps and the counts alone
+  pub look-answered : answer N w h (look a) ≡ (lookReply N w (memory (h .a) (h .b) (h .counts) [] [] []) a, h)
+  unfolding outcome Passed ownRefusals lookReply
+  look-answered = elim (test-cases (isFirst N h a)) [
+    | inl first ↦ fit-accepted N w h fit (look a) first ∙ ap {B = Answer} (λ t. (read t, h)) (sym first)
+    | inr other ↦
+        let six = first-found 6 (not (isFirst N h a)) [] (ap not other) in
+        fit-refused N w h fit (look a) (λ e. absurd (omega (arith, six, e))) ∙ ap {B = Answer} (λ k. (reply k 0 0, h)) six
+        ∙ ap {B = Answer} (λ t. (read t, h)) (sym other)
+  ]
+    where
+      read : Bool → Reply
+      read t = elim t [ true ↦ reply 0 (sizeAt N h a) (countOf N w h a) | false ↦ reply 6 0 0 ]

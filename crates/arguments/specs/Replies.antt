@@ -1,27 +1,29 @@
 -- The replies that depend on the arguments and on the heap before the call alone, once numbers 1, 2 and 11 are passed: for contracts of
 -- inner functions. Each is a part of the rules' `answer`.
-use Prim.Native.Nat.{ℕ, _*_}
-use mathlib.Core.Bool.{true, false, _&&_}
-use mathlib.Core.List.{List}
+use Prim.Native.Nat.{ℕ}
+use mathlib.Core.Bool.{true, false, not, _&&_}
+use mathlib.Core.List.{List, [], _∷_}
 use mathlib.Core.Option.{Option, none, some}
-use lib.ListN.{length}
 use lib.Dec.{leb, ltb}
-use Rattle.rules.specs.Heap.{Memory, countOf, isFirst, sizeAt, exponent, lowestFree, isRef}
+use Rattle.rules.specs.Tools.{firstNumber}
+use Rattle.rules.specs.Heap.{Memory, countOf, isFirst, sizeAt, exponent, lowestFree}
 use Rattle.rules.specs.Store.{chosenBelow}
-use Rattle.rules.specs.Calls.{reply, accepted, require}
+use Rattle.rules.specs.Calls.{Call, storeRoot, storeCell, reply, ownRefusals}
 use Rattle.rules.specs.declared.Reply.{Reply}
 
--- number 0 where the store goes on, or its refusal
-unfoldable pub storeRootTest : ℕ → Memory → ℕ → ℕ → Reply
-storeRootTest N h r v = require (ltb r (length (h .roots))) 4 h (require (isRef N h v) 8 h (accepted h 0)) .0
+-- number 0 where a call goes on, or its own refusal
+unfoldable pub ownTest : ℕ → Memory → Call → Reply
+ownTest N h c = reply (firstNumber (ownRefusals N h c)) 0 0
 
-unfoldable pub storeCellTest : ℕ → Memory → ℕ → ℕ → ℕ → Reply
-storeCellTest N h a j v =
-    require (isFirst N h a) 6 h (require (ltb j (4 * sizeAt N h a)) 7 h (require (isRef N h v) 8 h (accepted h 0))) .0
+abbrev pub storeRootTest : ℕ → Memory → (r v : ℕ) → Reply
+storeRootTest N h r v = ownTest N h (storeRoot r v)
+
+abbrev pub storeCellTest : ℕ → Memory → (a j v : ℕ) → Reply
+storeCellTest N h a j v = ownTest N h (storeCell a j v)
 
 -- number 0 where the return goes on, or its refusal
 unfoldable pub returnTest : (roots chosen : ℕ) → Reply
-returnTest roots chosen = elim (chosenBelow chosen roots) [ true ↦ reply 0 0 0 | false ↦ reply 4 0 0 ]
+returnTest roots chosen = reply (firstNumber ((4, not (chosenBelow chosen roots)) ∷ [])) 0 0
 
 -- the reply of an allocation but for its second value, and the whole reply of a look
 unfoldable pub found : Option ℕ → Reply
@@ -36,4 +38,4 @@ allocateReply N a roots n r =
     ]
 
 unfoldable pub lookReply : ℕ → ℕ → Memory → ℕ → Reply
-lookReply N w h a = require (isFirst N h a) 6 h (reply 0 (sizeAt N h a) (countOf N w h a), h) .0
+lookReply N w h a = elim (isFirst N h a) [ true ↦ reply 0 (sizeAt N h a) (countOf N w h a) | false ↦ reply 6 0 0 ]

@@ -1,8 +1,9 @@
 -- Laws of the check at a gate: a call that it refuses is refused alike, and what passes it is undamaged.
 use mathlib.Core.Path.{_≡_}
+use mathlib.Core.Bool.{true}
 use Prim.Native.Nat.{ℕ}
 use Rattle.rules.specs.Heap.{Memory}
-use Rattle.rules.specs.Calls.{Call, check, Answer, answer, onUndamaged}
+use Rattle.rules.specs.Calls.{Call, check, testsHeap}
 use Rattle.rules.specs.Promise.{Promise}
 use Rattle.rules.specs.declared.Reply.{Reply}
 use Rattle.theory.proofs.Memories.Fit.{Fit, undamaged-fit}
@@ -15,10 +16,10 @@ module _ (N w : ℕ) (h : Memory) (y : Reply) (checked : Promise N w check h y h
 
   -- the check refuses
   pub gate-shut :
-      (y .number ≡ 0 → ⊥) → (c : Call) (next : Answer) → answer N w h c ≡ onUndamaged N w h next → (test : Reply) → Gated N w c h y test
-  gate-shut fails c next tests test =
+      (y .number ≡ 0 → ⊥) → (c : Call) → testsHeap c ≡ true → (test : Reply) → Gated N w c h y test
+  gate-shut fails c tests test =
       record {
-        refused = refused-alike N w h c next tests y checked;
+        refused = refused-alike N w h c tests y checked;
         fit = λ accepts. absurd (fails accepts);
         tested = λ accepts. absurd (fails accepts);
       }

@@ -9,12 +9,12 @@ use native.Mathlib.Omega.{arith}
 use lib.ListN.{length, replicate}
 use borrow.Author.Tests.{eq-eqb, ne-eqb}
 use Rattle.rules.specs.Heap.{Memory, withWaiting}
-use Rattle.rules.specs.Calls.{check, reply, accepted as Calls·accepted, answer}
+use Rattle.rules.specs.Calls.{check, reply, answer}
 use Rattle.rules.specs.Promise.{Promise}
 use Rattle.rules.specs.declared.Reply.{Reply}
 use Rattle.rules.proofs.Shape.{shape-facts}
 use Rattle.rules.proofs.Tests.{test-cases}
-use Rattle.rules.proofs.Replies.{on-undamaged-passed}
+use Rattle.rules.proofs.Replies.{accepted-none, undamaged-passed}
 use Rattle.theory.specs.Statements.{Undamaged}
 use Rattle.theory.specs.Balance.{inUse}
 use Rattle.inner.specs.Usable.{Usable}
@@ -101,12 +101,12 @@ module _ (N w : ℕ) (h : Memory) (r : Run) where
     pub range : inRange r ≡ true
 
   pub accepted : runReply N w h r .number ≡ 0 → Accepted
-  unfolding runReply answer
+  unfolding runReply
   accepted e = elim (ℕ-discrete (answer N w h check .0 .number) 0) [
     | no refused ↦ absurd (refused (rw (ne-eqb (answer N w h check .0 .number) 0 refused, runReply) at e))
     | yes passed ↦ elim (test-cases (inRange r)) [
       | inl range ↦
-          let tests = on-undamaged-passed N w h (Calls·accepted h 0) passed in
+          let tests = undamaged-passed N w h check refl (accepted-none N w h check passed) in
           record {
             reply-is = sym (reply-passed passed range (reply 0 0 0) refl);
             undamaged = record { right-shape = tests .0; no-damage = tests .1; true-list = tests .2 };

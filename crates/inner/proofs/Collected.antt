@@ -5,13 +5,14 @@ use lib.ListN.{replicate}
 use Rattle.rules.specs.Heap.{Memory, withSections}
 use Rattle.rules.specs.Sections.{figures}
 use Rattle.rules.specs.Collection.{collected}
-use Rattle.rules.specs.Calls.{collect, reply, freeing, answer}
+use Rattle.rules.specs.Calls.{collect, reply, freeing, outcome, answer}
 use Rattle.rules.specs.Promise.{Promise}
 use Rattle.rules.specs.declared.Reply.{Reply}
+use Rattle.rules.proofs.Replies.{Passed}
 use Rattle.collector.specs.Sweep.{collectBy, collectBlocks}
 use Rattle.theory.proofs.Memories.Fit.{Fit}
 use Rattle.theory.proofs.Memories.WaitingUnread.{collect-waiting}
-use Rattle.theory.proofs.EachCall.Served.{on-undamaged}
+use Rattle.theory.proofs.EachCall.Accepted.{fit-accepted}
 use Rattle.bridge.proofs.Bytewise.{Bytewise}
 use Rattle.bridge.proofs.CollectorProcedure.{collect-by-is, collect-blocks-is}
 use Rattle.inner.specs.Usable.{Usable}
@@ -20,8 +21,8 @@ use Rattle.inner.proofs.Stored.{freeing-promised}
 
 module _ (N w : ℕ) (h : Memory) where
   pub collect-answered : Fit N w h → answer N w h collect ≡ freeing N h (collected N w h) 0
-  unfolding answer
-  collect-answered fit = on-undamaged N w h fit (freeing N h (collected N w h) 0)
+  unfolding outcome Passed
+  collect-answered fit = fit-accepted N w h fit collect tt
 
   pub collect-promised :
       Usable N w h → Bytewise h → (freed : ℕ) (x : Reply) (g : Memory) → withSections (h .sections) g ≡ collectBy N w h

@@ -2,21 +2,19 @@
 use mathlib.Core.Path.{_≡_, sym, ap, _∙_}
 use mathlib.Core.Bool.{Bool}
 use Prim.Native.Nat.{ℕ, _+_, _-_, _*_}
-use lib.Dec.{ltb}
-use lib.ListN.{length, getD, replicate}
-use borrow.Author.Tests.{lt-ltb}
+use lib.ListN.{getD, replicate}
 use Rattle.bitmap.specs.Bit.{one, zeros}
-use Rattle.rules.specs.Heap.{Memory, withSections, isFirst, sizeAt, isRef}
+use Rattle.rules.specs.Heap.{Memory, withSections}
 use Rattle.rules.specs.Sections.{figures}
 use Rattle.rules.specs.Store.{storeRootIn, storeCellIn, storeSticks}
-use Rattle.rules.specs.Calls.{Call, storeRoot, storeCell, reply, freeing, settled, answer}
+use Rattle.rules.specs.Calls.{Call, storeRoot, storeCell, reply, freeing, settled, outcome, answer}
 use Rattle.rules.specs.Promise.{Promise}
 use Rattle.rules.specs.declared.Reply.{Reply}
-use Rattle.rules.proofs.Tests.{require-true}
+use Rattle.rules.proofs.Replies.{Passed}
 use Rattle.rules.proofs.Promised.{promised}
 use Rattle.stores.specs.Blocks.{storeRootBlocks, storeCellBlocks}
 use Rattle.theory.proofs.Memories.Fit.{Fit}
-use Rattle.theory.proofs.EachCall.Served.{on-undamaged}
+use Rattle.theory.proofs.EachCall.Accepted.{fit-accepted}
 use Rattle.theory.proofs.Memories.WaitingUnread.{store-root-waiting, store-cell-waiting}
 use Rattle.bridge.proofs.Freed.{store-root-freed, store-cell-freed}
 use Rattle.arguments.proofs.Passed.{RootPassed, CellPassed}
@@ -40,11 +38,8 @@ freeing-promised N w h k second c e freed x g counted replied left =
 
 module _ (N w : ℕ) (h : Memory) (r v : ℕ) (passed : RootPassed N h r v) where
   pub root-answered : Fit N w h → answer N w h (storeRoot r v) ≡ freeing N h (storeRootIn N w h r v) (one (rootSticks N w h r v))
-  unfolding answer
-  root-answered fit =
-      on-undamaged N w h fit _
-      ∙ require-true (ltb r (length (h .roots))) 4 h _ (lt-ltb r (length (h .roots)) (passed .place))
-      ∙ require-true (isRef N h v) 8 h _ (passed .ref)
+  unfolding outcome Passed
+  root-answered fit = fit-accepted N w h fit (storeRoot r v) (passed .place, passed .ref)
 
   pub root-promised :
       Usable N w h → (freed : ℕ) (stuck : Bool) (x : Reply) (g : Memory) → withSections (h .sections) g ≡ storeRootIn N w h r v
@@ -60,12 +55,8 @@ module _ (N w : ℕ) (h : Memory) (r v : ℕ) (passed : RootPassed N h r v) wher
 module _ (N w : ℕ) (h : Memory) (a j v : ℕ) (passed : CellPassed N h a j v) where
   pub cell-answered :
       Fit N w h → answer N w h (storeCell a j v) ≡ freeing N h (storeCellIn N w h (4 * a + j) v) (one (cellSticks N w h a j v))
-  unfolding answer
-  cell-answered fit =
-      on-undamaged N w h fit _
-      ∙ require-true (isFirst N h a) 6 h _ (passed .first)
-      ∙ require-true (ltb j (4 * sizeAt N h a)) 7 h _ (lt-ltb j (4 * sizeAt N h a) (passed .place))
-      ∙ require-true (isRef N h v) 8 h _ (passed .ref)
+  unfolding outcome Passed
+  cell-answered fit = fit-accepted N w h fit (storeCell a j v) (passed .first, passed .place, passed .ref)
 
   pub cell-promised :
       Usable N w h → (freed : ℕ) (stuck : Bool) (x : Reply) (g : Memory) → withSections (h .sections) g ≡ storeCellIn N w h (4 * a + j) v

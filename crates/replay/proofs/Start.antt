@@ -7,13 +7,13 @@ use native.Mathlib.Omega.{arith}
 use lib.ListN.{length, drop}
 use Rattle.rules.specs.Heap.{Memory, shaped}
 use Rattle.rules.specs.Store.{formatted}
-use Rattle.rules.specs.Calls.{Call, format, Answer, reply, accepted, answer, run, lastMemory}
+use Rattle.rules.specs.Calls.{Call, format, Answer, reply, accepted, outcome, answer, run, lastMemory}
 use Rattle.rules.specs.Promise.{Promise}
 use Rattle.theory.specs.Words.{Made, callsOf, answersOf}
 use Rattle.theory.specs.Demand.{Chain}
 use Rattle.theory.specs.Statements.{Undamaged}
 use Rattle.rules.specs.declared.Reply.{Reply}
-use Rattle.rules.proofs.Tests.{require-true}
+use Rattle.rules.proofs.Replies.{format-accepted}
 use Rattle.rules.proofs.Shape.{shape-facts}
 use Rattle.theory.proofs.Theorems.{calls-keep-undamaged, format-makes-undamaged, demand-3}
 use Rattle.inner.specs.Usable.{Usable}
@@ -25,10 +25,8 @@ use Rattle.replay.specs.Replay.{Ran, ReplayIsCalls}
 module _ (N w : ℕ) (lent : Memory) (fits : shaped N w lent ≡ true) where
   -- what an accepted format leaves
   format-leaves : {x : Reply} {g : Memory} → Promise N w format lent x g → g ≡ formatted N w (length (lent .roots))
-  unfolding answer
-  format-leaves promise =
-      promise .after-is
-      ∙ ap (λ (y : Answer). y .1) (require-true (shaped N w lent) 1 lent (accepted (formatted N w (length (lent .roots))) 0) fits)
+  unfolding outcome
+  format-leaves promise = promise .after-is ∙ ap (λ (y : Answer). y .1) (format-accepted N w lent fits)
 
   formatted-usable : Usable N w (formatted N w (length (lent .roots)))
   unfolding formatted
@@ -92,12 +90,12 @@ replayed N w lent words replies {x} {start} {after} {replies′} fits promise do
 -- ---- a replay in a list of public calls
 
 pub replay-is-calls : ReplayIsCalls
-unfolding answer replyOn unlessFails lastMemory
+unfolding outcome replyOn unlessFails lastMemory
 replay-is-calls N w left h words replies x after replies′ finds done taken =
     let ran = done .ran taken in
     let empty : Memory = formatted N w (length (h .roots)) in
     let fits : shaped N w h ≡ true = right-shape (shaped N w h) refl (ap (λ (r : Reply). r .number) (sym (done .reply-is)) ∙ taken) in
-    let formatting : answer N w h format ≡ accepted empty 0 = require-true (shaped N w h) 1 h (accepted empty 0) fits in (
+    let formatting : answer N w h format ≡ accepted empty 0 = format-accepted N w h fits in (
       record { call = format; before = h; reply = reply 0 0 0; after = empty } ∷ ran .made,
       ap (λ (l : List Call). format ∷ l) (ran .calls-are),
       Chain.next finds

@@ -1,22 +1,24 @@
 -- A return (request U10): its answer once its test is passed, and its work root by root.
 use mathlib.Core.Path.{_≡_, refl, sym, ap, _∙_}
-use mathlib.Core.Bool.{Bool, true, false}
+use mathlib.Core.List.{[]}
 use Prim.Native.Nat.{ℕ, _+_, _-_, _≤_, _<_}
 use native.Mathlib.Numerals.{add-one}
 use native.Mathlib.Omega.{arith}
 use lib.ListN.{length, replicate}
-use borrow.Author.Tests.{lt-ltb, eq-eqb, ne-eqb}
+use borrow.Author.Tests.{eq-eqb, ne-eqb}
 use Rattle.bitmap.specs.Bit.{bitOf, zeros}
 use Rattle.rules.specs.Heap.{Memory, withWaiting, withSections}
 use Rattle.rules.specs.Store.{storeRootIn, chosenBelow, clearChosen, returnIn}
-use Rattle.rules.specs.Calls.{returnRoots, storeRoot, reply, Answer, require, settled, freeing, answer}
+use Rattle.rules.specs.Calls.{returnRoots, storeRoot, reply, Answer, ownRefusals, settled, freeing, outcome, answer}
 use Rattle.rules.specs.Promise.{Promise}
 use Rattle.rules.specs.declared.Reply.{Reply}
+use Rattle.rules.proofs.Replies.{Passed, passed-own}
+use Rattle.rules.proofs.Tests.{first-not}
 use Rattle.theory.proofs.Memories.Fit.{Fit}
-use Rattle.theory.proofs.EachCall.Served.{on-undamaged}
+use Rattle.theory.proofs.EachCall.Accepted.{fit-accepted}
 use Rattle.theory.proofs.EachCall.Clearing.{none-ref, root-cleared}
 use Rattle.theory.proofs.Memories.WaitingUnread.{store-root-waiting}
-use Rattle.arguments.specs.Replies.{storeRootTest, returnTest}
+use Rattle.arguments.specs.Replies.{ownTest, storeRootTest, returnTest}
 use Rattle.arguments.proofs.Passed.{root-passed}
 use Rattle.inner.specs.Usable.{Usable}
 use Rattle.inner.proofs.Idle.{cleared-same, usable-fit, left-settled}
@@ -27,30 +29,20 @@ use Rattle.returns.proofs.SectionsUnread.{store-root-sections}
 
 -- ---- the answer
 
--- the test's reply, by its outcome
-outcome : Bool → Reply
-outcome t = elim t [ true ↦ reply 0 0 0 | false ↦ reply 4 0 0 ]
-
 module _ (N w : ℕ) (h : Memory) (fit : Fit N w h) (chosen : ℕ) where
   abbrev test : Reply
   test = returnTest (length (h .roots)) chosen
 
-  abbrev done : Answer
-  done = freeing N h (returnIn N w h chosen (length (h .roots))) 0
-
-  pub return-answered : test .number ≡ 0 → answer N w h (returnRoots chosen) ≡ done
-  unfolding answer returnTest outcome require
-  return-answered passes = on-undamaged N w h fit _ ∙ go (chosenBelow chosen (length (h .roots))) passes
-    where
-      go : (t : Bool) → outcome t .number ≡ 0 → require t 4 h done ≡ done
-      go true e = refl
-      go false e = absurd (omega arith)
+  pub return-answered : test .number ≡ 0 → answer N w h (returnRoots chosen) ≡ freeing N h (returnIn N w h chosen (length (h .roots))) 0
+  unfolding outcome Passed returnTest
+  return-answered passes =
+      fit-accepted N w h fit (returnRoots chosen) (first-not 4 (chosenBelow chosen (length (h .roots))) [] (omega arith) passes .0)
 
 -- ---- one root
 
 pub zero-passes : (N : ℕ) (h : Memory) (r : ℕ) → r < length (h .roots) → storeRootTest N h r 0 .number ≡ 0
-unfolding storeRootTest require
-zero-passes N h r inside = rw (lt-ltb r (length (h .roots)) inside, none-ref N h, storeRootTest, require) refl
+unfolding ownTest Passed
+zero-passes N h r inside = passed-own N h (storeRoot r 0) (inside, none-ref N h)
 
 module _ (N w : ℕ) (h : Memory) (usable : Usable N w h) (chosen r : ℕ) where
   -- it is not one of the set

@@ -4,7 +4,7 @@ use Prim.Native.Nat.{ℕ}
 use mathlib.Core.List.{List, [], _∷_, map}
 use Rattle.bitmap.specs.Bit.{bitAt, setBit, fillBits, countBelow, zeros}
 use Rattle.planes.specs.Plane.{countAt, setCount}
-use Rattle.rules.specs.Tools.{all, holding, someBelow, firstKind, tabulate}
+use Rattle.rules.specs.Tools.{all, holding, someBelow, firstNumber, isSome, tabulate}
 use Rattle.rules.specs.Heap.{isPowerFrom, shape, firstIn, sizeFrom, exponentFrom, exponent, chunkFree, lowestFrom}
 use Rattle.rules.specs.Heap.{lowestFree, refIn}
 use Rattle.rules.specs.Damage.{endOnFree, openEnd, unaligned, badCell, badRoot, badCount, damage}
@@ -13,14 +13,14 @@ use Rattle.rules.specs.Store.{formatted, countUp, sticks, countDown, cou
 use Rattle.rules.specs.Store.{changeRoot, changeCell, storeRootIn, storeCellIn, storeSticks, clearChosen, returnIn, placed, allocateIn}
 use Rattle.rules.specs.Collection.{isCellOf, cellOfChosen, referencesFrom, reachedNext, reachedIn, reached, swept}
 use Rattle.rules.specs.Collection.{recounted, collected}
-use Rattle.rules.specs.Calls.{require, onUndamaged, freeing, allocation, answer, run, lastMemory}
+use Rattle.rules.specs.Calls.{ownRefusals, refusals, refusedWith, freeing, outcome as Calls·outcome, answer, run, lastMemory}
 use Rattle.rules.specs.Cases.{Case, fresh, freshBut, cases, readings, returns, moments, outcome, expected, figuresOfBytes, figuresOfSections, expectedOfSections}
 use Rattle.rules.specs.Distinctions.{lent, cellHolding, rootHolding, distinctions}
 use Rattle.rules.specs.declared.Reply.{Reply}
 
 -- what the rules give for a case: to unfold this is to open every rule
 unfoldable pub computed : Case → List Reply × ℕ × ℕ
-unfolding bitAt setBit fillBits countBelow zeros countAt setCount isPowerFrom all shape firstIn sizeFrom exponentFrom exponent chunkFree lowestFrom lowestFree refIn holding someBelow endOnFree openEnd unaligned badCell badRoot badCount firstKind damage largestFree figure figures staleFigures formatted countUp sticks countDown countDownEach clearCells freed release letGo putRoot putCell changeRoot changeCell storeRootIn storeCellIn storeSticks clearChosen returnIn placed allocateIn isCellOf cellOfChosen referencesFrom tabulate reachedNext reachedIn reached swept recounted collected require onUndamaged freeing allocation answer run fresh freshBut lastMemory outcome expected
+unfolding bitAt setBit fillBits countBelow zeros countAt setCount isPowerFrom all shape firstIn sizeFrom exponentFrom exponent chunkFree lowestFrom lowestFree refIn holding someBelow endOnFree openEnd unaligned badCell badRoot badCount firstNumber damage largestFree figure figures staleFigures formatted countUp sticks countDown countDownEach clearCells freed release letGo putRoot putCell changeRoot changeCell storeRootIn storeCellIn storeSticks clearChosen returnIn placed allocateIn isCellOf cellOfChosen referencesFrom tabulate reachedNext reachedIn reached swept recounted collected isSome ownRefusals refusals refusedWith freeing Calls·outcome answer run fresh freshBut lastMemory outcome expected
 computed c = outcome c
 
 pub cases-hold : map outcome cases ≡ map expected cases

@@ -1,55 +1,202 @@
--- Laws of the refusals that stand before all others: what passes numbers 1, 2 and 11 has the right shape, is undamaged and has a true list of
--- sections, and is then answered as the call itself says; what does not is refused as the check refuses it.
-use mathlib.Core.Path.{_≡_, refl}
-use mathlib.Core.Bool.{Bool, true, false, not}
-use Prim.Native.Nat.{ℕ}
+-- Laws of the answer: it is a refusal with the first number that applies, or the call's outcome. Every call but format is refused as the check is,
+-- and where the check accepts by its own numbers alone.
+use mathlib.Core.Path.{_≡_, refl, sym, ap, _∙_, subst}
+use mathlib.Core.Logic.{_≢_}
+use mathlib.Core.Bool.{Bool, true, false, not, _&&_, true≢false, false≢true}
+use mathlib.Core.Option.{Option, none, some, Option·getD}
+use mathlib.Core.List.{List, [], _∷_}
+use Prim.Native.Nat.{ℕ, _*_, _≤_, _<_}
+use native.Mathlib.Decide.{ℕ-discrete}
 use native.Mathlib.Omega.{arith}
-use lib.Dec.{eqb}
-use borrow.Author.Tests.{eq-eqb, eqb-true}
-use Rattle.rules.specs.Heap.{Memory, shaped}
+use lib.Dec.{leb, ltb, eqb}
+use lib.ListN.{length}
+use borrow.Author.Tests.{eq-eqb, ne-eqb, eqb-true, leb-true, le-leb, ltb-true, lt-ltb}
+use Rattle.rules.specs.Tools.{isSome, firstNumber}
+use Rattle.rules.specs.Heap.{Memory, shaped, isFirst, sizeAt, exponent, lowestFree, isRef}
 use Rattle.rules.specs.Damage.{damage}
 use Rattle.rules.specs.Sections.{staleFigures}
-use Rattle.rules.specs.Calls.{Answer, reply, require, onUndamaged}
+use Rattle.rules.specs.Store.{chosenBelow}
+use Rattle.rules.specs.Calls.{Call, format, check, collect, freeBlocks, allocate, storeRoot, storeCell, look, returnRoots, Answer}
+use Rattle.rules.specs.Calls.{testsHeap, ownRefusals, refusals, refusedWith, refused, freeing, outcome, answer}
+use Rattle.rules.proofs.Tests.{and-true, true-and, and-false, false-and, first-past, first-no, first-not}
+
+-- ---- accepted or refused
 
 module _ (N w : ℕ) (h : Memory) where
-  -- the three tests, by what each gives
-  tested : (shape undamaged stale : Bool) → Answer → Answer
-  tested s t u x =
-      require s 1 h (elim t [ true ↦ require (not u) 11 h x | false ↦ (reply 2 (damage N w h) 0, h) ])
+  -- an outcome is an acceptance
+  pub outcome-accepts : (c : Call) → outcome N w h c .0 .number ≡ 0
+  unfolding outcome freeing
+  outcome-accepts format = refl
+  outcome-accepts check = refl
+  outcome-accepts collect = refl
+  outcome-accepts freeBlocks = refl
+  outcome-accepts (allocate n r) = refl
+  outcome-accepts (storeRoot r v) = refl
+  outcome-accepts (storeCell a j v) = refl
+  outcome-accepts (look a) = refl
+  outcome-accepts (returnRoots chosen) = refl
 
-  stale : Bool
+  module _ (c : Call) where
+    pub none-applies : refusedWith N w h c ≡ 0 → answer N w h c ≡ outcome N w h c
+    unfolding answer
+    none-applies e = rw (eq-eqb (refusedWith N w h c) 0 e, answer)
+
+    pub one-applies : refusedWith N w h c ≢ 0 → answer N w h c ≡ refused N w h (refusedWith N w h c)
+    unfolding answer
+    one-applies n = rw (ne-eqb (refusedWith N w h c) 0 n, answer)
+
+    pub refused-with : (number : ℕ) → number ≢ 0 → refusedWith N w h c ≡ number → answer N w h c ≡ refused N w h number
+    refused-with number nonzero is = one-applies (λ e. nonzero (sym is ∙ e)) ∙ ap (refused N w h) is
+
+    -- what holds of every refusal, and of the outcome where no number applies, holds of the answer
+    pub answer-either :
+        (P : Answer → Type 0) → ((number : ℕ) → number ≢ 0 → P (refused N w h number)) → (refusedWith N w h c ≡ 0 → P (outcome N w h c))
+        → P (answer N w h c)
+    answer-either P refusal accepted = elim (ℕ-discrete (refusedWith N w h c) 0) [
+      | yes e ↦ subst P (sym (none-applies e)) (accepted e)
+      | no n ↦ subst P (sym (one-applies n)) (refusal (refusedWith N w h c) n)
+    ]
+
+    pub number-is : answer N w h c .0 .number ≡ refusedWith N w h c
+    number-is = elim (ℕ-discrete (refusedWith N w h c) 0) [
+      | yes e ↦ ap (λ (x : Answer). x .0 .number) (none-applies e) ∙ outcome-accepts c ∙ sym e
+      | no n ↦ ap (λ (x : Answer). x .0 .number) (one-applies n)
+    ]
+
+    -- an accepted answer is the outcome
+    pub accepted-none : answer N w h c .0 .number ≡ 0 → refusedWith N w h c ≡ 0
+    accepted-none e = sym number-is ∙ e
+
+    pub accepted-outcome : answer N w h c .0 .number ≡ 0 → answer N w h c ≡ outcome N w h c
+    accepted-outcome e = none-applies (accepted-none e)
+
+-- ---- the call's own numbers
+
+-- what a call asks for where its own numbers don't apply
+unfoldable pub Passed : ℕ → Memory → Call → Type 0
+Passed N h (allocate n r) =
+    let o = lowestFree N (exponent n) (h .a) in (1 ≤ n) × (n ≤ N) × (r < length (h .roots)) × (o ≡ some (Option·getD o 0))
+Passed N h (storeRoot r v) = (r < length (h .roots)) × (isRef N h v ≡ true)
+Passed N h (storeCell a j v) = (isFirst N h a ≡ true) × (j < 4 * sizeAt N h a) × (isRef N h v ≡ true)
+Passed N h (look a) = isFirst N h a ≡ true
+Passed N h (returnRoots chosen) = chosenBelow chosen (length (h .roots)) ≡ true
+Passed N h format = Unit {0}
+Passed N h check = Unit {0}
+Passed N h collect = Unit {0}
+Passed N h freeBlocks = Unit {0}
+
+some-found : (o : Option ℕ) → isSome o ≡ true → o ≡ some (Option·getD o 0)
+unfolding isSome
+some-found none e = absurd (false≢true e)
+some-found (some i) e = refl
+
+module _ (N : ℕ) (h : Memory) where
+  pub own-passed : (c : Call) → firstNumber (ownRefusals N h c) ≡ 0 → Passed N h c
+  unfolding ownRefusals Passed
+  own-passed (allocate n r) e =
+      let size = first-not 3 (leb 1 n && leb n N) _ (omega arith) e in
+      let place = first-not 4 (ltb r (length (h .roots))) _ (omega arith) (size .1) in
+      let found = first-not 5 (isSome (lowestFree N (exponent n) (h .a))) _ (omega arith) (place .1) in
+      let sizes = and-true (leb 1 n) (leb n N) (size .0) in (
+        leb-true 1 n (sizes .0),
+        leb-true n N (sizes .1),
+        ltb-true r (length (h .roots)) (place .0),
+        some-found (lowestFree N (exponent n) (h .a)) (found .0),
+      )
+  own-passed (storeRoot r v) e =
+      let place = first-not 4 (ltb r (length (h .roots))) _ (omega arith) e in
+      (ltb-true r (length (h .roots)) (place .0), first-not 8 (isRef N h v) _ (omega arith) (place .1) .0)
+  own-passed (storeCell a j v) e =
+      let first = first-not 6 (isFirst N h a) _ (omega arith) e in
+      let place = first-not 7 (ltb j (4 * sizeAt N h a)) _ (omega arith) (first .1) in
+      (first .0, ltb-true j (4 * sizeAt N h a) (place .0), first-not 8 (isRef N h v) _ (omega arith) (place .1) .0)
+  own-passed (look a) e = first-not 6 (isFirst N h a) _ (omega arith) e .0
+  own-passed (returnRoots chosen) e = first-not 4 (chosenBelow chosen (length (h .roots))) _ (omega arith) e .0
+  own-passed format e = tt
+  own-passed check e = tt
+  own-passed collect e = tt
+  own-passed freeBlocks e = tt
+
+  pub passed-own : (c : Call) → Passed N h c → firstNumber (ownRefusals N h c) ≡ 0
+  unfolding ownRefusals firstNumber Passed isSome
+  passed-own (allocate n r) (low, high, place, found) =
+      rw (true-and (leb 1 n) (leb n N) (le-leb 1 n low) (le-leb n N high), lt-ltb r (length (h .roots)) place, found)
+  passed-own (storeRoot r v) (place, ref) = rw (lt-ltb r (length (h .roots)) place, ref)
+  passed-own (storeCell a j v) (first, place, ref) = rw (first, lt-ltb j (4 * sizeAt N h a) place, ref)
+  passed-own (look a) first = rw first
+  passed-own (returnRoots chosen) below = rw below
+  passed-own format p = refl
+  passed-own check p = refl
+  passed-own collect p = refl
+  passed-own freeBlocks p = refl
+
+-- ---- the numbers of the heap
+
+module _ (N w : ℕ) (h : Memory) where
+  abbrev stale : Bool
   stale = staleFigures N (h .a) (h .sections)
 
-  passed : (s t u : Bool) (x : Answer) → tested s t u x .0 .number ≡ 0 → (s ≡ true) × (t ≡ true) × (u ≡ false)
-  unfolding tested require
-  passed true true false x p = (refl, refl, refl)
-  passed true true true x p = absurd (omega arith)
-  passed true false u x p = absurd (omega arith)
-  passed false t u x p = absurd (omega arith)
+  module _ (c : Call) where
+    -- where no number applies: 1 does not, 2 and 11 don't where the call tests for them, its own don't
+    heap-passed : refusedWith N w h c ≡ 0
+        → (shaped N w h ≡ true) × (testsHeap c && not (eqb (damage N w h) 0) ≡ false) × (testsHeap c && stale ≡ false) × (firstNumber (ownRefusals N h c) ≡ 0)
+    unfolding refusedWith refusals
+    heap-passed e =
+        let shape = first-not 1 (shaped N w h) _ (omega arith) e in
+        let kind = first-no 2 (testsHeap c && not (eqb (damage N w h) 0)) _ (omega arith) (shape .1) in
+        let list = first-no 11 (testsHeap c && stale) _ (omega arith) (kind .1) in
+        (shape .0, kind .0, list .0, list .1)
 
-  -- what passed them
-  pub on-undamaged-passed :
-      (next : Answer) → onUndamaged N w h next .0 .number ≡ 0
-      → (shaped N w h ≡ true) × (damage N w h ≡ 0) × (staleFigures N (h .a) (h .sections) ≡ false)
-  unfolding onUndamaged tested stale
-  on-undamaged-passed next p =
-      let all = passed (shaped N w h) (eqb (damage N w h) 0) stale next p in
-      (all .0, eqb-true (damage N w h) 0 (all .1), all .2)
+    pub shape-passed : refusedWith N w h c ≡ 0 → shaped N w h ≡ true
+    shape-passed e = heap-passed e .0
 
-  -- a heap that passes all is answered by the call itself
-  pub on-undamaged-next :
-      (next : Answer) → shaped N w h ≡ true → damage N w h ≡ 0 → staleFigures N (h .a) (h .sections) ≡ false → onUndamaged N w h next ≡ next
-  unfolding onUndamaged require
-  on-undamaged-next next shape undamaged fresh = rw (shape, eq-eqb (damage N w h) 0 undamaged, fresh)
+    pub passed : refusedWith N w h c ≡ 0 → Passed N h c
+    passed e = own-passed N h c (heap-passed e .3)
 
-  -- a heap that fails one is refused alike by every call that tests for them
-  pub on-undamaged-refused :
-      (next other : Answer) → next .0 .number ≡ 0 → (onUndamaged N w h next .0 .number ≡ 0 → ⊥) → onUndamaged N w h other ≡ onUndamaged N w h next
-  unfolding onUndamaged tested stale require
-  on-undamaged-refused next other accepted fails = go (shaped N w h) (eqb (damage N w h) 0) stale fails
+    -- an undamaged heap is answered by the call's own numbers
+    pub own-number :
+        shaped N w h ≡ true → damage N w h ≡ 0 → stale ≡ false → refusedWith N w h c ≡ firstNumber (ownRefusals N h c)
+    unfolding refusedWith refusals
+    own-number shape undamaged fresh =
+        first-past 1 (not (shaped N w h)) _ (ap not shape)
+        ∙ first-past 2 (testsHeap c && not (eqb (damage N w h) 0)) _ (false-and (testsHeap c) _ (λ _. ap not (eq-eqb (damage N w h) 0 undamaged)))
+        ∙ first-past 11 (testsHeap c && stale) _ (false-and (testsHeap c) stale (λ _. fresh))
+
+  -- format tests the shape alone
+  pub format-accepted : shaped N w h ≡ true → answer N w h format ≡ outcome N w h format
+  unfolding refusedWith refusals ownRefusals firstNumber
+  format-accepted shape = none-applies N w h format (none shape)
     where
-      go : (s t u : Bool) → (tested s t u next .0 .number ≡ 0 → ⊥) → tested s t u other ≡ tested s t u next
-      go true true false p = absurd (p accepted)
-      go true true true p = refl
-      go true false u p = refl
-      go false t u p = refl
+      none : shaped N w h ≡ true → refusedWith N w h format ≡ 0
+      none shape = rw shape
+
+  module _ (c : Call) (tests : testsHeap c ≡ true) where
+    -- what is accepted by a call that tests the heap is undamaged
+    pub undamaged-passed : refusedWith N w h c ≡ 0 → (shaped N w h ≡ true) × (damage N w h ≡ 0) × (stale ≡ false)
+    undamaged-passed e =
+        let all = heap-passed c e in
+        (all .0, eqb-true (damage N w h) 0 (not-no _ (and-false (testsHeap c) _ (all .1) tests)), and-false (testsHeap c) stale (all .2) tests)
+      where
+        not-no : (t : Bool) → not t ≡ false → t ≡ true
+        not-no true e = refl
+        not-no false e = absurd (true≢false e)
+
+    same-number : refusedWith N w h check ≢ 0 → refusedWith N w h c ≡ refusedWith N w h check
+    unfolding refusedWith refusals ownRefusals firstNumber
+    same-number = rw tests (go (shaped N w h) (eqb (damage N w h) 0) stale)
+      where
+        heap : (s t u : Bool) → List (ℕ × Bool) → ℕ
+        heap s t u own = firstNumber ((1, not s) ∷ (2, not t) ∷ (11, u) ∷ own)
+
+        go : (s t u : Bool) → heap s t u [] ≢ 0 → heap s t u (ownRefusals N h c) ≡ heap s t u []
+        go true true false p = absurd (p refl)
+        go true true true p = refl
+        go true false u p = refl
+        go false t u p = refl
+
+    -- where the check refuses, the call is refused alike
+    pub refused-as-check : (answer N w h check .0 .number ≡ 0 → ⊥) → answer N w h c ≡ answer N w h check
+    refused-as-check fails =
+        let n : refusedWith N w h check ≢ 0 = λ e. fails (number-is N w h check ∙ e) in
+        let same = same-number n in
+        one-applies N w h c (λ e. n (sym same ∙ e)) ∙ ap (refused N w h) same ∙ sym (one-applies N w h check n)

@@ -12,6 +12,7 @@ use lib.Dec.{leb}
 use lib.ListN.{getD}
 use lib.Pow.{pow-mono, pow-lt, pow-add, pow-pos}
 use borrow.Author.Tests.{le-leb, lt-leb}
+use Rattle.rules.specs.Tools.{isSome}
 use Rattle.rules.specs.Heap.{sectionLength, sectionCount, exponent, chunkFree, lowestFrom, lowestFree, isBlocks}
 use Rattle.rules.specs.Sections.{largestFree, figure, figures, sufficesFrom, lowestInSection, lowestBySections}
 use Rattle.rules.proofs.Tests.{test-cases}
@@ -40,10 +41,6 @@ lowest-append (suc m) n k a i =
         ≡ orElse (elim t [ true ↦ some i | false ↦ lowestFrom m k a (i + 2 ^ k) ]) (lowestFrom n k a (i + suc m * 2 ^ k))
     go true e = refl
     go false e = e
-
-isSome : Option ℕ → Bool
-isSome none = false
-isSome (some x) = true
 
 found-or : (x y : Option ℕ) → isSome (orElse x y) ≡ (isSome x || isSome y)
 unfolding orElse isSome

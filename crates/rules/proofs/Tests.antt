@@ -1,16 +1,14 @@
--- Laws of the tests that the rules are written with: a test's value to and from facts, `all`, `someBelow`, `firstKind` and `require`.
+-- Laws of the tests that the rules are written with: a test's value to and from facts, `all`, `someBelow` and `firstNumber`.
 use mathlib.Core.Path.{_≡_, refl, sym, ap, _∙_}
 use mathlib.Core.Logic.{_≢_, _⊎_, inl, inr}
-use mathlib.Core.Bool.{Bool, true, false, _&&_, _||_, true≢false, false≢true}
+use mathlib.Core.Bool.{Bool, true, false, not, _&&_, _||_, true≢false, false≢true}
 use mathlib.Core.List.{List, [], _∷_}
 use Prim.Native.Nat.{ℕ, zero, suc, _+_, _<_}
 use native.Mathlib.Numerals.{add-one}
 use native.Mathlib.Decide.{ℕ-discrete}
 use native.Mathlib.Omega.{arith}
 use lib.ListN.{getD}
-use Rattle.rules.specs.Tools.{all, someBelow, firstKind}
-use Rattle.rules.specs.Heap.{Memory}
-use Rattle.rules.specs.Calls.{Answer, refused, require}
+use Rattle.rules.specs.Tools.{all, someBelow, firstNumber}
 
 -- ---- one test
 
@@ -126,41 +124,42 @@ pub some-next : (test : ℕ → Bool) (n : ℕ) → someBelow test n ≡ false �
 unfolding someBelow
 some-next test n e = rw (add-one, e, someBelow)
 
--- ---- the first kind found
+-- ---- the first number whose test passes
 
-pub none-kind : (k : ℕ) (t : Bool) (ks : List (ℕ × Bool)) → t ≡ false → firstKind ((k, t) ∷ ks) ≡ firstKind ks
-unfolding firstKind
-none-kind k t ks e = rw e
+pub first-past : (k : ℕ) (t : Bool) (ks : List (ℕ × Bool)) → t ≡ false → firstNumber ((k, t) ∷ ks) ≡ firstNumber ks
+unfolding firstNumber
+first-past k t ks e = rw e
 
-pub kind-found : (k : ℕ) (t : Bool) (ks : List (ℕ × Bool)) → t ≡ true → firstKind ((k, t) ∷ ks) ≡ k
-unfolding firstKind
-kind-found k t ks e = rw e
+pub first-found : (k : ℕ) (t : Bool) (ks : List (ℕ × Bool)) → t ≡ true → firstNumber ((k, t) ∷ ks) ≡ k
+unfolding firstNumber
+first-found k t ks e = rw e
 
--- where none is found, no test passes; the kinds' numbers are not 0 ..
-pub kind-at : (ks : List (ℕ × Bool)) → Each (λ k. k .0 ≢ 0) ks → firstKind ks ≡ 0 → (i : ℕ) → getD ks i (0, false) .1 ≡ false
-kind-at [] n e i = refl
-kind-at ((k, true) ∷ ks) (also n rest) e i = absurd (n (sym (kind-found k true ks refl) ∙ e))
-kind-at ((k, false) ∷ ks) (also n rest) e zero = refl
-kind-at ((k, false) ∷ ks) (also n rest) e (suc i) = kind-at ks rest (sym (none-kind k false ks refl) ∙ e) i
+-- where none is found, no test passes; the numbers are not 0 ..
+pub first-at : (ks : List (ℕ × Bool)) → Each (λ k. k .0 ≢ 0) ks → firstNumber ks ≡ 0 → (i : ℕ) → getD ks i (0, false) .1 ≡ false
+first-at [] n e i = refl
+first-at ((k, true) ∷ ks) (also n rest) e i = absurd (n (sym (first-found k true ks refl) ∙ e))
+first-at ((k, false) ∷ ks) (also n rest) e zero = refl
+first-at ((k, false) ∷ ks) (also n rest) e (suc i) = first-at ks rest (sym (first-past k false ks refl) ∙ e) i
 
 -- .. and the other way
-pub kinds-absent : (ks : List (ℕ × Bool)) → Each (λ k. k .1 ≡ false) ks → firstKind ks ≡ 0
-unfolding firstKind
-kinds-absent [] done = refl
-kinds-absent ((k, t) ∷ ks) (also e rest) = none-kind k t ks e ∙ kinds-absent ks rest
+pub first-none : (ks : List (ℕ × Bool)) → Each (λ k. k .1 ≡ false) ks → firstNumber ks ≡ 0
+unfolding firstNumber
+first-none [] done = refl
+first-none ((k, t) ∷ ks) (also e rest) = first-past k t ks e ∙ first-none ks rest
 
--- ---- a call that goes on or is refused
+-- a number that no test has is not found
+pub first-other : (n : ℕ) (ks : List (ℕ × Bool)) → n ≢ 0 → Each (λ k. k .0 ≢ n) ks → firstNumber ks ≢ n
+first-other n [] nonzero done e = nonzero (sym e ∙ first-none [] done)
+first-other n ((k, true) ∷ ks) nonzero (also m rest) e = m (sym (first-found k true ks refl) ∙ e)
+first-other n ((k, false) ∷ ks) nonzero (also m rest) e = first-other n ks nonzero rest (sym (first-past k false ks refl) ∙ e)
 
-pub require-true : (t : Bool) (number : ℕ) (h : Memory) (next : Answer) → t ≡ true → require t number h next ≡ next
-unfolding require
-require-true t number h next e = rw e
+-- where none is found the first test does not pass, and none of the others does
+pub first-no : (k : ℕ) (t : Bool) (ks : List (ℕ × Bool)) → k ≢ 0 → firstNumber ((k, t) ∷ ks) ≡ 0 → (t ≡ false) × (firstNumber ks ≡ 0)
+unfolding firstNumber
+first-no k true ks nonzero e = absurd (nonzero e)
+first-no k false ks nonzero e = (refl, e)
 
-pub require-false : (t : Bool) (number : ℕ) (h : Memory) (next : Answer) → t ≡ false → require t number h next ≡ refused h number
-unfolding require
-require-false t number h next e = rw e
-
--- what is accepted has passed the test
-pub require-passed : (t : Bool) (number : ℕ) (h : Memory) (next : Answer) → number ≢ 0 → require t number h next .0 .number ≡ 0 → t ≡ true
-unfolding require
-require-passed true number h next some e = refl
-require-passed false number h next some e = absurd (some e)
+pub first-not : (k : ℕ) (t : Bool) (ks : List (ℕ × Bool)) → k ≢ 0 → firstNumber ((k, not t) ∷ ks) ≡ 0 → (t ≡ true) × (firstNumber ks ≡ 0)
+unfolding firstNumber
+first-not k true ks nonzero e = (refl, e)
+first-not k false ks nonzero e = absurd (nonzero e)

@@ -2,10 +2,11 @@
 use Prim.Native.Nat.{ℕ, _+_, _-_, _*_}
 use mathlib.Core.Bool.{Bool, true, false, not, _&&_}
 use mathlib.Core.List.{List, [], _∷_}
-use mathlib.Core.Option.{Option, none, some}
+use mathlib.Core.Option.{Option·getD}
 use lib.ListN.{length, getD, replicate}
 use lib.Dec.{leb, ltb, eqb}
 use Rattle.bitmap.specs.Bit.{one, zeros}
+use Rattle.rules.specs.Tools.{isSome, firstNumber}
 use Rattle.rules.specs.Heap.{Memory, withWaiting, withSections, shaped, countOf, isFirst, sizeAt, exponent, lowestFree, isRef}
 use Rattle.rules.specs.Damage.{damage}
 use Rattle.rules.specs.Sections.{figures, staleFigures}
@@ -33,24 +34,55 @@ reply number value second = record { number = number; value = value; second = se
 abbrev pub accepted : Memory → ℕ → Answer
 accepted h value = (reply 0 value 0, h)
 
--- "A refusal carries value 0 .. and changes no buffer."
-abbrev pub refused : Memory → ℕ → Answer
-refused h number = (reply number 0 0, h)
+-- ---- what a call is refused with
 
--- the call goes on where the test passes, and is refused with the number where not
-unfoldable pub require : Bool → ℕ → Memory → Answer → Answer
-require test number h next = elim test [ true ↦ next | false ↦ refused h number ]
+-- "A heap that a call formats isn't tested for more than 1."
+abbrev pub testsHeap : Call → Bool
+testsHeap format = false
+testsHeap check = true
+testsHeap collect = true
+testsHeap freeBlocks = true
+testsHeap (allocate n r) = true
+testsHeap (storeRoot r v) = true
+testsHeap (storeCell a j v) = true
+testsHeap (look a) = true
+testsHeap (returnRoots chosen) = true
 
--- "1 as before; 2 if the heap is damaged", with the damage kind as its value; request U4: "11, the list doesn't match the maps, next after
--- 2"; then what the call itself answers
-unfoldable pub onUndamaged : ℕ → ℕ → Memory → Answer → Answer
-onUndamaged N w h next =
-    let kind = damage N w h in
-    require (shaped N w h) 1 h
-    (elim (eqb kind 0) [
-      | true ↦ require (not (staleFigures N (h .a) (h .sections))) 11 h next
-      | false ↦ (reply 2 kind 0, h)
-    ])
+-- the call's own numbers, each with whether it applies
+unfoldable pub ownRefusals : ℕ → Memory → Call → List (ℕ × Bool)
+-- "3 if n is 0 or above N; 4 if r is not below the number of roots; 5 if no chunk of s blocks is free"
+ownRefusals N h (allocate n r) =
+    (3, not (leb 1 n && leb n N)) ∷ (4, not (ltb r (length (h .roots)))) ∷ (5, not (isSome (lowestFree N (exponent n) (h .a)))) ∷ []
+-- "4; 8 if v is neither 0 nor 1 + a first block"
+ownRefusals N h (storeRoot r v) = (4, not (ltb r (length (h .roots)))) ∷ (8, not (isRef N h v)) ∷ []
+-- "6 if a is not a first block (or not below N); 7 if j is not below 4 × size; 8"
+ownRefusals N h (storeCell a j v) = (6, not (isFirst N h a)) ∷ (7, not (ltb j (4 * sizeAt N h a))) ∷ (8, not (isRef N h v)) ∷ []
+ownRefusals N h (look a) = (6, not (isFirst N h a)) ∷ []
+-- request U10: "refused with 4 if any bit is at or past the number of roots"
+ownRefusals N h (returnRoots chosen) = (4, not (chosenBelow chosen (length (h .roots)))) ∷ []
+ownRefusals N h format = []
+ownRefusals N h check = []
+ownRefusals N h collect = []
+ownRefusals N h freeBlocks = []
+
+-- all numbers of a call: "1 if N, w, the number of roots or any buffer's length is not as above"; "2 if the heap is damaged"; request U4:
+-- "11, the list doesn't match the maps, next after 2"; then its own
+unfoldable pub refusals : ℕ → ℕ → Memory → Call → List (ℕ × Bool)
+refusals N w h c =
+    (1, not (shaped N w h))
+    ∷ (2, testsHeap c && not (eqb (damage N w h) 0))
+    ∷ (11, testsHeap c && staleFigures N (h .a) (h .sections))
+    ∷ ownRefusals N h c
+
+-- "Each list is in order, and the first number that applies is given"; 0 where none does
+unfoldable pub refusedWith : ℕ → ℕ → Memory → Call → ℕ
+refusedWith N w h c = firstNumber (refusals N w h c)
+
+-- "A refusal carries value 0, or the damage kind for number 2 .., and changes no buffer."
+abbrev pub refused : ℕ → ℕ → Memory → (number : ℕ) → Answer
+refused N w h number = (reply number (elim (eqb number 2) [ true ↦ damage N w h | false ↦ 0 ]) 0, h)
+
+-- ---- what an accepted call answers
 
 -- "each accepted call that allocates, stores a reference or may free an object .. leave it all 0": the waiting list. Request U4: "every
 -- accepted call .. leaves the list true".
@@ -62,40 +94,32 @@ settled N h = withSections (figures N (h .a)) (withWaiting (replicate N 0) h)
 unfoldable pub freeing : ℕ → Memory → Memory → (second : ℕ) → Answer
 freeing N h g second = (reply 0 (zeros (g .a) - zeros (h .a)) second, settled N g)
 
--- "5 if no chunk of s blocks is free"; else "The value is the first block." The second value is as in a store.
-unfoldable pub allocation : ℕ → ℕ → Memory → ℕ → ℕ → Option ℕ → Answer
-allocation N w h n r none = refused h 5
-allocation N w h n r (some i) = (reply 0 i (one (birthSticks w)), settled N (allocateIn N w h n r i))
+-- "Cells of an object are numbered .. beginning with the first cell of its first block": cell j of the object at block a is number 4 * a + j
+-- of all cells.
+unfoldable pub outcome : ℕ → ℕ → Memory → Call → Answer
+outcome N w h format = accepted (formatted N w (length (h .roots))) 0
+outcome N w h check = accepted h 0
+outcome N w h freeBlocks = accepted h (zeros (h .a))
+outcome N w h collect = freeing N h (collected N w h) 0
+-- "The value is the first block." The second value is as in a store. Where no chunk is free the call is refused, whatever block is read here.
+outcome N w h (allocate n r) =
+    let i = Option·getD (lowestFree N (exponent n) (h .a)) 0 in
+    (reply 0 i (one (birthSticks w)), settled N (allocateIn N w h n r i))
+outcome N w h (storeRoot r v) =
+    freeing N h (storeRootIn N w h r v) (one (storeSticks N w (h .counts) (getD (h .roots) r 0) v))
+outcome N w h (storeCell a j v) =
+    freeing N h (storeCellIn N w h (4 * a + j) v) (one (storeSticks N w (h .counts) (getD (h .cells) (4 * a + j) 0) v))
+outcome N w h (look a) = (reply 0 (sizeAt N h a) (countOf N w h a), h)
+-- request U10: "Its value is the blocks freed in all."
+outcome N w h (returnRoots chosen) = freeing N h (returnIn N w h chosen (length (h .roots))) 0
 
--- Each list of refusals "is in order, and the first number that applies is given". "Cells of an object are numbered .. beginning with the
--- first cell of its first block": cell j of the object at block a is number 4 * a + j of all cells.
+-- ---- the answer
+
+-- "No refusal is given when its condition is false."
 unfoldable pub answer : ℕ → ℕ → Memory → Call → Answer
-answer N w h format = require (shaped N w h) 1 h (accepted (formatted N w (length (h .roots))) 0)
-answer N w h check = onUndamaged N w h (accepted h 0)
-answer N w h freeBlocks = onUndamaged N w h (accepted h (zeros (h .a)))
-answer N w h collect = onUndamaged N w h (freeing N h (collected N w h) 0)
-answer N w h (allocate n r) =
-    onUndamaged N w h
-    (require (leb 1 n && leb n N) 3 h
-    (require (ltb r (length (h .roots))) 4 h
-    (allocation N w h n r (lowestFree N (exponent n) (h .a)))))
-answer N w h (storeRoot r v) =
-    onUndamaged N w h
-    (require (ltb r (length (h .roots))) 4 h
-    (require (isRef N h v) 8 h
-    (freeing N h (storeRootIn N w h r v) (one (storeSticks N w (h .counts) (getD (h .roots) r 0) v)))))
-answer N w h (storeCell a j v) =
-    onUndamaged N w h
-    (require (isFirst N h a) 6 h
-    (require (ltb j (4 * sizeAt N h a)) 7 h
-    (require (isRef N h v) 8 h
-    (freeing N h (storeCellIn N w h (4 * a + j) v) (one (storeSticks N w (h .counts) (getD (h .cells) (4 * a + j) 0) v))))))
-answer N w h (look a) = onUndamaged N w h (require (isFirst N h a) 6 h (reply 0 (sizeAt N h a) (countOf N w h a), h))
--- request U10: "refused with 4 if any bit is at or past the number of roots. Its value is the blocks freed in all."
-answer N w h (returnRoots chosen) =
-    onUndamaged N w h
-    (require (chosenBelow chosen (length (h .roots))) 4 h
-    (freeing N h (returnIn N w h chosen (length (h .roots))) 0))
+answer N w h c =
+    let number = refusedWith N w h c in
+    elim (eqb number 0) [ true ↦ outcome N w h c | false ↦ refused N w h number ]
 
 -- the plain machine on a list of calls: each answer, from the memory that the one before left
 unfoldable pub run : ℕ → ℕ → Memory → List Call → List Answer

@@ -4,7 +4,7 @@ use mathlib.Core.Bool.{Bool, true, false, not, _&&_, _||_}
 use mathlib.Core.List.{[], _∷_}
 use lib.ListN.{length, getD}
 use lib.Dec.{leb, ltb, eqb}
-use Rattle.rules.specs.Tools.{someBelow, firstKind}
+use Rattle.rules.specs.Tools.{someBelow, firstNumber}
 use Rattle.rules.specs.Heap.{Memory, capacity, countOf, isFree, isLast, isFirst, sizeAt, exponent, isRef, references}
 
 -- 1. "A 0 in the B-map on a free block."
@@ -42,7 +42,7 @@ badCount N w h i =
 -- the damage kind that is reported, or 0 for a heap that is not damaged
 unfoldable pub damage : ℕ → ℕ → Memory → ℕ
 damage N w h =
-    firstKind
+    firstNumber
     ((1, someBelow (endOnFree h) N)
     ∷ (2, someBelow (openEnd N h) N)
     ∷ (3, someBelow (unaligned N h) N)

@@ -3,6 +3,7 @@
 use Prim.Native.Nat.{ℕ, zero, suc}
 use mathlib.Core.Bool.{Bool, true, false}
 use mathlib.Core.List.{List, [], _∷_}
+use mathlib.Core.Option.{Option, none, some}
 use lib.ListN.{length, getD}
 use lib.Dec.{eqb}
 use Rattle.bitmap.specs.Bit.{countBelow}
@@ -18,9 +19,14 @@ someBelow test zero = false
 someBelow test (suc n) = elim (someBelow test n) [ true ↦ true | false ↦ test n ]
 
 -- the number of the first test that passes, or 0
-unfoldable pub firstKind : List (ℕ × Bool) → ℕ
-firstKind [] = 0
-firstKind (k ∷ ks) = elim (k .1) [ true ↦ k .0 | false ↦ firstKind ks ]
+unfoldable pub firstNumber : List (ℕ × Bool) → ℕ
+firstNumber [] = 0
+firstNumber (k ∷ ks) = elim (k .1) [ true ↦ k .0 | false ↦ firstNumber ks ]
+
+-- there is one
+unfoldable pub isSome : Option ℕ → Bool
+isSome none = false
+isSome (some x) = true
 
 -- the list of what f gives at the numbers below n
 unfoldable pub tabulate : {A : Type 0} → (n : ℕ) → (ℕ → A) → List A

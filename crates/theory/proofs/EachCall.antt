@@ -1,5 +1,6 @@
 -- What every call keeps and frees.
 pub mod AnyWaiting
+pub mod Accepted
 pub mod Served
 pub mod StoresServed
 pub mod Clearing

@@ -1,10 +1,9 @@
 -- The statements of specs/, proved.
-use mathlib.Core.Path.{_≡_, refl, sym, ap, _∙_, subst}
+use mathlib.Core.Path.{_≡_, sym, ap, _∙_, subst}
 use mathlib.Core.List.{List}
 use mathlib.Core.Logic.{_↔_}
-use mathlib.Core.Bool.{true, _&&_}
-use mathlib.Core.Option.{Option, none, some}
-use Prim.Native.Nat.{ℕ, _+_, _≤_, _<_}
+use mathlib.Core.Bool.{true, not, _&&_}
+use Prim.Native.Nat.{ℕ, _+_, _<_}
 use native.Mathlib.Decide.{ℕ-discrete}
 use native.Mathlib.Omega.{arith}
 use lib.ListN.{length, getD}
@@ -12,14 +11,14 @@ use lib.Dec.{leb, ltb}
 use lib.Pow.{pow-mono}
 use borrow.Author.Tests.{le-leb, lt-ltb}
 use Rattle.bitmap.specs.Bit.{bitAt}
-use Rattle.rules.specs.Heap.{Memory, shaped, exponent, lowestFree}
+use Rattle.rules.specs.Heap.{Memory, shaped, exponent}
 use Rattle.rules.specs.Store.{formatted, letGo, putRoot, putCell, changeRoot, changeCell, placed, allocateIn}
 use Rattle.rules.specs.declared.Reply.{Reply}
 use Rattle.rules.specs.Promise.{Promise}
-use Rattle.rules.specs.Calls.{Call, format, allocate, Answer, accepted, require, onUndamaged, allocation, answer}
+use Rattle.rules.specs.Calls.{Call, format, allocate, Answer, ownRefusals, outcome, answer}
 use Rattle.theory.specs.Demand.{Demand3}
-use Rattle.rules.proofs.Replies.{on-undamaged-passed, on-undamaged-next}
-use Rattle.rules.proofs.Tests.{true-and, require-true, require-passed}
+use Rattle.rules.proofs.Replies.{number-is, accepted-none, accepted-outcome, Passed, shape-passed, passed}
+use Rattle.rules.proofs.Tests.{true-and, first-past}
 use Rattle.rules.proofs.Shape.{shape-facts}
 use Rattle.rules.proofs.Chunks.{exponent-covers, exponent-least}
 use Rattle.theory.specs.Statements.{Intact, Undamaged, CallsKeepUndamaged, FormatMakesUndamaged, RefusedExactly, Lowest, LowestTaken}
@@ -34,7 +33,7 @@ use Rattle.theory.specs.Theory.{Theory}
 use Rattle.theory.proofs.Maps.Extents.{Represents, sizesOf, inner, represents-delimited}
 use Rattle.rules.proofs.Sections.{sections-find-lowest}
 use Rattle.theory.proofs.Maps.Sections.{figures-are-largest, stale-exactly}
-use Rattle.theory.proofs.Maps.LowestChunk.{lowest-some, room, refused-none-free, none-free-refused}
+use Rattle.theory.proofs.Maps.LowestChunk.{lowest-some, five-exactly, room}
 use Rattle.theory.proofs.Maps.Parse.{parse}
 use Rattle.theory.proofs.Maps.Totals.{objects-ends}
 use Rattle.theory.proofs.Maps.Undamaged.{kinds-delimited}
@@ -44,7 +43,7 @@ use Rattle.theory.proofs.Memories.Fuel.{steps-suffice}
 use Rattle.theory.proofs.Memories.Orders.{one-end}
 use Rattle.theory.proofs.Memories.Stores.{store-root, store-cell, allocate-root}
 use Rattle.theory.proofs.Memories.Rounds.{reached-led, led-reached}
-use Rattle.theory.proofs.EachCall.Served.{on-undamaged}
+use Rattle.theory.proofs.EachCall.Accepted.{fit-number}
 use Rattle.theory.proofs.EachCall.Answers.{answer-fit}
 use Rattle.theory.proofs.EachCall.TrueList.{list-left-true}
 use Rattle.theory.proofs.Memories.Leads.{object-size, size-object}
@@ -66,45 +65,25 @@ format-makes-undamaged N w h fits = fit-undamaged N w _ (formatted-fit N w h (sh
 pub least-power : LeastPower
 least-power n = (exponent-covers n, λ k l. pow-mono {i = exponent n} {j = k} (exponent-least n k l))
 
--- an allocation whose other tests pass is answered by the search
-allocation-answer :
-    (N w : ℕ) (h : Memory) → Undamaged N w h → (n r : ℕ) → 1 ≤ n → n ≤ N → r < length (h .roots)
-    → answer N w h (allocate n r) ≡ allocation N w h n r (lowestFree N (exponent n) (h .a))
-unfolding answer
-allocation-answer N w h u n r low high inside =
-    let found : Answer = allocation N w h n r (lowestFree N (exponent n) (h .a)) in
-    on-undamaged N w h (undamaged-fit N w h u) _
-    ∙ require-true (leb 1 n && leb n N) 3 h _ (true-and (leb 1 n) (leb n N) (le-leb 1 n low) (le-leb n N high))
-    ∙ require-true (ltb r (length (h .roots))) 4 h found (lt-ltb r (length (h .roots)) inside)
-
+-- an allocation that passes its other tests
 pub refused-exactly : RefusedExactly
+unfolding ownRefusals
 refused-exactly N w h u n r low high inside =
-    rw (allocation-answer N w h u n r low high inside) (refused-none-free N w h n r, none-free-refused N w h n r)
-
--- what is accepted was found
-found-lowest :
-    (N w : ℕ) (h : Memory) (n r : ℕ) (found : Option ℕ) → lowestFree N (exponent n) (h .a) ≡ found
-    → allocation N w h n r found .0 .number ≡ 0 → Lowest N (exponent n) (h .a) (allocation N w h n r found .0 .value)
-unfolding allocation
-found-lowest N w h n r none e accepted = absurd (omega arith)
-found-lowest N w h n r (some i) e accepted = lowest-some N (exponent n) (h .a) i e
+    let c : Call = allocate n r in
+    let size = true-and (leb 1 n) (leb n N) (le-leb 1 n low) (le-leb n N high) in
+    let number =
+    number-is N w h c ∙ fit-number N w h (undamaged-fit N w h u) c
+    ∙ first-past 3 (not (leb 1 n && leb n N)) _ (ap not size)
+    ∙ first-past 4 (not (ltb r (length (h .roots)))) _ (ap not (lt-ltb r (length (h .roots)) inside)) in
+    rw number
+    (five-exactly N (exponent n) (h .a))
 
 pub lowest-taken : LowestTaken
-unfolding answer
+unfolding outcome Passed
 lowest-taken N w h n r accepted =
-    let found : Answer = allocation N w h n r (lowestFree N (exponent n) (h .a)) in
-    let placed : Answer = require (ltb r (length (h .roots))) 4 h found in
-    let sized : Answer = require (leb 1 n && leb n N) 3 h placed in
-    let passed : onUndamaged N w h sized ≡ sized =
-    let tests = on-undamaged-passed N w h sized accepted in on-undamaged-next N w h sized (tests .0) (tests .1) (tests .2) in
-    let size = require-passed (leb 1 n && leb n N) 3 h placed (omega arith) (rw passed at accepted) in
-    let at-root : sized ≡ placed = require-true (leb 1 n && leb n N) 3 h placed size in
-    let root = require-passed (ltb r (length (h .roots))) 4 h found (omega arith) (rw (passed, at-root) at accepted) in
-    let at-search : placed ≡ found = require-true (ltb r (length (h .roots))) 4 h found root in
-    let answered : onUndamaged N w h sized ≡ found = passed ∙ at-root ∙ at-search in
-    subst (λ (x : Answer). Lowest N (exponent n) (h .a) (x .0 .value)) (sym answered)
-    (found-lowest N w h n r (lowestFree N (exponent n) (h .a)) refl
-    (subst (λ (x : Answer). x .0 .number ≡ 0) answered accepted))
+    let c : Call = allocate n r in
+    subst (λ (x : Answer). Lowest N (exponent n) (h .a) (x .0 .value)) (sym (accepted-outcome N w h c accepted))
+    (lowest-some N (exponent n) (h .a) _ (passed N w h c (accepted-none N w h c accepted) .3))
 
 pub reached-is-led : ReachedIsLed
 reached-is-led N h b = (reached-led N h b, led-reached N h b)
@@ -158,12 +137,12 @@ claim-from-undamaged N w h u made chain = claim N w h (undamaged-fit N w h u) ma
 accepted-format :
     (N w : ℕ) (lent : Memory) (x : Reply) (left : Memory) → Promise N w format lent x left → x .number ≡ 0
     → (shaped N w lent ≡ true) × (left ≡ formatted N w (length (lent .roots)))
-unfolding answer
+unfolding outcome
 accepted-format N w lent x left promise taken =
-    let empty : Memory = formatted N w (length (lent .roots)) in
-    let fits : shaped N w lent ≡ true =
-    require-passed (shaped N w lent) 1 lent (accepted empty 0) (omega arith) (ap (λ (r : Reply). r .number) (sym (promise .reply-is)) ∙ taken) in
-    (fits, promise .after-is ∙ ap (λ (y : Answer). y .1) (require-true (shaped N w lent) 1 lent (accepted empty 0) fits))
+    let accepted = ap (λ (r : Reply). r .number) (sym (promise .reply-is)) ∙ taken in (
+      shape-passed N w lent format (accepted-none N w lent format accepted),
+      promise .after-is ∙ ap (λ (y : Answer). y .1) (accepted-outcome N w lent format accepted),
+    )
 
 pub accepted-format-undamaged :
     (N w : ℕ) (lent : Memory) (x : Reply) (left : Memory) → Promise N w format lent x left → x .number ≡ 0 → Undamaged N w left

@@ -10,7 +10,7 @@ use Rattle.rules.specs.Heap.{Memory, shaped, capacity, countOf, isFirst, expone
 use Rattle.rules.specs.Sections.{figures}
 use Rattle.rules.specs.Store.{formatted}
 use Rattle.rules.specs.Collection.{referencesFrom}
-use Rattle.rules.specs.Calls.{Call, format, check, collect, freeBlocks, allocate, storeRoot, storeCell, look, returnRoots, run}
+use Rattle.rules.specs.Calls.{Call, collect, run}
 use Rattle.rules.specs.Promise.{Promise}
 use Rattle.rules.specs.declared.Reply.{Reply}
 use Rattle.theory.specs.Words.{Object, Names, Leads, numberOfReferences, InExtent, stored, heapOf, Made, callsOf, answersOf, compared}
@@ -51,16 +51,8 @@ pub record ExactCollection (N w : ℕ) (h g : Memory) : Type 0 where
   pub counted : (b : ℕ) → isFirst N g b ≡ true → countOf N w g b ≡ min (capacity w) (referencesFrom N h led b)
 
 -- what an accepted collection leaves; of other calls this says nothing
-unfoldable pub Collects : ℕ → ℕ → Call → Memory → Reply → Memory → Type 0
-Collects N w collect h x g = x .number ≡ 0 → ExactCollection N w h g
-Collects N w format h x g = Unit {0}
-Collects N w check h x g = Unit {0}
-Collects N w freeBlocks h x g = Unit {0}
-Collects N w (allocate n r) h x g = Unit {0}
-Collects N w (storeRoot r v) h x g = Unit {0}
-Collects N w (storeCell a j v) h x g = Unit {0}
-Collects N w (look a) h x g = Unit {0}
-Collects N w (returnRoots chosen) h x g = Unit {0}
+abbrev pub Collects : ℕ → ℕ → Call → Memory → Reply → Memory → Type 0
+Collects N w call h x g = call ≡ collect → x .number ≡ 0 → ExactCollection N w h g
 
 -- ---- over a list of calls
 

@@ -1,22 +1,19 @@
 -- What came of a record whose call is an allocation that was tried once; and, where no chunk was free, from what came of the second try.
 use mathlib.Core.Path.{_≡_, refl, sym, ap, _∙_, subst}
-use mathlib.Core.Bool.{Bool, false, _&&_}
+use mathlib.Core.Bool.{Bool, false}
 use Prim.Native.Nat.{ℕ, _+_, _≤_}
 use native.Mathlib.Decide.{ℕ-discrete}
 use native.Mathlib.Omega.{arith}
-use lib.Dec.{leb, ltb, eqb}
-use lib.ListN.{length}
-use borrow.Author.Tests.{eq-eqb, ne-eqb, leb-true}
-use Rattle.rules.specs.Heap.{Memory, exponent, lowestFree}
-use Rattle.rules.specs.Calls.{allocate, Answer, require, allocation, answer}
+use lib.Dec.{eqb}
+use borrow.Author.Tests.{eq-eqb, ne-eqb}
+use Rattle.rules.specs.Heap.{Memory}
+use Rattle.rules.specs.Calls.{allocate, answer}
 use Rattle.rules.specs.declared.Reply.{Reply}
-use Rattle.rules.proofs.Tests.{and-true, require-passed}
+use Rattle.rules.proofs.Replies.{accepted-none, Passed, passed}
 use Rattle.theory.specs.Balance.{inUse, allocates, allocatedBy}
-use Rattle.theory.proofs.EachCall.Served.{on-undamaged}
 use Rattle.inner.specs.Usable.{Usable}
 use Rattle.inner.specs.Allocating.{Allocating}
 use Rattle.inner.specs.declared.acts.Allocated.{Allocated}
-use Rattle.inner.proofs.Idle.{usable-fit}
 use Rattle.records.specs.Records.{makes}
 use Rattle.figures.specs.declared.tally.Tally.{Tally}
 use Rattle.figures.specs.Figures.{allocated, countedIn, toldStuck, momentIn, noted, notedAll}
@@ -31,15 +28,10 @@ use Rattle.turns.proofs.Turns.{acted-as, turn-once, turn-again}
 module _ (N w : ℕ) (h : Memory) (usable : Usable N w h) (n r : ℕ) where
   -- what is accepted has a size from 1 to N
   accepted-size : answer N w h (allocate n r) .0 .number ≡ 0 → (1 ≤ n) × (n ≤ N)
-  unfolding answer
+  unfolding Passed
   accepted-size accepted =
-      let search : Answer = allocation N w h n r (lowestFree N (exponent n) (h .a)) in
-      let placed : Answer = require (ltb r (length (h .roots))) 4 h search in
-      let tested : Answer = require (leb 1 n && leb n N) 3 h placed in
-      let passed : tested .0 .number ≡ 0 =
-      ap (λ (y : Answer). y .0 .number) (sym (on-undamaged N w h (usable-fit N w h usable) tested)) ∙ accepted in
-      let sizes = and-true (leb 1 n) (leb n N) (require-passed (leb 1 n && leb n N) 3 h placed (omega arith) passed) in
-      (leb-true 1 n (sizes .0), leb-true n N (sizes .1))
+      let all = passed N w h (allocate n r) (accepted-none N w h (allocate n r) accepted) in
+      (all .0, all .1)
 
   module _ (done′ : Allocated) (g : Memory) (tried : Allocating N w n r h done′ g) where
     pub reply-number : answer N w h (allocate n r) .0 .number ≡ done′ .reply .number

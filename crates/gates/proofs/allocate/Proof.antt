@@ -2,7 +2,7 @@
 use mathlib.Core.Path.{refl}
 use native.Mathlib.Omega.{arith}
 use borrow.Author.Needs.{needs}
-use Rattle.rules.specs.Calls.{allocate, answer}
+use Rattle.rules.specs.Calls.{allocate}
 use Rattle.rules.proofs.Shape.{shaped-blocks}
 use Rattle.arguments.proofs.Found.{allocate-refused}
 use Rattle.gates.proofs.Checked.{checked-passed, gate-shut, gate-open}
@@ -13,8 +13,7 @@ check-requires : tie.Need-check-requires
 check-requires c κs = search needs
 
 returns : tie.Need-returns
-unfolding answer
-returns c = gate-shut _ _ _ _ (c .before .check .ensures) (c .if1 .taken) (allocate _ _) _ refl _
+returns c = gate-shut _ _ _ _ (c .before .check .ensures) (c .if1 .taken) (allocate _ _) refl _
 
 allocate-reply-requires : tie.Need-allocate-reply-requires
 allocate-reply-requires c κs =

@@ -1,7 +1,7 @@
 -- `gates::return_roots` meets its contract: the check, and then the call's own test.
 use mathlib.Core.Path.{refl}
 use borrow.Author.Needs.{needs}
-use Rattle.rules.specs.Calls.{returnRoots, answer}
+use Rattle.rules.specs.Calls.{returnRoots}
 use Rattle.arguments.proofs.Passed.{return-refused}
 use Rattle.gates.proofs.Checked.{checked-passed, gate-shut, gate-open}
 use Rattle.gates.proofs.return_roots.Statement.{statement}
@@ -11,8 +11,7 @@ check-requires : tie.Need-check-requires
 check-requires c κs = search needs
 
 returns : tie.Need-returns
-unfolding answer
-returns c = gate-shut _ _ _ _ (c .before .check .ensures) (c .if1 .taken) (returnRoots _) _ refl _
+returns c = gate-shut _ _ _ _ (c .before .check .ensures) (c .if1 .taken) (returnRoots _) refl _
 
 return-test-requires : tie.Need-return-test-requires
 return-test-requires c κs =

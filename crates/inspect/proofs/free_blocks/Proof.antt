@@ -1,9 +1,11 @@
 -- `free_blocks` meets its contract: it is refused as the check refuses, or counts the free blocks.
+use mathlib.Core.Path.{refl}
 use native.Mathlib.Omega.{arith}
 use borrow.Author.Needs.{needs}
 use Rattle.rules.specs.Heap.{Memory, lentMemory}
+use Rattle.rules.specs.Calls.{freeBlocks}
 use Rattle.rules.proofs.Shape.{Shaped, shape-facts}
-use Rattle.inspect.proofs.Checked.{checked-fit, free-blocks-refused, free-blocks-passed}
+use Rattle.inspect.proofs.Checked.{refused-alike, checked-fit, free-blocks-passed}
 use Rattle.inspect.proofs.free_blocks.Statement.{statement}
 use Rattle.inspect.proofs.free_blocks.Tie as tie
 
@@ -26,7 +28,7 @@ check-requires : tie.Need-check-requires
 check-requires c κs = search needs
 
 returns : tie.Need-returns
-returns c = free-blocks-refused _ _ (lent (start (c .before))) _ (c .before .check .ensures) (c .if1 .taken)
+returns c = refused-alike _ _ (lent (start (c .before))) freeBlocks refl _ (c .before .check .ensures) (c .if1 .taken)
 
 count-zeros-requires : tie.Need-count-zeros-requires
 count-zeros-requires c κs =

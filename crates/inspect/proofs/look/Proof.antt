@@ -1,10 +1,11 @@
 -- `look` meets its contract: it is refused as the check refuses, or reads size and count.
-use mathlib.Core.Path.{sym}
+use mathlib.Core.Path.{refl, sym}
 use native.Mathlib.Omega.{arith}
 use borrow.Author.Needs.{needs}
 use Rattle.rules.specs.Heap.{Memory, lentMemory}
+use Rattle.rules.specs.Calls.{look}
 use Rattle.rules.proofs.Shape.{Shaped, shape-facts}
-use Rattle.inspect.proofs.Checked.{checked-fit, look-refused, look-passed}
+use Rattle.inspect.proofs.Checked.{refused-alike, checked-fit, look-passed}
 use Rattle.inspect.proofs.look.Statement.{statement}
 use Rattle.inspect.proofs.look.Tie as tie
 
@@ -27,7 +28,7 @@ check-requires : tie.Need-check-requires
 check-requires c κs = search needs
 
 returns : tie.Need-returns
-returns c = look-refused _ _ (lent (start (c .before))) _ (c .before .check .ensures) _ (c .if1 .taken)
+returns c = refused-alike _ _ (lent (start (c .before))) (look _) refl _ (c .before .check .ensures) (c .if1 .taken)
 
 look-reply-requires : tie.Need-look-reply-requires
 look-reply-requires c κs =
@@ -37,7 +38,7 @@ look-reply-requires c κs =
 returns-2 : tie.Need-returns-2
 returns-2 c =
     let checked = c .before in
-    look-passed _ _ (lent (start (checked .before))) _ (checked .before .check .ensures) _ (checked .if1 .left) _ (c .look-reply .ensures)
+    look-passed _ _ (lent (start (checked .before))) _ (checked .before .check .ensures) (checked .if1 .left) _ _ (c .look-reply .ensures)
 
 pub look-spec : {M : Type 1} → statement M
 look-spec = tie.close (tie.spec check-requires returns look-reply-requires returns-2)

@@ -1,20 +1,19 @@
 -- No answer depends on the waiting list: with another one of the same length each call, on whatever memory and arguments, gives the same
 -- reply, and the same other lists.
 use mathlib.Core.Path.{_≡_, refl, sym, ap, subst}
-use mathlib.Core.Bool.{Bool, true, false, not, _&&_}
+use mathlib.Core.Bool.{Bool, true, false}
 use mathlib.Core.List.{List}
-use mathlib.Core.Option.{Option, none, some}
+use mathlib.Core.Option.{Option·getD}
 use Prim.Native.Nat.{ℕ, _+_, _*_}
-use lib.Dec.{leb, ltb, eqb}
+use lib.Dec.{eqb}
 use lib.ListN.{length}
 use Rattle.bitmap.specs.Bit.{one, zeros}
-use Rattle.rules.specs.Heap.{Memory, withWaiting, shape, shaped, countOf, isFirst, sizeAt, exponent, lowestFree, isRef}
+use Rattle.rules.specs.Heap.{Memory, withWaiting, shape, shaped, countOf, sizeAt, exponent, lowestFree}
 use Rattle.rules.specs.Damage.{endOnFree, openEnd, unaligned, badCell, badRoot, badCount, damage}
-use Rattle.rules.specs.Sections.{staleFigures}
-use Rattle.rules.specs.Store.{storeRootIn, storeCellIn, chosenBelow, returnIn, birthSticks, allocateIn}
+use Rattle.rules.specs.Store.{storeRootIn, storeCellIn, returnIn, birthSticks, allocateIn}
 use Rattle.rules.specs.Collection.{collected}
-use Rattle.rules.specs.Calls.{Call, format, check, collect, freeBlocks, allocate, storeRoot, storeCell, look, returnRoots, Answer, require, onUndamaged}
-use Rattle.rules.specs.Calls.{reply, settled, freeing, allocation, answer}
+use Rattle.rules.specs.Calls.{Call, format, check, collect, freeBlocks, allocate, storeRoot, storeCell, look, returnRoots, Answer}
+use Rattle.rules.specs.Calls.{reply, ownRefusals, refusals, refusedWith, refused, settled, freeing, outcome, answer}
 use Rattle.rules.specs.declared.Reply.{Reply}
 use Rattle.theory.specs.Words.{heapOf}
 use Rattle.theory.specs.Statements.{WaitingUnread}
@@ -41,62 +40,63 @@ module _ (N w : ℕ) (h : Memory) (x : List ℕ) (same-length : length x ≡ len
   unchanged-alike : (r : Reply) → Alike (r, g) (r, h)
   unchanged-alike r = record { reply-is = refl; heap-is = refl }
 
-  require-alike : (t : Bool) (number : ℕ) {p q : Answer} → Alike p q → Alike (require t number g p) (require t number h q)
-  unfolding require
-  require-alike true number alike = alike
-  require-alike false number alike = unchanged-alike (reply number 0 0)
+  same-own : (c : Call) → ownRefusals N g c ≡ ownRefusals N h c
+  unfolding ownRefusals
+  same-own format = refl
+  same-own check = refl
+  same-own collect = refl
+  same-own freeBlocks = refl
+  same-own (allocate n r) = refl
+  same-own (storeRoot r v) = refl
+  same-own (storeCell a j v) = refl
+  same-own (look a) = refl
+  same-own (returnRoots chosen) = refl
 
-  on-undamaged-alike : {p q : Answer} → Alike p q → Alike (onUndamaged N w g p) (onUndamaged N w h q)
-  unfolding onUndamaged damage endOnFree openEnd unaligned badCell badRoot badCount
-  on-undamaged-alike alike = rw (same-shape, same-damage) (require-alike (shaped N w h) 1
-      (go (eqb (damage N w h) 0) (require-alike (not (staleFigures N (h .a) (h .sections))) 11 alike)))
-    where
-      go :
-          (t : Bool) {p q : Answer} → Alike p q
-          → Alike (elim t [ true ↦ p | false ↦ (reply 2 (damage N w h) 0, g) ]) (elim t [ true ↦ q | false ↦ (reply 2 (damage N w h) 0, h) ])
-      go true alike = alike
-      go false alike = unchanged-alike (reply 2 (damage N w h) 0)
+  same-number : (c : Call) → refusedWith N w g c ≡ refusedWith N w h c
+  unfolding refusedWith refusals
+  same-number c = rw (same-shape, same-damage, same-own c)
+
+  refused-alike : (number : ℕ) → Alike (refused N w g number) (refused N w h number)
+  unfolding damage endOnFree openEnd unaligned badCell badRoot badCount
+  refused-alike number = record { reply-is = refl; heap-is = refl }
 
   freeing-alike : (p q : Memory) (second : ℕ) → p ≡ withWaiting x q → Alike (freeing N g p second) (freeing N h q second)
   unfolding freeing
   freeing-alike p q second e =
       subst (λ (k : Memory). Alike (freeing N g k second) (freeing N h q second)) (sym e) (record { reply-is = refl; heap-is = refl })
 
-  allocation-alike : (n r : ℕ) (found : Option ℕ) → Alike (allocation N w g n r found) (allocation N w h n r found)
-  unfolding allocation
-  allocation-alike n r none = unchanged-alike (reply 5 0 0)
-  allocation-alike n r (some i) =
+  outcome-alike : (c : Call) → Alike (outcome N w g c) (outcome N w h c)
+  unfolding outcome
+  outcome-alike format = record { reply-is = refl; heap-is = refl }
+  outcome-alike check = unchanged-alike (reply 0 0 0)
+  outcome-alike freeBlocks = unchanged-alike (reply 0 (zeros (h .a)) 0)
+  outcome-alike collect = freeing-alike (collected N w g) (collected N w h) 0 (collect-waiting N w x h)
+  outcome-alike (allocate n r) =
+      let i = Option·getD (lowestFree N (exponent n) (h .a)) 0 in
       let said : Reply = reply 0 i (one (birthSticks w)) in
       subst (λ (k : Memory). Alike (said, settled N k) (said, settled N (allocateIn N w h n r i)))
       (sym (allocate-waiting N w x h n r i)) (record { reply-is = refl; heap-is = refl })
+  outcome-alike (storeRoot r v) =
+      freeing-alike (storeRootIn N w g r v) (storeRootIn N w h r v) _ (store-root-waiting N w x h r v)
+  outcome-alike (storeCell a j v) =
+      freeing-alike (storeCellIn N w g (4 * a + j) v) (storeCellIn N w h (4 * a + j) v) _ (store-cell-waiting N w x h (4 * a + j) v)
+  outcome-alike (look a) = unchanged-alike (reply 0 (sizeAt N h a) (countOf N w h a))
+  outcome-alike (returnRoots chosen) =
+      freeing-alike (returnIn N w g chosen (length (h .roots))) (returnIn N w h chosen (length (h .roots))) 0
+      (return-waiting N w x h chosen (length (h .roots)))
 
   answer-alike : (c : Call) → Alike (answer N w g c) (answer N w h c)
   unfolding answer
-  answer-alike format = rw same-shape (require-alike (shaped N w h) 1 (record { reply-is = refl; heap-is = refl }))
-  answer-alike check = on-undamaged-alike (unchanged-alike (reply 0 0 0))
-  answer-alike freeBlocks = on-undamaged-alike (unchanged-alike (reply 0 (zeros (h .a)) 0))
-  answer-alike collect = on-undamaged-alike (freeing-alike (collected N w g) (collected N w h) 0 (collect-waiting N w x h))
-  answer-alike (allocate n r) =
-      on-undamaged-alike
-      (require-alike (leb 1 n && leb n N) 3
-      (require-alike (ltb r (length (h .roots))) 4 (allocation-alike n r (lowestFree N (exponent n) (h .a)))))
-  answer-alike (storeRoot r v) =
-      on-undamaged-alike
-      (require-alike (ltb r (length (h .roots))) 4
-      (require-alike (isRef N h v) 8 (freeing-alike (storeRootIn N w g r v) (storeRootIn N w h r v) _ (store-root-waiting N w x h r v))))
-  answer-alike (storeCell a j v) =
-      on-undamaged-alike
-      (require-alike (isFirst N h a) 6
-      (require-alike (ltb j (4 * sizeAt N h a)) 7
-      (require-alike (isRef N h v) 8
-      (freeing-alike (storeCellIn N w g (4 * a + j) v) (storeCellIn N w h (4 * a + j) v) _ (store-cell-waiting N w x h (4 * a + j) v)))))
-  answer-alike (look a) =
-      on-undamaged-alike (require-alike (isFirst N h a) 6 (unchanged-alike (reply 0 (sizeAt N h a) (countOf N w h a))))
-  answer-alike (returnRoots chosen) =
-      on-undamaged-alike
-      (require-alike (chosenBelow chosen (length (h .roots))) 4
-      (freeing-alike (returnIn N w g chosen (length (h .roots))) (returnIn N w h chosen (length (h .roots))) 0
-      (return-waiting N w x h chosen (length (h .roots)))))
+  answer-alike c =
+      let number : ℕ = refusedWith N w h c in
+      subst (λ (k : ℕ). Alike (elim (eqb k 0) [ true ↦ outcome N w g c | false ↦ refused N w g k ]) (answer N w h c)) (sym (same-number c))
+      (go (eqb number 0) number)
+    where
+      go :
+          (t : Bool) (k : ℕ)
+          → Alike (elim t [ true ↦ outcome N w g c | false ↦ refused N w g k ]) (elim t [ true ↦ outcome N w h c | false ↦ refused N w h k ])
+      go true k = outcome-alike c
+      go false k = refused-alike k
 
 pub waiting-unread : WaitingUnread
 waiting-unread N w h g same-heap same-length call =

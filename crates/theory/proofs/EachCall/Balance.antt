@@ -1,29 +1,27 @@
 -- Blocks allocated and freed: each call keeps the balance, so every list of calls does.
 use mathlib.Core.Path.{_≡_, refl, sym, ap, _∙_, subst}
 use mathlib.Core.Logic.{_≢_, _⊎_, inl, inr}
-use mathlib.Core.Bool.{Bool, true, false, _&&_, not}
+use mathlib.Core.Bool.{Bool, true, false}
 use mathlib.Core.List.{List, [], _∷_}
-use mathlib.Core.Option.{Option, none, some}
+use mathlib.Core.Option.{some}
 use Prim.Native.Nat.{ℕ, zero, suc, _+_, _-_, _*_, _≤_, _<_}
 use native.Mathlib.Decide.{ℕ-discrete}
 use native.Mathlib.Omega.{arith}
 use lib.ListN.{length, getD, set, replicate, length-set}
 use lib.Seq.{getD-set-same, getD-set-other}
-use lib.Dec.{leb, ltb, eqb}
-use borrow.Author.Tests.{eq-eqb, ne-eqb, leb-true, ltb-true}
+use lib.Dec.{eqb}
+use borrow.Author.Tests.{eq-eqb, ne-eqb}
 use Rattle.bitmap.specs.Bit.{zeros}
-use Rattle.rules.specs.Heap.{Memory, shaped, capacity, isFirst, sizeAt, exponent, lowestFree, isRef}
-use Rattle.rules.specs.Damage.{damage}
+use Rattle.rules.specs.Heap.{Memory, capacity, isFirst, sizeAt, exponent, lowestFree, isRef}
 use Rattle.rules.specs.Store.{formatted, placed, putRoot, putCell, changeRoot, changeCell, storeRootIn, storeCellIn, allocateIn}
-use Rattle.rules.specs.Store.{chosenBelow, returnIn}
+use Rattle.rules.specs.Store.{returnIn}
 use Rattle.rules.specs.Collection.{collected}
 use Rattle.rules.specs.Calls.{Call, format, check, collect, freeBlocks, allocate, storeRoot, storeCell, look, returnRoots, Answer, reply, accepted, refused}
-use Rattle.rules.specs.Calls.{require, onUndamaged, freeing, allocation, settled, answer}
+use Rattle.rules.specs.Calls.{testsHeap, freeing, settled, outcome, answer}
 use Rattle.rules.specs.declared.Reply.{Reply}
-use Rattle.rules.specs.Sections.{staleFigures}
-use Rattle.rules.proofs.Replies.{on-undamaged-passed}
-use Rattle.theory.proofs.Memories.Fit.{Fit, undamaged-fit}
-use Rattle.rules.proofs.Tests.{test-cases, and-true}
+use Rattle.rules.proofs.Replies.{answer-either, accepted-outcome, Passed, passed}
+use Rattle.theory.proofs.Memories.Fit.{Fit}
+use Rattle.rules.proofs.Tests.{test-cases}
 use Rattle.rules.proofs.Objects.{first-facts}
 use Rattle.theory.specs.Balance.{sumBelow, freedAt, freedBlocks, inUse, allocates, allocatedBy, FreedValue, BlocksAddUp}
 use Rattle.theory.proofs.Maps.Extents.{Represents, sizesOf, length-sizes-of, first-size, size-is-first, not-first-size, extent}
@@ -43,7 +41,7 @@ use Rattle.theory.proofs.Memories.Formatted.{zeros-at}
 use Rattle.theory.proofs.Memories.ViewRelease.{Shows}
 use Rattle.theory.proofs.Memories.ViewCollection.{is-collected, collected-shows}
 use Rattle.theory.proofs.Memories.Stores.{positive, ref-object, store-root, cell-place, store-cell, room-vacant, allocate-root}
-use Rattle.theory.proofs.EachCall.Served.{on-undamaged}
+use Rattle.theory.proofs.EachCall.Accepted.{accepted-fit}
 use Rattle.theory.proofs.EachCall.Clearing.{InSet, returned}
 use Rattle.theory.proofs.EachCall.Answers.{answer-served}
 
@@ -181,21 +179,11 @@ module _ (N w : ℕ) (h : Memory) (fit : Fit N w h) where
       none true = e
       none false = refl
 
-  refused-even : (c : Call) (number : ℕ) → number ≢ 0 → Even N c h (refused h number)
+  refused-even : (c : Call) (number : ℕ) → number ≢ 0 → Even N c h (refused N w h number)
   unfolding allocatedBy
   refused-even c number nonzero =
-      let nothing : allocatedBy c (reply number 0 0) ≡ 0 = rw (ne-eqb number 0 nonzero, allocatedBy) in
+      let nothing : allocatedBy c (refused N w h number .0) ≡ 0 = rw (ne-eqb number 0 nonzero, allocatedBy) in
       record { kept = omega (arith, nothing, same-blocks h refl refl) }
-
-  require-even :
-      {c : Call} {next : Answer} (test : Bool) (number : ℕ) → number ≢ 0 → (test ≡ true → Even N c h next)
-      → Even N c h (require test number h next)
-  unfolding require
-  require-even true number nonzero even = even refl
-  require-even {c} false number nonzero even = refused-even c number nonzero
-
-  on-undamaged-even : {c : Call} {next : Answer} → Even N c h next → Even N c h (onUndamaged N w h next)
-  on-undamaged-even {c} {next} even = subst (λ (x : Answer). Even N c h x) (sym (on-undamaged N w h fit next)) even
 
   -- g shows a graph in which each object stands or is gone
   shown-even :
@@ -311,73 +299,24 @@ module _ (N w : ℕ) (h : Memory) (fit : Fit N w h) where
               (elim (runs-leave cap roots (λ j. ⊥) pos (ends .runs) .objects b) [ inl e ↦ inl (e ∙ other) | inr e ↦ inr (e .0) ]));
         }
 
-  allocation-even :
-      (n r : ℕ) → 1 ≤ n → r < length (h .roots) → (o : Option ℕ) → lowestFree N (exponent n) (h .a) ≡ o
-      → Even N (allocate n r) h (allocation N w h n r o)
-  unfolding allocation
-  allocation-even n r low l none e = refused-even (allocate n r) 5 (omega arith)
-  allocation-even n r low l (some i) e = allocate-even n r i low l e _
+  outcome-even : (c : Call) → Passed N h c → Even N c h (outcome N w h c)
+  unfolding outcome Passed allocates
+  outcome-even format p = format-even
+  outcome-even check p = plain check _ h refl (same-blocks h refl refl)
+  outcome-even freeBlocks p = plain freeBlocks _ h refl (same-blocks h refl refl)
+  outcome-even collect p = collect-even
+  outcome-even (allocate n r) (low, high, place, found) = allocate-even n r _ low place found _
+  outcome-even (storeRoot r v) (place, ref) = store-root-even r v _ place ref
+  outcome-even (storeCell a j v) (first, place, ref) = store-cell-even a j v _ first place ref
+  outcome-even (look a) p = plain (look a) _ h refl (same-blocks h refl refl)
+  outcome-even (returnRoots chosen) p = return-even chosen
 
   pub answer-even : (c : Call) → Even N c h (answer N w h c)
-  unfolding answer allocates
-  answer-even format = require-even (shaped N w h) 1 (omega arith) (λ t. format-even)
-  answer-even check = on-undamaged-even (plain check _ h refl (same-blocks h refl refl))
-  answer-even freeBlocks = on-undamaged-even (plain freeBlocks _ h refl (same-blocks h refl refl))
-  answer-even collect = on-undamaged-even collect-even
-  answer-even (allocate n r) =
-      on-undamaged-even
-      (require-even (leb 1 n && leb n N) 3 (omega arith) λ size.
-      (require-even (ltb r (length (h .roots))) 4 (omega arith) λ place.
-      let sizes = and-true (leb 1 n) (leb n N) size in
-      allocation-even n r (leb-true 1 n (sizes .0)) (ltb-true r (length (h .roots)) place) (lowestFree N (exponent n) (h .a)) refl))
-  answer-even (storeRoot r v) =
-      on-undamaged-even
-      (require-even (ltb r (length (h .roots))) 4 (omega arith) λ place.
-      (require-even (isRef N h v) 8 (omega arith) λ ref.
-      store-root-even r v _ (ltb-true r (length (h .roots)) place) ref))
-  answer-even (storeCell a j v) =
-      on-undamaged-even
-      (require-even (isFirst N h a) 6 (omega arith) λ first.
-      (require-even (ltb j (4 * sizeAt N h a)) 7 (omega arith) λ place.
-      (require-even (isRef N h v) 8 (omega arith) λ ref.
-      store-cell-even a j v _ first (ltb-true j (4 * sizeAt N h a) place) ref)))
-  answer-even (returnRoots chosen) =
-      on-undamaged-even (require-even (chosenBelow chosen (length (h .roots))) 4 (omega arith) λ below. return-even chosen)
-  answer-even (look a) =
-      on-undamaged-even (require-even (isFirst N h a) 6 (omega arith) λ first. plain (look a) _ h refl (same-blocks h refl refl))
+  answer-even c = answer-either N w h c (λ x. Even N c h x) (refused-even c) (λ e. outcome-even c (passed N w h c e))
 
 -- ---- the values
 
--- an accepted answer gives the growth of the zeros as its value
-record Grown (h : Memory) (x : Answer) : Type 0 where
-  grown : x .0 .number ≡ 0 → x .0 .value ≡ zeros (x .1 .a) - zeros (h .a)
-
 module _ (N w : ℕ) (h : Memory) where
-  freeing-grown : (g : Memory) (second : ℕ) → Grown h (freeing N h g second)
-  unfolding freeing
-  freeing-grown g second = record { grown = λ e. refl }
-
-  require-grown : {next : Answer} (test : Bool) (number : ℕ) → number ≢ 0 → Grown h next → Grown h (require test number h next)
-  unfolding require
-  require-grown true number nonzero next = next
-  require-grown false number nonzero next = record { grown = λ e. absurd (nonzero e) }
-
-  on-undamaged-grown : {next : Answer} → Grown h next → Grown h (onUndamaged N w h next)
-  unfolding onUndamaged
-  on-undamaged-grown next =
-      require-grown (shaped N w h) 1 (omega arith)
-      (go (eqb (damage N w h) 0) (require-grown (not (staleFigures N (h .a) (h .sections))) 11 (omega arith) next))
-    where
-      go : (t : Bool) {next : Answer} → Grown h next → Grown h (elim t [ true ↦ next | false ↦ (reply 2 (damage N w h) 0, h) ])
-      go true next = next
-      go false next = record { grown = λ e. absurd (omega (arith, e)) }
-
-  -- what is accepted was found undamaged
-  pub accepted-fit : (next : Answer) → onUndamaged N w h next .0 .number ≡ 0 → Fit N w h
-  accepted-fit next e =
-      let passed = on-undamaged-passed N w h next e in
-      undamaged-fit N w h (record { right-shape = passed .0; no-damage = passed .1; true-list = passed .2 })
-
   zeros-within : {g : Memory} → Healthy N w g → zeros (g .a) ≤ N
   zeros-within {g} healthy = omega (arith, free-and-sizes N (g .a) (g .b) (sizesOf N (g .a) (g .b)) (healthy .represents))
 
@@ -390,38 +329,22 @@ module _ (N w : ℕ) (h : Memory) where
       omega (arith, answer-even N w h fit c .kept, all, zeros-within (fit .healthy), zeros-within (answer-served N w h fit c .keep))
 
   freed-value :
-      (c : Call) → allocates c ≡ 0 → Grown h (answer N w h c) → Fit N w h → answer N w h c .0 .number ≡ 0
+      (c : Call) → testsHeap c ≡ true → allocates c ≡ 0
+      → (let x = outcome N w h c in x .0 .value ≡ zeros (x .1 .a) - zeros (h .a)) → answer N w h c .0 .number ≡ 0
       → FreedValue N h (answer N w h c .0) (answer N w h c .1)
-  freed-value c nothing value fit e =
-      let grown = value .grown e in
-      let even = even-zeros c fit e in
+  freed-value c tests nothing value e =
+      let grown =
+      subst (λ (x : Answer). x .0 .value ≡ zeros (x .1 .a) - zeros (h .a)) (sym (accepted-outcome N w h c e)) value in
+      let even = even-zeros c (accepted-fit N w h c tests e) e in
       record { by-objects = omega (arith, grown, even, nothing); by-zeros = omega (arith, grown, even, nothing) }
 
 pub blocks-add-up : BlocksAddUp
-unfolding answer allocates
+unfolding outcome freeing allocates
 blocks-add-up N w h =
     record {
-      store-root = λ r v e.
-          freed-value N w h (storeRoot r v) refl
-          (on-undamaged-grown N w h
-          (require-grown N w h (ltb r (length (h .roots))) 4 (omega arith)
-          (require-grown N w h (isRef N h v) 8 (omega arith) (freeing-grown N w h (storeRootIn N w h r v) _))))
-          (accepted-fit N w h _ e) e;
-      store-cell = λ a j v e.
-          freed-value N w h (storeCell a j v) refl
-          (on-undamaged-grown N w h
-          (require-grown N w h (isFirst N h a) 6 (omega arith)
-          (require-grown N w h (ltb j (4 * sizeAt N h a)) 7 (omega arith)
-          (require-grown N w h (isRef N h v) 8 (omega arith) (freeing-grown N w h (storeCellIn N w h (4 * a + j) v) _)))))
-          (accepted-fit N w h _ e) e;
-      return-roots = λ chosen e.
-          freed-value N w h (returnRoots chosen) refl
-          (on-undamaged-grown N w h
-          (require-grown N w h (chosenBelow chosen (length (h .roots))) 4 (omega arith)
-          (freeing-grown N w h (returnIn N w h chosen (length (h .roots))) 0)))
-          (accepted-fit N w h _ e) e;
-      collection = λ e.
-          freed-value N w h collect refl (on-undamaged-grown N w h (freeing-grown N w h (collected N w h) 0))
-          (accepted-fit N w h _ e) e;
-      allocation = λ n r e. even-zeros N w h (allocate n r) (accepted-fit N w h _ e) e;
+      store-root = λ r v. freed-value N w h (storeRoot r v) refl refl refl;
+      store-cell = λ a j v. freed-value N w h (storeCell a j v) refl refl refl;
+      return-roots = λ chosen. freed-value N w h (returnRoots chosen) refl refl refl;
+      collection = freed-value N w h collect refl refl refl;
+      allocation = λ n r e. even-zeros N w h (allocate n r) (accepted-fit N w h (allocate n r) refl e) e;
     }

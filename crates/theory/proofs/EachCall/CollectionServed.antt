@@ -12,7 +12,7 @@ use Rattle.rules.specs.Heap.{Memory, capacity, countOf, isFirst}
 use Rattle.rules.specs.Collection.{isCellOf, cellOfChosen, referencesFrom, marked, reached, collected}
 use Rattle.rules.specs.Calls.{collect, settled, freeing}
 use Rattle.theory.specs.Words.{Object, Leads, numberOfReferences, written, stored}
-use Rattle.theory.specs.Demand.{Collects, ExactCollection}
+use Rattle.theory.specs.Demand.{ExactCollection}
 use Rattle.rules.proofs.Tests.{test-cases, and-true, true-and, some-true, true-some}
 use Rattle.rules.proofs.Objects.{first-facts}
 use Rattle.theory.proofs.Graphs.Graph.{Graph, size, count}
@@ -136,7 +136,7 @@ module _ (N w : ℕ) (h : Memory) (healthy : Healthy N w h) where
       ]
 
   pub collect-served : Served N w collect h (freeing N h (collected N w h) 0)
-  unfolding freeing stored written Collects
+  unfolding freeing stored written
   collect-served =
       record {
         keep =
@@ -144,6 +144,6 @@ module _ (N w : ℕ) (h : Memory) (healthy : Healthy N w h) where
             (collect-whole (capacity w) (positive N w h healthy) r before (healthy .whole))
             after-aligned;
         no-early-free = led-stays;
-        collects = λ accepted. exact;
+        collects = λ _ accepted. exact;
         sticks = λ b n was is low top. absurd (unstuck b (was .first) (is .first) low top);
       }

@@ -3,14 +3,14 @@
 use mathlib.Core.Path.{_≡_, refl, sym, ap, _∙_, subst}
 use mathlib.Core.Logic.{_≢_, _⊎_, _↔_, inl, inr}
 use mathlib.Core.Bool.{Bool, true, false, not, _&&_, true≢false}
-use mathlib.Core.Option.{Option, none, some}
+use mathlib.Core.Option.{some}
 use Prim.Native.Nat.{ℕ, zero, suc, _+_, _-_, _*_, _/_, _≤_, _<_, min}
 use native.Mathlib.Decide.{ℕ-discrete}
 use native.Mathlib.Omega.{arith}
 use lib.ListN.{length, getD}
 use lib.Seq.{getD-set-same}
-use lib.Dec.{leb, ltb, eqb}
-use borrow.Author.Tests.{ne-eqb, eqb-true, eqb-false, leb-true, ltb-true}
+use lib.Dec.{eqb}
+use borrow.Author.Tests.{ne-eqb, eqb-true, eqb-false}
 use Rattle.bitmap.specs.Bit.{one, zeros}
 use Rattle.planes.proofs.Counts.{count-lt}
 use Rattle.rules.specs.Heap.{Memory, withCounts, capacity, countOf, isFirst, sizeAt, exponent, lowestFree, isRef}
@@ -18,9 +18,10 @@ use Rattle.rules.specs.Store.{countUp, sticks, putRoot, putCell, changeRoot, ch
 use Rattle.rules.specs.Store.{placed, allocateIn}
 use Rattle.rules.specs.Collection.{collected}
 use Rattle.rules.specs.Calls.{Call, format, check, collect, freeBlocks, allocate, storeRoot, storeCell, look, returnRoots, Answer, reply}
-use Rattle.rules.specs.Calls.{require, onUndamaged, settled, freeing, allocation, answer}
+use Rattle.rules.specs.Calls.{testsHeap, settled, freeing, outcome, answer}
 use Rattle.rules.specs.declared.Reply.{Reply}
-use Rattle.rules.proofs.Tests.{test-cases, and-true}
+use Rattle.rules.proofs.Tests.{test-cases}
+use Rattle.rules.proofs.Replies.{accepted-none, accepted-outcome, Passed, passed}
 use Rattle.rules.proofs.Objects.{first-facts}
 use Rattle.rules.proofs.Tabulate.{length-tabulate}
 use Rattle.theory.specs.Words.{Object}
@@ -42,11 +43,10 @@ use Rattle.theory.proofs.Memories.ViewRelease.{Shows}
 use Rattle.theory.proofs.Memories.Stores.{positive, ref-object, raised-shows, store-root, cell-place, store-cell}
 use Rattle.theory.proofs.Memories.Stores.{room-vacant, placed-shows, allocate-root}
 use Rattle.theory.proofs.Memories.Fit.{Fit}
-use Rattle.theory.proofs.EachCall.Served.{on-undamaged}
+use Rattle.theory.proofs.EachCall.Accepted.{accepted-fit, fit-accepted}
 use Rattle.theory.proofs.EachCall.StoresServed.{store-healthy, allocate-served}
 use Rattle.theory.proofs.EachCall.CollectionServed.{unstuck, collect-served}
 use Rattle.theory.proofs.EachCall.Answers.{answer-served}
-use Rattle.theory.proofs.EachCall.Balance.{accepted-fit}
 
 one-or-none : (t : Bool) → (one t ≡ 1) ⊎ (one t ≡ 0)
 one-or-none true = inl refl
@@ -290,63 +290,24 @@ module _ (N w : ℕ) (h : Memory) (healthy : Healthy N w h) where
           yes-or-no = one-or-none (birthSticks w);
         }
 
-  allocation-tells :
-      (n r : ℕ) → 1 ≤ n → n ≤ N → r < length (h .roots) → (o : Option ℕ) → lowestFree N (exponent n) (h .a) ≡ o
-      → let x = allocation N w h n r o in x .0 .number ≡ 0 → Tells N w (allocate n r) h (x .0) (x .1)
-  unfolding allocation
-  allocation-tells n r low high l none e accepted = absurd (omega arith)
-  allocation-tells n r low high l (some i) e accepted = allocate-tells n r i low high l e
-
 -- ---- the calls, whatever the heap and the arguments
 
--- where answer x accepts, its second value tells
-record TellsIf (N w : ℕ) (call : Call) (h : Memory) (x : Answer) : Type 0 where
-  told : x .0 .number ≡ 0 → Tells N w call h (x .0) (x .1)
-
-module _ (N w : ℕ) (h : Memory) where
-  require-tells :
-      {call : Call} {next : Answer} (test : Bool) (number : ℕ) → number ≢ 0 → (test ≡ true → TellsIf N w call h next)
-      → TellsIf N w call h (require test number h next)
-  unfolding require
-  require-tells true number nonzero next = next refl
-  require-tells false number nonzero next = record { told = λ e. absurd (nonzero e) }
-
-  on-undamaged-tells :
-      {call : Call} {next : Answer} → (Healthy N w h → TellsIf N w call h next) → TellsIf N w call h (onUndamaged N w h next)
-  on-undamaged-tells {call} {next} tells =
-      record {
-        told = λ e.
-            let fit = accepted-fit N w h next e in
-            subst (λ (x : Answer). TellsIf N w call h x) (sym (on-undamaged N w h fit next)) (tells (fit .healthy)) .told e;
-      }
+-- the outcome tells, on a healthy memory; so does every accepted answer
+tells :
+    (N w : ℕ) (h : Memory) (c : Call) → testsHeap c ≡ true
+    → (Healthy N w h → Passed N h c → let x = outcome N w h c in Tells N w c h (x .0) (x .1))
+    → let x = answer N w h c in x .0 .number ≡ 0 → Tells N w c h (x .0) (x .1)
+tells N w h c tests told e =
+    subst (λ (x : Answer). Tells N w c h (x .0) (x .1)) (sym (accepted-outcome N w h c e))
+    (told (accepted-fit N w h c tests e .healthy) (passed N w h c (accepted-none N w h c e)))
 
 pub stuck-told : StuckTold
-unfolding answer
+unfolding outcome Passed
 stuck-told N w h =
     record {
-      allocation = λ n r.
-          on-undamaged-tells N w h (λ healthy.
-          require-tells N w h (leb 1 n && leb n N) 3 (omega arith) λ size.
-          require-tells N w h (ltb r (length (h .roots))) 4 (omega arith) λ place.
-          let sizes = and-true (leb 1 n) (leb n N) size in
-          record {
-            told = allocation-tells N w h healthy n r (leb-true 1 n (sizes .0)) (leb-true n N (sizes .1))
-                (ltb-true r (length (h .roots)) place) (lowestFree N (exponent n) (h .a)) refl;
-          })
-          .told;
-      store-root = λ r v.
-          on-undamaged-tells N w h (λ healthy.
-          require-tells N w h (ltb r (length (h .roots))) 4 (omega arith) λ place.
-          require-tells N w h (isRef N h v) 8 (omega arith) λ ref.
-          record { told = λ e. root-tells N w h healthy r v (ltb-true r (length (h .roots)) place) ref })
-          .told;
-      store-cell = λ a j v.
-          on-undamaged-tells N w h (λ healthy.
-          require-tells N w h (isFirst N h a) 6 (omega arith) λ first.
-          require-tells N w h (ltb j (4 * sizeAt N h a)) 7 (omega arith) λ place.
-          require-tells N w h (isRef N h v) 8 (omega arith) λ ref.
-          record { told = λ e. cell-tells N w h healthy a j v first (ltb-true j (4 * sizeAt N h a) place) ref })
-          .told;
+      allocation = λ n r. tells N w h (allocate n r) refl (λ healthy p. allocate-tells N w h healthy n r _ (p .0) (p .1) (p .2) (p .3));
+      store-root = λ r v. tells N w h (storeRoot r v) refl (λ healthy p. root-tells N w h healthy r v (p .0) (p .1));
+      store-cell = λ a j v. tells N w h (storeCell a j v) refl (λ healthy p. cell-tells N w h healthy a j v (p .0) (p .1) (p .2));
     }
 
 -- ---- no moment goes untold
@@ -384,10 +345,10 @@ module _ (N w : ℕ) (h : Memory) (fit : Fit N w h) where
 
   pub collection-sticks-none :
       (b : ℕ) → isFirst N h b ≡ true → countOf N w h b < capacity w → countOf N w (answer N w h collect .1) b < capacity w
-  unfolding answer freeing
+  unfolding outcome freeing Passed
   collection-sticks-none b was low =
       let left : Memory = settled N (collected N w h) in
-      let answered = ap (λ (x : Answer). countOf N w (x .1) b) (on-undamaged N w h fit (freeing N h (collected N w h) 0)) in
+      let answered = ap (λ (x : Answer). countOf N w (x .1) b) (fit-accepted N w h fit collect tt) in
       let bounded = count-lt (N / 8) w (left .counts) b in
       elim (test-cases (isFirst N left b)) [
         | inl is ↦ elim (ℕ-discrete (countOf N w left b) (capacity w)) [

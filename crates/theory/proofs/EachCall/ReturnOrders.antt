@@ -2,21 +2,21 @@
 -- go of the same slots, and by `same-end` such runs end alike. And it is refused exactly where a bit lies past the roots.
 use mathlib.Core.Path.{_≡_, refl, sym, ap, _∙_, subst}
 use mathlib.Core.Logic.{_↔_, inl, inr}
-use mathlib.Core.Bool.{Bool, true, false}
+use mathlib.Core.Bool.{Bool, true, false, not}
 use mathlib.Core.List.{List, [], _∷_}
 use Prim.Native.Nat.{ℕ, _+_, _-_, _/_, _^_, _≤_, _<_}
 use native.Mathlib.Decide.{decLt}
 use native.Mathlib.Omega.{arith}
-use lib.Dec.{ltb}
 use lib.ListN.{length, getD, replicate}
-use borrow.Author.Tests.{lt-ltb, eqb-true, eqb-false}
+use borrow.Author.Tests.{eqb-true, eqb-false}
 use Rattle.bitmap.specs.Bit.{bitOf, one, zeros}
 use Rattle.bitmap.proofs.Bits.{bit-lt, bits-past, some-bit-past}
-use Rattle.rules.specs.Heap.{Memory, capacity, isRef, withWaiting, withSections}
+use Rattle.rules.specs.Tools.{firstNumber}
+use Rattle.rules.specs.Heap.{Memory, capacity, withWaiting, withSections}
 use Rattle.rules.specs.Sections.{figures}
 use Rattle.rules.specs.Store.{storeRootIn, storeSticks, chosenBelow, returnIn}
-use Rattle.rules.specs.Calls.{storeRoot, returnRoots, Answer, require, settled, freeing, answer, run, lastMemory}
-use Rattle.rules.proofs.Tests.{require-true, require-passed}
+use Rattle.rules.specs.Calls.{storeRoot, returnRoots, Answer, ownRefusals, settled, freeing, outcome, answer, run, lastMemory}
+use Rattle.rules.proofs.Replies.{number-is, accepted-none, accepted-outcome, Passed, passed}
 use Rattle.theory.specs.Returns.{freedInAll, clearedSingly, EachOnce, SameAsSingly}
 use Rattle.theory.proofs.Graphs.Occurrences.{equals-same, equals-cases, occurrences, occurrences-nil, occurrences-cons}
 use Rattle.theory.proofs.Graphs.Order.{same-end}
@@ -26,7 +26,7 @@ use Rattle.theory.proofs.Memories.Healthy.{Healthy}
 use Rattle.theory.proofs.Memories.Fit.{Listed, Fit}
 use Rattle.theory.proofs.Memories.SameView.{same-memory}
 use Rattle.theory.proofs.Memories.Stores.{positive}
-use Rattle.theory.proofs.EachCall.Served.{on-undamaged}
+use Rattle.theory.proofs.EachCall.Accepted.{fit-number, fit-accepted}
 use Rattle.theory.proofs.EachCall.Clearing.{none-ref, Cleared, cleared-none, cleared-then, cleared-settled, root-cleared, InSet, returned}
 
 -- ---- roots cleared singly
@@ -34,11 +34,8 @@ use Rattle.theory.proofs.EachCall.Clearing.{none-ref, Cleared, cleared-
 clear-answered :
     (N w : ℕ) (g : Memory) → Fit N w g → (r : ℕ) → r < length (g .roots)
     → answer N w g (storeRoot r 0) ≡ freeing N g (storeRootIn N w g r 0) (one (storeSticks N w (g .counts) (getD (g .roots) r 0) 0))
-unfolding answer
-clear-answered N w g fit r l =
-    on-undamaged N w g fit _
-    ∙ require-true (ltb r (length (g .roots))) 4 g _ (lt-ltb r (length (g .roots)) l)
-    ∙ require-true (isRef N g 0) 8 g _ (none-ref N g)
+unfolding outcome Passed
+clear-answered N w g fit r l = fit-accepted N w g fit (storeRoot r 0) (l, none-ref N g)
 
 -- root i stands in the list
 abbrev Ordered : List ℕ → ℕ → Type 0
@@ -151,31 +148,28 @@ module _ (N w : ℕ) (h : Memory) (fit : Fit N w h) (chosen : ℕ) (passed : cho
 -- ---- accepted and refused
 
 module _ (N w : ℕ) (h : Memory) (fit : Fit N w h) (chosen : ℕ) where
-  abbrev done : Answer
-  done = freeing N h (returnIn N w h chosen (length (h .roots))) 0
-
   abbrev test : Bool
   test = chosenBelow chosen (length (h .roots))
 
-  tested : answer N w h (returnRoots chosen) ≡ require test 4 h done
-  unfolding answer
-  tested = on-undamaged N w h fit (require test 4 h done)
-
   pub same-as-singly :
       answer N w h (returnRoots chosen) .0 .number ≡ 0 → (order : List ℕ) → EachOnce chosen order → SameAsSingly N w h chosen order
+  unfolding outcome Passed
   same-as-singly accepted order each =
-      let passes : test ≡ true = require-passed test 4 h done (omega arith) (ap (λ (x : Answer). x .0 .number) (sym tested) ∙ accepted) in
+      let passes : test ≡ true = passed N w h (returnRoots chosen) (accepted-none N w h (returnRoots chosen) accepted) in
       return-is N w h fit chosen (eqb-true (chosen / 2 ^ length (h .roots)) 0 passes) order each
-      (tested ∙ require-true test 4 h done passes)
+      (accepted-outcome N w h (returnRoots chosen) accepted)
 
   pub return-refused : (answer N w h (returnRoots chosen) .0 .number ≡ 4) ↔ ((r : ℕ) × (length (h .roots) ≤ r) × (bitOf chosen r ≡ 1))
-  unfolding freeing require
-  return-refused = rw tested (there test refl, back test refl)
+  unfolding ownRefusals firstNumber
+  return-refused = rw (number-is N w h (returnRoots chosen) ∙ fit-number N w h fit (returnRoots chosen)) (there test refl, back test refl)
     where
-      there : (t : Bool) → test ≡ t → require t 4 h done .0 .number ≡ 4 → (r : ℕ) × (length (h .roots) ≤ r) × (bitOf chosen r ≡ 1)
+      number : Bool → ℕ
+      number t = firstNumber ((4, not t) ∷ [])
+
+      there : (t : Bool) → test ≡ t → number t ≡ 4 → (r : ℕ) × (length (h .roots) ≤ r) × (bitOf chosen r ≡ 1)
       there true e z = absurd (omega arith)
       there false e z = some-bit-past chosen (length (h .roots)) (eqb-false (chosen / 2 ^ length (h .roots)) 0 e)
 
-      back : (t : Bool) → test ≡ t → (r : ℕ) × (length (h .roots) ≤ r) × (bitOf chosen r ≡ 1) → require t 4 h done .0 .number ≡ 4
+      back : (t : Bool) → test ≡ t → (r : ℕ) × (length (h .roots) ≤ r) × (bitOf chosen r ≡ 1) → number t ≡ 4
       back true e (r, l, b) = absurd (omega (arith, bits-past chosen (length (h .roots)) r (eqb-true (chosen / 2 ^ length (h .roots)) 0 e) l))
       back false e q = refl

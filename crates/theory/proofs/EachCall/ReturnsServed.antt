@@ -14,7 +14,6 @@ use Rattle.rules.specs.Store.{isChosen, returnIn}
 use Rattle.rules.specs.Calls.{returnRoots, settled, freeing}
 use Rattle.rules.proofs.Objects.{first-facts}
 use Rattle.theory.specs.Words.{Object, rootsWithout, written, stored}
-use Rattle.theory.specs.Demand.{Collects}
 use Rattle.rules.proofs.Tabulate.{length-tabulate, getD-tabulate}
 use Rattle.theory.proofs.Maps.Extents.{sizesOf}
 use Rattle.theory.proofs.Graphs.Graph.{size, slot}
@@ -26,7 +25,7 @@ use Rattle.theory.proofs.Memories.Slots.{root-slot, cell-slot, slot-cas
 use Rattle.theory.proofs.Memories.Healthy.{Healthy, view-count}
 use Rattle.theory.proofs.Memories.Leads.{object-size, size-object, leads-reach}
 use Rattle.theory.proofs.Memories.Stores.{positive}
-use Rattle.theory.proofs.EachCall.Served.{Served, settled-healthy}
+use Rattle.theory.proofs.EachCall.Served.{no-collection, Served, settled-healthy}
 use Rattle.theory.proofs.EachCall.Clearing.{Cleared, InSet, returned}
 
 -- what one place holds once the roots of the set are made 0
@@ -82,7 +81,7 @@ module _ (N w : ℕ) (h : Memory) (healthy : Healthy N w h) (chosen : ℕ) where
   all = returned N w h healthy chosen (length (h .roots)) (omega arith)
 
   pub return-served : Served N w (returnRoots chosen) h (freeing N h end 0)
-  unfolding freeing stored written Collects
+  unfolding freeing stored written
   return-served =
       record {
         keep = settled-healthy N w end (all .healthy);
@@ -96,7 +95,7 @@ module _ (N w : ℕ) (h : Memory) (healthy : Healthy N w h) (chosen : ℕ) where
             let is : size (view N w end) b ≡ n = kept ∙ was .0 in
             subst (λ (m : ℕ). Object N (settled N end) b m) is
             (size-object N (settled N end) (sizesOf N (end .a) (end .b)) (all .healthy .represents) b (λ z. was .1 (sym is ∙ z)));
-        collects = tt;
+        collects = no-collection (returnRoots chosen) refl;
         sticks = λ b n was is low top.
             let in-heap : b < N = first-facts N (h .a) (h .b) b (was .first) .inside in
             absurd

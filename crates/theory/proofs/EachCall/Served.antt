@@ -1,22 +1,20 @@
 -- What is asked of one call on a healthy memory, and that it holds of every call that frees and stores nothing: one that is refused, the
 -- check, the number of free blocks and the look, which leave the memory as it was, and the format.
-use mathlib.Core.Path.{_≡_, refl, sym, _∙_, subst}
+use mathlib.Core.Path.{_≡_, refl, sym, ap, _∙_}
 use mathlib.Core.Logic.{_≢_}
-use mathlib.Core.Bool.{Bool, true, false}
+use mathlib.Core.Bool.{Bool, true, false, true≢false}
 use Prim.Native.Nat.{ℕ, _<_}
 use native.Mathlib.Omega.{arith}
 use lib.ListN.{length, getD, length-replicate}
 use Rattle.rules.specs.Heap.{Memory, capacity, countOf}
 use Rattle.rules.specs.Store.{formatted}
-use Rattle.rules.specs.Calls.{Call, format, check, collect, freeBlocks, allocate, storeRoot, storeCell, look, returnRoots, Answer, reply, accepted, refused, require, onUndamaged, settled}
+use Rattle.rules.specs.Calls.{Call, format, check, collect, freeBlocks, allocate, storeRoot, storeCell, look, returnRoots, Answer, reply, accepted, refused, settled}
 use Rattle.theory.specs.Words.{Object, Leads, root, cell, written, stored}
 use Rattle.theory.specs.Stuck.{Wrote}
 use Rattle.theory.specs.Demand.{NoEarlyFree, Collects}
 use Rattle.rules.specs.declared.Reply.{Reply}
-use Rattle.rules.proofs.Replies.{on-undamaged-next}
 use Rattle.rules.proofs.TrueList.{length-figures}
 use Rattle.theory.proofs.Memories.Healthy.{Healthy}
-use Rattle.theory.proofs.Memories.Fit.{Fit, fit-undamaged}
 use Rattle.theory.proofs.Memories.ViewRelease.{reshaped}
 use Rattle.theory.proofs.Memories.Formatted.{zeros-at, no-object, formatted-healthy}
 
@@ -24,6 +22,21 @@ use Rattle.theory.proofs.Memories.Formatted.{zeros-at, no-object, forma
 abbrev pub Sticks : ℕ → ℕ → Call → Memory → Reply → Memory → Type 0
 Sticks N w c h x g =
     (b n : ℕ) → Object N h b n → Object N g b n → countOf N w h b < capacity w → countOf N w g b ≡ capacity w → Wrote N w b c h x
+
+-- of another call `Collects` says nothing
+abbrev pub collecting : Call → Bool
+collecting collect = true
+collecting format = false
+collecting check = false
+collecting freeBlocks = false
+collecting (allocate n r) = false
+collecting (storeRoot r v) = false
+collecting (storeCell a j v) = false
+collecting (look a) = false
+collecting (returnRoots chosen) = false
+
+pub no-collection : {A : Type 0} (c : Call) → collecting c ≡ false → c ≡ collect → A
+no-collection c other is = absurd (true≢false (ap collecting (sym is) ∙ other))
 
 -- call c on memory h, answered with x
 pub record Served (N w : ℕ) (c : Call) (h : Memory) (x : Answer) : Type 0 where
@@ -60,46 +73,18 @@ module _ (N w : ℕ) (h : Memory) (healthy : Healthy N w h) where
         sticks = λ b n was is low top. absurd (omega arith);
       }
 
-  pub refused-served : (c : Call) (number : ℕ) → number ≢ 0 → Served N w c h (refused h number)
-  unfolding Collects
-  refused-served collect number nonzero = unchanged collect (reply number 0 0) (λ accepted. absurd (nonzero accepted))
-  refused-served format number nonzero = unchanged format (reply number 0 0) tt
-  refused-served check number nonzero = unchanged check (reply number 0 0) tt
-  refused-served freeBlocks number nonzero = unchanged freeBlocks (reply number 0 0) tt
-  refused-served (allocate n r) number nonzero = unchanged (allocate n r) (reply number 0 0) tt
-  refused-served (storeRoot r v) number nonzero = unchanged (storeRoot r v) (reply number 0 0) tt
-  refused-served (storeCell a j v) number nonzero = unchanged (storeCell a j v) (reply number 0 0) tt
-  refused-served (look a) number nonzero = unchanged (look a) (reply number 0 0) tt
-  refused-served (returnRoots chosen) number nonzero = unchanged (returnRoots chosen) (reply number 0 0) tt
-
-  pub require-served :
-      {c : Call} {next : Answer} (test : Bool) (number : ℕ) → number ≢ 0 → (test ≡ true → Served N w c h next)
-      → Served N w c h (require test number h next)
-  unfolding require
-  require-served true number nonzero served = served refl
-  require-served {c} false number nonzero served = refused-served c number nonzero
+  pub refused-served : (c : Call) (number : ℕ) → number ≢ 0 → Served N w c h (refused N w h number)
+  refused-served c number nonzero = unchanged c _ (λ _ accepted. absurd (nonzero accepted))
 
   -- ---- the format
 
   pub format-served : Served N w format h (accepted (formatted N w (length (h .roots))) 0)
-  unfolding stored written Collects
+  unfolding stored written
   format-served =
       record {
         keep = formatted-healthy N w h (healthy .shape);
         no-early-free = λ b n object leads.
             absurd (no-roots N (stored h format (reply 0 0 0)) (λ r. zeros-at (length (h .roots)) r) leads);
-        collects = tt;
+        collects = no-collection format refl;
         sticks = λ b n was is low top. absurd (no-object N w h (healthy .shape) b (is .first));
       }
-
--- ---- the tests of the heap
-
--- a fit memory is refused by none of them
-pub on-undamaged : (N w : ℕ) (h : Memory) → Fit N w h → (next : Answer) → onUndamaged N w h next ≡ next
-on-undamaged N w h fit next =
-    let u = fit-undamaged N w h fit in
-    on-undamaged-next N w h next (u .right-shape) (u .no-damage) (u .true-list)
-
-pub on-undamaged-served :
-    (N w : ℕ) (h : Memory) → Fit N w h → {c : Call} {next : Answer} → Served N w c h next → Served N w c h (onUndamaged N w h next)
-on-undamaged-served N w h fit {c} {next} served = subst (λ (x : Answer). Served N w c h x) (sym (on-undamaged N w h fit next)) served

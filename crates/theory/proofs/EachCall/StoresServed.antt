@@ -18,7 +18,6 @@ use Rattle.rules.specs.Store.{placed, putRoot, putCell, changeRoot, changeCell,
 use Rattle.rules.specs.Calls.{Call, allocate, storeRoot, storeCell, reply, settled, freeing}
 use Rattle.theory.specs.Words.{Object, numberOfReferences, written, stored}
 use Rattle.theory.specs.Stuck.{writes}
-use Rattle.theory.specs.Demand.{Collects}
 use Rattle.rules.specs.declared.Reply.{Reply}
 use Rattle.rules.proofs.Objects.{first-facts}
 use Rattle.theory.proofs.Maps.Extents.{Represents, sizesOf, length-sizes-of}
@@ -39,7 +38,7 @@ use Rattle.theory.proofs.Memories.Healthy.{Aligned, Healthy, view-count
 use Rattle.theory.proofs.Memories.Soundness.{all-references}
 use Rattle.theory.proofs.Memories.Leads.{object-size, size-object, leads-reach}
 use Rattle.rules.proofs.TrueList.{length-figures}
-use Rattle.theory.proofs.EachCall.Served.{Served, settled-healthy}
+use Rattle.theory.proofs.EachCall.Served.{collecting, no-collection, Served, settled-healthy}
 use Rattle.theory.proofs.Memories.ViewMoves.{set-append-right}
 use Rattle.theory.proofs.Memories.ViewRelease.{reshaped, Shows}
 use Rattle.theory.proofs.Memories.Stores.{positive, slots-length, ref-object, store-root, same-size, cell-place, cell-inside, store-cell, room-vacant, allocate-root}
@@ -116,12 +115,12 @@ module _ (N w : ℕ) (h : Memory) (healthy : Healthy N w h) where
         (sym (ap (λ (k : Graph). count k b) (shows .view-is)) ∙ view-count N w g b in-heap ∙ top)
 
   -- a store of the value present
-  same-served : (c : Call) (x : Reply) → Collects N w c h x (settled N h) → Served N w c h (x, settled N h)
-  same-served c x collects =
+  same-served : (c : Call) (x : Reply) → collecting c ≡ false → Served N w c h (x, settled N h)
+  same-served c x other =
       record {
         keep = settled-healthy N w h healthy;
         no-early-free = λ b n object leads. record { first = object .first; size = object .size };
-        collects = collects;
+        collects = no-collection c other;
         sticks = λ b n was is low top. absurd (omega arith);
       }
 
@@ -160,7 +159,7 @@ module _ (N w : ℕ) (h : Memory) (healthy : Healthy N w h) where
 
     change-root-served :
         (second : ℕ) → getD (h .roots) r 0 ≢ v → Served N w (storeRoot r v) h (freeing N h (changeRoot N w h r v) second)
-    unfolding changeRoot putRoot freeing stored written writes Collects
+    unfolding changeRoot putRoot freeing stored written writes
     change-root-served second new =
         let shows = store-root N w h healthy v ref r l .shows in
         record {
@@ -169,7 +168,7 @@ module _ (N w : ℕ) (h : Memory) (healthy : Healthy N w h) where
               store-object v ref r (inl l) (changeRoot N w h r v) shows b n object
               (rw (length-set (h .roots) r v, ← set-append-left (h .roots) (h .cells) r v l)
               at (leads-reach N (withRoots (set (h .roots) r v) h) (sizesOf N (h .a) (h .b)) (healthy .represents) leads));
-          collects = tt;
+          collects = no-collection (storeRoot r v) refl;
           sticks = λ b n was is low top.
               let found =
               store-sticks v ref r (inl l) (changeRoot N w h r v) shows (omega (arith, slots-length N w h healthy))
@@ -178,12 +177,12 @@ module _ (N w : ℕ) (h : Memory) (healthy : Healthy N w h) where
         }
 
     pub storeRoot-served : (second : ℕ) → Served N w (storeRoot r v) h (freeing N h (storeRootIn N w h r v) second)
-    unfolding storeRootIn freeing Collects
+    unfolding storeRootIn freeing
     storeRoot-served second = go (eqb (getD (h .roots) r 0) v) refl
       where
         go : (t : Bool) → eqb (getD (h .roots) r 0) v ≡ t
             → Served N w (storeRoot r v) h (freeing N h (elim t [ true ↦ h | false ↦ changeRoot N w h r v ]) second)
-        go true e = same-served (storeRoot r v) (reply 0 (zeros (h .a) - zeros (h .a)) second) tt
+        go true e = same-served (storeRoot r v) (reply 0 (zeros (h .a) - zeros (h .a)) second) refl
         go false e = change-root-served second (eqb-false (getD (h .roots) r 0) v e)
 
   -- ---- a cell
@@ -208,7 +207,7 @@ module _ (N w : ℕ) (h : Memory) (healthy : Healthy N w h) where
 
     change-cell-served :
         (second : ℕ) → getD (h .cells) c 0 ≢ v → Served N w (storeCell a j v) h (freeing N h (changeCell N w h c v) second)
-    unfolding changeCell putCell freeing stored written writes Collects
+    unfolding changeCell putCell freeing stored written writes
     change-cell-served second new =
         let shows = store-cell N w h healthy v ref a j first l .shows in
         let slot-i = cell-place N w h healthy a j first l in
@@ -219,7 +218,7 @@ module _ (N w : ℕ) (h : Memory) (healthy : Healthy N w h) where
               store-object v ref i slot-i (changeCell N w h c v) shows b n object
               (rw (← set-append-right (h .roots) (h .cells) c v)
               at (leads-reach N (withCells (set (h .cells) c v) h) (sizesOf N (h .a) (h .b)) (healthy .represents) leads));
-          collects = tt;
+          collects = no-collection (storeCell a j v) refl;
           sticks = λ b n was is low top.
               let found =
               store-sticks v ref i slot-i (changeCell N w h c v) shows (cell-inside N w h healthy a j first l)
@@ -228,12 +227,12 @@ module _ (N w : ℕ) (h : Memory) (healthy : Healthy N w h) where
         }
 
     pub storeCell-served : (second : ℕ) → Served N w (storeCell a j v) h (freeing N h (storeCellIn N w h c v) second)
-    unfolding storeCellIn freeing Collects
+    unfolding storeCellIn freeing
     storeCell-served second = go (eqb (getD (h .cells) c 0) v) refl
       where
         go : (t : Bool) → eqb (getD (h .cells) c 0) v ≡ t
             → Served N w (storeCell a j v) h (freeing N h (elim t [ true ↦ h | false ↦ changeCell N w h c v ]) second)
-        go true e = same-served (storeCell a j v) (reply 0 (zeros (h .a) - zeros (h .a)) second) tt
+        go true e = same-served (storeCell a j v) (reply 0 (zeros (h .a) - zeros (h .a)) second) refl
         go false e = change-cell-served second (eqb-false (getD (h .cells) c 0) v e)
 
   -- ---- the allocation
@@ -264,7 +263,7 @@ module _ (N w : ℕ) (h : Memory) (healthy : Healthy N w h) where
         omega (arith, place-found .free b (omega arith) (omega arith), healthy .represents .used b b (omega arith) (omega (arith, was)))
 
     pub allocate-served : (second : ℕ) → Served N w (allocate n root) h (reply 0 i second, settled N (allocateIn N w h n root i))
-    unfolding allocateIn putRoot placed graph.allocate stored written Collects
+    unfolding allocateIn putRoot placed graph.allocate stored written
     allocate-served second =
         let cap : ℕ = capacity w in
         let r : ℕ = length (h .roots) in
@@ -285,7 +284,7 @@ module _ (N w : ℕ) (h : Memory) (healthy : Healthy N w h) where
               (allocate-keeps cap pos r (view N w h) (healthy .whole) i n root vacant l b (old-object b m object)
               (rw (length-set (h .roots) root (1 + i), ← set-append-left (h .roots) (h .cells) root (1 + i) l, named)
               at (leads-reach N (withRoots (set (h .roots) root (1 + i)) h) (sizesOf N (h .a) (h .b)) (healthy .represents) leads)));
-          collects = tt;
+          collects = no-collection (allocate n root) refl;
           sticks = λ b m was is low top.
               let in-heap : b < N = first-facts N (h .a) (h .b) b (was .first) .inside in
               absurd

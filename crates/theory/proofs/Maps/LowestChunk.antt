@@ -1,7 +1,8 @@
 -- The search for the lowest free chunk finds it, or no chunk is free; and what an allocation makes of either.
 use mathlib.Core.Path.{_≡_, refl, sym, ap, _∙_}
-use mathlib.Core.Logic.{_⊎_, inl, inr}
-use mathlib.Core.List.{List}
+use mathlib.Core.Logic.{_⊎_, _↔_, inl, inr}
+use mathlib.Core.Bool.{not}
+use mathlib.Core.List.{List, [], _∷_}
 use mathlib.Core.Option.{Option, none, some}
 use Prim.Native.Nat.{ℕ, zero, suc, _+_, _*_, _/_, _%_, _^_, _≤_, _<_}
 use native.Mathlib.Nat.{suc-mul, zero-mul, div-add-mod', le-div-iff-mul-le, mul-mod-left, lt-of-mul-lt-mul-right}
@@ -9,8 +10,8 @@ use native.Mathlib.Numerals.{add-one}
 use native.Mathlib.Decide.{ℕ-discrete}
 use native.Mathlib.Omega.{arith}
 use lib.Pow.{pow-pos}
-use Rattle.rules.specs.Heap.{Memory, exponent, chunkFree, lowestFrom, lowestFree}
-use Rattle.rules.specs.Calls.{allocation}
+use Rattle.rules.specs.Heap.{exponent, chunkFree, lowestFrom, lowestFree}
+use Rattle.rules.specs.Tools.{isSome, firstNumber}
 use Rattle.rules.proofs.Tests.{test-cases}
 use Rattle.rules.proofs.Chunks.{exponent-covers, Free, chunk-free, chunk-used, free-not-used}
 use Rattle.theory.specs.Statements.{UsedChunk, NoneFree, Lowest}
@@ -79,22 +80,16 @@ module _ (N k : ℕ) (a : List ℕ) where
   pub none-lowest : NoneFree N k a → lowestFree N k a ≡ none
   none-lowest h = elim lowest-cases [ inl f ↦ absurd (not-none (f .0) (f .1) h) | inr m ↦ m .1 ]
 
+  -- number 5 applies exactly where no chunk of its size is free
+  pub five-exactly : (firstNumber ((5, not (isSome (lowestFree N k a))) ∷ []) ≡ 5) ↔ NoneFree N k a
+  unfolding firstNumber isSome
+  five-exactly = (λ e. lowest-none (none-of (lowestFree N k a) e), λ f. rw (none-lowest f))
+    where
+      none-of : (o : Option ℕ) → firstNumber ((5, not (isSome o)) ∷ []) ≡ 5 → o ≡ none
+      none-of none q = refl
+      none-of (some i) q = absurd (omega arith)
+
 -- ---- an allocation with nothing else wrong
-
--- it is refused, with number 5, exactly when no chunk of its size is free
-pub refused-none-free : (N w : ℕ) (h : Memory) (n r : ℕ)
-    → allocation N w h n r (lowestFree N (exponent n) (h .a)) .0 .number ≡ 5 → NoneFree N (exponent n) (h .a)
-unfolding allocation
-refused-none-free N w h n r e = lowest-none N (exponent n) (h .a) (none-of (lowestFree N (exponent n) (h .a)) e)
-  where
-    none-of : (o : Option ℕ) → allocation N w h n r o .0 .number ≡ 5 → o ≡ none
-    none-of none q = refl
-    none-of (some i) q = absurd (omega arith)
-
-pub none-free-refused : (N w : ℕ) (h : Memory) (n r : ℕ)
-    → NoneFree N (exponent n) (h .a) → allocation N w h n r (lowestFree N (exponent n) (h .a)) .0 .number ≡ 5
-unfolding allocation
-none-free-refused N w h n r f = rw (none-lowest N (exponent n) (h .a) f)
 
 -- where it is accepted, its extent is aligned, inside the heap, and on free blocks, so that it keeps clear of the others (`clear-of`)
 pub record Room (N : ℕ) (a : List ℕ) (n i : ℕ) : Type 0 where

@@ -15,7 +15,7 @@ use Rattle.rules.specs.Heap.{Memory, capacity, countOf, isFree, isLast, isFirst
 use Rattle.rules.specs.Tools.{someBelow}
 use Rattle.rules.specs.Damage.{endOnFree, openEnd, unaligned, badCell, badRoot, badCount, damage}
 use Rattle.rules.proofs.Tests.{test-cases, and-true, true-and, and-false, false-and, or-false, false-or, some-false, false-some}
-use Rattle.rules.proofs.Tests.{done, also, kind-at, kinds-absent}
+use Rattle.rules.proofs.Tests.{done, also, first-at, first-none}
 use Rattle.rules.proofs.Shape.{Shaped}
 use Rattle.rules.proofs.Objects.{bit-cases, bit-one, one-bit, first-facts}
 use Rattle.theory.proofs.Maps.Extents.{Delimited, Represents, sizesOf}
@@ -196,7 +196,7 @@ damage-facts N w h e = record {
   where
     absent : (i : ℕ) → getD (kinds N w h) i (0, false) .1 ≡ false
     absent =
-        kind-at (kinds N w h)
+        first-at (kinds N w h)
         (also (omega arith) (also (omega arith) (also (omega arith) (also (omega arith) (also (omega arith) done))))) e
 
     slots : (someBelow (badCell N h) (4 * N) ≡ false) × (someBelow (badRoot N h) (length (h .roots)) ≡ false)
@@ -208,7 +208,7 @@ damage-facts N w h e = record {
 pub damage-test : (N w : ℕ) (h : Memory) → DamageFree N w h → damage N w h ≡ 0
 unfolding damage badRoot
 damage-test N w h u =
-    kinds-absent (kinds N w h)
+    first-none (kinds N w h)
     (also (false-some (endOnFree h) N (λ i l. kind1-test N w h i (u .delimited .end-used i l)))
     (also (false-some (openEnd N h) N (λ i l. kind2-test N w h i (u .delimited .goes-on i l)))
     (also (false-some (unaligned N h) N (λ i l. kind3-test N w h i (u .aligned i)))

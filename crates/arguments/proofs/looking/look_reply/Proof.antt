@@ -5,7 +5,6 @@ use native.Mathlib.Omega.{arith}
 use borrow.Author.Needs.{needs}
 use borrow.Author.Tests.{not-true, not-false}
 use Rattle.rules.specs.Heap.{firstIn}
-use Rattle.rules.specs.Calls.{require}
 use Rattle.rules.proofs.Objects.{first-facts}
 use Rattle.arguments.specs.Replies.{lookReply}
 use Rattle.arguments.proofs.looking.look_reply.Statement.{statement}
@@ -24,10 +23,10 @@ refusal-requires : tie.Need-refusal-requires
 refusal-requires c κs = search needs
 
 returns : tie.Need-returns
-unfolding lookReply require
+unfolding lookReply
 returns c =
     let fails = sym (c .before .before .is-first .ensures) ∙ not-true _ (c .before .if1 .taken) in
-    rw (fails, lookReply, require) (c .refusal .ensures)
+    rw (fails, lookReply) (c .refusal .ensures)
 
 object-size-requires : tie.Need-object-size-requires
 object-size-requires c κs = omega (arith, first-facts _ _ _ _ (first c) .inside)
@@ -39,11 +38,11 @@ cast-t11 : tie.Need-cast-t11
 cast-t11 c = search needs
 
 returns-2 : tie.Need-returns-2
-unfolding lookReply require
+unfolding lookReply
 returns-2 c =
     let found = c .before .object-size .ensures .0 in
     let count = c .get-count .ensures .0 in
-    rw (first (c .before .before), lookReply, require) (λ i. record { number = 0; value = found i; second = count i })
+    rw (first (c .before .before), lookReply) (λ i. record { number = 0; value = found i; second = count i })
 
 pub look-reply-spec : {M : Type 1} → statement M
 look-reply-spec =

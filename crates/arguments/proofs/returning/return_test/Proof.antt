@@ -5,6 +5,7 @@ use lib.Pow.{shr-lt}
 use native.Mathlib.Omega.{arith}
 use borrow.Author.Needs.{needs}
 use borrow.Author.Tests.{eq-eqb, ne-eqb}
+use Rattle.rules.specs.Tools.{firstNumber}
 use Rattle.arguments.specs.Replies.{returnTest}
 use Rattle.arguments.proofs.returning.return_test.Statement.{statement}
 use Rattle.arguments.proofs.returning.return_test.Tie as tie
@@ -13,13 +14,13 @@ acceptance-requires : tie.Need-acceptance-requires
 acceptance-requires c κs = search needs
 
 returns : tie.Need-returns
-unfolding returnTest
+unfolding returnTest firstNumber
 returns c =
     let args = c .before .before .args in
     let all : args .roots ≡ 64 = omega arith in
     let word : args .chosen < 2 ^ (0 + 64) = omega arith in
     let fits : args .chosen < 2 ^ (0 + args .roots) = subst (λ (n : ℕ). args .chosen < 2 ^ (0 + n)) (sym all) word in
-    rw (eq-eqb (args .chosen / 2 ^ args .roots) 0 (omega (arith, shr-lt 0 (args .roots) fits)), returnTest) (c .acceptance .ensures)
+    rw (eq-eqb (args .chosen / 2 ^ args .roots) 0 (omega (arith, shr-lt 0 (args .roots) fits)), returnTest, firstNumber) (c .acceptance .ensures)
 
 shr-if2 : tie.Need-shr-if2
 shr-if2 c = search needs
@@ -28,19 +29,19 @@ refusal-requires : tie.Need-refusal-requires
 refusal-requires c κs = search needs
 
 returns-2 : tie.Need-returns-2
-unfolding returnTest
+unfolding returnTest firstNumber
 returns-2 c =
     let args = c .before .before .before .args in
-    rw (ne-eqb (args .chosen / 2 ^ args .roots) 0 (c .before .if2 .taken), returnTest) (c .refusal .ensures)
+    rw (ne-eqb (args .chosen / 2 ^ args .roots) 0 (c .before .if2 .taken), returnTest, firstNumber) (c .refusal .ensures)
 
 acceptance-requires-2 : tie.Need-acceptance-requires-2
 acceptance-requires-2 c κs = search needs
 
 returns-3 : tie.Need-returns-3
-unfolding returnTest
+unfolding returnTest firstNumber
 returns-3 c =
     let args = c .before .before .before .args in
-    rw (eq-eqb (args .chosen / 2 ^ args .roots) 0 (omega (arith, c .before .if2 .left)), returnTest) (c .acceptance2 .ensures)
+    rw (eq-eqb (args .chosen / 2 ^ args .roots) 0 (omega (arith, c .before .if2 .left)), returnTest, firstNumber) (c .acceptance2 .ensures)
 
 pub return-test-spec : {M : Type 1} → statement M
 return-test-spec =

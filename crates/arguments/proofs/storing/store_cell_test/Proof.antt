@@ -7,9 +7,10 @@ use lib.Dec.{ltb}
 use borrow.Author.Needs.{needs}
 use borrow.Author.Tests.{le-ltb, lt-ltb, not-true, not-false}
 use Rattle.rules.specs.Heap.{firstIn, sizeFrom}
-use Rattle.rules.specs.Calls.{require}
+use Rattle.rules.specs.Tools.{firstNumber}
+use Rattle.rules.specs.Calls.{ownRefusals}
 use Rattle.rules.proofs.Objects.{first-facts}
-use Rattle.arguments.specs.Replies.{storeCellTest}
+use Rattle.arguments.specs.Replies.{ownTest}
 use Rattle.arguments.proofs.storing.store_cell_test.Statement.{statement}
 use Rattle.arguments.proofs.storing.store_cell_test.Tie as tie
 
@@ -35,10 +36,10 @@ refusal-requires : tie.Need-refusal-requires
 refusal-requires c κs = search needs
 
 returns : tie.Need-returns
-unfolding storeCellTest require
+unfolding ownTest ownRefusals firstNumber
 returns c =
     let fails = sym (c .before .before .is-first .ensures) ∙ not-true _ (c .before .if1 .taken) in
-    rw (fails, storeCellTest, require) (c .refusal .ensures)
+    rw (fails, ownTest, ownRefusals, firstNumber) (c .refusal .ensures)
 
 object-size-requires : tie.Need-object-size-requires
 object-size-requires c κs = omega (arith, first-facts _ _ _ _ (first c) .inside)
@@ -50,12 +51,12 @@ refusal-requires-2 : tie.Need-refusal-requires-2
 refusal-requires-2 c κs = search needs
 
 returns-2 : tie.Need-returns-2
-unfolding storeCellTest require
+unfolding ownTest ownRefusals firstNumber
 returns-2 c =
     let args = c .before .before .before .before .before .before .before .args in
     let size = c .before .before .object-size .ensures .0 in
     let past = le-ltb (args .j) (4 * sizeFrom (args .blocks - args .at) (args .b .now) (args .at)) (omega arith) in
-    rw (first (c .before .before .before), past, storeCellTest, require) (c .refusal2 .ensures)
+    rw (first (c .before .before .before), past, ownTest, ownRefusals, firstNumber) (c .refusal2 .ensures)
 
 is-reference-requires : tie.Need-is-reference-requires
 is-reference-requires c κs = search needs
@@ -64,21 +65,21 @@ refusal-requires-3 : tie.Need-refusal-requires-3
 refusal-requires-3 c κs = search needs
 
 returns-3 : tie.Need-returns-3
-unfolding storeCellTest require
+unfolding ownTest ownRefusals firstNumber
 returns-3 c =
     let else2 = c .before .before .before in
     let fails = sym (c .before .before .is-reference .ensures) ∙ not-true _ (c .before .if3 .taken) in
-    rw (first (else2 .before .before), inside else2, fails, storeCellTest, require) (c .refusal3 .ensures)
+    rw (first (else2 .before .before), inside else2, fails, ownTest, ownRefusals, firstNumber) (c .refusal3 .ensures)
 
 acceptance-requires : tie.Need-acceptance-requires
 acceptance-requires c κs = search needs
 
 returns-4 : tie.Need-returns-4
-unfolding storeCellTest require
+unfolding ownTest ownRefusals firstNumber
 returns-4 c =
     let else2 = c .before .before .before in
     let passes = sym (c .before .before .is-reference .ensures) ∙ not-false _ (c .before .if3 .left) in
-    rw (first (else2 .before .before), inside else2, passes, storeCellTest, require) (c .acceptance .ensures)
+    rw (first (else2 .before .before), inside else2, passes, ownTest, ownRefusals, firstNumber) (c .acceptance .ensures)
 
 pub store-cell-test-spec : {M : Type 1} → statement M
 store-cell-test-spec =

@@ -6,8 +6,9 @@ use lib.Dec.{ltb}
 use lib.ListN.{length}
 use borrow.Author.Needs.{needs}
 use borrow.Author.Tests.{le-ltb, lt-ltb, not-true, not-false}
-use Rattle.rules.specs.Calls.{require}
-use Rattle.arguments.specs.Replies.{storeRootTest}
+use Rattle.rules.specs.Tools.{firstNumber}
+use Rattle.rules.specs.Calls.{ownRefusals}
+use Rattle.arguments.specs.Replies.{ownTest}
 use Rattle.arguments.proofs.storing.store_root_test.Statement.{statement}
 use Rattle.arguments.proofs.storing.store_root_test.Tie as tie
 
@@ -21,10 +22,10 @@ refusal-requires : tie.Need-refusal-requires
 refusal-requires c κs = search needs
 
 returns : tie.Need-returns
-unfolding storeRootTest require
+unfolding ownTest ownRefusals firstNumber
 returns c =
     let args = c .before .before .before .before .before .args in
-    rw (le-ltb (args .r) (length (args .roots .now)) (omega arith), storeRootTest, require) (c .refusal .ensures)
+    rw (le-ltb (args .r) (length (args .roots .now)) (omega arith), ownTest, ownRefusals, firstNumber) (c .refusal .ensures)
 
 is-reference-requires : tie.Need-is-reference-requires
 is-reference-requires c κs = search needs
@@ -33,19 +34,19 @@ refusal-requires-2 : tie.Need-refusal-requires-2
 refusal-requires-2 c κs = search needs
 
 returns-2 : tie.Need-returns-2
-unfolding storeRootTest require
+unfolding ownTest ownRefusals firstNumber
 returns-2 c =
     let fails = sym (c .before .before .is-reference .ensures) ∙ not-true _ (c .before .if2 .taken) in
-    rw (inside (c .before .before .before), fails, storeRootTest, require) (c .refusal2 .ensures)
+    rw (inside (c .before .before .before), fails, ownTest, ownRefusals, firstNumber) (c .refusal2 .ensures)
 
 acceptance-requires : tie.Need-acceptance-requires
 acceptance-requires c κs = search needs
 
 returns-3 : tie.Need-returns-3
-unfolding storeRootTest require
+unfolding ownTest ownRefusals firstNumber
 returns-3 c =
     let passes = sym (c .before .before .is-reference .ensures) ∙ not-false _ (c .before .if2 .left) in
-    rw (inside (c .before .before .before), passes, storeRootTest, require) (c .acceptance .ensures)
+    rw (inside (c .before .before .before), passes, ownTest, ownRefusals, firstNumber) (c .acceptance .ensures)
 
 pub store-root-test-spec : {M : Type 1} → statement M
 store-root-test-spec =

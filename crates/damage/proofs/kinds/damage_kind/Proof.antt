@@ -5,7 +5,7 @@ use Prim.Native.Nat.{_*_}
 use native.Mathlib.Omega.{arith}
 use lib.ListN.{length}
 use Rattle.rules.specs.Heap.{Memory, lentMemory}
-use Rattle.rules.specs.Tools.{someBelow, firstKind}
+use Rattle.rules.specs.Tools.{someBelow, firstNumber}
 use Rattle.rules.specs.Damage.{endOnFree, openEnd, unaligned, badCell, badRoot, badCount, damage}
 use Rattle.damage.proofs.References.{cells-within, roots-within}
 use Rattle.rules.proofs.Shape.{Shaped, shape-facts}
@@ -118,51 +118,51 @@ has-end-on-free-requires : tie.Need-has-end-on-free-requires
 has-end-on-free-requires c κs = let len = right (c .before .before .before .before .before .before .before) in omega arith
 
 returns : tie.Need-returns
-unfolding damage firstKind
+unfolding damage firstNumber
 returns c =
-    rw (sym (test-1 (c .before)) ∙ c .if1 .taken, damage, firstKind)
+    rw (sym (test-1 (c .before)) ∙ c .if1 .taken, damage, firstNumber)
 
 has-open-end-requires : tie.Need-has-open-end-requires
 has-open-end-requires c κs = let len = right (start-1 (c .before)) in omega arith
 
 returns-2 : tie.Need-returns-2
-unfolding damage firstKind
+unfolding damage firstNumber
 returns-2 c =
     let c1 = c .before .before in
-    rw (fails-1 c1, sym (test-2 (c .before)) ∙ c .if2 .taken, damage, firstKind)
+    rw (fails-1 c1, sym (test-2 (c .before)) ∙ c .if2 .taken, damage, firstNumber)
 
 has-unaligned-requires : tie.Need-has-unaligned-requires
 has-unaligned-requires c κs = let len = right (start-2 (c .before)) in omega arith
 
 returns-3 : tie.Need-returns-3
-unfolding damage firstKind
+unfolding damage firstNumber
 returns-3 c =
     let c2 = c .before .before in
     let c1 = c2 .before .before in
-    rw (fails-1 c1, fails-2 c2, sym (test-3 (c .before)) ∙ c .if3 .taken, damage, firstKind)
+    rw (fails-1 c1, fails-2 c2, sym (test-3 (c .before)) ∙ c .if3 .taken, damage, firstNumber)
 
 has-bad-cell-requires : tie.Need-has-bad-cell-requires
 has-bad-cell-requires c κs = let len = right (start-3 (c .before)) in omega arith
 
 returns-4 : tie.Need-returns-4
-unfolding damage firstKind
+unfolding damage firstNumber
 returns-4 c =
     let c3 = c .before .before in
     let c2 = c3 .before .before in
     let c1 = c2 .before .before in
-    rw (fails-1 c1, fails-2 c2, fails-3 c3, sym (test-4 (c .before)) ∙ c .if4 .taken, damage, firstKind)
+    rw (fails-1 c1, fails-2 c2, fails-3 c3, sym (test-4 (c .before)) ∙ c .if4 .taken, damage, firstNumber)
 
 has-bad-root-requires : tie.Need-has-bad-root-requires
 has-bad-root-requires c κs = let len = right (start-4 (c .before)) in omega arith
 
 returns-5 : tie.Need-returns-5
-unfolding damage firstKind
+unfolding damage firstNumber
 returns-5 c =
     let c4 = c .before .before in
     let c3 = c4 .before .before in
     let c2 = c3 .before .before in
     let c1 = c2 .before .before in
-    rw (fails-1 c1, fails-2 c2, fails-3 c3, fails-4 c4, sym (test-5 (c .before)) ∙ c .if5 .taken, damage, firstKind)
+    rw (fails-1 c1, fails-2 c2, fails-3 c3, fails-4 c4, sym (test-5 (c .before)) ∙ c .if5 .taken, damage, firstNumber)
 
 has-bad-count-requires : tie.Need-has-bad-count-requires
 has-bad-count-requires c κs =
@@ -184,24 +184,24 @@ has-bad-count-requires c κs =
     )
 
 returns-6 : tie.Need-returns-6
-unfolding damage firstKind
+unfolding damage firstNumber
 returns-6 c =
     let c5 = c .before .before in
     let c4 = c5 .before .before in
     let c3 = c4 .before .before in
     let c2 = c3 .before .before in
     let c1 = c2 .before .before in
-    rw (fails-1 c1, fails-2 c2, fails-3 c3, fails-4 c4, fails-5 c5, sym (test-6 (c .before)) ∙ c .if6 .taken, damage, firstKind)
+    rw (fails-1 c1, fails-2 c2, fails-3 c3, fails-4 c4, fails-5 c5, sym (test-6 (c .before)) ∙ c .if6 .taken, damage, firstNumber)
 
 returns-7 : tie.Need-returns-7
-unfolding damage firstKind
+unfolding damage firstNumber
 returns-7 c =
     let c5 = c .before .before in
     let c4 = c5 .before .before in
     let c3 = c4 .before .before in
     let c2 = c3 .before .before in
     let c1 = c2 .before .before in
-    rw (fails-1 c1, fails-2 c2, fails-3 c3, fails-4 c4, fails-5 c5, fails-6 c, damage, firstKind)
+    rw (fails-1 c1, fails-2 c2, fails-3 c3, fails-4 c4, fails-5 c5, fails-6 c, damage, firstNumber)
 
 pub damage-kind-spec : {M : Type 1} → statement M
 damage-kind-spec =
