@@ -1,6 +1,7 @@
 -- The run, turn by turn: what is left of the machine's run after some calls is its run on the calls that are left, from the memory that
 -- stands.
 use mathlib.Core.Path.{_≡_, refl, sym, ap, _∙_, subst}
+use mathlib.Core.Bool.{true}
 use mathlib.Core.List.{List, [], _∷_, _++_, append-assoc}
 use Prim.Native.Nat.{ℕ, suc, _+_, _-_, _*_, _/_, _≤_, _<_}
 use native.Mathlib.Omega.{arith}
@@ -12,11 +13,10 @@ use Rattle.rules.specs.declared.Reply.{Reply}
 use Rattle.inner.specs.Usable.{Usable}
 use Rattle.inner.proofs.Kept.{usable-kept}
 use Rattle.encoding.specs.Encoding.{callAt, callsFrom, callsIn, replyWords, isCallAt}
-use Rattle.dispatch.specs.Steps.{Stepped}
 use Rattle.encoding.specs.Words.{wordsAt, withReply}
-use mathlib.Core.Bool.{true}
 use Rattle.encoding.specs.declared.words.Words.{Words}
 use Rattle.encoding.proofs.Replies.{taken-with-reply, dropped-with-reply, length-with-reply}
+use Rattle.dispatch.specs.Steps.{Stepped}
 use Rattle.replay.specs.Run.{AsRun}
 
 -- ---- the calls left
