@@ -11,9 +11,11 @@ use crate::heap::MAP_BYTES;
 use crate::heap::ROOTS;
 use crate::heap::SECTIONS;
 use crate::heap::WIDTH;
-use crate::run::Outcome;
+use crate::run::Turn;
 use blocks::Ref;
+use figures::tally;
 
+// Runs the pieces until the input ends or the run is stopped, which the limit of its records makes sure of.
 fn main() {
     let mut a = [0u8; MAP_BYTES];
     let mut b = [0u8; MAP_BYTES];
@@ -33,18 +35,26 @@ fn main() {
         &mut waiting,
         &mut sections,
     );
-    let outcome = run::run_pieces(
-        &mut a,
-        &mut b,
-        &mut counts,
-        &mut cells,
-        &mut roots,
-        &mut waiting,
-        &mut sections,
-    );
-    match outcome {
-        Outcome::Ran(run) => output::print_line(run),
-        Outcome::ReadFailed => output::complain(b"report: a read of standard input failed\n"),
-        Outcome::HeapRefused => output::complain(b"report: the heap was refused\n"),
+    let mut run = tally::new_run();
+    loop {
+        let turn = run::run_piece(
+            run,
+            &mut a,
+            &mut b,
+            &mut counts,
+            &mut cells,
+            &mut roots,
+            &mut waiting,
+            &mut sections,
+        );
+        match turn {
+            Turn::GoesOn(next) => {
+                run = next;
+            }
+            Turn::Ends(outcome) => {
+                output::tell(outcome);
+                return;
+            }
+        }
     }
 }

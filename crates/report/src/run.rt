@@ -1,4 +1,4 @@
-// The run over the whole input, piece by piece.
+// A run over a piece of the input.
 ghost use Rattle.report.specs.Turns.{Further};
 use crate::heap::BLOCKS;
 use crate::heap::CELLS;
@@ -10,7 +10,6 @@ use crate::heap::WIDTH;
 use crate::input;
 use crate::input::PIECE;
 use blocks::Ref;
-use figures::tally;
 use figures::tally::Run;
 
 // What came of the input: the run at its end; a read that failed; a heap that was refused, which a formatted one never is.
@@ -27,7 +26,7 @@ pub enum Turn {
 }
 
 // Reads a piece, and runs its records. A piece that is not full is the last.
-fn run_piece(
+pub fn run_piece(
     run: Run,
     a: &mut [u8; MAP_BYTES],
     b: &mut [u8; MAP_BYTES],
@@ -69,28 +68,4 @@ fn run_piece(
         return Turn::Ends(Outcome::Ran(next));
     }
     Turn::GoesOn(next)
-}
-
-// Runs the pieces until the input ends or the run is stopped, which the limit of its records makes sure of.
-pub fn run_pieces(
-    a: &mut [u8; MAP_BYTES],
-    b: &mut [u8; MAP_BYTES],
-    counts: &mut [u8; COUNT_BYTES],
-    cells: &mut [Ref; CELLS],
-    roots: &mut [Ref; ROOTS],
-    waiting: &mut [Ref; BLOCKS],
-    sections: &mut [Ref; SECTIONS],
-) -> Outcome {
-    let mut run = tally::new_run();
-    loop {
-        let turn = run_piece(run, a, b, counts, cells, roots, waiting, sections);
-        match turn {
-            Turn::GoesOn(next) => {
-                run = next;
-            }
-            Turn::Ends(outcome) => {
-                return outcome;
-            }
-        }
-    }
 }

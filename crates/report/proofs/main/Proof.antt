@@ -6,8 +6,8 @@ use Rattle.figures.specs.declared.tally.Run.{Run}
 use Rattle.figures.specs.Figures.{mostRecords}
 use Rattle.report.proofs.Pieces.{goes-further}
 use borrow.Author.Needs.{needs}
-use Rattle.report.proofs.run.run_pieces.Statement.{statement}
-use Rattle.report.proofs.run.run_pieces.Tie as tie
+use Rattle.report.proofs.main.Statement.{statement}
+use Rattle.report.proofs.main.Tie as tie
 
 abbrev Inv-loop : tie.InvT-loop
 Inv-loop a₀ b₀ counts₀ cells₀ roots₀ waiting₀ sections₀ run₀ a b counts cells roots waiting sections run = run .records ≤ mostRecords
@@ -15,17 +15,8 @@ Inv-loop a₀ b₀ counts₀ cells₀ roots₀ waiting₀ sections₀ run₀ a b
 abbrev μ-loop : tie.MeasureT-loop
 μ-loop a₀ b₀ counts₀ cells₀ roots₀ waiting₀ sections₀ run₀ a b counts cells roots waiting sections run = mostRecords - run .records
 
-new-run-requires : tie.Need-new-run-requires Inv-loop μ-loop
-new-run-requires c κs = search needs
-
 loop-holds : tie.Need-loop-holds Inv-loop μ-loop
 loop-holds c = omega (arith, ap (λ (r : Run). r .records) (c .new-run .ensures))
-
-run-piece-requires : tie.Need-run-piece-requires Inv-loop μ-loop
-run-piece-requires c κs = search needs
-
-enum-known-turn : tie.Need-enum-known-turn Inv-loop μ-loop
-enum-known-turn c = search needs
 
 loop-less : tie.Need-loop-less Inv-loop μ-loop
 loop-less c =
@@ -35,23 +26,26 @@ loop-less c =
 loop-again : tie.Need-loop-again Inv-loop μ-loop
 loop-again c = goes-further _ _ (c .before .turn .given .1) (c .before .before .before .run-piece .ensures) .1
 
-enum-known-turn-2 : tie.Need-enum-known-turn-2 Inv-loop μ-loop
-enum-known-turn-2 c = search needs
-
-returns : tie.Need-returns Inv-loop μ-loop
-returns c = search needs
-
-pub run-pieces-spec : {M : Type 1} → statement M
-run-pieces-spec =
+pub main-spec : {M : Type 1} → statement M
+main-spec =
     tie.close
     (tie.spec
     Inv-loop
     μ-loop
-    new-run-requires
+    (λ c. search needs)
+    (λ c. search needs)
+    (λ c. search needs)
+    (λ c. search needs)
+    (λ c. search needs)
+    (λ c. search needs)
+    (λ c. search needs)
+    (λ c κs. search needs)
+    (λ c κs. search needs)
     loop-holds
-    run-piece-requires
-    enum-known-turn
+    (λ c κs. search needs)
+    (λ c. search needs)
     loop-less
     loop-again
-    enum-known-turn-2
-    returns)
+    (λ c. search needs)
+    (λ c κs. search needs)
+    (λ c. search needs))
