@@ -1,5 +1,5 @@
 -- What a list of calls passes, and what an accepted one has passed.
-use mathlib.Core.Path.{_≡_, refl, ap}
+use mathlib.Core.Path.{_≡_, ap}
 use mathlib.Core.Bool.{Bool, true, false, not}
 use mathlib.Core.List.{List}
 use Prim.Native.Nat.{ℕ, _*_, _/_, _%_, _≤_, _<_}
@@ -8,10 +8,9 @@ use lib.ListN.{length}
 use lib.Dec.{leb, eqb}
 use borrow.Author.Tests.{leb-true, not-true, not-false}
 use Rattle.rules.specs.Tools.{someBelow}
-use Rattle.rules.specs.declared.Reply.{Reply}
-use Rattle.rules.proofs.Tests.{true-some, some-false, false-some}
+use Rattle.rules.proofs.Tests.{true-some, some-false, false-some, first-not}
 use Rattle.encoding.specs.Encoding.{isCallAt, areCalls}
-use Rattle.encoding.specs.Refusals.{unlessFails, replyOn}
+use Rattle.encoding.specs.Refusals.{listRefusals, replyOn}
 
 pub calls-pass : (words : List ℕ) (n : ℕ) → ((i : ℕ) → i < n → isCallAt words i ≡ true) → areCalls words n ≡ true
 unfolding areCalls
@@ -30,13 +29,6 @@ call-at words n e i l =
 
 -- ---- the reply
 
-next-passed :
-    (test : Bool) (number : ℕ) (next : Reply) → (number ≡ 0 → ⊥) → unlessFails test number next .number ≡ 0
-    → (test ≡ true) × (next .number ≡ 0)
-unfolding unlessFails
-next-passed true number next some e = (refl, e)
-next-passed false number next some e = absurd (some e)
-
 -- what an accepted replay has passed
 pub record Passed (shape : Bool) (words : List ℕ) (room : ℕ) : Type 0 where
   pub right-shape : shape ≡ true
@@ -44,11 +36,11 @@ pub record Passed (shape : Bool) (words : List ℕ) (room : ℕ) : Type 0 where
   pub enough-room : 3 * (length words / 4) ≤ room
 
 pub accepted-passed : (shape : Bool) (words : List ℕ) (room : ℕ) → replyOn shape words room .number ≡ 0 → Passed shape words room
-unfolding replyOn
+unfolding replyOn listRefusals
 accepted-passed shape words room e =
     let n : ℕ = length words / 4 in
-    let fits = next-passed shape 1 _ (omega arith) e in
-    let whole = next-passed (eqb (length words % 4) 0) 10 _ (omega arith) (fits .1) in
-    let calls = next-passed (areCalls words n) 9 _ (omega arith) (whole .1) in
-    let enough = next-passed (leb (3 * n) room) 18 _ (omega arith) (calls .1) in
+    let fits = first-not 1 shape _ (omega arith) e in
+    let whole = first-not 10 (eqb (length words % 4) 0) _ (omega arith) (fits .1) in
+    let calls = first-not 9 (areCalls words n) _ (omega arith) (whole .1) in
+    let enough = first-not 18 (leb (3 * n) room) _ (omega arith) (calls .1) in
     record { right-shape = fits .0; calls = calls .0; enough-room = leb-true (3 * n) room (enough .0) }

@@ -18,6 +18,7 @@ use Rattle.rules.proofs.Replies.{refused-with, accepted-none, Passed, undamaged
 use Rattle.theory.specs.Statements.{Undamaged}
 use Rattle.theory.proofs.Memories.Fit.{undamaged-fit}
 use Rattle.theory.proofs.EachCall.Accepted.{fit-accepted}
+use Rattle.rules.proofs.Promised.{promised}
 use Rattle.arguments.specs.Replies.{lookReply}
 use Rattle.arguments.proofs.Passed.{look-answered}
 

@@ -1,9 +1,8 @@
 -- A replay starts from a heap as format leaves it: the inner calls can use it, and demand 3 holds of every list that is run from it.
 use mathlib.Core.Path.{_≡_, refl, sym, ap, _∙_, subst}
-use mathlib.Core.Bool.{Bool, true, false}
+use mathlib.Core.Bool.{true}
 use mathlib.Core.List.{List, [], _∷_, _++_}
 use Prim.Native.Nat.{ℕ, _*_, _/_}
-use native.Mathlib.Omega.{arith}
 use lib.ListN.{length, drop}
 use Rattle.rules.specs.Heap.{Memory, shaped}
 use Rattle.rules.specs.Store.{formatted}
@@ -19,7 +18,7 @@ use Rattle.theory.proofs.Theorems.{calls-keep-undamaged, format-makes-undamaged
 use Rattle.inner.specs.Usable.{Usable}
 use Rattle.encoding.specs.Encoding.{callsIn, replyWords}
 use Rattle.replay.specs.Run.{AsRun}
-use Rattle.encoding.specs.Refusals.{unlessFails, replyOn}
+use Rattle.encoding.proofs.Calls.{accepted-passed}
 use Rattle.replay.specs.Replay.{Ran, ReplayIsCalls}
 
 module _ (N w : ℕ) (lent : Memory) (fits : shaped N w lent ≡ true) where
@@ -90,11 +89,12 @@ replayed N w lent words replies {x} {start} {after} {replies′} fits promise do
 -- ---- a replay in a list of public calls
 
 pub replay-is-calls : ReplayIsCalls
-unfolding outcome replyOn unlessFails lastMemory
+unfolding outcome lastMemory
 replay-is-calls N w left h words replies x after replies′ finds done taken =
     let ran = done .ran taken in
     let empty : Memory = formatted N w (length (h .roots)) in
-    let fits : shaped N w h ≡ true = right-shape (shaped N w h) refl (ap (λ (r : Reply). r .number) (sym (done .reply-is)) ∙ taken) in
+    let fits : shaped N w h ≡ true =
+    accepted-passed (shaped N w h) words (length replies) (ap (λ (r : Reply). r .number) (sym (done .reply-is)) ∙ taken) .right-shape in
     let formatting : answer N w h format ≡ accepted empty 0 = format-accepted N w h fits in (
       record { call = format; before = h; reply = reply 0 0 0; after = empty } ∷ ran .made,
       ap (λ (l : List Call). format ∷ l) (ran .calls-are),
@@ -103,7 +103,3 @@ replay-is-calls N w left h words replies x after replies′ finds done taken =
           (ran .chain),
       ran .left-is,
     )
-  where
-    right-shape : (t : Bool) → shaped N w h ≡ t → replyOn t words (length replies) .number ≡ 0 → t ≡ true
-    right-shape true e accepted-it = refl
-    right-shape false e accepted-it = absurd (omega (arith, accepted-it))

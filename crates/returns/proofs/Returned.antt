@@ -9,7 +9,7 @@ use borrow.Author.Tests.{eq-eqb, ne-eqb}
 use Rattle.bitmap.specs.Bit.{bitOf, zeros}
 use Rattle.rules.specs.Heap.{Memory, withWaiting, withSections}
 use Rattle.rules.specs.Store.{storeRootIn, chosenBelow, clearChosen, returnIn}
-use Rattle.rules.specs.Calls.{returnRoots, storeRoot, reply, Answer, ownRefusals, settled, freeing, outcome, answer}
+use Rattle.rules.specs.Calls.{returnRoots, storeRoot, reply, Answer, settled, freeing, outcome, answer}
 use Rattle.rules.specs.Promise.{Promise}
 use Rattle.rules.specs.declared.Reply.{Reply}
 use Rattle.rules.proofs.Replies.{Passed, passed-own}

@@ -1,5 +1,5 @@
 -- `mutate::format` meets its contract: refused for its shape, or written.
-use mathlib.Core.Path.{refl, sym, _∙_}
+use mathlib.Core.Path.{sym, _∙_}
 use borrow.Author.Needs.{needs}
 use borrow.Author.Tests.{not-true, not-false}
 use Rattle.formatter.proofs.Formatted.{format-refused}

@@ -6,9 +6,10 @@ use native.Mathlib.Omega.{arith}
 use lib.ListN.{length}
 use borrow.Author.Needs.{needs}
 use borrow.Author.Tests.{not-true, not-false, le-leb, lt-leb, eq-eqb, ne-eqb}
+use Rattle.rules.specs.Tools.{firstNumber}
 use Rattle.rules.specs.Heap.{shape}
 use Rattle.encoding.specs.Encoding.{areCalls}
-use Rattle.encoding.specs.Refusals.{unlessFails, replyOn}
+use Rattle.encoding.specs.Refusals.{listRefusals, replyOn}
 use Rattle.encoding.proofs.tests.replay_reply.Statement.{statement}
 use Rattle.encoding.proofs.tests.replay_reply.Tie as tie
 
@@ -31,18 +32,18 @@ refusal-requires : tie.Need-refusal-requires
 refusal-requires c κs = search needs
 
 returns : tie.Need-returns
-unfolding replyOn unlessFails
+unfolding replyOn listRefusals firstNumber
 returns c =
     let fails = sym (c .before .before .is-shaped .ensures) ∙ not-true _ (c .before .if1 .taken) in
-    rw (fails, replyOn, unlessFails) (c .refusal .ensures)
+    rw (fails, replyOn, listRefusals, firstNumber) (c .refusal .ensures)
 
 refusal-requires-2 : tie.Need-refusal-requires-2
 refusal-requires-2 c κs = search needs
 
 returns-2 : tie.Need-returns-2
-unfolding replyOn unlessFails
+unfolding replyOn listRefusals firstNumber
 returns-2 c =
-    rw (shaped (c .before .before), ne-eqb _ 0 (c .before .if2 .taken), replyOn, unlessFails) (c .refusal2 .ensures)
+    rw (shaped (c .before .before), ne-eqb _ 0 (c .before .if2 .taken), replyOn, listRefusals, firstNumber) (c .refusal2 .ensures)
 
 are-calls-requires : tie.Need-are-calls-requires
 are-calls-requires c κs = search needs
@@ -51,17 +52,17 @@ refusal-requires-3 : tie.Need-refusal-requires-3
 refusal-requires-3 c κs = search needs
 
 returns-3 : tie.Need-returns-3
-unfolding replyOn unlessFails
+unfolding replyOn listRefusals firstNumber
 returns-3 c =
     let fails = sym (c .before .before .are-calls .ensures) ∙ not-true _ (c .before .if3 .taken) in
-    rw (shaped (c .before .before .before .before), eq-eqb _ 0 (c .before .before .before .if2 .left), fails, replyOn, unlessFails)
+    rw (shaped (c .before .before .before .before), eq-eqb _ 0 (c .before .before .before .if2 .left), fails, replyOn, listRefusals, firstNumber)
     (c .refusal3 .ensures)
 
 refusal-requires-4 : tie.Need-refusal-requires-4
 refusal-requires-4 c κs = search needs
 
 returns-4 : tie.Need-returns-4
-unfolding replyOn unlessFails
+unfolding replyOn listRefusals firstNumber
 returns-4 c =
     let tested = c .before .before in
     let args = tested .before .before .before .before .before .before .args in
@@ -71,14 +72,15 @@ returns-4 c =
       called tested,
       lt-leb (3 * (length (args .calls .now) / 4)) (args .room) (omega arith),
       replyOn,
-      unlessFails,
+      listRefusals,
+      firstNumber,
     ) (c .refusal4 .ensures)
 
 acceptance-requires : tie.Need-acceptance-requires
 acceptance-requires c κs = search needs
 
 returns-5 : tie.Need-returns-5
-unfolding replyOn unlessFails
+unfolding replyOn listRefusals firstNumber
 returns-5 c =
     let tested = c .before .before in
     let args = tested .before .before .before .before .before .before .args in
@@ -88,7 +90,8 @@ returns-5 c =
       called tested,
       le-leb (3 * (length (args .calls .now) / 4)) (args .room) (omega arith),
       replyOn,
-      unlessFails,
+      listRefusals,
+      firstNumber,
     ) (c .acceptance .ensures)
 
 pub replay-reply-spec : {M : Type 1} → statement M
