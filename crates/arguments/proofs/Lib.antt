@@ -1,3 +1,3 @@
-pub mod Places
-pub mod Passed
-pub mod Found
+pub mod SearchReply
+pub mod ArgumentTests
+pub mod AllocationReply

@@ -18,8 +18,8 @@ ownTest N h c = reply (firstNumber (ownRefusals N h c)) 0 0
 abbrev pub storeRootTest : ℕ → Memory → (r v : ℕ) → Reply
 storeRootTest N h r v = ownTest N h (storeRoot r v)
 
-abbrev pub storeCellTest : ℕ → Memory → (a j v : ℕ) → Reply
-storeCellTest N h a j v = ownTest N h (storeCell a j v)
+abbrev pub storeCellTest : ℕ → Memory → (at j v : ℕ) → Reply
+storeCellTest N h at j v = ownTest N h (storeCell at j v)
 
 -- number 0 where the return goes on, or its refusal
 unfoldable pub returnTest : (roots chosen : ℕ) → Reply
@@ -38,4 +38,4 @@ allocateReply N a roots n r =
     ]
 
 unfoldable pub lookReply : ℕ → ℕ → Memory → ℕ → Reply
-lookReply N w h a = elim (isFirst N h a) [ true ↦ reply 0 (sizeAt N h a) (countOf N w h a) | false ↦ reply 6 0 0 ]
+lookReply N w h at = elim (isFirst N h at) [ true ↦ reply 0 (sizeAt N h at) (countOf N w h at) | false ↦ reply 6 0 0 ]

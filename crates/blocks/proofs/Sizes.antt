@@ -10,9 +10,9 @@ use Rattle.rules.proofs.Objects as rules
 use Rattle.rules.specs.Heap.{sizeFrom}
 
 -- no block is left
-pub size-end : (n : ℕ) (b : List ℕ) (i : ℕ) → n ≡ 0 → sizeFrom n b i ≡ 0
+pub size-none : (n : ℕ) (b : List ℕ) (i : ℕ) → n ≡ 0 → sizeFrom n b i ≡ 0
 unfolding sizeFrom
-size-end n b i e = rw (e, sizeFrom)
+size-none n b i e = rw (e, sizeFrom)
 
 -- block i has B bit 0
 pub size-last : (N : ℕ) (b : List ℕ) (i : ℕ) → i < N → bitAt b i ≡ 0 → sizeFrom (N - i) b i ≡ 1

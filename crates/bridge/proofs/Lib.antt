@@ -2,6 +2,6 @@ pub mod ViewMarking
 pub mod CollectorSweep
 pub mod Bytewise
 pub mod CollectorProcedure
-pub mod Freed
+pub mod FreedBlocks
 pub mod ReadyHeap
-pub mod Placed
+pub mod PlacedBlocks

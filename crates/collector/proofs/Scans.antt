@@ -7,10 +7,10 @@ use lib.ListN.{length, getD, set, replicate}
 use Rattle.rules.specs.Heap.{Memory, lentMemory, memory, sizeAt}
 use Rattle.rules.specs.Store.{Work, work}
 use Rattle.references.specs.Stack.{topFirst}
-use Rattle.references.proofs.Counted.{counted-le}
+use Rattle.references.proofs.Counts.{counted-le}
 use Rattle.references.proofs.Stack.{top-first-kept, top-first-pop}
 use Rattle.collector.specs.Mark.{visitEach, scan, markCounts}
-use Rattle.collector.specs.Stack.{MarkStack, unscanned, Marking}
+use Rattle.collector.specs.Stack.{MarkStack, unscanned, AfterVisits}
 
 -- a scan with an empty stack is at its end
 scan-empty : (steps N w : ℕ) (h : Memory) (counts : List ℕ) → scan steps N w h counts [] ≡ counts
@@ -39,7 +39,7 @@ module _ (N w : ℕ) (h : Memory) (counts waiting : List ℕ) (top : ℕ) where
   module _ (result : List ℕ) (before : Leading N w h result counts waiting top) where
     -- the object on top of the stack is scanned
     pub leading-next : 0 < top → (n : ℕ) → n ≡ sizeAt N h (getD waiting (top - 1) 0) → (counts′ waiting′ : List ℕ) (top′ : ℕ)
-        → Marking N w
+        → AfterVisits N w
         (visitEach N w (work counts (topFirst (set waiting (top - 1) 0) (top - 1))) (h .cells) (4 * getD waiting (top - 1) 0) (4 * n))
         (unscanned N w counts (top - 1)) counts′ waiting′ top′
         → Leading N w h result counts′ waiting′ top′

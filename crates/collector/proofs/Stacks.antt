@@ -6,7 +6,7 @@ use native.Mathlib.Decide.{ℕ-discrete}
 use native.Mathlib.Omega.{arith}
 use lib.ListN.{length, getD, set, replicate, length-set}
 use lib.Seq.{getD-set-same, getD-set-other}
-use Rattle.references.proofs.Counted.{counted-le}
+use Rattle.references.proofs.Counts.{counted-le}
 use Rattle.references.proofs.Stack.{stack-empty, stack-emptied}
 use Rattle.collector.specs.Stack.{MarkStack}
 

@@ -20,16 +20,16 @@ use Rattle.rules.specs.Store.{Work, work, countUp}
 use Rattle.references.specs.Ready.{Planes}
 use Rattle.references.specs.Stack.{topFirst, counted}
 use Rattle.references.proofs.Shapes.{planes-same}
-use Rattle.references.proofs.Counted.{counted-le, counted-set}
+use Rattle.references.proofs.Counts.{counted-le, counted-set}
 use Rattle.references.proofs.Stack.{top-first-push}
 use Rattle.collector.specs.Mark.{visit, visitEach}
-use Rattle.collector.specs.Stack.{MarkStack, unscanned, Marking}
+use Rattle.collector.specs.Stack.{MarkStack, unscanned, AfterVisits}
 
 module _ (N w : ℕ) (counts waiting : List ℕ) (v top : ℕ) (p : Planes N w counts) (s : MarkStack N w counts waiting top) where
   -- what a visit has to leave
   abbrev Visited : List ℕ → List ℕ → ℕ → Type 0
   Visited counts′ waiting′ top′ =
-      Marking N w (visit N w (work counts (topFirst waiting top)) v) (unscanned N w counts top) counts′ waiting′ top′
+      AfterVisits N w (visit N w (work counts (topFirst waiting top)) v) (unscanned N w counts top) counts′ waiting′ top′
 
   pub visit-none : v ≡ 0 → Visited counts waiting top
   unfolding visit
@@ -126,9 +126,9 @@ module _ (N w : ℕ) (s : Work) (refs : List ℕ) (j n : ℕ) where
   visit-more = sym (ap (λ (k : ℕ). visitEach N w s refs j k) (add-one n))
 
   pub marking-more : (left : ℕ) (counts waiting : List ℕ) (top : ℕ) (counts′ waiting′ : List ℕ) (top′ : ℕ)
-      → Marking N w (visitEach N w s refs j n) left counts waiting top
-      → Marking N w (visit N w (work counts (topFirst waiting top)) (getD refs (j + n) 0)) (unscanned N w counts top) counts′ waiting′ top′
-      → Marking N w (visitEach N w s refs j (n + 1)) left counts′ waiting′ top′
+      → AfterVisits N w (visitEach N w s refs j n) left counts waiting top
+      → AfterVisits N w (visit N w (work counts (topFirst waiting top)) (getD refs (j + n) 0)) (unscanned N w counts top) counts′ waiting′ top′
+      → AfterVisits N w (visitEach N w s refs j (n + 1)) left counts′ waiting′ top′
   marking-more left counts waiting top counts′ waiting′ top′ before next = record {
     result = next .result ∙ ap (λ (x : Work). visit N w x (getD refs (j + n) 0)) (before .result) ∙ visit-more;
     planes = next .planes;

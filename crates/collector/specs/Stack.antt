@@ -20,7 +20,7 @@ abbrev pub unscanned : ℕ → ℕ → List ℕ → ℕ → ℕ
 unscanned N w counts top = top + (N - counted N w counts)
 
 -- Counts and stack are those of s, with their lengths kept, and `left` blocks can still be scanned.
-pub record Marking (N w : ℕ) (s : Work) (left : ℕ) (counts waiting : List ℕ) (top : ℕ) : Type 0 where
+pub record AfterVisits (N w : ℕ) (s : Work) (left : ℕ) (counts waiting : List ℕ) (top : ℕ) : Type 0 where
   pub result : work counts (topFirst waiting top) ≡ s
   pub planes : Planes N w counts
   pub stack : MarkStack N w counts waiting top

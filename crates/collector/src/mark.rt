@@ -7,7 +7,7 @@ ghost use Rattle.rules.specs.Heap.{memory};
 ghost use Rattle.rules.specs.Store.{work};
 ghost use Rattle.references.specs.Ready.{Planes};
 ghost use Rattle.references.specs.Stack.{topFirst};
-ghost use Rattle.collector.specs.Stack.{MarkStack, unscanned, Marking};
+ghost use Rattle.collector.specs.Stack.{MarkStack, unscanned, AfterVisits};
 ghost use Rattle.collector.specs.Mark.{visit, visitEach, scan, markCounts};
 use blocks::Ref;
 
@@ -22,7 +22,7 @@ fn visit_one(
 ) -> usize
     requires { ⌜ Planes blocks width (now counts) × MarkStack blocks width (now counts) (now waiting) top ⌝ }
     ensures { λ r.
-        ⌜ Marking blocks width (visit blocks width (work (now (counts .entry)) (topFirst (now (waiting .entry)) top)) v)
+        ⌜ AfterVisits blocks width (visit blocks width (work (now (counts .entry)) (topFirst (now (waiting .entry)) top)) v)
         (unscanned blocks width (now (counts .entry)) top) (now (counts .exit)) (now (waiting .exit)) r ⌝ }
 {
     if v == 0 {
@@ -59,7 +59,7 @@ fn visit_each(
     requires { ⌜ Planes blocks width (now counts) × MarkStack blocks width (now counts) (now waiting) top
         × (j + n ≤ length (now refs)) ⌝ }
     ensures { λ r.
-        ⌜ Marking blocks width
+        ⌜ AfterVisits blocks width
         (visitEach blocks width (work (now (counts .entry)) (topFirst (now (waiting .entry)) top)) (now (refs .entry)) j n)
         (unscanned blocks width (now (counts .entry)) top) (now (counts .exit)) (now (waiting .exit)) r ⌝ }
 {

@@ -11,9 +11,9 @@ use Rattle.rules.proofs.Replies.{Passed}
 use Rattle.rules.proofs.Promised.{promised}
 use Rattle.theory.proofs.EachCall.Accepted.{fit-accepted}
 use Rattle.arguments.specs.Replies.{lookReply}
-use Rattle.arguments.proofs.Passed.{look-answered}
+use Rattle.arguments.proofs.ArgumentTests.{look-answered}
 use Rattle.inner.specs.Usable.{Usable}
-use Rattle.inner.proofs.Idle.{usable-fit}
+use Rattle.inner.proofs.UsableHeap.{usable-fit}
 
 module _ (N w : ℕ) (h : Memory) (usable : Usable N w h) where
   pub check-promise : (r : Reply) → r ≡ reply 0 0 0 → Promise N w check h r h

@@ -6,7 +6,7 @@ use native.Mathlib.Omega.{arith}
 use Rattle.rules.specs.Heap.{Memory, memory}
 use Rattle.inner.specs.Usable.{Usable}
 use Rattle.theory.proofs.Memories.Stores.{roots-named}
-use Rattle.inner.proofs.Idle.{usable-healthy}
+use Rattle.inner.proofs.UsableHeap.{usable-healthy}
 use Rattle.records.specs.declared.Fields.{Fields}
 use Rattle.records.specs.declared.Plan.{Plan}
 use Rattle.records.specs.Meaning.{meaning}

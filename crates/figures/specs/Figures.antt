@@ -43,20 +43,20 @@ countedIn format t = t
 countedIn check t = t
 countedIn freeBlocks t = t
 countedIn (storeRoot r v) t = t
-countedIn (storeCell a j v) t = t
-countedIn (look a) t = t
+countedIn (storeCell at j v) t = t
+countedIn (look at) t = t
 countedIn (returnRoots chosen) t = t
 
 -- "Every store and allocation passes the fact on": it is their second value
 unfoldable pub toldStuck : Call → Reply → Bool
 toldStuck (allocate n r) x = eqb (x .second) 1
 toldStuck (storeRoot r v) x = eqb (x .second) 1
-toldStuck (storeCell a j v) x = eqb (x .second) 1
+toldStuck (storeCell at j v) x = eqb (x .second) 1
 toldStuck format x = false
 toldStuck check x = false
 toldStuck collect x = false
 toldStuck freeBlocks x = false
-toldStuck (look a) x = false
+toldStuck (look at) x = false
 toldStuck (returnRoots chosen) x = false
 
 unfoldable pub momentIn : Bool → Tally → Tally

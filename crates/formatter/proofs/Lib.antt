@@ -1,1 +1,1 @@
-pub mod Formatted
+pub mod FormatPromise

@@ -1,7 +1,7 @@
 pub mod Progress
 pub mod Ends
-pub mod Made
+pub mod CallsMade
 pub mod Pieces
-pub mod Whole
+pub mod WholeRecords
 pub mod TwoCalls
 pub mod Cases

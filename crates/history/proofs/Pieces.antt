@@ -18,7 +18,7 @@ use Rattle.rules.proofs.Replies.{accepted-none, undamaged-passed}
 use Rattle.theory.specs.Statements.{Undamaged}
 use Rattle.theory.specs.Balance.{inUse}
 use Rattle.inner.specs.Usable.{Usable}
-use Rattle.inner.proofs.Idle.{cleared-usable as Idle·cleared-usable, usable-fit}
+use Rattle.inner.proofs.UsableHeap.{cleared-usable as UsableHeap·cleared-usable, usable-fit}
 use Rattle.figures.specs.declared.tally.Run.{Run}
 use Rattle.figures.specs.Figures.{inRange}
 use Rattle.figures.proofs.Ranges.{in-range-within}
@@ -29,7 +29,7 @@ use Rattle.history.specs.Runs.{wholeRecords, ended, ranFrom, ran}
 use Rattle.history.specs.RunBy.{RunBy}
 use Rattle.history.specs.Promised.{runReply, refusal, cleared, Promised}
 use Rattle.history.proofs.Ends.{ended-range}
-use Rattle.history.proofs.Made.{runs-are-calls}
+use Rattle.history.proofs.CallsMade.{runs-are-calls}
 
 -- ---- a piece
 
@@ -109,7 +109,7 @@ module _ (N w : ℕ) (h : Memory) (r : Run) where
           let tests = undamaged-passed N w h check refl (accepted-none N w h check passed) in
           record {
             reply-is = sym (reply-passed passed range (reply 0 0 0) refl);
-            undamaged = record { right-shape = tests .0; no-damage = tests .1; true-list = tests .2 };
+            undamaged = record { intact = record { right-shape = tests .0; no-damage = tests .1 }; true-list = tests .2 };
             range = range;
           }
       | inr out ↦ absurd (nineteen (ap (λ (v : Reply). v .number) (reply-range passed out (reply 19 0 0) refl) ∙ e))
@@ -129,13 +129,13 @@ module _ (N w : ℕ) (h : Memory) (r : Run) (x : Reply) (is : x ≡ runReply N w
   run-range = from .range
 
   ready : Usable N w (cleared N h)
-  ready = Idle·cleared-usable N w h (from .undamaged)
+  ready = UsableHeap·cleared-usable N w h (from .undamaged)
 
   module _ (waiting : List ℕ) (clear : waiting ≡ replicate (length (h .waiting)) 0) where
     is-cleared : cleared N h ≡ withWaiting waiting h
     is-cleared =
         ap (λ (l : List ℕ). withWaiting l h)
-        (ap (λ (n : ℕ). replicate n 0) (sym (shape-facts N w h (from .undamaged .right-shape) .length-waiting)) ∙ sym clear)
+        (ap (λ (n : ℕ). replicate n 0) (sym (shape-facts N w h (from .undamaged .intact .right-shape) .length-waiting)) ∙ sym clear)
 
     pub cleared-usable : Usable N w (withWaiting waiting h)
     cleared-usable = subst (λ (k : Memory). Usable N w k) is-cleared ready

@@ -13,7 +13,7 @@ use Rattle.figures.specs.declared.tally.Run.{Run}
 use Rattle.turns.specs.declared.noting.Running.{Running}
 use Rattle.turns.specs.Turns.{Turn, turnOf, afterTurn}
 use Rattle.turns.specs.Steps.{Going, Stepped}
-use Rattle.turns.proofs.Kept.{turn-usable, after-number}
+use Rattle.turns.proofs.UsableAfterRecord.{turn-usable, after-number}
 use Rattle.history.specs.Runs.{recordAt, ranFrom}
 use Rattle.history.specs.RunBy.{RunBy}
 

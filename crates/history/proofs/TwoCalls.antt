@@ -13,17 +13,17 @@ use Rattle.theory.specs.Statements.{Undamaged}
 use Rattle.theory.specs.Demand.{Finds}
 use Rattle.theory.proofs.Memories.ViewRelease.{reshaped}
 use Rattle.inner.specs.Usable.{Usable}
-use Rattle.inner.proofs.Idle.{cleared-usable, cleared-same}
-use Rattle.inspect.proofs.Checked.{check-passed}
+use Rattle.inner.proofs.UsableHeap.{cleared-usable, cleared-same}
+use Rattle.inspect.proofs.CheckReply.{check-passed}
 use Rattle.records.specs.Records.{recordLength}
 use Rattle.figures.specs.declared.tally.Run.{Run}
 use Rattle.figures.specs.Figures.{inRange}
 use Rattle.history.specs.declared.Ran.{Ran}
 use Rattle.history.specs.Runs.{Came, came, ran}
 use Rattle.history.specs.Promised.{runReply, cleared, Promised, CallsAreOne}
-use Rattle.history.proofs.Made.{run-undamaged, runs-are-calls}
+use Rattle.history.proofs.CallsMade.{run-undamaged, runs-are-calls}
 use Rattle.history.proofs.Pieces.{check-accepted, Accepted, accepted, reply-passed}
-use Rattle.history.proofs.Whole.{pieces-are-whole}
+use Rattle.history.proofs.WholeRecords.{pieces-are-whole}
 
 -- ---- an accepted call
 
@@ -59,14 +59,14 @@ module _ (N w : ℕ) (g found : Memory) (usable : Usable N w g) (finds : Finds N
 
   found-shaped : shaped N w found ≡ true
   found-shaped =
-      let facts = shape-facts N w (cleared N found) (found-cleared .right-shape) in
+      let facts = shape-facts N w (cleared N found) (found-cleared .intact .right-shape) in
       shape-test N w found
       (reshaped N w (cleared N found) found facts refl refl refl refl refl (finds .space ∙ sym (length-replicate N 0)) refl)
 
   found-undamaged : Undamaged N w found
   unfolding damage endOnFree openEnd unaligned badCell badRoot badCount
   found-undamaged =
-      record { right-shape = found-shaped; no-damage = found-cleared .no-damage; true-list = found-cleared .true-list }
+      record { intact = record { right-shape = found-shaped; no-damage = found-cleared .intact .no-damage }; true-list = found-cleared .true-list }
 
   found-accepted : (r : Run) → inRange r ≡ true → runReply N w found r ≡ reply 0 0 0
   found-accepted r range =

@@ -1,6 +1,6 @@
-pub mod Idle
-pub mod Stored
-pub mod Allocated
-pub mod Collected
-pub mod Kept
-pub mod Balanced
+pub mod UsableHeap
+pub mod StoreAnswer
+pub mod AllocationAnswer
+pub mod CollectionAnswer
+pub mod UsableAfterCalls
+pub mod AllocationBlocks

@@ -14,7 +14,7 @@ use Rattle.bitmap.proofs.Bits.{bit-lt, bit-below, bit-top, bits-ext}
 use Rattle.bitmap.proofs.Rewrites.{Rewritten, same, bit}
 use Rattle.bitmap.proofs.Maps.{bit-at-lt, length-set-bit, bit-set-same, bit-set-other, set-bit-there, bytes-set-bit, bit-all-zero, map-ext}
 use Rattle.planes.specs.Plane.{planeBit, countAt, setCount}
-use Rattle.planes.proofs.Places.{plane-bit-inside, same-block, same-plane, plane-of}
+use Rattle.planes.proofs.PlaneBits.{plane-bit-inside, same-block, same-plane, plane-of}
 
 -- ---- the count of a block
 

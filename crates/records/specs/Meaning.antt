@@ -9,5 +9,5 @@ abbrev pub meaning : Plan → Asked
 meaning (Stop number) = stops number
 meaning (Allocate n r) = makes (allocate n r)
 meaning (StoreRoot r v) = makes (storeRoot r v)
-meaning (StoreCell a j v) = makes (storeCell a j v)
+meaning (StoreCell at j v) = makes (storeCell at j v)
 meaning Collect = makes collect

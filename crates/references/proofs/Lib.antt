@@ -1,7 +1,7 @@
 pub mod Shapes
-pub mod Counted
-pub mod Up
+pub mod Counts
+pub mod CountUp
 pub mod Stack
-pub mod Down
-pub mod Freeing
-pub mod Elsewhere
+pub mod CountDown
+pub mod ReleaseLoop
+pub mod OtherBuffers

@@ -8,7 +8,7 @@ use native.Mathlib.Omega.{arith}
 use lib.ListN.{length, getD, set, replicate, length-set, length-replicate}
 use lib.Seq.{getD-set-same, getD-set-other, ext-getD}
 use Rattle.references.specs.Stack.{topFirst, Stack}
-use Rattle.references.proofs.Counted.{counted-le}
+use Rattle.references.proofs.Counts.{counted-le}
 
 -- what is written behind the stack doesn't show
 pub top-first-kept : (waiting : List ℕ) (k n v : ℕ) → n ≤ k → topFirst (set waiting k v) n ≡ topFirst waiting n

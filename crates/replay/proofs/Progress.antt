@@ -11,7 +11,7 @@ use Rattle.rules.specs.Calls.{Call, Answer, answer, run, lastMemory}
 use Rattle.rules.specs.Promise.{Promise}
 use Rattle.rules.specs.declared.Reply.{Reply}
 use Rattle.inner.specs.Usable.{Usable}
-use Rattle.inner.proofs.Kept.{usable-kept}
+use Rattle.inner.proofs.UsableAfterCalls.{usable-kept}
 use Rattle.encoding.specs.Encoding.{callAt, callsFrom, callsIn, replyWords, isCallAt}
 use Rattle.encoding.specs.Words.{wordsAt, withReply}
 use Rattle.encoding.specs.declared.words.Words.{Words}

@@ -59,7 +59,7 @@ made-chain : (N w : ℕ) (h : Memory) → Undamaged N w h → (calls : List Call
 unfolding madeBy
 made-chain N w h fine [] = Chain.none
 made-chain N w h fine (c ∷ calls) =
-    Chain.next (record { same-heap = refl; space = shape-facts N w h (fine .right-shape) .length-waiting })
+    Chain.next (record { same-heap = refl; space = shape-facts N w h (fine .intact .right-shape) .length-waiting })
     (record { reply-is = refl; after-is = refl })
     (made-chain N w (answer N w h c .1) (calls-keep-undamaged N w h fine c) calls)
 

@@ -19,8 +19,8 @@ pub data Call : Type 0 where
   format check collect freeBlocks : Call
   allocate : (n r : ℕ) → Call
   storeRoot : (r v : ℕ) → Call
-  storeCell : (a j v : ℕ) → Call
-  look : (a : ℕ) → Call
+  storeCell : (at j v : ℕ) → Call
+  look : (at : ℕ) → Call
   returnRoots : (chosen : ℕ) → Call
 
 -- a reply, and the memory after the call
@@ -44,8 +44,8 @@ testsHeap collect = true
 testsHeap freeBlocks = true
 testsHeap (allocate n r) = true
 testsHeap (storeRoot r v) = true
-testsHeap (storeCell a j v) = true
-testsHeap (look a) = true
+testsHeap (storeCell at j v) = true
+testsHeap (look at) = true
 testsHeap (returnRoots chosen) = true
 
 -- the call's own numbers, each with whether it applies
@@ -56,8 +56,8 @@ ownRefusals N h (allocate n r) =
 -- "4; 8 if v is neither 0 nor 1 + a first block"
 ownRefusals N h (storeRoot r v) = (4, not (ltb r (length (h .roots)))) ∷ (8, not (isRef N h v)) ∷ []
 -- "6 if a is not a first block (or not below N); 7 if j is not below 4 × size; 8"
-ownRefusals N h (storeCell a j v) = (6, not (isFirst N h a)) ∷ (7, not (ltb j (4 * sizeAt N h a))) ∷ (8, not (isRef N h v)) ∷ []
-ownRefusals N h (look a) = (6, not (isFirst N h a)) ∷ []
+ownRefusals N h (storeCell at j v) = (6, not (isFirst N h at)) ∷ (7, not (ltb j (4 * sizeAt N h at))) ∷ (8, not (isRef N h v)) ∷ []
+ownRefusals N h (look at) = (6, not (isFirst N h at)) ∷ []
 -- request U10: "refused with 4 if any bit is at or past the number of roots"
 ownRefusals N h (returnRoots chosen) = (4, not (chosenBelow chosen (length (h .roots)))) ∷ []
 ownRefusals N h format = []
@@ -94,7 +94,7 @@ settled N h = withSections (figures N (h .a)) (withWaiting (replicate N 0) h)
 unfoldable pub freeing : ℕ → Memory → Memory → (second : ℕ) → Answer
 freeing N h g second = (reply 0 (zeros (g .a) - zeros (h .a)) second, settled N g)
 
--- "Cells of an object are numbered .. beginning with the first cell of its first block": cell j of the object at block a is number 4 * a + j
+-- "Cells of an object are numbered .. beginning with the first cell of its first block": cell j of the object at block `at` is number 4 * at + j
 -- of all cells.
 unfoldable pub outcome : ℕ → ℕ → Memory → Call → Answer
 outcome N w h format = accepted (formatted N w (length (h .roots))) 0
@@ -107,9 +107,9 @@ outcome N w h (allocate n r) =
     (reply 0 i (one (birthSticks w)), settled N (allocateIn N w h n r i))
 outcome N w h (storeRoot r v) =
     freeing N h (storeRootIn N w h r v) (one (storeSticks N w (h .counts) (getD (h .roots) r 0) v))
-outcome N w h (storeCell a j v) =
-    freeing N h (storeCellIn N w h (4 * a + j) v) (one (storeSticks N w (h .counts) (getD (h .cells) (4 * a + j) 0) v))
-outcome N w h (look a) = (reply 0 (sizeAt N h a) (countOf N w h a), h)
+outcome N w h (storeCell at j v) =
+    freeing N h (storeCellIn N w h (4 * at + j) v) (one (storeSticks N w (h .counts) (getD (h .cells) (4 * at + j) 0) v))
+outcome N w h (look at) = (reply 0 (sizeAt N h at) (countOf N w h at), h)
 -- request U10: "Its value is the blocks freed in all."
 outcome N w h (returnRoots chosen) = freeing N h (returnIn N w h chosen (length (h .roots))) 0
 

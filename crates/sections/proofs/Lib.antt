@@ -1,5 +1,5 @@
 pub mod Figures
-pub mod Places
+pub mod SectionPlaces
 pub mod Lists
 pub mod BySections
 pub mod Forget

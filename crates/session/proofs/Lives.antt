@@ -19,7 +19,7 @@ call-first :
     (N w : ℕ) (c : Call) (h : Memory) (x : Reply) (g : Memory) (rest : List Made) → Undamaged N w h → Promise N w c h x g → Chain N w g rest
     → Chain N w h (record { call = c; before = h; reply = x; after = g } ∷ rest)
 call-first N w c h x g rest fine promise chain =
-    Chain.next (record { same-heap = refl; space = shape-facts N w h (fine .right-shape) .length-waiting }) promise chain
+    Chain.next (record { same-heap = refl; space = shape-facts N w h (fine .intact .right-shape) .length-waiting }) promise chain
 
 pub life :
     (N w : ℕ) (h : Memory) (x : Reply) (start : Memory) → Promise N w format h x start → x .number ≡ 0

@@ -40,8 +40,8 @@ allocates check = 0
 allocates collect = 0
 allocates freeBlocks = 0
 allocates (storeRoot r v) = 0
-allocates (storeCell a j v) = 0
-allocates (look a) = 0
+allocates (storeCell at j v) = 0
+allocates (look at) = 0
 allocates (returnRoots chosen) = 0
 
 -- a refused call allocates nothing
@@ -74,7 +74,7 @@ pub record FreedValue (N : ℕ) (h : Memory) (x : Reply) (g : Memory) : Type 0 w
 -- the rest
 pub record FreedAddUp (N w : ℕ) (h : Memory) : Type 0 where
   pub store-root : (r v : ℕ) → let x = answer N w h (storeRoot r v) in x .0 .number ≡ 0 → FreedValue N h (x .0) (x .1)
-  pub store-cell : (a j v : ℕ) → let x = answer N w h (storeCell a j v) in x .0 .number ≡ 0 → FreedValue N h (x .0) (x .1)
+  pub store-cell : (at j v : ℕ) → let x = answer N w h (storeCell at j v) in x .0 .number ≡ 0 → FreedValue N h (x .0) (x .1)
   pub return-roots : (chosen : ℕ) → let x = answer N w h (returnRoots chosen) in x .0 .number ≡ 0 → FreedValue N h (x .0) (x .1)
   pub collection : let x = answer N w h collect in x .0 .number ≡ 0 → FreedValue N h (x .0) (x .1)
   pub allocation :

@@ -19,13 +19,13 @@ use Rattle.theory.specs.Statements.{Undamaged}
 unfoldable pub counted : ℕ → ℕ → Call → Memory → Reply → Memory
 counted N w (allocate n r) h x = placed N w h (x .value) n
 counted N w (storeRoot r v) h x = elim (eqb (getD (h .roots) r 0) v) [ true ↦ h | false ↦ withCounts (countUp N w (h .counts) v) h ]
-counted N w (storeCell a j v) h x =
-    elim (eqb (getD (h .cells) (4 * a + j) 0) v) [ true ↦ h | false ↦ withCounts (countUp N w (h .counts) v) h ]
+counted N w (storeCell at j v) h x =
+    elim (eqb (getD (h .cells) (4 * at + j) 0) v) [ true ↦ h | false ↦ withCounts (countUp N w (h .counts) v) h ]
 counted N w format h x = h
 counted N w check h x = h
 counted N w collect h x = h
 counted N w freeBlocks h x = h
-counted N w (look a) h x = h
+counted N w (look at) h x = h
 counted N w (returnRoots chosen) h x = h
 
 -- "this very step brought the count to the capacity, a birth at width 1 included": the object at b, between the heap h before the call and
@@ -50,7 +50,7 @@ pub record EachTells (N w : ℕ) (h : Memory) : Type 0 where
   pub allocation : (n r : ℕ) → let x = answer N w h (allocate n r) in x .0 .number ≡ 0 → Tells N w (allocate n r) h (x .0) (x .1)
   pub store-root : (r v : ℕ) → let x = answer N w h (storeRoot r v) in x .0 .number ≡ 0 → Tells N w (storeRoot r v) h (x .0) (x .1)
   pub store-cell :
-      (a j v : ℕ) → let x = answer N w h (storeCell a j v) in x .0 .number ≡ 0 → Tells N w (storeCell a j v) h (x .0) (x .1)
+      (at j v : ℕ) → let x = answer N w h (storeCell at j v) in x .0 .number ≡ 0 → Tells N w (storeCell at j v) h (x .0) (x .1)
 
 -- "Every store and allocation passes the fact on". No hypothesis: only an undamaged heap is accepted.
 abbrev pub StuckTold : Type 0

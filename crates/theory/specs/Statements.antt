@@ -24,10 +24,9 @@ pub record Intact (N w : ℕ) (h : Memory) : Type 0 where
   pub right-shape : shaped N w h ≡ true
   pub no-damage : damage N w h ≡ 0
 
--- right shape, no damage and a true list of sections: refused with none of 1, 2 and 11
+-- .. and a true list of sections: refused with none of 1, 2 and 11
 pub record Undamaged (N w : ℕ) (h : Memory) : Type 0 where
-  pub right-shape : shaped N w h ≡ true
-  pub no-damage : damage N w h ≡ 0
+  pub intact : Intact N w h
   pub true-list : staleFigures N (h .a) (h .sections) ≡ false
 
 -- "the proved fact that calls keep a heap undamaged"; a format makes one

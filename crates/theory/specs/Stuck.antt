@@ -12,12 +12,12 @@ use Rattle.theory.specs.Words.{Object, numberOfReferences, stored, Made,
 unfoldable pub writes : Call → Reply → ℕ
 writes (allocate n r) x = 1 + x .value
 writes (storeRoot r v) x = v
-writes (storeCell a j v) x = v
+writes (storeCell at j v) x = v
 writes format x = 0
 writes check x = 0
 writes collect x = 0
 writes freeBlocks x = 0
-writes (look a) x = 0
+writes (look at) x = 0
 writes (returnRoots chosen) x = 0
 
 -- "wrote a reference after which, before that call let anything go, the object had at least that many references": what the call wrote

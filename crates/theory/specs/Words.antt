@@ -49,11 +49,11 @@ unfoldable pub written : Memory → Call → Reply → Memory
 written h format x = withCells (replicate (length (h .cells)) 0) (withRoots (replicate (length (h .roots)) 0) h)
 written h (allocate n r) x = withRoots (set (h .roots) r (1 + x .value)) h
 written h (storeRoot r v) x = withRoots (set (h .roots) r v) h
-written h (storeCell a j v) x = withCells (set (h .cells) (4 * a + j) v) h
+written h (storeCell at j v) x = withCells (set (h .cells) (4 * at + j) v) h
 written h check x = h
 written h collect x = h
 written h freeBlocks x = h
-written h (look a) x = h
+written h (look at) x = h
 written h (returnRoots chosen) x = withRoots (rootsWithout chosen (h .roots)) h
 
 -- a refused call stores nothing

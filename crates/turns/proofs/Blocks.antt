@@ -9,7 +9,7 @@ use Rattle.rules.specs.declared.Reply.{Reply}
 use Rattle.theory.specs.Balance.{freedBlocks, inUse, allocates, allocatedBy}
 use Rattle.theory.proofs.EachCall.Balance.{answer-even}
 use Rattle.inner.specs.Usable.{Usable}
-use Rattle.inner.proofs.Idle.{usable-fit}
+use Rattle.inner.proofs.UsableHeap.{usable-fit}
 
 pub accepted-allocates : (c : Call) (x : Reply) → x .number ≡ 0 → allocatedBy c x ≡ allocates c
 unfolding allocatedBy

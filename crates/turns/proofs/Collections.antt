@@ -10,8 +10,8 @@ use Rattle.rules.specs.declared.Reply.{Reply}
 use Rattle.theory.specs.Balance.{freedBlocks, inUse, allocates}
 use Rattle.theory.proofs.EachCall.Balance.{blocks-add-up}
 use Rattle.inner.specs.Usable.{Usable}
-use Rattle.inner.proofs.Idle.{usable-fit}
-use Rattle.inner.proofs.Collected.{collect-answered}
+use Rattle.inner.proofs.UsableHeap.{usable-fit}
+use Rattle.inner.proofs.CollectionAnswer.{collect-answered}
 use Rattle.records.specs.Records.{makes}
 use Rattle.figures.specs.declared.tally.Tally.{Tally}
 use Rattle.figures.specs.Figures.{collected, countedIn, toldStuck, momentIn, noted, notedAll}

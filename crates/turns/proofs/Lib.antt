@@ -6,5 +6,5 @@ pub mod Stores
 pub mod Collections
 pub mod FirstTry
 pub mod SecondTry
-pub mod Kept
+pub mod UsableAfterRecord
 pub mod Notes

@@ -14,8 +14,8 @@ use Rattle.rules.specs.declared.Reply.{Reply}
 use Rattle.inner.specs.Usable.{Usable}
 use Rattle.inner.specs.Allocating.{Allocating}
 use Rattle.inner.specs.declared.acts.Allocated.{Allocated}
-use Rattle.inner.proofs.Idle.{usable-healthy}
-use Rattle.inner.proofs.Kept.{usable-kept}
+use Rattle.inner.proofs.UsableHeap.{usable-healthy}
+use Rattle.inner.proofs.UsableAfterCalls.{usable-kept}
 use Rattle.records.specs.Records.{makes}
 use Rattle.figures.specs.declared.tally.Tally.{Tally}
 use Rattle.figures.specs.Figures.{collected, momentIn, noted, notedAll}

@@ -14,7 +14,7 @@ use Rattle.theory.specs.Balance.{freedBlocks, inUse, allocates, allocatedBy}
 use Rattle.theory.proofs.Memories.Fit.{Fit}
 use Rattle.theory.proofs.EachCall.Balance.{blocks-add-up}
 use Rattle.inner.specs.Usable.{Usable}
-use Rattle.inner.proofs.Idle.{usable-fit}
+use Rattle.inner.proofs.UsableHeap.{usable-fit}
 use Rattle.records.specs.Records.{makes, stops}
 use Rattle.figures.specs.declared.tally.Tally.{Tally}
 use Rattle.figures.specs.Figures.{countedIn, toldStuck, momentIn, noted, notedAll}

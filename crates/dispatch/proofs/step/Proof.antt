@@ -4,7 +4,7 @@ use Prim.Native.Nat.{ℕ}
 use native.Mathlib.Omega.{arith}
 use borrow.Author.Needs.{needs}
 use Rattle.rules.specs.Calls.{reply}
-use Rattle.inner.proofs.Idle.{usable-healthy}
+use Rattle.inner.proofs.UsableHeap.{usable-healthy}
 use Rattle.encoding.specs.Encoding.{decoded}
 use Rattle.dispatch.proofs.Codes.{stepped-as, stepped-none, past-codes}
 use Rattle.dispatch.proofs.Reading.{check-promise, look-promise, free-promise}
@@ -34,7 +34,7 @@ abbrev returned : tie.After-slice-known47 → tie.After-return-roots
 returned c = c .before .before .before .before .before .before .before .before .before .before .before .before .before .before
 
 format-requires : tie.Need-format-requires
-format-requires c κs = entry (c .before .before .before .before .before .before .before .before) .pre .undamaged .right-shape
+format-requires c κs = entry (c .before .before .before .before .before .before .before .before) .pre .undamaged .intact .right-shape
 
 acceptance-requires : tie.Need-acceptance-requires
 acceptance-requires c κs = search needs

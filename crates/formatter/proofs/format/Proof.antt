@@ -2,7 +2,7 @@
 use borrow.Author.Needs.{needs}
 use Rattle.rules.specs.Heap.{Memory, lentMemory}
 use Rattle.rules.proofs.Shape.{shape-facts, shaped-blocks}
-use Rattle.formatter.proofs.Formatted.{format-done}
+use Rattle.formatter.proofs.FormatPromise.{format-done}
 use Rattle.formatter.proofs.format.Statement.{statement}
 use Rattle.formatter.proofs.format.Tie as tie
 

@@ -4,8 +4,8 @@ use native.Mathlib.Omega.{arith}
 use borrow.Author.Needs.{needs}
 use Rattle.rules.specs.Calls.{allocate}
 use Rattle.rules.proofs.Shape.{shaped-blocks}
-use Rattle.arguments.proofs.Found.{allocate-refused}
-use Rattle.gates.proofs.Checked.{checked-passed, gate-shut, gate-open}
+use Rattle.arguments.proofs.AllocationReply.{allocate-refused}
+use Rattle.gates.proofs.CheckAtGate.{checked-passed, gate-shut, gate-open}
 use Rattle.gates.proofs.allocate.Statement.{statement}
 use Rattle.gates.proofs.allocate.Tie as tie
 

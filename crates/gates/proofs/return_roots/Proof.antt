@@ -2,8 +2,8 @@
 use mathlib.Core.Path.{refl}
 use borrow.Author.Needs.{needs}
 use Rattle.rules.specs.Calls.{returnRoots}
-use Rattle.arguments.proofs.Passed.{return-refused}
-use Rattle.gates.proofs.Checked.{checked-passed, gate-shut, gate-open}
+use Rattle.arguments.proofs.ArgumentTests.{return-refused}
+use Rattle.gates.proofs.CheckAtGate.{checked-passed, gate-shut, gate-open}
 use Rattle.gates.proofs.return_roots.Statement.{statement}
 use Rattle.gates.proofs.return_roots.Tie as tie
 

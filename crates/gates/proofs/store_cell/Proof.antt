@@ -3,8 +3,8 @@ use mathlib.Core.Path.{refl}
 use native.Mathlib.Omega.{arith}
 use borrow.Author.Needs.{needs}
 use Rattle.rules.specs.Calls.{storeCell}
-use Rattle.arguments.proofs.Passed.{cell-refused}
-use Rattle.gates.proofs.Checked.{checked-passed, gate-shut, gate-open}
+use Rattle.arguments.proofs.ArgumentTests.{cell-refused}
+use Rattle.gates.proofs.CheckAtGate.{checked-passed, gate-shut, gate-open}
 use Rattle.gates.proofs.store_cell.Statement.{statement}
 use Rattle.gates.proofs.store_cell.Tie as tie
 

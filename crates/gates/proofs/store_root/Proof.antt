@@ -3,8 +3,8 @@ use mathlib.Core.Path.{refl}
 use native.Mathlib.Omega.{arith}
 use borrow.Author.Needs.{needs}
 use Rattle.rules.specs.Calls.{storeRoot}
-use Rattle.arguments.proofs.Passed.{root-refused}
-use Rattle.gates.proofs.Checked.{checked-passed, gate-shut, gate-open}
+use Rattle.arguments.proofs.ArgumentTests.{root-refused}
+use Rattle.gates.proofs.CheckAtGate.{checked-passed, gate-shut, gate-open}
 use Rattle.gates.proofs.store_root.Statement.{statement}
 use Rattle.gates.proofs.store_root.Tie as tie
 

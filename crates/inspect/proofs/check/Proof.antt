@@ -7,7 +7,7 @@ use borrow.Author.Tests.{not-true, not-false}
 use Rattle.rules.specs.Heap.{Memory, lentMemory, shaped}
 use Rattle.rules.specs.Damage.{damage}
 use Rattle.rules.proofs.Shape.{shape-facts, shaped-blocks}
-use Rattle.inspect.proofs.Checked.{check-unshaped, check-damaged, check-stale, check-passed}
+use Rattle.inspect.proofs.CheckReply.{check-unshaped, check-damaged, check-stale, check-passed}
 use Rattle.inspect.proofs.check.Statement.{statement}
 use Rattle.inspect.proofs.check.Tie as tie
 
@@ -73,8 +73,7 @@ returns-4 c =
     let none = tested .before .before in
     check-passed _ _ (lent (start (none .before .before .before))) _
     (record {
-      right-shape = shape-is (none .before .before);
-      no-damage = undamaged none;
+      intact = record { right-shape = shape-is (none .before .before); no-damage = undamaged none };
       true-list = sym (tested .before .is-stale .ensures) ∙ tested .if3 .left;
     })
     (c .acceptance .ensures)

@@ -1,8 +1,8 @@
 -- `mutate::allocate` meets its contract: the gate, and then the work on the cleared heap.
 use mathlib.Core.Path.{refl, _∙_}
 use borrow.Author.Needs.{needs}
-use Rattle.arguments.proofs.Found.{allocate-accepts}
-use Rattle.mutate.proofs.Cleared.{cleared-usable, allocate-cleared}
+use Rattle.arguments.proofs.AllocationReply.{allocate-accepts}
+use Rattle.mutate.proofs.GateThenAct.{cleared-usable, allocate-cleared}
 use Rattle.mutate.proofs.allocate.Statement.{statement}
 use Rattle.mutate.proofs.allocate.Tie as tie
 

@@ -2,7 +2,7 @@
 use mathlib.Core.Path.{sym, _∙_}
 use borrow.Author.Needs.{needs}
 use borrow.Author.Tests.{not-true, not-false}
-use Rattle.formatter.proofs.Formatted.{format-refused}
+use Rattle.formatter.proofs.FormatPromise.{format-refused}
 use Rattle.mutate.proofs.format.Statement.{statement}
 use Rattle.mutate.proofs.format.Tie as tie
 

@@ -2,7 +2,7 @@
 use mathlib.Core.Path.{refl, sym, ap, _∙_}
 use borrow.Author.Needs.{needs}
 use Rattle.rules.specs.declared.Reply.{Reply}
-use Rattle.mutate.proofs.Cleared.{cleared-usable, return-roots-cleared}
+use Rattle.mutate.proofs.GateThenAct.{cleared-usable, return-roots-cleared}
 use Rattle.mutate.proofs.return_roots.Statement.{statement}
 use Rattle.mutate.proofs.return_roots.Tie as tie
 

@@ -1,8 +1,8 @@
 -- `mutate::store_cell` meets its contract: the gate, and then the work on the cleared heap.
 use mathlib.Core.Path.{refl, _∙_}
 use borrow.Author.Needs.{needs}
-use Rattle.arguments.proofs.Passed.{cell-goes-on}
-use Rattle.mutate.proofs.Cleared.{cleared-usable, store-cell-cleared}
+use Rattle.arguments.proofs.ArgumentTests.{cell-goes-on}
+use Rattle.mutate.proofs.GateThenAct.{cleared-usable, store-cell-cleared}
 use Rattle.mutate.proofs.store_cell.Statement.{statement}
 use Rattle.mutate.proofs.store_cell.Tie as tie
 

@@ -9,7 +9,7 @@ use lib.ListN.{length, take, drop}
 use Rattle.bitmap.specs.Bit.{bitAt}
 use Rattle.bitmap.proofs.Bits.{shift-exact}
 use Rattle.planes.specs.Plane.{planeBit, countAt}
-use Rattle.planes.proofs.Places.{plane-inside, plane-next, part-bit}
+use Rattle.planes.proofs.PlaneBits.{plane-inside, plane-next, part-bit}
 use Rattle.planes.proofs.Counts.{count-more, count-lt}
 use Rattle.planes.proofs.get_count.Statement.{statement}
 use Rattle.planes.proofs.get_count.Tie as tie

@@ -7,7 +7,7 @@ use native.Mathlib.Omega.{arith}
 use lib.ListN.{length}
 use Rattle.bitmap.specs.Bit.{bitOf}
 use Rattle.planes.specs.Plane.{setCount}
-use Rattle.planes.proofs.Places.{plane-inside, plane-next, part-set-bit}
+use Rattle.planes.proofs.PlaneBits.{plane-inside, plane-next, part-set-bit}
 use Rattle.planes.proofs.Counts.{set-count-more}
 use Rattle.planes.proofs.set_count.Statement.{statement}
 use Rattle.planes.proofs.set_count.Tie as tie

@@ -1,6 +1,6 @@
 -- `records::plan_clear` meets its contract.
 use mathlib.Core.Path.{sym}
-use Rattle.records.proofs.Planned.{clear-target, clear-asked}
+use Rattle.records.proofs.Plans.{clear-target, clear-asked}
 use Rattle.records.proofs.plan_clear.Statement.{statement}
 use Rattle.records.proofs.plan_clear.Tie as tie
 

@@ -1,6 +1,6 @@
 -- `records::plan_copy` meets its contract.
 use mathlib.Core.Path.{sym}
-use Rattle.records.proofs.Planned.{copy-target, copy-source, copy-asked}
+use Rattle.records.proofs.Plans.{copy-target, copy-source, copy-asked}
 use borrow.Author.Needs.{needs}
 use Rattle.records.proofs.plan_copy.Statement.{statement}
 use Rattle.records.proofs.plan_copy.Tie as tie

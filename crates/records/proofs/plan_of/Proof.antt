@@ -3,7 +3,7 @@ use mathlib.Core.Path.{_≡_, sym, _∙_}
 use mathlib.Core.Bool.{true}
 use borrow.Author.Tests.{not-true, not-false}
 use Rattle.records.specs.Records.{unnamed, areZero, onRoots, allocating, copying, writing, clearing}
-use Rattle.records.proofs.Planned.{nonzero-asked, known-asked, unknown-asked}
+use Rattle.records.proofs.Plans.{nonzero-asked, known-asked, unknown-asked}
 use borrow.Author.Needs.{needs}
 use Rattle.records.proofs.plan_of.Statement.{statement}
 use Rattle.records.proofs.plan_of.Tie as tie

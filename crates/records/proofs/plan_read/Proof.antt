@@ -1,7 +1,7 @@
 -- `records::plan_read` meets its contract.
 use mathlib.Core.Path.{sym, _∙_}
 use native.Mathlib.Omega.{arith}
-use Rattle.records.proofs.Planned.{read-target, read-source, read-empty, read-past, read-asked}
+use Rattle.records.proofs.Plans.{read-target, read-source, read-empty, read-past, read-asked}
 use borrow.Author.Needs.{needs}
 use Rattle.records.proofs.plan_read.Statement.{statement}
 use Rattle.records.proofs.plan_read.Tie as tie

@@ -1,6 +1,6 @@
 -- `records::plan_write` meets its contract.
 use mathlib.Core.Path.{sym, _∙_}
-use Rattle.records.proofs.Planned.{write-target, write-source, write-empty, write-asked}
+use Rattle.records.proofs.Plans.{write-target, write-source, write-empty, write-asked}
 use borrow.Author.Needs.{needs}
 use Rattle.records.proofs.plan_write.Statement.{statement}
 use Rattle.records.proofs.plan_write.Tie as tie

@@ -1,7 +1,7 @@
 -- `returns::clear_chosen` meets its contract.
 use native.Mathlib.Omega.{arith}
-use Rattle.inner.proofs.Idle.{usable-healthy}
-use Rattle.returns.proofs.Returned.{turn-none, zero-passes, turn-one}
+use Rattle.inner.proofs.UsableHeap.{usable-healthy}
+use Rattle.returns.proofs.ReturnAnswer.{turn-none, zero-passes, turn-one}
 use Rattle.returns.proofs.clear_chosen.Statement.{statement}
 use Rattle.returns.proofs.clear_chosen.Tie as tie
 

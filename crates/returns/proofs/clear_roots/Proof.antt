@@ -7,8 +7,8 @@ use borrow.Author.Needs.{needs}
 use Rattle.bitmap.proofs.Zeros.{zeros-le}
 use Rattle.rules.specs.Heap.{lentMemory}
 use Rattle.rules.proofs.Shape.{Shaped}
-use Rattle.inner.proofs.Idle.{usable-healthy}
-use Rattle.returns.proofs.Returned.{Progress, progress-start, progress-next, progress-done}
+use Rattle.inner.proofs.UsableHeap.{usable-healthy}
+use Rattle.returns.proofs.ReturnAnswer.{Progress, progress-start, progress-next, progress-done}
 use Rattle.returns.proofs.clear_roots.Statement.{statement}
 use Rattle.returns.proofs.clear_roots.Tie as tie
 

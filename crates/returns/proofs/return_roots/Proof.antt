@@ -1,8 +1,8 @@
 -- `returns::return_roots` meets its contract.
 use mathlib.Core.Path.{sym, ap, _∙_}
 use Rattle.rules.specs.declared.Reply.{Reply}
-use Rattle.arguments.proofs.Passed.{return-refused}
-use Rattle.inner.proofs.Idle.{usable-fit, usable-healthy}
+use Rattle.arguments.proofs.ArgumentTests.{return-refused}
+use Rattle.inner.proofs.UsableHeap.{usable-fit, usable-healthy}
 use Rattle.returns.proofs.return_roots.Statement.{statement}
 use Rattle.returns.proofs.return_roots.Tie as tie
 

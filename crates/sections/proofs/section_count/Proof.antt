@@ -1,6 +1,6 @@
 -- `section_count` meets its contract: a heap of less than 256 blocks is one section.
 use native.Mathlib.Omega.{arith}
-use Rattle.sections.proofs.Places.{small-count, large-count}
+use Rattle.sections.proofs.SectionPlaces.{small-count, large-count}
 use Rattle.sections.proofs.section_count.Statement.{statement}
 use Rattle.sections.proofs.section_count.Tie as tie
 

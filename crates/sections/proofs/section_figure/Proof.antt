@@ -1,7 +1,7 @@
 -- `section_figure` meets its contract: a section is whole bytes of the map.
 use native.Mathlib.Omega.{arith}
 use borrow.Author.Needs.{needs}
-use Rattle.sections.proofs.Places.{place, figure-of}
+use Rattle.sections.proofs.SectionPlaces.{place, figure-of}
 use Rattle.sections.proofs.section_figure.Statement.{statement}
 use Rattle.sections.proofs.section_figure.Tie as tie
 

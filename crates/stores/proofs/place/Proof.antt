@@ -4,7 +4,7 @@ use Prim.Native.Nat.{ℕ}
 use native.Mathlib.Omega.{arith}
 use lib.Dec.{eqb}
 use borrow.Author.Needs.{needs}
-use Rattle.stores.proofs.Storing.{ready-placed, place-done, place-blocks}
+use Rattle.stores.proofs.StoreSteps.{ready-placed, place-done, place-blocks}
 use Rattle.stores.proofs.place.Statement.{statement}
 use Rattle.stores.proofs.place.Tie as tie
 

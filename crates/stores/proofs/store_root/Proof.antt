@@ -2,7 +2,7 @@
 use mathlib.Core.Path.{refl, _∙_}
 use native.Mathlib.Omega.{arith}
 use borrow.Author.Needs.{needs}
-use Rattle.stores.proofs.Storing.{ready-counts, root-present, root-changed, store-root-done, store-root-blocks}
+use Rattle.stores.proofs.StoreSteps.{ready-counts, root-present, root-changed, store-root-done, store-root-blocks}
 use Rattle.stores.proofs.store_root.Statement.{statement}
 use Rattle.stores.proofs.store_root.Tie as tie
 

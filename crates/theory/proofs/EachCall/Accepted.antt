@@ -16,11 +16,11 @@ module _ (N w : ℕ) (h : Memory) where
   pub accepted-fit : (c : Call) → testsHeap c ≡ true → answer N w h c .0 .number ≡ 0 → Fit N w h
   accepted-fit c tests e =
       let all = undamaged-passed N w h c tests (accepted-none N w h c e) in
-      undamaged-fit N w h (record { right-shape = all .0; no-damage = all .1; true-list = all .2 })
+      undamaged-fit N w h (record { intact = record { right-shape = all .0; no-damage = all .1 }; true-list = all .2 })
 
   module _ (fit : Fit N w h) where
     pub fit-number : (c : Call) → refusedWith N w h c ≡ firstNumber (ownRefusals N h c)
-    fit-number c = let u = fit-undamaged N w h fit in own-number N w h c (u .right-shape) (u .no-damage) (u .true-list)
+    fit-number c = let u = fit-undamaged N w h fit in own-number N w h c (u .intact .right-shape) (u .intact .no-damage) (u .true-list)
 
     pub fit-accepted : (c : Call) → Passed N h c → answer N w h c ≡ outcome N w h c
     fit-accepted c p = none-applies N w h c (fit-number c ∙ passed-own N h c p)
@@ -30,7 +30,7 @@ module _ (N w : ℕ) (h : Memory) where
     refused-plain number = ap {B = Answer} (λ v. (reply number v 0, h)) (none (eqb number 2))
       where
         none : (t : Bool) → _≡_ {A = ℕ} (elim t [ true ↦ damage N w h | false ↦ 0 ]) 0
-        none true = fit-undamaged N w h fit .no-damage
+        none true = fit-undamaged N w h fit .intact .no-damage
         none false = refl
 
     pub fit-refused :

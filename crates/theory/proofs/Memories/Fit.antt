@@ -22,14 +22,13 @@ pub record Fit (N w : ℕ) (h : Memory) : Type 0 where
 
 pub undamaged-fit : (N w : ℕ) (h : Memory) → Undamaged N w h → Fit N w h
 undamaged-fit N w h u =
-    let healthy = healthy-facts N w h (u .right-shape) (u .no-damage) in
+    let healthy = healthy-facts N w h (u .intact .right-shape) (u .intact .no-damage) in
     record { healthy = healthy; listed = fresh-true N (h .a) (h .sections) (healthy .shape .length-sections) (u .true-list) }
 
 pub fit-undamaged : (N w : ℕ) (h : Memory) → Fit N w h → Undamaged N w h
 fit-undamaged N w h fit =
     record {
-      right-shape = healthy-shaped N w h (fit .healthy);
-      no-damage = healthy-no-damage N w h (fit .healthy);
+      intact = record { right-shape = healthy-shaped N w h (fit .healthy); no-damage = healthy-no-damage N w h (fit .healthy) };
       true-list = ap (staleFigures N (h .a)) (fit .listed) ∙ true-fresh N (h .a);
     }
 

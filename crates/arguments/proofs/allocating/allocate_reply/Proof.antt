@@ -4,7 +4,7 @@ use native.Mathlib.Omega.{arith}
 use borrow.Author.Needs.{needs}
 use borrow.Author.Tests.{le-leb, lt-leb, le-ltb}
 use Rattle.arguments.specs.Replies.{allocateReply}
-use Rattle.arguments.proofs.Places.{nothing-found, place-found}
+use Rattle.arguments.proofs.SearchReply.{nothing-found, place-found}
 use Rattle.arguments.proofs.allocating.allocate_reply.Statement.{statement}
 use Rattle.arguments.proofs.allocating.allocate_reply.Tie as tie
 

@@ -3,7 +3,7 @@ use mathlib.Core.Path.{_≡_, sym, _∙_}
 use Prim.Native.Nat.{_+_, _-_, _≤_}
 use native.Mathlib.Omega.{arith}
 use Rattle.rules.specs.Heap.{sizeFrom}
-use Rattle.blocks.proofs.Sizes.{size-end, size-last, size-next}
+use Rattle.blocks.proofs.Sizes.{size-none, size-last, size-next}
 use Rattle.blocks.proofs.objects.object_size.Statement.{statement}
 use Rattle.blocks.proofs.objects.object_size.Tie as tie
 
@@ -53,7 +53,7 @@ returns-2 : tie.Need-returns-2 Inv-loop μ-loop
 returns-2 c =
     let l = c .before in
     let args = l .before .before .args in
-    let size = size-end (args .blocks - l .loop .at) (args .b .now) (l .loop .at) (omega arith) in
+    let size = size-none (args .blocks - l .loop .at) (args .b .now) (l .loop .at) (omega arith) in
     (omega arith, omega arith, omega arith)
 
 pub object-size-spec : {M : Type 1} → statement M

@@ -8,7 +8,7 @@ use lib.ListN.{length}
 use Rattle.rules.specs.Heap.{memory}
 use Rattle.references.specs.Ready.{Planes}
 use Rattle.references.specs.Stack.{topFirst}
-use Rattle.references.proofs.Counted.{counted-le}
+use Rattle.references.proofs.Counts.{counted-le}
 use Rattle.collector.specs.Mark.{scan}
 use Rattle.collector.specs.Stack.{MarkStack, unscanned}
 use Rattle.collector.proofs.Stacks.{mark-stack-pop, mark-stack-emptied}

@@ -6,7 +6,7 @@ use native.Mathlib.Omega.{arith}
 use Rattle.rules.specs.Store.{work}
 use Rattle.references.specs.Stack.{topFirst}
 use Rattle.collector.specs.Mark.{visitEach}
-use Rattle.collector.specs.Stack.{unscanned, Marking}
+use Rattle.collector.specs.Stack.{unscanned, AfterVisits}
 use Rattle.collector.proofs.Visits.{marking-more}
 use Rattle.collector.proofs.mark.visit_each.Statement.{statement}
 use Rattle.collector.proofs.mark.visit_each.Tie as tie
@@ -14,7 +14,7 @@ use Rattle.collector.proofs.mark.visit_each.Tie as tie
 abbrev Inv-loop : tie.InvT-loop
 Inv-loop blocks width counts₀ refs waiting₀ j n top t₀ i₀ counts waiting t i =
     (i ≤ n)
-    × Marking blocks width (visitEach blocks width (work counts₀ (topFirst waiting₀ top)) refs j i) (unscanned blocks width counts₀ top)
+    × AfterVisits blocks width (visitEach blocks width (work counts₀ (topFirst waiting₀ top)) refs j i) (unscanned blocks width counts₀ top)
     counts waiting t
 
 abbrev μ-loop : tie.MeasureT-loop

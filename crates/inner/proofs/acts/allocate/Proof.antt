@@ -1,9 +1,9 @@
 -- `inner::acts::allocate` meets its contract: the object is placed where the search found room.
 use mathlib.Core.Path.{_∙_}
 use native.Mathlib.Omega.{arith}
-use Rattle.arguments.proofs.Found.{allocate-passed}
-use Rattle.inner.proofs.Idle.{usable-healthy, usable-ready}
-use Rattle.inner.proofs.Balanced.{allocate-accepting}
+use Rattle.arguments.proofs.AllocationReply.{allocate-passed}
+use Rattle.inner.proofs.UsableHeap.{usable-healthy, usable-ready}
+use Rattle.inner.proofs.AllocationBlocks.{allocate-accepting}
 use borrow.Author.Needs.{needs}
 use Rattle.inner.proofs.acts.allocate.Statement.{statement}
 use Rattle.inner.proofs.acts.allocate.Tie as tie

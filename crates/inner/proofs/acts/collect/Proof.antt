@@ -2,8 +2,8 @@
 use mathlib.Core.Path.{_∙_}
 use native.Mathlib.Omega.{arith}
 use Rattle.bitmap.proofs.Maps.{bytes-given}
-use Rattle.inner.proofs.Idle.{usable-healthy, usable-ready}
-use Rattle.inner.proofs.Collected.{collect-promised}
+use Rattle.inner.proofs.UsableHeap.{usable-healthy, usable-ready}
+use Rattle.inner.proofs.CollectionAnswer.{collect-promised}
 use borrow.Author.Needs.{needs}
 use Rattle.inner.proofs.acts.collect.Statement.{statement}
 use Rattle.inner.proofs.acts.collect.Tie as tie

@@ -1,9 +1,9 @@
 -- `inner::acts::store_cell` meets its contract: cell j of the object at block `at` is cell 4 * at + j of all.
 use mathlib.Core.Path.{_∙_}
 use native.Mathlib.Omega.{arith}
-use Rattle.arguments.proofs.Passed.{cell-passed}
-use Rattle.inner.proofs.Idle.{usable-healthy, usable-ready, list-untouched}
-use Rattle.inner.proofs.Stored.{cell-promised}
+use Rattle.arguments.proofs.ArgumentTests.{cell-passed}
+use Rattle.inner.proofs.UsableHeap.{usable-healthy, usable-ready, list-untouched}
+use Rattle.inner.proofs.StoreAnswer.{cell-promised}
 use borrow.Author.Needs.{needs}
 use Rattle.inner.proofs.acts.store_cell.Statement.{statement}
 use Rattle.inner.proofs.acts.store_cell.Tie as tie

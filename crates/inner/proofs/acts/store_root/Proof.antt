@@ -1,9 +1,9 @@
 -- `inner::acts::store_root` meets its contract.
 use mathlib.Core.Path.{_∙_}
 use native.Mathlib.Omega.{arith}
-use Rattle.arguments.proofs.Passed.{root-passed}
-use Rattle.inner.proofs.Idle.{usable-healthy, usable-ready, list-untouched}
-use Rattle.inner.proofs.Stored.{root-promised}
+use Rattle.arguments.proofs.ArgumentTests.{root-passed}
+use Rattle.inner.proofs.UsableHeap.{usable-healthy, usable-ready, list-untouched}
+use Rattle.inner.proofs.StoreAnswer.{root-promised}
 use borrow.Author.Needs.{needs}
 use Rattle.inner.proofs.acts.store_root.Statement.{statement}
 use Rattle.inner.proofs.acts.store_root.Tie as tie

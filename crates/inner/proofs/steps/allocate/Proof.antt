@@ -2,9 +2,9 @@
 use mathlib.Core.Path.{refl}
 use native.Mathlib.Omega.{arith}
 use Rattle.rules.proofs.Shape.{shaped-blocks}
-use Rattle.arguments.proofs.Found.{allocate-accepts, allocate-refused}
-use Rattle.inner.proofs.Idle.{usable-fit}
-use Rattle.inner.proofs.Balanced.{allocate-refusing}
+use Rattle.arguments.proofs.AllocationReply.{allocate-accepts, allocate-refused}
+use Rattle.inner.proofs.UsableHeap.{usable-fit}
+use Rattle.inner.proofs.AllocationBlocks.{allocate-refusing}
 use borrow.Author.Needs.{needs}
 use Rattle.inner.proofs.steps.allocate.Statement.{statement}
 use Rattle.inner.proofs.steps.allocate.Tie as tie

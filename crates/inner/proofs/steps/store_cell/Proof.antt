@@ -1,8 +1,8 @@
 -- `inner::steps::store_cell` meets its contract.
 use mathlib.Core.Path.{refl}
 use native.Mathlib.Omega.{arith}
-use Rattle.arguments.proofs.Passed.{cell-goes-on, cell-refused}
-use Rattle.inner.proofs.Idle.{usable-fit, usable-healthy}
+use Rattle.arguments.proofs.ArgumentTests.{cell-goes-on, cell-refused}
+use Rattle.inner.proofs.UsableHeap.{usable-fit, usable-healthy}
 use borrow.Author.Needs.{needs}
 use Rattle.inner.proofs.steps.store_cell.Statement.{statement}
 use Rattle.inner.proofs.steps.store_cell.Tie as tie

@@ -1,8 +1,8 @@
 -- `inner::steps::store_root` meets its contract.
 use mathlib.Core.Path.{refl}
 use native.Mathlib.Omega.{arith}
-use Rattle.arguments.proofs.Passed.{root-goes-on, root-refused}
-use Rattle.inner.proofs.Idle.{usable-fit, usable-healthy}
+use Rattle.arguments.proofs.ArgumentTests.{root-goes-on, root-refused}
+use Rattle.inner.proofs.UsableHeap.{usable-fit, usable-healthy}
 use borrow.Author.Needs.{needs}
 use Rattle.inner.proofs.steps.store_root.Statement.{statement}
 use Rattle.inner.proofs.steps.store_root.Tie as tie

@@ -1,6 +1,6 @@
 -- `references::counting::count_up` meets its contract: each way out is one of the laws of counting up.
 use borrow.Author.Needs.{needs}
-use Rattle.references.proofs.Up.{up-none, up-stuck, up-more}
+use Rattle.references.proofs.CountUp.{up-none, up-stuck, up-more}
 use Rattle.references.proofs.counting.count_up.Statement.{statement}
 use Rattle.references.proofs.counting.count_up.Tie as tie
 

@@ -2,7 +2,7 @@
 use mathlib.Core.Path.{sym, _∙_}
 use native.Mathlib.Omega.{arith}
 use borrow.Author.Needs.{needs}
-use Rattle.references.proofs.Down.{down-none, down-past, down-zero, down-stuck, Lowered, lowered}
+use Rattle.references.proofs.CountDown.{down-none, down-past, down-zero, down-stuck, Lowered, lowered}
 use Rattle.references.proofs.release.count_down.Statement.{statement}
 use Rattle.references.proofs.release.count_down.Tie as tie
 

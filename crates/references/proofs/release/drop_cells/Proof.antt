@@ -8,7 +8,7 @@ use lib.ListN.{length, set}
 use Rattle.rules.specs.Store.{work, countDownEach, clearCells}
 use Rattle.references.specs.Stack.{topFirst, counted, Down}
 use Rattle.blocks.proofs.Cells.{clear-more, length-clear}
-use Rattle.references.proofs.Down.{each-more}
+use Rattle.references.proofs.CountDown.{each-more}
 use Rattle.references.proofs.release.drop_cells.Statement.{statement}
 use Rattle.references.proofs.release.drop_cells.Tie as tie
 

@@ -1,7 +1,7 @@
 -- `references::release::let_go` meets its contract: v is counted down on an empty stack, and what waits is freed.
 use borrow.Author.Needs.{needs}
 use Rattle.references.proofs.Stack.{stack-empty}
-use Rattle.references.proofs.Elsewhere.{let-go-done, let-go-blocks-done}
+use Rattle.references.proofs.OtherBuffers.{let-go-done, let-go-blocks-done}
 use Rattle.references.proofs.release.let_go.Statement.{statement}
 use Rattle.references.proofs.release.let_go.Tie as tie
 

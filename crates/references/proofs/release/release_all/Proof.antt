@@ -10,13 +10,13 @@ use Rattle.sections.specs.Figures.{Upkeep}
 use Rattle.references.specs.Stack.{topFirst, counted}
 use Rattle.references.specs.Blocks.{releasedBlocks}
 use Rattle.references.proofs.Stack.{stack-pop}
-use Rattle.references.proofs.Freeing.{Releasing, releasing-start, releasing-step, releasing-done, blocks-done, waiting-done}
+use Rattle.references.proofs.ReleaseLoop.{ReleaseUnderWay, releasing-start, releasing-step, releasing-done, blocks-done, waiting-done}
 use Rattle.references.proofs.release.release_all.Statement.{statement}
 use Rattle.references.proofs.release.release_all.Tie as tie
 
 abbrev Inv-loop : tie.InvT-loop
 Inv-loop blocks width a₀ b₀ counts₀ cells₀ waiting₀ sections₀ top freed₀ t₀ a b counts cells waiting sections freed t =
-    Releasing blocks width
+    ReleaseUnderWay blocks width
     (release blocks blocks width (memory a₀ b₀ counts₀ cells₀ [] []) (topFirst waiting₀ top))
     (releasedBlocks blocks blocks width (memory a₀ b₀ counts₀ cells₀ [] []) (topFirst waiting₀ top))
     a b counts cells waiting t freed

@@ -128,7 +128,7 @@ module _ (N w : ℕ) where
   one-call h u c =
       record {
         chain =
-            Chain.next (record { same-heap = refl; space = shape-facts N w h (u .right-shape) .length-waiting })
+            Chain.next (record { same-heap = refl; space = shape-facts N w h (u .intact .right-shape) .length-waiting })
             (record { reply-is = refl; after-is = refl }) Chain.none;
         left = refl;
         undamaged = theory .calls-keep-undamaged N w h u c;

@@ -19,7 +19,7 @@ use Rattle.references.specs.Blocks.{letGoBlocks}
 use Rattle.stores.specs.Blocks.{putRootBlocks, putCellBlocks, changeRootBlocks, changeCellBlocks}
 use Rattle.stores.specs.Blocks.{storeRootBlocks, storeCellBlocks, allocateBlocks}
 use Rattle.references.proofs.Shapes.{planes-same, extents-written}
-use Rattle.references.proofs.Elsewhere.{let-go-beside, let-go-blocks-beside}
+use Rattle.references.proofs.OtherBuffers.{let-go-beside, let-go-blocks-beside}
 
 -- ---- what a store does where the value is present, and where it is not
 

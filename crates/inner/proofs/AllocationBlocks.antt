@@ -16,14 +16,14 @@ use Rattle.stores.specs.Blocks.{allocateBlocks}
 use Rattle.theory.specs.Balance.{freedBlocks, inUse, allocates, allocatedBy}
 use Rattle.theory.proofs.Maps.Totals.{free-and-sizes}
 use Rattle.theory.proofs.EachCall.Balance.{answer-even}
-use Rattle.bridge.proofs.Placed.{allocate-freed}
-use Rattle.arguments.proofs.Found.{Found}
+use Rattle.bridge.proofs.PlacedBlocks.{allocate-freed}
+use Rattle.arguments.proofs.AllocationReply.{Found}
 use Rattle.inner.specs.Usable.{Usable}
 use Rattle.inner.specs.Allocating.{Allocating}
 use Rattle.inner.specs.declared.acts.Allocated.{Allocated}
-use Rattle.inner.proofs.Idle.{usable-fit, usable-healthy}
-use Rattle.inner.proofs.Kept.{usable-kept}
-use Rattle.inner.proofs.Allocated.{allocate-promised}
+use Rattle.inner.proofs.UsableHeap.{usable-fit, usable-healthy}
+use Rattle.inner.proofs.UsableAfterCalls.{usable-kept}
+use Rattle.inner.proofs.AllocationAnswer.{allocate-promised}
 
 module _ (N w : ℕ) (h : Memory) (usable : Usable N w h) (n r : ℕ) {x : Reply} {g : Memory} (promise : Promise N w (allocate n r) h x g) where
   balance : inUse N h + allocatedBy (allocate n r) x ≡ freedBlocks N h g + inUse N g

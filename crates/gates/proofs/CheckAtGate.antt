@@ -7,7 +7,7 @@ use Rattle.rules.specs.Calls.{Call, check, testsHeap}
 use Rattle.rules.specs.Promise.{Promise}
 use Rattle.rules.specs.declared.Reply.{Reply}
 use Rattle.theory.proofs.Memories.Fit.{Fit, undamaged-fit}
-use Rattle.inspect.proofs.Checked.{refused-alike, checked-fit}
+use Rattle.inspect.proofs.CheckReply.{refused-alike, checked-fit}
 use Rattle.gates.specs.Gated.{Gated}
 
 module _ (N w : ℕ) (h : Memory) (y : Reply) (checked : Promise N w check h y h) where

@@ -46,7 +46,7 @@ module _ (f N w : ℕ) (h : Memory) (i n : ℕ) (rest : List ℕ) (some : 0 < f)
 
 -- What it keeps: what is still to be done from here gives `goal`, and what is still to be counted gives `total`. The last part bounds
 -- the sum: whatever can still come to be freed has at most `maxBlocks` blocks.
-pub record Releasing (N w : ℕ) (goal : Memory) (total : ℕ) (a b counts cells waiting : List ℕ) (top done : ℕ) : Type 0 where
+pub record ReleaseUnderWay (N w : ℕ) (goal : Memory) (total : ℕ) (a b counts cells waiting : List ℕ) (top done : ℕ) : Type 0 where
   pub planes : Planes N w counts
   pub extents : Extents N a b cells
   pub stack : Stack N w counts waiting top
@@ -59,7 +59,7 @@ pub record Releasing (N w : ℕ) (goal : Memory) (total : ℕ) (a b counts cells
 pub releasing-start :
     (N w : ℕ) (a b counts cells waiting : List ℕ) (top : ℕ)
     → Planes N w counts → Extents N a b cells → Stack N w counts waiting top
-    → Releasing N w (release N N w (memory a b counts cells [] []) (topFirst waiting top))
+    → ReleaseUnderWay N w (release N N w (memory a b counts cells [] []) (topFirst waiting top))
     (releasedBlocks N N w (memory a b counts cells [] []) (topFirst waiting top)) a b counts cells waiting top 0
 releasing-start N w a b counts cells waiting top p x s = record {
   planes = p;
@@ -80,7 +80,7 @@ module _ (N w : ℕ) (goal : Memory) (total : ℕ) (a b counts cells waiting : L
     (down :
     Down N w (countDownEach N w (work counts (topFirst (set waiting (top - 1) 0) (top - 1))) cells (4 * i) (4 * n))
     (top - 1 + counted N w counts) counts′ waiting′ top′)
-    (r : Releasing N w goal total a b counts cells waiting top done) where
+    (r : ReleaseUnderWay N w goal total a b counts cells waiting top done) where
   abbrev before : Memory
   before = memory a b counts cells [] []
 
@@ -122,7 +122,7 @@ module _ (N w : ℕ) (goal : Memory) (total : ℕ) (a b counts cells waiting : L
       ∙ released-pop (r .steps) N w before i n rest (omega (arith, r .enough)) size
       ∙ ap₂ (λ (g : Memory) (s : List ℕ). n + releasedBlocks (r .steps - 1) N w g s) memory-left stack-left
 
-  pub releasing-step : Releasing N w goal total a′ b′ counts′ cells′ waiting′ top′ (done + n)
+  pub releasing-step : ReleaseUnderWay N w goal total a′ b′ counts′ cells′ waiting′ top′ (done + n)
   releasing-step = record {
     planes = down .planes;
     extents = extents-written N a b cells a′ b′ cells′ i n 0 (i + n - 1) 1 (4 * i) (4 * n) ea eb ee (r .extents);
@@ -136,7 +136,7 @@ module _ (N w : ℕ) (goal : Memory) (total : ℕ) (a b counts cells waiting : L
 
 -- nothing waits any more
 module _ (N w : ℕ) (goal : Memory) (total : ℕ) (a b counts cells waiting : List ℕ) (top done : ℕ)
-    (r : Releasing N w goal total a b counts cells waiting top done) (none : top ≡ 0) where
+    (r : ReleaseUnderWay N w goal total a b counts cells waiting top done) (none : top ≡ 0) where
   pub releasing-done : memory a b counts cells [] [] ≡ goal
   unfolding release topFirst
   releasing-done =

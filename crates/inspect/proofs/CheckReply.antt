@@ -20,7 +20,7 @@ use Rattle.theory.proofs.Memories.Fit.{undamaged-fit}
 use Rattle.theory.proofs.EachCall.Accepted.{fit-accepted}
 use Rattle.rules.proofs.Promised.{promised}
 use Rattle.arguments.specs.Replies.{lookReply}
-use Rattle.arguments.proofs.Passed.{look-answered}
+use Rattle.arguments.proofs.ArgumentTests.{look-answered}
 
 module _ (N w : ℕ) (h : Memory) where
   -- ---- the check itself
@@ -63,7 +63,7 @@ module _ (N w : ℕ) (h : Memory) where
   checked-fit x checked accepts =
       let none = accepted-none N w h check (ap (λ (y : Reply). y .number) (sym (checked .reply-is)) ∙ accepts) in
       let all = undamaged-passed N w h check refl none in
-      record { right-shape = all .0; no-damage = all .1; true-list = all .2 }
+      record { intact = record { right-shape = all .0; no-damage = all .1 }; true-list = all .2 }
 
   -- ---- the calls that read
 

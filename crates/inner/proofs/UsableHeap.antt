@@ -22,14 +22,16 @@ module _ (N w : ℕ) (h : Memory) where
   pub cleared-usable : Undamaged N w h → Usable N w (withWaiting (replicate N 0) h)
   unfolding damage endOnFree openEnd unaligned badCell badRoot badCount
   cleared-usable fit =
-      let facts = shape-facts N w h (fit .right-shape) in
+      let facts = shape-facts N w h (fit .intact .right-shape) in
       let cleared : Memory = withWaiting (replicate N 0) h in
       record {
         undamaged = record {
-          right-shape =
-              shape-test N w cleared
-              (reshaped N w h cleared facts refl refl refl refl refl (length-replicate N 0 ∙ sym (facts .length-waiting)) refl);
-          no-damage = fit .no-damage;
+          intact = record {
+            right-shape =
+                shape-test N w cleared
+                (reshaped N w h cleared facts refl refl refl refl refl (length-replicate N 0 ∙ sym (facts .length-waiting)) refl);
+            no-damage = fit .intact .no-damage;
+          };
           true-list = fit .true-list;
         };
         idle = refl;

@@ -16,9 +16,9 @@ use Rattle.rules.proofs.Promised.{promised}
 use Rattle.theory.proofs.Memories.Fit.{Fit}
 use Rattle.theory.proofs.EachCall.Accepted.{fit-accepted}
 use Rattle.theory.proofs.Memories.WaitingUnread.{allocate-waiting}
-use Rattle.arguments.proofs.Found.{Found}
+use Rattle.arguments.proofs.AllocationReply.{Found}
 use Rattle.inner.specs.Usable.{Usable}
-use Rattle.inner.proofs.Idle.{cleared-same, usable-fit, left-settled}
+use Rattle.inner.proofs.UsableHeap.{cleared-same, usable-fit, left-settled}
 
 module _ (N w : ℕ) (h : Memory) (n r at : ℕ) (free : Found N (h .a) (length (h .roots)) n r at) where
   pub allocate-answered :

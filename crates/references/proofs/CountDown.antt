@@ -21,7 +21,7 @@ use Rattle.rules.specs.Store.{Work, work, countDown, countDownEach, clearCells}
 use Rattle.references.specs.Ready.{Planes}
 use Rattle.references.specs.Stack.{topFirst, counted, Stack, Down}
 use Rattle.references.proofs.Shapes.{planes-same}
-use Rattle.references.proofs.Counted.{count-written, count-kept, counted-set}
+use Rattle.references.proofs.Counts.{count-written, count-kept, counted-set}
 use Rattle.references.proofs.Stack.{top-first-push}
 
 -- What holds once the count x of the block that v names is written one lower: if that is 0 there is a place to push the block to.

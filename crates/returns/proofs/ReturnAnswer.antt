@@ -19,11 +19,11 @@ use Rattle.theory.proofs.EachCall.Accepted.{fit-accepted}
 use Rattle.theory.proofs.EachCall.Clearing.{none-ref, root-cleared}
 use Rattle.theory.proofs.Memories.WaitingUnread.{store-root-waiting}
 use Rattle.arguments.specs.Replies.{ownTest, storeRootTest, returnTest}
-use Rattle.arguments.proofs.Passed.{root-passed}
+use Rattle.arguments.proofs.ArgumentTests.{root-passed}
 use Rattle.inner.specs.Usable.{Usable}
-use Rattle.inner.proofs.Idle.{cleared-same, usable-fit, left-settled}
-use Rattle.inner.proofs.Stored.{root-answered, freeing-promised}
-use Rattle.inner.proofs.Kept.{usable-kept}
+use Rattle.inner.proofs.UsableHeap.{cleared-same, usable-fit, left-settled}
+use Rattle.inner.proofs.StoreAnswer.{root-answered, freeing-promised}
+use Rattle.inner.proofs.UsableAfterCalls.{usable-kept}
 use Rattle.returns.specs.Returns.{Turn}
 use Rattle.returns.proofs.SectionsUnread.{store-root-sections}
 

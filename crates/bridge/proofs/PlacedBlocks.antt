@@ -18,7 +18,7 @@ use Rattle.theory.proofs.Memories.Healthy.{Healthy}
 use Rattle.theory.proofs.Memories.Fit.{Fit}
 use Rattle.theory.proofs.Memories.Stores.{maps-placed, allocate-root}
 use Rattle.theory.proofs.EachCall.Balance.{fresh}
-use Rattle.bridge.proofs.Freed.{release-zeros}
+use Rattle.bridge.proofs.FreedBlocks.{release-zeros}
 
 module _ (N w : ℕ) (h : Memory) (fit : Fit N w h) (n r i : ℕ) (some-blocks : 1 ≤ n) (l : r < length (h .roots))
     (found : lowestFree N (exponent n) (h .a) ≡ some i) where

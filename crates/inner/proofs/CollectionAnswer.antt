@@ -16,8 +16,8 @@ use Rattle.theory.proofs.EachCall.Accepted.{fit-accepted}
 use Rattle.bridge.proofs.Bytewise.{Bytewise}
 use Rattle.bridge.proofs.CollectorProcedure.{collect-by-is, collect-blocks-is}
 use Rattle.inner.specs.Usable.{Usable}
-use Rattle.inner.proofs.Idle.{cleared-same, usable-fit, usable-healthy, left-settled}
-use Rattle.inner.proofs.Stored.{freeing-promised}
+use Rattle.inner.proofs.UsableHeap.{cleared-same, usable-fit, usable-healthy, left-settled}
+use Rattle.inner.proofs.StoreAnswer.{freeing-promised}
 
 module _ (N w : ℕ) (h : Memory) where
   pub collect-answered : Fit N w h → answer N w h collect ≡ freeing N h (collected N w h) 0

@@ -16,10 +16,10 @@ use Rattle.stores.specs.Blocks.{storeRootBlocks, storeCellBlocks}
 use Rattle.theory.proofs.Memories.Fit.{Fit}
 use Rattle.theory.proofs.EachCall.Accepted.{fit-accepted}
 use Rattle.theory.proofs.Memories.WaitingUnread.{store-root-waiting, store-cell-waiting}
-use Rattle.bridge.proofs.Freed.{store-root-freed, store-cell-freed}
-use Rattle.arguments.proofs.Passed.{RootPassed, CellPassed}
+use Rattle.bridge.proofs.FreedBlocks.{store-root-freed, store-cell-freed}
+use Rattle.arguments.proofs.ArgumentTests.{RootPassed, CellPassed}
 use Rattle.inner.specs.Usable.{Usable}
-use Rattle.inner.proofs.Idle.{cleared-same, usable-fit, usable-healthy, left-settled}
+use Rattle.inner.proofs.UsableHeap.{cleared-same, usable-fit, usable-healthy, left-settled}
 
 -- whether the store makes an object stuck
 abbrev pub rootSticks : (N w : ℕ) → Memory → (r v : ℕ) → Bool

@@ -6,7 +6,7 @@ use borrow.Author.Tests.{eq-eqb, ne-eqb}
 use Rattle.rules.specs.Heap.{Memory}
 use Rattle.rules.specs.Calls.{Call, collect, answer}
 use Rattle.inner.specs.Usable.{Usable}
-use Rattle.inner.proofs.Kept.{usable-kept}
+use Rattle.inner.proofs.UsableAfterCalls.{usable-kept}
 use Rattle.records.specs.Records.{Asked, makes, stops}
 use Rattle.figures.specs.declared.tally.Run.{Run}
 use Rattle.turns.specs.Turns.{Turn, triedAgain, turnOf, afterTurn}
