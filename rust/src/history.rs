@@ -83,7 +83,10 @@ impl fmt::Display for Tally {
             peak,
             stuck,
         } = self;
-        write!(f, "{allocations} {blocks} {largest} {collections} {peak} {stuck}")
+        write!(
+            f,
+            "{allocations} {blocks} {largest} {collections} {peak} {stuck}"
+        )
     }
 }
 
