@@ -308,7 +308,9 @@ impl Reading {
             Call::StoreCell { a, j, v } => (v, before.cells[4 * a + j] as usize),
             _ => (0, 0),
         };
-        let was = named != 0 && is_stuck(before, named - 1) && self.wrong != Wrong::StuckByEveryReferenceMore;
+        let was = named != 0
+            && is_stuck(before, named - 1)
+            && self.wrong != Wrong::StuckByEveryReferenceMore;
         named != 0 && named != present && !was && is_stuck(&self.memory, named - 1)
     }
 
@@ -320,7 +322,9 @@ impl Reading {
         self.figures[5] = match self.wrong {
             Wrong::StuckObjectsAtTheEnd => {
                 let firsts = model::rules::heap::first_blocks(BLOCKS, &self.memory).into_iter();
-                firsts.filter(|first| is_stuck(&self.memory, *first)).count()
+                firsts
+                    .filter(|first| is_stuck(&self.memory, *first))
+                    .count()
             }
             Wrong::CollectionsForStuck => self.figures[3],
             _ => self.figures[5] + usize::from(accepted && self.sticks(&before, call, reply.value)),

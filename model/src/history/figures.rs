@@ -30,7 +30,10 @@ impl Figures {
             _ => {}
         }
         // "Every store and allocation passes the fact on"
-        let tells = matches!(call, Call::Allocate { .. } | Call::StoreRoot { .. } | Call::StoreCell { .. });
+        let tells = matches!(
+            call,
+            Call::Allocate { .. } | Call::StoreRoot { .. } | Call::StoreCell { .. }
+        );
         if reply.number == 0 && tells && reply.second == 1 {
             self.became_stuck += 1;
         }
