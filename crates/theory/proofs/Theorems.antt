@@ -17,7 +17,7 @@ use Rattle.rules.specs.declared.Reply.{Reply}
 use Rattle.rules.specs.Promise.{Promise}
 use Rattle.rules.specs.Calls.{Call, format, allocate, Answer, ownRefusals, outcome, answer}
 use Rattle.theory.specs.Demand.{Demand3}
-use Rattle.rules.proofs.Replies.{number-is, accepted-none, accepted-outcome, Passed, shape-passed, passed}
+use Rattle.rules.proofs.Replies.{number-is, accepted-none, accepted-outcome, Passed, shape-passed, passed, refused-as-check}
 use Rattle.rules.proofs.Tests.{true-and, first-past}
 use Rattle.rules.proofs.Shape.{shape-facts}
 use Rattle.rules.proofs.Chunks.{exponent-covers, exponent-least}
@@ -204,6 +204,7 @@ theory =
       calls-keep-undamaged = calls-keep-undamaged;
       format-makes-undamaged = format-makes-undamaged;
       waiting-unread = waiting-unread;
+      refused-as-check = refused-as-check;
       least-power = least-power;
       reached-is-led = reached-is-led;
       n-steps-suffice = n-steps-suffice;

@@ -12,7 +12,7 @@ use Rattle.rules.specs.Tools.{someBelow}
 use Rattle.rules.specs.Damage.{endOnFree, openEnd, damage}
 use Rattle.rules.specs.Sections.{staleFigures}
 use Rattle.rules.specs.Store.{formatted, countUp, letGoIn, changeRoot, changeCell, placed, allocateIn}
-use Rattle.rules.specs.Calls.{Call, format, allocate, answer}
+use Rattle.rules.specs.Calls.{Call, format, check, allocate, testsHeap, answer}
 use Rattle.rules.specs.Collection.{marked, reached}
 use Rattle.rules.specs.Promise.{Promise}
 use Rattle.rules.specs.declared.Reply.{Reply}
@@ -35,6 +35,13 @@ CallsKeepUndamaged = (N w : ℕ) (h : Memory) → Undamaged N w h → (call : Ca
 
 abbrev pub FormatMakesUndamaged : Type 0
 FormatMakesUndamaged = (N w : ℕ) (h : Memory) → shaped N w h ≡ true → Undamaged N w (formatted N w (length (h .roots)))
+
+-- "1 as before; 2 if the heap is damaged"; "11 .. next after 2": where the check refuses, every call that tests the heap is refused alike, with
+-- the same value, and changes no buffer
+abbrev pub RefusedAsCheck : Type 0
+RefusedAsCheck =
+    (N w : ℕ) (h : Memory) (call : Call) → testsHeap call ≡ true → (answer N w h check .0 .number ≡ 0 → ⊥)
+    → answer N w h call ≡ answer N w h check
 
 -- "0 stands on the last block of each object and 1 everywhere else": of every heap without damage. A bit is 0 or 1.
 abbrev pub EndsOnLast : Type 0
