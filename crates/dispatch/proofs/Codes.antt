@@ -10,12 +10,12 @@ use Rattle.rules.specs.Calls.{reply}
 use Rattle.rules.specs.Promise.{Promise}
 use Rattle.rules.specs.declared.Reply.{Reply}
 use Rattle.encoding.specs.Encoding.{decoded, isCall}
-use Rattle.dispatch.specs.Steps.{Stepped}
+use Rattle.dispatch.specs.Dispatched.{Dispatched}
 
 -- the call of a known code, as it was made
 pub stepped-as :
     (N w : ℕ) {code : ℕ} (k x y z : ℕ) {h : Memory} {r : Reply} {g : Memory} → k ≤ 8 → code ≡ k → Promise N w (decoded k x y z) h r g
-    → Stepped N w code x y z h r g
+    → Dispatched N w code x y z h r g
 unfolding isCall
 stepped-as N w {code} k x y z {h} {r} {g} known e promise =
     record {
@@ -24,7 +24,7 @@ stepped-as N w {code} k x y z {h} {r} {g} known e promise =
     }
 
 -- .. and any other code
-pub stepped-none : (N w code x y z : ℕ) {h : Memory} {r : Reply} → 9 ≤ code → r ≡ reply 9 0 0 → Stepped N w code x y z h r h
+pub stepped-none : (N w code x y z : ℕ) {h : Memory} {r : Reply} → 9 ≤ code → r ≡ reply 9 0 0 → Dispatched N w code x y z h r h
 unfolding isCall
 stepped-none N w code x y z past e =
     record { known = λ t. absurd (omega (arith, leb-true code 8 t)); unknown = λ _. (e, refl) }

@@ -1,7 +1,7 @@
 // One call of the list, on an undamaged heap.
 ghost use Rattle.rules.specs.Lent.{before, after, lent};
 ghost use Rattle.inner.specs.Usable.{Usable};
-ghost use Rattle.dispatch.specs.Steps.{Stepped};
+ghost use Rattle.dispatch.specs.Dispatched.{Dispatched};
 use arguments::looking;
 use arguments::replies;
 use blocks::Ref;
@@ -27,7 +27,7 @@ pub fn step(
 ) -> Reply
     requires { ⌜ Usable blocks width (lent a b counts cells roots waiting sections) ⌝ }
     ensures { λ reply.
-        ⌜ Stepped blocks width code x y z (before a b counts cells roots waiting sections) reply
+        ⌜ Dispatched blocks width code x y z (before a b counts cells roots waiting sections) reply
         (after a b counts cells roots waiting sections) ⌝ }
 {
     match code {

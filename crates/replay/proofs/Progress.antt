@@ -16,7 +16,7 @@ use Rattle.encoding.specs.Encoding.{callAt, callsFrom, callsIn, replyWords, isC
 use Rattle.encoding.specs.Words.{wordsAt, withReply}
 use Rattle.encoding.specs.declared.words.Words.{Words}
 use Rattle.encoding.proofs.Replies.{taken-with-reply, dropped-with-reply, length-with-reply}
-use Rattle.dispatch.specs.Steps.{Stepped}
+use Rattle.dispatch.specs.Dispatched.{Dispatched}
 use Rattle.replay.specs.Run.{AsRun}
 
 -- ---- the calls left
@@ -24,9 +24,9 @@ use Rattle.replay.specs.Run.{AsRun}
 -- the call that was made is the one of the list
 pub call-made :
     (N w : ℕ) (words : List ℕ) (i : ℕ) {v : Words} {h : Memory} {r : Reply} {g : Memory} → v ≡ wordsAt words i → isCallAt words i ≡ true
-    → Stepped N w (v .code) (v .x) (v .y) (v .z) h r g → Promise N w (callAt words i) h r g
+    → Dispatched N w (v .code) (v .x) (v .y) (v .z) h r g → Promise N w (callAt words i) h r g
 call-made N w words i {v} {h} {r} {g} read known made =
-    subst (λ (v : Words). Stepped N w (v .code) (v .x) (v .y) (v .z) h r g) read made .known known
+    subst (λ (v : Words). Dispatched N w (v .code) (v .x) (v .y) (v .z) h r g) read made .known known
 
 call-next :
     (words : List ℕ) (n i : ℕ) → i < n → callsFrom words i (n - i) ≡ callAt words i ∷ callsFrom words (i + 1) (n - (i + 1))

@@ -9,6 +9,6 @@ use Rattle.rules.specs.declared.Reply.{Reply}
 use Rattle.encoding.specs.Encoding.{decoded, isCall}
 
 -- the call of a known code keeps its promise; every other code is answered 9, and nothing changes
-pub record Stepped (N w code x y z : ℕ) (h : Memory) (answered : Reply) (after : Memory) : Type 0 where
+pub record Dispatched (N w code x y z : ℕ) (h : Memory) (answered : Reply) (after : Memory) : Type 0 where
   pub known : isCall code ≡ true → Promise N w (decoded code x y z) h answered after
   pub unknown : isCall code ≡ false → (answered ≡ reply 9 0 0) × (after ≡ h)
