@@ -1,6 +1,7 @@
 -- What every call keeps and frees.
 pub mod AnyWaiting
 pub mod Accepted
+pub mod Five
 pub mod Served
 pub mod StoresServed
 pub mod Clearing

@@ -45,6 +45,7 @@ use Rattle.theory.proofs.Memories.Stores.{store-root, store-cell, alloc
 use Rattle.theory.proofs.Memories.Rounds.{reached-led, led-reached}
 use Rattle.theory.proofs.EachCall.Accepted.{fit-number}
 use Rattle.theory.proofs.EachCall.Answers.{answer-fit}
+use Rattle.theory.proofs.EachCall.Five.{five-to-allocations}
 use Rattle.theory.proofs.EachCall.TrueList.{list-left-true}
 use Rattle.theory.proofs.Memories.Leads.{object-size, size-object}
 use Rattle.theory.proofs.EachCall.AnyWaiting.{waiting-unread}
@@ -205,6 +206,7 @@ theory =
       format-makes-undamaged = format-makes-undamaged;
       waiting-unread = waiting-unread;
       refused-as-check = refused-as-check;
+      five-to-allocations = five-to-allocations;
       least-power = least-power;
       reached-is-led = reached-is-led;
       n-steps-suffice = n-steps-suffice;

@@ -43,6 +43,11 @@ RefusedAsCheck =
     (N w : ℕ) (h : Memory) (call : Call) → testsHeap call ≡ true → (answer N w h check .0 .number ≡ 0 → ⊥)
     → answer N w h call ≡ answer N w h check
 
+-- 5 is given to allocations alone: so a run that collects and tries again "When allocation gives 5" has to look at the number only
+-- (`turnOf`, turns/specs/Turns.antt)
+abbrev pub FiveToAllocations : Type 0
+FiveToAllocations = (N w : ℕ) (h : Memory) (call : Call) → answer N w h call .0 .number ≡ 5 → (n : ℕ) × (r : ℕ) × (call ≡ allocate n r)
+
 -- "0 stands on the last block of each object and 1 everywhere else": of every heap without damage. A bit is 0 or 1.
 abbrev pub EndsOnLast : Type 0
 EndsOnLast =

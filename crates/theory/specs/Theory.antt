@@ -1,6 +1,6 @@
 -- All that the theory states, as one record, which has one proof (`theory`, proofs/Theorems.antt): no statement can be dropped unnoticed.
 use Rattle.theory.specs.Demand.{Demand3}
-use Rattle.theory.specs.Statements.{CallsKeepUndamaged, FormatMakesUndamaged, RefusedAsCheck, EndsOnLast, LeastPower, RefusedExactly, LowestTaken}
+use Rattle.theory.specs.Statements.{CallsKeepUndamaged, FormatMakesUndamaged, RefusedAsCheck, FiveToAllocations, EndsOnLast, LeastPower, RefusedExactly, LowestTaken}
 use Rattle.theory.specs.Statements.{ReachedIsLed, EveryListHasAChain, ChainsAppend, ClaimFromUndamaged, ClaimFromFormat, WaitingUnread}
 use Rattle.theory.specs.Statements.{NStepsSuffice, ObjectsAreEnds}
 use Rattle.theory.specs.Orders.{OrderUnseen}
@@ -22,6 +22,7 @@ pub record Theory : Type 0 where
   pub waiting-unread : WaitingUnread
   -- what calls are refused with
   pub refused-as-check : RefusedAsCheck
+  pub five-to-allocations : FiveToAllocations
   -- the definitions that try only so often
   pub least-power : LeastPower
   pub reached-is-led : ReachedIsLed
