@@ -106,7 +106,7 @@ bit-top x y (suc n) h e =
 -- ---- what lies from a place on
 
 -- bit n + k is bit k of what lies from place n on
-bit-from : (b n k : ℕ) → bitOf b (n + k) ≡ bitOf (b / 2 ^ n) k
+pub bit-from : (b n k : ℕ) → bitOf b (n + k) ≡ bitOf (b / 2 ^ n) k
 bit-from b n k = ap (λ (x : ℕ). x % 2) (sym (shr-shr b n k))
 
 -- where nothing lies there, no bit from there on is 1 ..

@@ -3,8 +3,8 @@ use mathlib.Core.Path.{_≡_, refl, sym, ap, _∙_}
 use mathlib.Core.Logic.{_≢_, inl, inr}
 use mathlib.Core.Bool.{Bool, true, false, true≢false}
 use mathlib.Core.List.{List}
-use Prim.Native.Nat.{ℕ, zero, suc, _+_, _*_, _^_, _≤_, _<_, max}
-use native.Mathlib.Nat.{zero-add, suc-add, pow-suc}
+use Prim.Native.Nat.{ℕ, zero, suc, _+_, _-_, _*_, _^_, _≤_, _<_, max}
+use native.Mathlib.Nat.{zero-add, suc-add, zero-mul, add-mul, pow-suc}
 use native.Mathlib.Decide.{decLe, decLt}
 use native.Mathlib.Omega.{arith}
 use lib.Pow.{pow-mono, pow-add, pow-pos}
@@ -78,30 +78,29 @@ figure-of-halves k a i = (
 
 -- ---- a figure is the largest
 
--- a free chunk of 2 ^ k blocks among the 2 ^ t from number u on is at most the figure
-pub none-larger : (t k : ℕ) (a : List ℕ) (u c : ℕ) → u ≤ c → c < u + 2 ^ t → chunkFree k a (c * 2 ^ k) ≡ true
-    → 2 ^ k ≤ largestFree (t + k) a (u * 2 ^ k)
-none-larger zero k a u c l m free =
-    let here : c ≡ u = omega arith in
-    rw (zero-add k) (let e = figure-free k a (u * 2 ^ k) (ap (λ (x : ℕ). chunkFree k a (x * 2 ^ k)) (sym here) ∙ free) in omega arith)
-none-larger (suc t) k a u c l m free =
+-- a free chunk among the 2 ^ t of 2 ^ k blocks from block i on is at most the figure
+pub none-larger : (t k : ℕ) (a : List ℕ) (i c : ℕ) → c < 2 ^ t → chunkFree k a (i + c * 2 ^ k) ≡ true → 2 ^ k ≤ largestFree (t + k) a i
+none-larger zero k a i c l free =
+    let first : c ≡ 0 = omega arith in
+    let here : i + c * 2 ^ k ≡ i = omega (arith, ap (λ (x : ℕ). x * 2 ^ k) first, zero-mul (2 ^ k)) in
+    rw (zero-add k) (let e = figure-free k a i (ap (chunkFree k a) (sym here) ∙ free) in omega arith)
+none-larger (suc t) k a i c l free =
     rw (suc-add t k) (elim (test-cases (chunkFree (suc (t + k)) a i)) [
       | inl e ↦ omega (arith, figure-free (suc (t + k)) a i e, pow-suc 2 (t + k), pow-mono {i = k} {j = t + k} (omega arith))
       | inr e ↦
           let both = figure-halves (t + k) a i e in
-          elim (decLt c (u + 2 ^ t)) [
-            | yes v ↦ omega (arith, none-larger t k a u c l v free)
+          elim (decLt c (2 ^ t)) [
+            | yes v ↦ omega (arith, none-larger t k a i c v free)
             | no v ↦
-                let upper = none-larger t k a (u + 2 ^ t) c (omega arith) (omega (arith, pow-suc 2 t)) free in
-                omega (arith, ap (largestFree (t + k) a) half, upper)
+                let at : i + 2 ^ (t + k) + (c - 2 ^ t) * 2 ^ k ≡ i + c * 2 ^ k =
+                omega (arith, pow-add 2 t k, ap (λ (x : ℕ). x * 2 ^ k) (past v), add-mul (2 ^ t) (c - 2 ^ t) (2 ^ k)) in
+                omega
+                (arith, none-larger t k a (i + 2 ^ (t + k)) (c - 2 ^ t) (omega (arith, pow-suc 2 t)) (ap (chunkFree k a) at ∙ free))
           ]
     ])
   where
-    i : ℕ
-    i = u * 2 ^ k
-
-    half : i + 2 ^ (t + k) ≡ (u + 2 ^ t) * 2 ^ k
-    half = omega (arith, pow-add 2 t k)
+    past : (c < 2 ^ t → ⊥) → c ≡ 2 ^ t + (c - 2 ^ t)
+    past v = omega arith
 
 -- a figure that is not 0 is the size of a free chunk of these blocks
 pub record FreeAmong (e : ℕ) (a : List ℕ) (i : ℕ) : Type 0 where

@@ -16,7 +16,7 @@ use Rattle.rules.specs.Sections.{figure}
 use Rattle.rules.proofs.Shape.{blocks-le}
 use Rattle.rules.proofs.Sections.{divided}
 use Rattle.sections.specs.Figures.{Coherent, Forgotten}
-use Rattle.sections.proofs.Figures.{same-figure}
+use Rattle.chunk_figures.proofs.Figures.{same-figure}
 use Rattle.sections.proofs.SectionPlaces.{section-size}
 
 -- ---- the section of a block

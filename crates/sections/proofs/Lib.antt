@@ -1,4 +1,3 @@
-pub mod Figures
 pub mod SectionPlaces
 pub mod Lists
 pub mod BySections

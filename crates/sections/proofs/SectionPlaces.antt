@@ -13,7 +13,7 @@ use Rattle.rules.proofs.Shape.{blocks-facts, blocks-le, blocks-power}
 use Rattle.rules.proofs.Figures.{figure-le}
 use Rattle.rules.proofs.Sections.{divided}
 use Rattle.blocks.specs.Search.{Part}
-use Rattle.sections.proofs.Figures.{whole-bytes}
+use Rattle.chunk_figures.proofs.Figures.{whole-bytes}
 
 -- a section's length, of any heap
 pub record Length (N : ℕ) : Type 0 where

@@ -1,4 +1,4 @@
--- What the code of the figures computes, for contracts of inner functions.
+-- Lists of figures while a call works, for contracts of inner functions.
 use Prim.Native.Nat.{ℕ, _+_, _*_, _≤_, _<_}
 use mathlib.Core.Path.{_≡_}
 use mathlib.Core.Bool.{true, false}
@@ -8,15 +8,6 @@ use lib.ListN.{length, getD}
 use lib.Dec.{ltb, eqb}
 use Rattle.rules.specs.Heap.{isBlocks, sectionLength, sectionCount}
 use Rattle.rules.specs.Sections.{largestFree, figure}
-
--- the figure of a byte's eight blocks
-unfoldable pub byteFigure : ℕ → ℕ
-byteFigure byte = largestFree 3 (byte ∷ []) 0
-
--- the figure of a chunk from those of its halves, of `half` blocks each
-unfoldable pub ofHalves : (half lower upper : ℕ) → ℕ
-ofHalves half lower upper =
-    elim (ltb lower upper) [ true ↦ upper | false ↦ elim (eqb upper half) [ true ↦ half + half | false ↦ lower ] ]
 
 -- every number of the list is its section's figure, or says that it has to be found anew: 65,535, which no section has
 pub record Coherent (N : ℕ) (a sections : List ℕ) : Type 0 where

@@ -3,7 +3,7 @@ use mathlib.Core.Path.{_≡_, sym, ap, subst, _∙_}
 use mathlib.Core.Bool.{true}
 use mathlib.Core.List.{List}
 use Prim.Native.Nat.{ℕ, _+_, _-_, _*_, _^_, _≤_, _<_}
-use native.Mathlib.Nat.{mul-assoc, mul-le-mul-right, le-of-mul-le-mul-right}
+use native.Mathlib.Nat.{add-mul, mul-assoc, mul-le-mul-right, le-of-mul-le-mul-right}
 use native.Mathlib.Omega.{arith}
 use lib.Pow.{pow-add, pow-pos}
 use Rattle.rules.specs.Heap.{exponent, chunkFree, sectionLength}
@@ -39,7 +39,10 @@ module _ (N : ℕ) (a : List ℕ) (d : Divided N) (s t k : ℕ) (sum : t + k ≡
       let b = starts in
       let low : s * 2 ^ t ≤ c = le-of-mul-le-mul-right {k = 2 ^ k} (omega (arith, w .from)) (pow-pos k) in
       let high : c + 1 ≤ s * 2 ^ t + 2 ^ t = le-of-mul-le-mul-right {k = 2 ^ k} (omega (arith, w .to)) (pow-pos k) in
-      subst (λ (i : ℕ). 2 ^ k ≤ largestFree (t + k) a i) (sym starts) (none-larger t k a (s * 2 ^ t) c low (omega arith) (w .free))
+      let number : c ≡ s * 2 ^ t + (c - s * 2 ^ t) = omega arith in
+      let at : s * sectionLength N + (c - s * 2 ^ t) * 2 ^ k ≡ c * 2 ^ k =
+      omega (arith, ap (λ (x : ℕ). x * 2 ^ k) number, add-mul (s * 2 ^ t) (c - s * 2 ^ t) (2 ^ k)) in
+      none-larger t k a (s * sectionLength N) (c - s * 2 ^ t) (omega arith) (ap (chunkFree k a) at ∙ w .free)
 
 pub figures-are-largest : FiguresAreLargest
 unfolding figure

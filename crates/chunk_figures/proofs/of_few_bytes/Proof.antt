@@ -2,9 +2,9 @@
 use Prim.Native.Nat.{_*_}
 use native.Mathlib.Omega.{arith}
 use borrow.Author.Needs.{needs}
-use Rattle.sections.proofs.Figures.{of-size, eight-left}
-use Rattle.sections.proofs.of_few_bytes.Statement.{statement}
-use Rattle.sections.proofs.of_few_bytes.Tie as tie
+use Rattle.chunk_figures.proofs.Figures.{of-size, eight-left}
+use Rattle.chunk_figures.proofs.of_few_bytes.Statement.{statement}
+use Rattle.chunk_figures.proofs.of_few_bytes.Tie as tie
 
 of-eight-bytes-requires : tie.Need-of-eight-bytes-requires
 of-eight-bytes-requires c κs = search needs

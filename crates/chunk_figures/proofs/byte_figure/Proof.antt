@@ -3,10 +3,10 @@ use mathlib.Core.Path.{sym, ap, _∙_}
 use Prim.Native.Nat.{ℕ}
 use native.Mathlib.Omega.{arith}
 use borrow.Author.Needs.{needs}
-use Rattle.sections.specs.Figures.{byteFigure}
-use Rattle.sections.proofs.Figures.{free-byte, used-byte}
-use Rattle.sections.proofs.byte_figure.Statement.{statement}
-use Rattle.sections.proofs.byte_figure.Tie as tie
+use Rattle.chunk_figures.specs.Figures.{byteFigure}
+use Rattle.chunk_figures.proofs.Figures.{free-byte, used-byte}
+use Rattle.chunk_figures.proofs.byte_figure.Statement.{statement}
+use Rattle.chunk_figures.proofs.byte_figure.Tie as tie
 
 returns : tie.Need-returns
 returns c = sym (ap byteFigure (c .if1 .taken) ∙ free-byte)

@@ -18,7 +18,7 @@ use Rattle.rules.specs.Tools.{someBelow}
 use Rattle.rules.specs.Sections.{largestFree}
 use Rattle.rules.proofs.Tests.{some-false}
 use Rattle.rules.proofs.Figures.{figure-of-halves, figure-le}
-use Rattle.sections.specs.Figures.{byteFigure, ofHalves}
+use Rattle.chunk_figures.specs.Figures.{byteFigure, ofHalves}
 
 -- ---- the figure depends on the blocks' bits alone
 

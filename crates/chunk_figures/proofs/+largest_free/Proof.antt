@@ -2,17 +2,17 @@
 use mathlib.Core.Path.{ap, _∙_}
 use native.Mathlib.Omega.{arith}
 use Rattle.rules.specs.Sections.{largestFree}
-use Rattle.sections.proofs.Figures.{half-size, from-halves}
+use Rattle.chunk_figures.proofs.Figures.{half-size, from-halves}
 use Prim.Native.Nat.{ℕ, _<_}
 use borrow.Fn.Kinds.{In}
 use borrow.Fn.PlainCycle.{Measures, is, falls, and}
-use Rattle.sections.proofs.largest_free.Reads as largest-free
-use Rattle.sections.proofs.largest_free.Kinds as largest-free-kinds
-use Rattle.sections.proofs.+largest_free.Lts-largest_free as largest-free-lts
-use Rattle.sections.proofs.of_few_bytes.Reads as of-few-bytes-reads
-use Rattle.sections.proofs.of_halves.Reads as of-halves-reads
-use Rattle.sections.proofs.+largest_free.{statement}
-use Rattle.sections.proofs.+largest_free.Tie.{close}
+use Rattle.chunk_figures.proofs.largest_free.Reads as largest-free
+use Rattle.chunk_figures.proofs.largest_free.Kinds as largest-free-kinds
+use Rattle.chunk_figures.proofs.+largest_free.Lts-largest_free as largest-free-lts
+use Rattle.chunk_figures.proofs.of_few_bytes.Reads as of-few-bytes-reads
+use Rattle.chunk_figures.proofs.of_halves.Reads as of-halves-reads
+use Rattle.chunk_figures.proofs.+largest_free.{statement}
+use Rattle.chunk_figures.proofs.+largest_free.Tie.{close}
 
 abbrev μ-largest-free : Measures 1 largest-free-kinds.ps ℕ
 μ-largest-free κs a = a .1 .1 .0

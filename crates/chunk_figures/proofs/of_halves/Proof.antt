@@ -2,9 +2,9 @@
 use native.Mathlib.Omega.{arith}
 use borrow.Author.Needs.{needs}
 use borrow.Author.Tests.{lt-ltb, le-ltb, eq-eqb, ne-eqb}
-use Rattle.sections.specs.Figures.{ofHalves}
-use Rattle.sections.proofs.of_halves.Statement.{statement}
-use Rattle.sections.proofs.of_halves.Tie as tie
+use Rattle.chunk_figures.specs.Figures.{ofHalves}
+use Rattle.chunk_figures.proofs.of_halves.Statement.{statement}
+use Rattle.chunk_figures.proofs.of_halves.Tie as tie
 
 returns : tie.Need-returns
 unfolding ofHalves

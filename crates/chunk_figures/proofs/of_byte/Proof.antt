@@ -1,9 +1,9 @@
 -- `of_byte` meets its contract: the figure of eight blocks is their byte's.
 use mathlib.Core.Path.{_∙_}
 use borrow.Author.Needs.{needs}
-use Rattle.sections.proofs.Figures.{eight-blocks}
-use Rattle.sections.proofs.of_byte.Statement.{statement}
-use Rattle.sections.proofs.of_byte.Tie as tie
+use Rattle.chunk_figures.proofs.Figures.{eight-blocks}
+use Rattle.chunk_figures.proofs.of_byte.Statement.{statement}
+use Rattle.chunk_figures.proofs.of_byte.Tie as tie
 
 shared-slice-read-byte-figure : tie.Need-shared-slice-read-byte-figure
 shared-slice-read-byte-figure c = search needs
