@@ -5,14 +5,14 @@ ghost use Prim.Native.Nat.{_*_, _≤_};
 ghost use lib.ListN.{length};
 ghost use Rattle.rules.specs.Heap.{isBlocks, exponent};
 ghost use Rattle.rules.specs.Sections.{figures};
-ghost use Rattle.sections.specs.Search.{Found};
+ghost use Rattle.section_search.specs.Search.{Found};
 ghost use Rattle.arguments.specs.Replies.{allocateReply};
 use crate::replies;
 use blocks::Ref;
 use blocks::chunks;
 use blocks::chunks::Searched;
 use rules::Reply;
-use sections::search;
+use section_search::find_chunk;
 
 // The block that an object of n blocks would start at, or `blocks`, and how many blocks the search looked at.
 fn find_place(blocks: usize, a: &[u8], sections: &[Ref], n: usize) -> Searched
@@ -20,7 +20,7 @@ fn find_place(blocks: usize, a: &[u8], sections: &[Ref], n: usize) -> Searched
     ensures { λ r. ⌜ Found blocks (exponent n) (now (a .entry)) (r .at) (r .looks) ⌝ }
 {
     let size = chunks::chunk_size(n);
-    search::find_chunk(blocks, a, sections, size)
+    find_chunk(blocks, a, sections, size)
 }
 
 // The number and the value of the reply of an allocation of n blocks into root r.

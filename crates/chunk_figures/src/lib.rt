@@ -5,8 +5,6 @@ ghost use lib.ListN.{length};
 ghost use Rattle.rules.specs.Sections.{largestFree};
 ghost use Rattle.chunk_figures.specs.Figures.{byteFigure, ofHalves};
 
-mod word;
-
 // The largest free chunk of four blocks, by their bits: 16 numbers of four bits each, that of no used block first. (An array would be
 // written out anew at each look into it.)
 const FOUR_BLOCKS: u64 = 77142912912204324;
@@ -70,7 +68,7 @@ fn of_eight_bytes(a: &[u8], i: usize) -> usize
     requires { ⌜ (i + 8 ≤ length (now a)) × (i + 8 < 2 ^ 64) ⌝ }
     ensures { λ r. ⌜ r ≡ largestFree 6 (now (a .entry)) (8 * i) ⌝ }
 {
-    word::figure(word::eight_bytes(a, i))
+    word_figures::figure(word_figures::eight_bytes(a, i))
 }
 
 // The largest free chunk of the `size` blocks from byte i of the map on, at most 64 blocks.

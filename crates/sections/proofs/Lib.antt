@@ -1,5 +1,4 @@
 pub mod SectionPlaces
 pub mod Lists
-pub mod BySections
 pub mod Forget
 pub mod FreeHeap

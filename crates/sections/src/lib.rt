@@ -10,7 +10,6 @@ use blocks::Ref;
 use chunk_figures::largest_free;
 
 pub mod extents;
-pub mod search;
 
 // The longest section, in blocks.
 const MAX_SECTION: usize = 256;

@@ -1,11 +1,11 @@
--- `word::two_bytes` meets its contract: two bytes are one number of 16 digits.
+-- `two_bytes` meets its contract: two bytes are one number of 16 digits.
 use Prim.Native.Nat.{_+_, _*_}
 use lib.ListN.{getD}
 use native.Mathlib.Omega.{arith}
 use borrow.Author.Needs.{needs}
-use Rattle.chunk_figures.proofs.Words.{byte-digits, append}
-use Rattle.chunk_figures.proofs.word.two_bytes.Statement.{statement}
-use Rattle.chunk_figures.proofs.word.two_bytes.Tie as tie
+use Rattle.word_figures.proofs.Words.{byte-digits, append}
+use Rattle.word_figures.proofs.two_bytes.Statement.{statement}
+use Rattle.word_figures.proofs.two_bytes.Tie as tie
 
 shared-slice-read-lower : tie.Need-shared-slice-read-lower
 shared-slice-read-lower c = search needs

@@ -1,8 +1,8 @@
--- `word::joined` meets its contract: a digit of the result is both digits of the halves.
+-- `joined` meets its contract: a digit of the result is both digits of the halves.
 use borrow.Author.Needs.{needs}
-use Rattle.chunk_figures.proofs.Words.{doubled}
-use Rattle.chunk_figures.proofs.word.joined.Statement.{statement}
-use Rattle.chunk_figures.proofs.word.joined.Tie as tie
+use Rattle.word_figures.proofs.Words.{doubled}
+use Rattle.word_figures.proofs.joined.Statement.{statement}
+use Rattle.word_figures.proofs.joined.Tie as tie
 
 shr-result : tie.Need-shr-result
 shr-result c = search needs

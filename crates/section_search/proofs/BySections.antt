@@ -15,7 +15,7 @@ use Rattle.rules.proofs.Tabulate.{length-tabulate}
 use Rattle.rules.proofs.Sections.{sections-find-lowest, section-has, suffices-facts}
 use Rattle.blocks.specs.Search.{orElse, looksFor, lowestIn, Search}
 use Rattle.blocks.proofs.LowestChunk.{lowest-whole}
-use Rattle.sections.specs.Search.{looksInSection, looksBySections, Found}
+use Rattle.section_search.specs.Search.{looksInSection, looksBySections, Found}
 
 -- ---- the lowest section, as the loop goes: number s is tried, and n - s more
 

@@ -1,10 +1,10 @@
--- `word::eight_bytes` meets its contract: two numbers of 32 digits are one of 64.
+-- `eight_bytes` meets its contract: two numbers of 32 digits are one of 64.
 use Prim.Native.Nat.{_+_, _*_}
 use native.Mathlib.Omega.{arith}
 use borrow.Author.Needs.{needs}
-use Rattle.chunk_figures.proofs.Words.{append}
-use Rattle.chunk_figures.proofs.word.eight_bytes.Statement.{statement}
-use Rattle.chunk_figures.proofs.word.eight_bytes.Tie as tie
+use Rattle.word_figures.proofs.Words.{append}
+use Rattle.word_figures.proofs.eight_bytes.Statement.{statement}
+use Rattle.word_figures.proofs.eight_bytes.Tie as tie
 
 four-bytes-requires : tie.Need-four-bytes-requires
 four-bytes-requires c κs = search needs

@@ -5,7 +5,7 @@ ghost use mathlib.Core.List.{List};
 ghost use Prim.Native.Nat.{ℕ, suc, _+_, _*_, _^_, _<_, _≤_};
 ghost use lib.ListN.{length};
 ghost use Rattle.rules.specs.Sections.{largestFree};
-ghost use Rattle.chunk_figures.specs.Words.{Digits, Starts, FreeChunks};
+ghost use Rattle.word_figures.specs.Words.{Digits, Starts, FreeChunks};
 
 // A 1 at the first block of each chunk of 2, 4, 8, 16, 32 and 64 blocks.
 const TWOS: u64 = 0x5555_5555_5555_5555;

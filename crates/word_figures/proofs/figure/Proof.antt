@@ -1,11 +1,11 @@
--- `word::figure` meets its contract: the largest size of which the word is not 0.
+-- `figure` meets its contract: the largest size of which the word is not 0.
 use mathlib.Core.Path.{refl}
 use native.Mathlib.Omega.{arith}
 use borrow.Author.Needs.{needs}
-use Rattle.chunk_figures.proofs.Words.{free-blocks, twos, fours, eights}
-use Rattle.chunk_figures.proofs.FigureOfWord.{exact, zero-figure}
-use Rattle.chunk_figures.proofs.word.figure.Statement.{statement}
-use Rattle.chunk_figures.proofs.word.figure.Tie as tie
+use Rattle.word_figures.proofs.Words.{free-blocks, twos, fours, eights}
+use Rattle.word_figures.proofs.FigureOfWord.{exact, zero-figure}
+use Rattle.word_figures.proofs.figure.Statement.{statement}
+use Rattle.word_figures.proofs.figure.Tie as tie
 
 returns : tie.Need-returns
 returns c = λ a i d. zero-figure a i _ (free-blocks a i (c .before .args .used) d) (c .if1 .taken)

@@ -5,9 +5,9 @@ use native.Mathlib.Omega.{arith}
 use lib.ListN.{length}
 use Rattle.rules.specs.Sections.{sufficesFrom}
 use Rattle.blocks.specs.Search.{orElse}
-use Rattle.sections.proofs.BySections.{suffices-start, suffices-here, suffices-next, suffices-none}
-use Rattle.sections.proofs.search.lowest_section.Statement.{statement}
-use Rattle.sections.proofs.search.lowest_section.Tie as tie
+use Rattle.section_search.proofs.BySections.{suffices-start, suffices-here, suffices-next, suffices-none}
+use Rattle.section_search.proofs.lowest_section.Statement.{statement}
+use Rattle.section_search.proofs.lowest_section.Tie as tie
 
 abbrev Inv-loop : tie.InvT-loop
 Inv-loop sections size s₀ s =

@@ -6,11 +6,11 @@ use lib.ListN.{length}
 use Rattle.rules.specs.Heap.{sectionLength, sectionCount}
 use Rattle.rules.proofs.Shape.{blocks-le}
 use Rattle.blocks.specs.Search.{lowestIn, Search}
-use Rattle.sections.proofs.BySections.{found-longer, found-none, found-within, chosen-none, chosen-some, figures-length, on-figures}
+use Rattle.section_search.proofs.BySections.{found-longer, found-none, found-within, chosen-none, chosen-some, figures-length, on-figures}
 use Rattle.sections.proofs.SectionPlaces.{Place, place, whole-heap, whole-section}
 use borrow.Author.Needs.{needs}
-use Rattle.sections.proofs.search.find_chunk.Statement.{statement}
-use Rattle.sections.proofs.search.find_chunk.Tie as tie
+use Rattle.section_search.proofs.find_chunk.Statement.{statement}
+use Rattle.section_search.proofs.find_chunk.Tie as tie
 
 section-length-requires : tie.Need-section-length-requires
 section-length-requires c κs = search needs

@@ -18,7 +18,7 @@ use Rattle.bitmap.proofs.Maps.{bit-of-byte, bit-at-lt}
 use Rattle.rules.specs.Heap.{chunkFree}
 use Rattle.rules.specs.Tools.{someBelow}
 use Rattle.rules.proofs.Tests.{some-false}
-use Rattle.chunk_figures.specs.Words.{Digits, Starts, FreeChunks}
+use Rattle.word_figures.specs.Words.{Digits, Starts, FreeChunks}
 
 -- ---- digits of an `and`, of a complement
 

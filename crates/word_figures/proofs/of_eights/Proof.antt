@@ -1,11 +1,11 @@
--- `word::of_eights` meets its contract: the largest size of which the word is not 0.
+-- `of_eights` meets its contract: the largest size of which the word is not 0.
 use mathlib.Core.Path.{refl}
 use native.Mathlib.Omega.{arith}
 use borrow.Author.Needs.{needs}
-use Rattle.chunk_figures.proofs.Words.{sixteens, thirty-twos, whole}
-use Rattle.chunk_figures.proofs.FigureOfWord.{exact, all}
-use Rattle.chunk_figures.proofs.word.of_eights.Statement.{statement}
-use Rattle.chunk_figures.proofs.word.of_eights.Tie as tie
+use Rattle.word_figures.proofs.Words.{sixteens, thirty-twos, whole}
+use Rattle.word_figures.proofs.FigureOfWord.{exact, all}
+use Rattle.word_figures.proofs.of_eights.Statement.{statement}
+use Rattle.word_figures.proofs.of_eights.Tie as tie
 
 joined-requires : tie.Need-joined-requires
 joined-requires c κs = search needs

@@ -1,10 +1,10 @@
--- `word::four_bytes` meets its contract: two numbers of 16 digits are one of 32.
+-- `four_bytes` meets its contract: two numbers of 16 digits are one of 32.
 use Prim.Native.Nat.{_+_, _*_}
 use native.Mathlib.Omega.{arith}
 use borrow.Author.Needs.{needs}
-use Rattle.chunk_figures.proofs.Words.{append}
-use Rattle.chunk_figures.proofs.word.four_bytes.Statement.{statement}
-use Rattle.chunk_figures.proofs.word.four_bytes.Tie as tie
+use Rattle.word_figures.proofs.Words.{append}
+use Rattle.word_figures.proofs.four_bytes.Statement.{statement}
+use Rattle.word_figures.proofs.four_bytes.Tie as tie
 
 two-bytes-requires : tie.Need-two-bytes-requires
 two-bytes-requires c κs = search needs

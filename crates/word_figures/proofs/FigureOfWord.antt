@@ -14,7 +14,7 @@ use Rattle.rules.specs.Heap.{chunkFree}
 use Rattle.rules.specs.Sections.{largestFree}
 use Rattle.rules.proofs.Tests.{test-cases}
 use Rattle.rules.proofs.Figures.{figure-le, halves-free, there-is, none-larger, FreeAmong}
-use Rattle.chunk_figures.specs.Words.{FreeChunks}
+use Rattle.word_figures.specs.Words.{FreeChunks}
 
 -- a free chunk begins with free chunks of every smaller size
 begins : (d k : ℕ) (a : List ℕ) (i : ℕ) → chunkFree (d + k) a i ≡ true → chunkFree k a i ≡ true
