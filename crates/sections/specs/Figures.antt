@@ -1,13 +1,12 @@
 -- Lists of figures while a call works, for contracts of inner functions.
 use Prim.Native.Nat.{ℕ, _+_, _*_, _≤_, _<_}
 use mathlib.Core.Path.{_≡_}
-use mathlib.Core.Bool.{true, false}
+use mathlib.Core.Bool.{true}
 use mathlib.Core.Logic.{_⊎_}
-use mathlib.Core.List.{List, [], _∷_}
+use mathlib.Core.List.{List}
 use lib.ListN.{length, getD}
-use lib.Dec.{ltb, eqb}
 use Rattle.rules.specs.Heap.{isBlocks, sectionLength, sectionCount}
-use Rattle.rules.specs.Sections.{largestFree, figure}
+use Rattle.rules.specs.Sections.{figure}
 
 -- every number of the list is its section's figure, or says that it has to be found anew: 65,535, which no section has
 pub record Coherent (N : ℕ) (a sections : List ℕ) : Type 0 where

@@ -1,7 +1,7 @@
 // Sections of the heap (request U4): the size of the largest free chunk of each, read off the A-map.
 ghost use mathlib.Core.Path.{_≡_};
 ghost use mathlib.Core.Bool.{true};
-ghost use Prim.Native.Nat.{ℕ, _+_, _*_, _/_, _%_, _^_, _<_, _≤_};
+ghost use Prim.Native.Nat.{_*_, _/_, _<_, _≤_};
 ghost use lib.ListN.{length, replicate};
 ghost use Rattle.rules.specs.Heap.{isBlocks, sectionLength, sectionCount};
 ghost use Rattle.rules.specs.Sections.{figure, figures, staleFigures};

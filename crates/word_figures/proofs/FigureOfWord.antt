@@ -3,18 +3,19 @@ use mathlib.Core.Path.{_≡_, sym, ap, subst, _∙_}
 use mathlib.Core.Logic.{_≢_, inl, inr}
 use mathlib.Core.Bool.{true}
 use mathlib.Core.List.{List}
-use Prim.Native.Nat.{ℕ, zero, suc, _+_, _-_, _*_, _/_, _%_, _^_, _≤_, _<_}
-use native.Mathlib.Nat.{pow-suc, suc-add, zero-add, mul-assoc, mul-le-mul-right, mul-mod-left}
+use Prim.Native.Nat.{ℕ, zero, suc, _+_, _-_, _*_, _%_, _^_, _≤_, _<_}
+use native.Mathlib.Nat.{suc-add, zero-add, mul-assoc, mul-le-mul-right, mul-mod-left}
 use native.Mathlib.Decide.{decLt, decLe, ℕ-discrete}
 use native.Mathlib.Omega.{arith}
-use lib.Pow.{pow-pos, pow-lt, pow-mono, pow-add, split}
+use lib.Pow.{pow-pos, pow-lt, pow-mono, pow-add}
 use Rattle.bitmap.specs.Bit.{bitOf, one}
 use Rattle.bitmap.proofs.Bits.{bits-ext, bit-zero}
 use Rattle.rules.specs.Heap.{chunkFree}
 use Rattle.rules.specs.Sections.{largestFree}
 use Rattle.rules.proofs.Tests.{test-cases}
-use Rattle.rules.proofs.Figures.{figure-le, halves-free, there-is, none-larger, FreeAmong}
+use Rattle.rules.proofs.Figures.{figure-le, halves-free, there-is, none-larger}
 use Rattle.word_figures.specs.Words.{FreeChunks}
+use Rattle.word_figures.proofs.Words.{numbered}
 
 -- a free chunk begins with free chunks of every smaller size
 begins : (d k : ℕ) (a : List ℕ) (i : ℕ) → chunkFree (d + k) a i ≡ true → chunkFree k a i ≡ true
@@ -65,16 +66,10 @@ module _ (k : ℕ) (a : List ℕ) (i w : ℕ) (small : k ≤ 6) (f : FreeChunks 
         | yes aligned ↦ elim (test-cases (chunkFree k a (i + n))) [
           | inr used ↦ f .chunk n m aligned ∙ ap one used
           | inl free ↦
-              let c : ℕ = n / 2 ^ k in
-              let place : n ≡ c * 2 ^ k = omega (arith, split n k) in
+              let at = numbered k n small m aligned in
               let exponent : 6 - k + k ≡ 6 = omega arith in
-              let parts : 2 ^ (6 - k) * 2 ^ k ≡ 64 = sym (pow-add 2 (6 - k) k) ∙ ap (λ (x : ℕ). 2 ^ x) exponent in
-              let below : c < 2 ^ (6 - k) =
-              elim (decLt c (2 ^ (6 - k))) [
-                | yes q ↦ q
-                | no q ↦ let most : 2 ^ (6 - k) ≤ c = omega arith in absurd (omega (arith, mul-le-mul-right (2 ^ k) most))
-              ] in
-              let large = none-larger (6 - k) k a i c below (ap (λ (x : ℕ). chunkFree k a (i + x)) (sym place) ∙ free) in
+              let large =
+              none-larger (6 - k) k a i (at .number) (at .below) (ap (λ (x : ℕ). chunkFree k a (i + x)) (sym (at .place)) ∙ free) in
               absurd (l (subst (λ (x : ℕ). 2 ^ k ≤ largestFree x a i) exponent large))
         ]
       ]

@@ -1,6 +1,5 @@
 -- Blocks as digits of a word: bytes put together, free chunks found by `and` of a word and itself shifted.
 use mathlib.Core.Path.{_≡_, refl, sym, ap, ap₂, _∙_}
-use mathlib.Core.Logic.{_≢_}
 use mathlib.Core.Bool.{Bool, true, false, not}
 use mathlib.Core.List.{List}
 use Prim.Native.Nat.{ℕ, zero, suc, _+_, _-_, _*_, _/_, _%_, _^_, _≤_, _<_, min}
@@ -90,6 +89,32 @@ both true false = refl
 both false true = refl
 both false false = refl
 
+-- block n of the 64 is the first of chunk number `number`, of 2 ^ k blocks
+pub record Numbered (k n : ℕ) : Type 0 where
+  pub number : ℕ
+  pub place : n ≡ number * 2 ^ k
+  pub below : number < 2 ^ (6 - k)
+  pub within : (number + 1) * 2 ^ k ≤ 64
+
+pub numbered : (k n : ℕ) → k ≤ 6 → n < 64 → n % 2 ^ k ≡ 0 → Numbered k n
+numbered k n small l e =
+    let q : ℕ = n / 2 ^ k in
+    let place : n ≡ q * 2 ^ k = omega (arith, split n k) in
+    let exponent : 6 - k + k ≡ 6 = omega arith in
+    let parts : 2 ^ (6 - k) * 2 ^ k ≡ 64 = sym (pow-add 2 (6 - k) k) ∙ ap (λ (x : ℕ). 2 ^ x) exponent in
+    let below : q < 2 ^ (6 - k) =
+    elim (decLt q (2 ^ (6 - k))) [
+      | yes m ↦ m
+      | no m ↦ let most : 2 ^ (6 - k) ≤ q = omega arith in absurd (omega (arith, mul-le-mul-right (2 ^ k) most))
+    ] in
+    let room : (q + 1) * 2 ^ k ≤ 2 ^ (6 - k) * 2 ^ k = mul-le-mul-right (2 ^ k) (omega arith) in
+    record {
+      number = q;
+      place = place;
+      below = below;
+      within = omega arith;
+    }
+
 -- the first half of a chunk of 2 ^ suc k of the 64 blocks, and the second
 record Halves (k n : ℕ) : Type 0 where
   first : n % 2 ^ k ≡ 0
@@ -98,22 +123,14 @@ record Halves (k n : ℕ) : Type 0 where
 
 halves : (k n : ℕ) → k < 6 → n < 64 → n % 2 ^ suc k ≡ 0 → Halves k n
 halves k n small l e =
-    let q : ℕ = n / 2 ^ suc k in
-    let place : n ≡ q * 2 ^ suc k = omega (arith, split n (suc k)) in
-    let exponent : 5 - k + suc k ≡ 6 = omega arith in
-    let parts : 2 ^ (5 - k) * 2 ^ suc k ≡ 64 = sym (pow-add 2 (5 - k) (suc k)) ∙ ap (λ (x : ℕ). 2 ^ x) exponent in
+    let at = numbered (suc k) n (omega arith) l e in
+    let q : ℕ = at .number in
     let twice = pow-suc 2 k in
-    let in-halves : n ≡ q * 2 * 2 ^ k = omega (arith, ap (λ (x : ℕ). q * x) twice) in
-    let below : q < 2 ^ (5 - k) =
-    elim (decLt q (2 ^ (5 - k))) [
-      | yes m ↦ m
-      | no m ↦ let most : 2 ^ (5 - k) ≤ q = omega arith in absurd (omega (arith, mul-le-mul-right (2 ^ suc k) most))
-    ] in
-    let room : (q + 1) * 2 ^ suc k ≤ 2 ^ (5 - k) * 2 ^ suc k = mul-le-mul-right (2 ^ suc k) (omega arith) in
+    let in-halves : n ≡ q * 2 * 2 ^ k = omega (arith, at .place, ap (λ (x : ℕ). q * x) twice) in
     record {
       first = ap (λ (x : ℕ). x % 2 ^ k) in-halves ∙ mul-mod-left (q * 2) (2 ^ k);
       second = ap (λ (x : ℕ). (2 ^ k + x) % 2 ^ k) in-halves ∙ ap (λ (x : ℕ). x % 2 ^ k) (omega arith) ∙ mul-mod-left (1 + q * 2) (2 ^ k);
-      within = omega (arith, pow-pos k);
+      within = omega (arith, at .place, at .within, pow-pos k);
     }
 
 pub doubled :
