@@ -1,6 +1,6 @@
 -- Laws of powers of two, which chunks have as sizes, and of `exponent`, the exponent of the least power that is n or more.
 use mathlib.Core.Path.{_≡_, refl, ap, _∙_}
-use Prim.Native.Nat.{ℕ, zero, suc, _+_, _-_, _/_, _^_, _≤_, _<_}
+use Prim.Native.Nat.{ℕ, zero, suc, _+_, _-_, _^_, _≤_, _<_}
 use native.Mathlib.Nat.{pow-suc, sub-zero}
 use native.Mathlib.Decide.{decLt}
 use native.Mathlib.Omega.{arith}
@@ -17,11 +17,6 @@ below-power (suc k) = omega (arith, below-power k, pow-suc 2 k)
 -- an exponent is below another where the power is
 pub exponent-lt : (k j : ℕ) → 2 ^ k < 2 ^ j → k < j
 exponent-lt k j h = elim (decLt k j) [ yes l ↦ l | no l ↦ absurd (omega (arith, pow-mono {i = j} {j = k} (omega arith))) ]
-
--- a power of two is 1 or twice a power of two
-pub half-power : (size k : ℕ) → size ≡ 2 ^ k → (size ≡ 1 → ⊥) → (j : ℕ) × (size / 2 ≡ 2 ^ j)
-half-power size zero e more = absurd (more e)
-half-power size (suc j) e more = (j, omega (arith, pow-suc 2 j))
 
 -- ---- the exponent, as its search goes: k is tried, and n - k more
 
