@@ -9,8 +9,7 @@ ghost use Rattle.section_search.specs.Search.{Found};
 ghost use Rattle.arguments.specs.Replies.{allocateReply};
 use crate::replies;
 use blocks::Ref;
-use blocks::chunks;
-use blocks::chunks::Searched;
+use chunks::Searched;
 use rules::Reply;
 use section_search::find_chunk;
 

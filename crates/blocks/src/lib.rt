@@ -1,6 +1,5 @@
-// Blocks of the heap: what is read off the two maps, the searches for a free chunk, and extents written and cleared.
-pub mod chunks;
-pub mod extents;
+// References and bounds, what the two maps say of a block, and lists of references cleared.
+pub mod lists;
 pub mod objects;
 
 // A cell or root: 0, or 1 + the first block of an object. To widen references, the first places to change are this type,

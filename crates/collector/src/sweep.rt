@@ -37,7 +37,7 @@ fn sweep_one(
     }
     let n = blocks::objects::object_size(blocks, b, i);
     sections::extents::clear_extent(blocks, a, b, sections, i, n);
-    blocks::extents::clear_cells(cells, 4 * i, 4 * n);
+    object_extents::clear_cells(cells, 4 * i, 4 * n);
     n
 }
 

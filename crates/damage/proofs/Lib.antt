@@ -1,4 +1,1 @@
-pub mod Counting
 pub mod References
-pub mod Doubling
-pub mod Tally

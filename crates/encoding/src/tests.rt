@@ -7,7 +7,6 @@ ghost use Rattle.encoding.specs.Encoding.{isCall, areCalls};
 ghost use Rattle.encoding.specs.Refusals.{replyOn};
 use arguments::replies::acceptance;
 use arguments::replies::refusal;
-use damage::shape;
 use rules::Reply;
 
 // Whether a code is that of a call. All other codes are answered 9.

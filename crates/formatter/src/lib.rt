@@ -7,7 +7,7 @@ ghost use Rattle.rules.specs.Calls.{Call};
 ghost use Rattle.rules.specs.Promise.{Promise};
 use arguments::replies;
 use blocks::Ref;
-use blocks::extents;
+use blocks::lists;
 use rules::Reply;
 
 // Makes an empty heap of buffers of the right shape.
@@ -30,9 +30,9 @@ pub fn format(
     bitmap::fill_bytes(a, 0);
     bitmap::fill_bytes(b, 255);
     bitmap::fill_bytes(counts, 0);
-    extents::clear_all(cells);
-    extents::clear_all(roots);
-    extents::clear_all(waiting);
+    lists::clear_all(cells);
+    lists::clear_all(roots);
+    lists::clear_all(waiting);
     sections::fill_free(blocks, sections);
     replies::acceptance(0)
 }

@@ -5,7 +5,7 @@ ghost use Rattle.rules.specs.Lent.{before, after};
 ghost use Rattle.history.specs.Promised.{runReply, refusal, Promised};
 use arguments::replies;
 use blocks::Ref;
-use blocks::extents;
+use blocks::lists;
 use figures::tally;
 use figures::tally::Run;
 use rules::Reply;
@@ -92,7 +92,7 @@ pub fn run_records(
     if number != 0 {
         return refused(reply);
     }
-    extents::clear_all(waiting);
+    lists::clear_all(waiting);
     let after = run::run_piece(
         blocks,
         width,

@@ -5,8 +5,6 @@ ghost use Rattle.rules.specs.Promise.{Promise};
 use arguments::looking;
 use arguments::replies;
 use blocks::Ref;
-use damage::kinds;
-use damage::shape;
 use rules::Reply;
 
 // Whether the heap has the right shape, is undamaged and has a true list of sections: number 1, or 2 with the damage kind, or 11, or 0.
@@ -38,7 +36,7 @@ pub fn check(
     ) {
         return replies::refusal(1);
     }
-    let kind = kinds::damage_kind(blocks, width, a, b, counts, cells, roots, waiting, sections);
+    let kind = damage::damage_kind(blocks, width, a, b, counts, cells, roots, waiting, sections);
     if kind != 0 {
         return Reply {
             number: 2,

@@ -6,11 +6,10 @@ ghost use Prim.Native.Nat.{ℕ, _*_, _^_, _≤_};
 ghost use lib.ListN.{length};
 ghost use Rattle.rules.specs.Heap.{isBlocks};
 ghost use Rattle.rules.specs.Sections.{figures, sufficesFrom};
-ghost use Rattle.blocks.specs.Search.{orElse};
+ghost use Rattle.chunks.specs.Search.{orElse};
 ghost use Rattle.section_search.specs.Search.{Found};
 use blocks::Ref;
-use blocks::chunks;
-use blocks::chunks::Searched;
+use chunks::Searched;
 use sections::section_length;
 
 // The lowest section whose figure is `size` or more, or the number of sections.

@@ -12,7 +12,7 @@ use Rattle.rules.specs.Sections.{largestFree, figure}
 use Rattle.rules.proofs.Shape.{blocks-facts, blocks-le, blocks-power}
 use Rattle.rules.proofs.Figures.{figure-le}
 use Rattle.rules.proofs.Sections.{divided}
-use Rattle.blocks.specs.Search.{Part}
+use Rattle.chunks.specs.Search.{Part}
 use Rattle.chunk_figures.proofs.Figures.{whole-bytes}
 
 -- a section's length, of any heap

@@ -51,7 +51,7 @@ pub fn mark_extent(
         × Coherent blocks (now (a .exit)) (now (sections .exit)) ⌝ }
 {
     forget(blocks, sections, i, n);
-    blocks::extents::mark_extent(a, b, i, n);
+    object_extents::mark_extent(a, b, i, n);
 }
 
 // The n blocks from block i on, an object's, become free.
@@ -70,5 +70,5 @@ pub fn clear_extent(
         × Coherent blocks (now (a .exit)) (now (sections .exit)) ⌝ }
 {
     forget(blocks, sections, i, n);
-    blocks::extents::clear_extent(a, b, i, n);
+    object_extents::clear_extent(a, b, i, n);
 }

@@ -159,7 +159,7 @@ pub fn place(
     let stuck = counting::capacity_of(width) == 1;
     sections::extents::mark_extent(blocks, a, b, sections, i, n);
     planes::set_count(counts, blocks / 8, width, i, 1);
-    blocks::extents::clear_cells(cells, 4 * i, 4 * n);
+    object_extents::clear_cells(cells, 4 * i, 4 * n);
     let freed = put_root(
         blocks,
         width,

@@ -1,0 +1,4 @@
+pub mod LowestChunk
+pub mod Parts
+pub mod Powers
+pub mod Walk

@@ -1,0 +1,222 @@
+-- `damage::damage_kind` meets its contract: a kind is reported where its test passes and those before it fail.
+use mathlib.Core.Path.{_≡_, sym, _∙_}
+use mathlib.Core.Bool.{Bool, false}
+use Prim.Native.Nat.{_*_}
+use native.Mathlib.Omega.{arith}
+use lib.ListN.{length}
+use Rattle.rules.specs.Heap.{Memory, lentMemory}
+use Rattle.rules.specs.Tools.{someBelow, firstNumber}
+use Rattle.rules.specs.Damage.{endOnFree, openEnd, unaligned, badCell, badRoot, badCount, damage}
+use Rattle.damage.proofs.References.{cells-within, roots-within}
+use Rattle.rules.proofs.Shape.{Shaped, shape-facts}
+use Rattle.damage.proofs.damage_kind.Statement.{statement}
+use Rattle.damage.proofs.damage_kind.Tie as tie
+
+-- the seven buffers
+abbrev whole : tie.Start → Memory
+whole s =
+    lentMemory
+    (s .args .a .now)
+    (s .args .b .now)
+    (s .args .counts .now)
+    (s .args .cells .now)
+    (s .args .roots .now)
+    (s .args .waiting .now)
+    (s .args .sections .now)
+
+-- they have the right lengths
+right : (s : tie.Start) → Shaped (s .args .blocks) (s .args .width) (whole s)
+right s = shape-facts (s .args .blocks) (s .args .width) (whole s) (s .pre)
+
+-- ---- the six tests, in the code's order; kind 4 has two
+
+-- the rule's tests
+abbrev rule-1 : tie.Start → Bool
+rule-1 s = someBelow (endOnFree (whole s)) (s .args .blocks)
+
+abbrev rule-2 : tie.Start → Bool
+rule-2 s = someBelow (openEnd (s .args .blocks) (whole s)) (s .args .blocks)
+
+abbrev rule-3 : tie.Start → Bool
+rule-3 s = someBelow (unaligned (s .args .blocks) (whole s)) (s .args .blocks)
+
+abbrev rule-4 : tie.Start → Bool
+rule-4 s = someBelow (badCell (s .args .blocks) (whole s)) (4 * s .args .blocks)
+
+abbrev rule-5 : tie.Start → Bool
+rule-5 s = someBelow (badRoot (s .args .blocks) (whole s)) (length (s .args .roots .now))
+
+abbrev rule-6 : tie.Start → Bool
+rule-6 s = someBelow (badCount (s .args .blocks) (s .args .width) (whole s)) (s .args .blocks)
+
+-- where the code starts from
+abbrev start-1 : tie.After-has-end-on-free → tie.Start
+start-1 c = c .before .before .before .before .before .before .before .before
+
+abbrev start-2 : tie.After-has-open-end → tie.Start
+start-2 c = start-1 (c .before .before)
+
+abbrev start-3 : tie.After-has-unaligned → tie.Start
+start-3 c = start-2 (c .before .before)
+
+abbrev start-4 : tie.After-has-bad-cell → tie.Start
+start-4 c = start-3 (c .before .before)
+
+abbrev start-5 : tie.After-has-bad-root → tie.Start
+start-5 c = start-4 (c .before .before)
+
+abbrev start-6 : tie.After-has-bad-count → tie.Start
+start-6 c = start-5 (c .before .before)
+
+-- what each call returns; it reads only some of the buffers
+test-1 : (c : tie.After-has-end-on-free) → c .has-end-on-free .result ≡ rule-1 (start-1 c)
+unfolding endOnFree
+test-1 c = c .has-end-on-free .ensures
+
+test-2 : (c : tie.After-has-open-end) → c .has-open-end .result ≡ rule-2 (start-2 c)
+unfolding openEnd
+test-2 c = c .has-open-end .ensures
+
+test-3 : (c : tie.After-has-unaligned) → c .has-unaligned .result ≡ rule-3 (start-3 c)
+unfolding unaligned
+test-3 c = c .has-unaligned .ensures
+
+test-4 : (c : tie.After-has-bad-cell) → c .has-bad-cell .result ≡ rule-4 (start-4 c)
+unfolding badCell
+test-4 c = c .has-bad-cell .ensures
+
+test-5 : (c : tie.After-has-bad-root) → c .has-bad-root .result ≡ rule-5 (start-5 c)
+unfolding badRoot
+test-5 c = c .has-bad-root .ensures
+
+test-6 : (c : tie.After-has-bad-count) → c .has-bad-count .result ≡ rule-6 (start-6 c)
+unfolding badCount
+test-6 c = c .has-bad-count .ensures
+
+-- past the test
+fails-1 : (c : tie.Else1) → rule-1 (start-1 (c .before)) ≡ false
+fails-1 c = sym (test-1 (c .before)) ∙ c .if1 .left
+
+fails-2 : (c : tie.Else2) → rule-2 (start-2 (c .before)) ≡ false
+fails-2 c = sym (test-2 (c .before)) ∙ c .if2 .left
+
+fails-3 : (c : tie.Else3) → rule-3 (start-3 (c .before)) ≡ false
+fails-3 c = sym (test-3 (c .before)) ∙ c .if3 .left
+
+fails-4 : (c : tie.Else4) → rule-4 (start-4 (c .before)) ≡ false
+fails-4 c = sym (test-4 (c .before)) ∙ c .if4 .left
+
+fails-5 : (c : tie.Else5) → rule-5 (start-5 (c .before)) ≡ false
+fails-5 c = sym (test-5 (c .before)) ∙ c .if5 .left
+
+fails-6 : (c : tie.Else6) → rule-6 (start-6 (c .before)) ≡ false
+fails-6 c = sym (test-6 (c .before)) ∙ c .if6 .left
+
+-- ---- the needs
+
+has-end-on-free-requires : tie.Need-has-end-on-free-requires
+has-end-on-free-requires c κs = let len = right (c .before .before .before .before .before .before .before) in omega arith
+
+returns : tie.Need-returns
+unfolding damage firstNumber
+returns c =
+    rw (sym (test-1 (c .before)) ∙ c .if1 .taken, damage, firstNumber)
+
+has-open-end-requires : tie.Need-has-open-end-requires
+has-open-end-requires c κs = let len = right (start-1 (c .before)) in omega arith
+
+returns-2 : tie.Need-returns-2
+unfolding damage firstNumber
+returns-2 c =
+    let c1 = c .before .before in
+    rw (fails-1 c1, sym (test-2 (c .before)) ∙ c .if2 .taken, damage, firstNumber)
+
+has-unaligned-requires : tie.Need-has-unaligned-requires
+has-unaligned-requires c κs = let len = right (start-2 (c .before)) in omega arith
+
+returns-3 : tie.Need-returns-3
+unfolding damage firstNumber
+returns-3 c =
+    let c2 = c .before .before in
+    let c1 = c2 .before .before in
+    rw (fails-1 c1, fails-2 c2, sym (test-3 (c .before)) ∙ c .if3 .taken, damage, firstNumber)
+
+has-bad-cell-requires : tie.Need-has-bad-cell-requires
+has-bad-cell-requires c κs = let len = right (start-3 (c .before)) in omega arith
+
+returns-4 : tie.Need-returns-4
+unfolding damage firstNumber
+returns-4 c =
+    let c3 = c .before .before in
+    let c2 = c3 .before .before in
+    let c1 = c2 .before .before in
+    rw (fails-1 c1, fails-2 c2, fails-3 c3, sym (test-4 (c .before)) ∙ c .if4 .taken, damage, firstNumber)
+
+has-bad-root-requires : tie.Need-has-bad-root-requires
+has-bad-root-requires c κs = let len = right (start-4 (c .before)) in omega arith
+
+returns-5 : tie.Need-returns-5
+unfolding damage firstNumber
+returns-5 c =
+    let c4 = c .before .before in
+    let c3 = c4 .before .before in
+    let c2 = c3 .before .before in
+    let c1 = c2 .before .before in
+    rw (fails-1 c1, fails-2 c2, fails-3 c3, fails-4 c4, sym (test-5 (c .before)) ∙ c .if5 .taken, damage, firstNumber)
+
+has-bad-count-requires : tie.Need-has-bad-count-requires
+has-bad-count-requires c κs =
+    let s = start-5 (c .before) in
+    let len = right s in
+    let cells = cells-within (s .args .blocks) (whole s) (omega arith) (fails-4 (c .before .before)) in
+    let roots = roots-within (s .args .blocks) (whole s) (fails-5 c) in (
+      sym (len .whole-bytes),
+      len .blocks-max,
+      len .width-min,
+      len .width-max,
+      omega arith,
+      omega arith,
+      len .length-counts,
+      len .length-cells,
+      len .roots-max,
+      cells,
+      roots,
+    )
+
+returns-6 : tie.Need-returns-6
+unfolding damage firstNumber
+returns-6 c =
+    let c5 = c .before .before in
+    let c4 = c5 .before .before in
+    let c3 = c4 .before .before in
+    let c2 = c3 .before .before in
+    let c1 = c2 .before .before in
+    rw (fails-1 c1, fails-2 c2, fails-3 c3, fails-4 c4, fails-5 c5, sym (test-6 (c .before)) ∙ c .if6 .taken, damage, firstNumber)
+
+returns-7 : tie.Need-returns-7
+unfolding damage firstNumber
+returns-7 c =
+    let c5 = c .before .before in
+    let c4 = c5 .before .before in
+    let c3 = c4 .before .before in
+    let c2 = c3 .before .before in
+    let c1 = c2 .before .before in
+    rw (fails-1 c1, fails-2 c2, fails-3 c3, fails-4 c4, fails-5 c5, fails-6 c, damage, firstNumber)
+
+pub damage-kind-spec : {M : Type 1} → statement M
+damage-kind-spec =
+    tie.close
+    (tie.spec
+    has-end-on-free-requires
+    returns
+    has-open-end-requires
+    returns-2
+    has-unaligned-requires
+    returns-3
+    has-bad-cell-requires
+    returns-4
+    has-bad-root-requires
+    returns-5
+    has-bad-count-requires
+    returns-6
+    returns-7)
