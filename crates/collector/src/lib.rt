@@ -4,7 +4,7 @@ ghost use mathlib.Core.Path.{_≡_};
 ghost use Rattle.rules.specs.Heap.{withSections};
 ghost use Rattle.rules.specs.Lent.{before, after, lent};
 ghost use Rattle.sections.specs.Figures.{Coherent};
-ghost use Rattle.references.specs.Ready.{Ready};
+ghost use Rattle.counting.specs.Ready.{Ready};
 ghost use Rattle.collector.specs.Collection.{collectBy, collectBlocks};
 use blocks::Ref;
 

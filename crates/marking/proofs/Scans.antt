@@ -6,9 +6,9 @@ use native.Mathlib.Omega.{arith}
 use lib.ListN.{length, getD, set, replicate}
 use Rattle.rules.specs.Heap.{Memory, lentMemory, memory, sizeAt}
 use Rattle.rules.specs.Store.{Work, work}
-use Rattle.references.specs.Stack.{topFirst}
-use Rattle.references.proofs.Counts.{counted-le}
-use Rattle.references.proofs.Stack.{top-first-kept, top-first-pop}
+use Rattle.counting.specs.Stack.{topFirst}
+use Rattle.counting.proofs.Counts.{counted-le}
+use Rattle.counting.proofs.Stack.{top-first-kept, top-first-pop}
 use Rattle.marking.specs.Mark.{visitEach, scan, markCounts}
 use Rattle.marking.specs.Stack.{MarkStack, unscanned, AfterVisits}
 

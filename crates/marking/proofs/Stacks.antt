@@ -6,8 +6,8 @@ use native.Mathlib.Decide.{ℕ-discrete}
 use native.Mathlib.Omega.{arith}
 use lib.ListN.{length, getD, set, replicate, length-set}
 use lib.Seq.{getD-set-same, getD-set-other}
-use Rattle.references.proofs.Counts.{counted-le}
-use Rattle.references.proofs.Stack.{stack-empty, stack-emptied}
+use Rattle.counting.proofs.Counts.{counted-le}
+use Rattle.counting.proofs.Stack.{stack-empty, stack-emptied}
 use Rattle.marking.specs.Stack.{MarkStack}
 
 -- a cleared waiting list is an empty stack, and back: as with the stack of the release

@@ -17,11 +17,11 @@ use Rattle.planes.specs.Plane.{countAt, setCount}
 use Rattle.planes.proofs.Counts.{length-set-count}
 use Rattle.rules.specs.Heap.{capacity}
 use Rattle.rules.specs.Store.{Work, work, countUp}
-use Rattle.references.specs.Ready.{Planes}
-use Rattle.references.specs.Stack.{topFirst, counted}
-use Rattle.references.proofs.Shapes.{planes-same}
-use Rattle.references.proofs.Counts.{counted-le, counted-set}
-use Rattle.references.proofs.Stack.{top-first-push}
+use Rattle.counting.specs.Ready.{Planes}
+use Rattle.counting.specs.Stack.{topFirst, counted}
+use Rattle.counting.proofs.Shapes.{planes-same}
+use Rattle.counting.proofs.Counts.{counted-le, counted-set}
+use Rattle.counting.proofs.Stack.{top-first-push}
 use Rattle.marking.specs.Mark.{visit, visitEach}
 use Rattle.marking.specs.Stack.{MarkStack, unscanned, AfterVisits}
 

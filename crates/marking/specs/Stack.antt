@@ -4,8 +4,8 @@ use mathlib.Core.Path.{_≡_}
 use mathlib.Core.List.{List}
 use lib.ListN.{length, getD}
 use Rattle.rules.specs.Store.{Work, work}
-use Rattle.references.specs.Ready.{Planes}
-use Rattle.references.specs.Stack.{topFirst, counted}
+use Rattle.counting.specs.Ready.{Planes}
+use Rattle.counting.specs.Stack.{topFirst, counted}
 
 -- What stands on the stack are blocks, and behind it are zeros. A block comes onto it when its count leaves 0, so there is room for all
 -- that still have count 0.

@@ -6,8 +6,8 @@ ghost use Prim.Native.Nat.{_+_, _*_, _/_, _≤_};
 ghost use lib.ListN.{length, replicate};
 ghost use Rattle.rules.specs.Heap.{memory};
 ghost use Rattle.rules.specs.Store.{work};
-ghost use Rattle.references.specs.Ready.{Planes};
-ghost use Rattle.references.specs.Stack.{topFirst};
+ghost use Rattle.counting.specs.Ready.{Planes};
+ghost use Rattle.counting.specs.Stack.{topFirst};
 ghost use Rattle.marking.specs.Stack.{MarkStack, unscanned, AfterVisits};
 ghost use Rattle.marking.specs.Mark.{visit, visitEach, scan, markCounts};
 use blocks::Ref;
@@ -40,7 +40,7 @@ fn visit_one(
         waiting[top] = v - 1;
         return top + 1;
     }
-    if count < references::counting::capacity_of(width) {
+    if count < counting::capacity_of(width) {
         planes::set_count(counts, blocks / 8, width, block, count + 1);
     }
     top

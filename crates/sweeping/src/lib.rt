@@ -5,7 +5,7 @@ ghost use Prim.Native.Nat.{_*_, _/_, _<_, _≤_};
 ghost use lib.ListN.{length};
 ghost use Rattle.rules.specs.Heap.{memory};
 ghost use Rattle.sections.specs.Figures.{Coherent};
-ghost use Rattle.references.specs.Ready.{Planes};
+ghost use Rattle.counting.specs.Ready.{Planes};
 ghost use Rattle.sweeping.specs.Sweep.{sweepOne, sweepOneBlocks, sweep, sweepBlocks};
 use blocks::Ref;
 

@@ -4,8 +4,8 @@ use Prim.Native.Nat.{ℕ}
 use native.Mathlib.Omega.{arith}
 use lib.ListN.{replicate}
 use borrow.Author.Needs.{needs}
-use Rattle.references.specs.Stack.{topFirst}
-use Rattle.references.proofs.Shapes.{planes-same}
+use Rattle.counting.specs.Stack.{topFirst}
+use Rattle.counting.proofs.Shapes.{planes-same}
 use Rattle.marking.proofs.Stacks.{mark-stack-empty}
 use Rattle.marking.proofs.Scans.{mark-parts}
 use Rattle.marking.proofs.mark.Statement.{statement}

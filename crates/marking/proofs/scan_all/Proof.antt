@@ -6,9 +6,9 @@ use Prim.Native.Nat.{_-_, _<_}
 use native.Mathlib.Omega.{arith}
 use lib.ListN.{length}
 use Rattle.rules.specs.Heap.{memory}
-use Rattle.references.specs.Ready.{Planes}
-use Rattle.references.specs.Stack.{topFirst}
-use Rattle.references.proofs.Counts.{counted-le}
+use Rattle.counting.specs.Ready.{Planes}
+use Rattle.counting.specs.Stack.{topFirst}
+use Rattle.counting.proofs.Counts.{counted-le}
 use Rattle.marking.specs.Mark.{scan}
 use Rattle.marking.specs.Stack.{MarkStack, unscanned}
 use Rattle.marking.proofs.Stacks.{mark-stack-pop, mark-stack-emptied}

@@ -4,7 +4,7 @@ use mathlib.Core.Path.{_≡_, refl}
 use Prim.Native.Nat.{_≤_, _-_}
 use native.Mathlib.Omega.{arith}
 use Rattle.rules.specs.Store.{work}
-use Rattle.references.specs.Stack.{topFirst}
+use Rattle.counting.specs.Stack.{topFirst}
 use Rattle.marking.specs.Mark.{visitEach}
 use Rattle.marking.specs.Stack.{unscanned, AfterVisits}
 use Rattle.marking.proofs.Visits.{marking-more}
