@@ -13,8 +13,9 @@ use Rattle.planes.proofs.Counts.{bytes-set-count}
 use Rattle.rules.specs.Heap.{Memory, withCounts, capacity, isFirst, sizeAt}
 use Rattle.rules.specs.Store.{Work, work, freed, countUp}
 use Rattle.rules.specs.Collection.{marked, referencesFrom, reached, swept, recounted, collected}
-use Rattle.collector.specs.Mark.{visit, visitEach, scan, markCounts}
-use Rattle.collector.specs.Sweep.{isUnmarked, sweepOne, sweep, collectBy}
+use Rattle.marking.specs.Mark.{visit, visitEach, scan, markCounts}
+use Rattle.sweeping.specs.Sweep.{isUnmarked, sweepOne, sweep}
+use Rattle.collector.specs.Collection.{collectBy}
 
 pub record Bytewise (h : Memory) : Type 0 where
   pub a : Bytes (h .a)

@@ -11,8 +11,8 @@ use Rattle.planes.specs.Plane.{countAt}
 use Rattle.planes.proofs.Counts.{counts-ext}
 use Rattle.rules.specs.Heap.{Memory, withCounts, capacity, countOf}
 use Rattle.rules.specs.Collection.{collected}
-use Rattle.collector.specs.Mark.{markCounts}
-use Rattle.collector.specs.Sweep.{collectBy, collectBlocks}
+use Rattle.marking.specs.Mark.{markCounts}
+use Rattle.collector.specs.Collection.{collectBy, collectBlocks}
 use Rattle.rules.proofs.Shape.{Shaped}
 use Rattle.theory.proofs.Maps.Extents.{length-sizes-of, same-maps}
 use Rattle.theory.proofs.Maps.Totals.{free-and-sizes}

@@ -16,8 +16,8 @@ use Rattle.planes.specs.Plane.{countAt}
 use Rattle.planes.proofs.Counts.{set-count-there}
 use Rattle.rules.specs.Heap.{Memory, isFirst, sizeAt, countOf}
 use Rattle.rules.specs.Store.{freed}
-use Rattle.collector.specs.Sweep.{isUnmarked, sweepOneBlocks, sweep, sweepBlocks}
-use Rattle.collector.specs.Sweep as collector
+use Rattle.sweeping.specs.Sweep.{isUnmarked, sweepOneBlocks, sweep, sweepBlocks}
+use Rattle.sweeping.specs.Sweep as sweeping
 use Rattle.rules.proofs.Tests.{test-cases, false-unless, and-true, and-false}
 use Rattle.rules.proofs.Shape.{Shaped}
 use Rattle.theory.proofs.Maps.Extents.{Represents, sizesOf, first-size, not-first-size, extent}
@@ -33,12 +33,12 @@ use Rattle.theory.proofs.Memories.ViewSweep.{Swept, freed-swept, erase-none, sw
 module _ (N w : ℕ) (h : Memory) (n : ℕ) where
   sweep-goes :
       isUnmarked N w (sweep N w h n) n ≡ true → sweep N w h (suc n) ≡ freed N w (sweep N w h n) n (sizeAt N (sweep N w h n) n)
-  unfolding sweep collector.sweepOne
-  sweep-goes e = rw (e, sweep, collector.sweepOne)
+  unfolding sweep sweeping.sweepOne
+  sweep-goes e = rw (e, sweep, sweeping.sweepOne)
 
   sweep-stays : isUnmarked N w (sweep N w h n) n ≡ false → sweep N w h (suc n) ≡ sweep N w h n
-  unfolding sweep collector.sweepOne
-  sweep-stays e = rw (e, sweep, collector.sweepOne)
+  unfolding sweep sweeping.sweepOne
+  sweep-stays e = rw (e, sweep, sweeping.sweepOne)
 
   blocks-go : isUnmarked N w (sweep N w h n) n ≡ true → sweepBlocks N w h (suc n) ≡ sweepBlocks N w h n + sizeAt N (sweep N w h n) n
   unfolding sweepBlocks sweepOneBlocks
@@ -129,7 +129,7 @@ module _ (N w : ℕ) (h : Memory) (shape : Shaped N w h) (represents : Represent
 
   pub sweep-stage :
       (n : ℕ) → n ≤ N → Stage N w h (sweep N w h n) (graph.sweep (length (h .roots)) (view N w h) n) (sweepBlocks N w h n)
-  unfolding sweep collector.sweepOne sweepBlocks sweepOneBlocks graph.sweep
+  unfolding sweep sweeping.sweepOne sweepBlocks sweepOneBlocks graph.sweep
   sweep-stage zero l =
       record {
         swept = record { shape = shape; represents = represents; same-roots = refl; same-waiting = refl; same-sections = refl; slots-are = refl };

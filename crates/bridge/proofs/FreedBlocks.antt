@@ -9,7 +9,7 @@ use lib.ListN.{length, getD}
 use Rattle.bitmap.specs.Bit.{zeros}
 use Rattle.rules.specs.Heap.{Memory, isFirst, sizeAt, isRef}
 use Rattle.rules.specs.Store.{freed, release, letGo, putRoot, putCell, changeRoot, changeCell, storeRootIn, storeCellIn}
-use Rattle.references.specs.Blocks.{releasedBlocks, letGoBlocks}
+use Rattle.release.specs.Blocks.{releasedBlocks, letGoBlocks}
 use Rattle.stores.specs.Blocks.{putRootBlocks, putCellBlocks, changeRootBlocks, changeCellBlocks, storeRootBlocks, storeCellBlocks}
 use Rattle.theory.proofs.Memories.Healthy.{Healthy}
 use Rattle.theory.proofs.Memories.ViewRelease.{Releasing, freed-zeros, releasing-next}

@@ -9,7 +9,7 @@ use lib.ListN.{length, set}
 use Rattle.bitmap.specs.Bit.{setBit, fillBits, zeros}
 use Rattle.rules.specs.Heap.{Memory, exponent, lowestFree}
 use Rattle.rules.specs.Store.{letGo, putRoot, placed, allocateIn}
-use Rattle.references.specs.Blocks.{letGoBlocks}
+use Rattle.release.specs.Blocks.{letGoBlocks}
 use Rattle.stores.specs.Blocks.{putRootBlocks, allocateBlocks}
 use Rattle.theory.proofs.Maps.Extents.{sizesOf, length-sizes-of}
 use Rattle.theory.proofs.Maps.LowestChunk.{Room, room}

@@ -5,7 +5,7 @@ use lib.ListN.{replicate}
 use Rattle.rules.specs.Heap.{Memory, withWaiting}
 use Rattle.rules.proofs.Shape.{shaped-blocks}
 use Rattle.sections.proofs.Lists.{coherent-true}
-use Rattle.references.specs.Ready.{Ready}
+use Rattle.counting.specs.Ready.{Ready}
 use Rattle.theory.proofs.Memories.Fit.{Fit}
 
 pub fit-ready : (N w : ℕ) (h : Memory) → Fit N w h → Ready N w (withWaiting (replicate N 0) h)

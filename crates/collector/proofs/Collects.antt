@@ -6,9 +6,10 @@ use Prim.Native.Nat.{ℕ, zero, suc, _+_}
 use lib.ListN.{replicate}
 use Rattle.rules.specs.Heap.{Memory, lentMemory, memory, sizeAt}
 use Rattle.rules.specs.Store.{freed}
-use Rattle.collector.specs.Sweep.{isUnmarked, sweepOne, sweepOneBlocks, sweep, sweepBlocks, collectBy, collectBlocks}
-use Rattle.collector.specs.Mark.{markCounts}
-use Rattle.collector.proofs.Scans.{mark-reads}
+use Rattle.marking.specs.Mark.{markCounts}
+use Rattle.marking.proofs.Scans.{mark-reads}
+use Rattle.sweeping.specs.Sweep.{isUnmarked, sweepOne, sweepOneBlocks, sweep, sweepBlocks}
+use Rattle.collector.specs.Collection.{collectBy, collectBlocks}
 
 -- a memory with other roots, another waiting list and another list of sections, which a sweep carries along
 abbrev carry : List ℕ → List ℕ → List ℕ → Memory → Memory

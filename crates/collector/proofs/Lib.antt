@@ -1,5 +1,1 @@
-pub mod Visits
-pub mod Stacks
-pub mod Scans
-pub mod Sweeps
 pub mod Collects

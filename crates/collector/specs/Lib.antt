@@ -1,3 +1,1 @@
-pub mod Mark
-pub mod Stack
-pub mod Sweep
+pub mod Collection

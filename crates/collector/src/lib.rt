@@ -1,15 +1,11 @@
-// The full collection: counts are cleared, every reference of the roots and of the reached objects is counted anew, and what is left
-// at 0 is freed. A count that is not 0 is the mark. It asks for `Ready` lists. It leaves the waiting list cleared, and the figures of
-// sections in which blocks become free unknown.
-pub mod mark;
-pub mod sweep;
-
+// The full collection: all is counted anew from the roots, and what is left at 0 is freed. It asks for `Ready` lists. It leaves the
+// waiting list cleared, and the figures of sections in which blocks become free unknown.
 ghost use mathlib.Core.Path.{_≡_};
 ghost use Rattle.rules.specs.Heap.{withSections};
 ghost use Rattle.rules.specs.Lent.{before, after, lent};
 ghost use Rattle.sections.specs.Figures.{Coherent};
-ghost use Rattle.references.specs.Ready.{Ready};
-ghost use Rattle.collector.specs.Sweep.{collectBy, collectBlocks};
+ghost use Rattle.counting.specs.Ready.{Ready};
+ghost use Rattle.collector.specs.Collection.{collectBy, collectBlocks};
 use blocks::Ref;
 
 // Collects. The number of blocks freed. All lists but that of sections are the procedure's, which hands that list on unread.
@@ -34,6 +30,6 @@ pub fn collect(
         (before a b counts cells roots waiting sections))
         × Coherent blocks (now (a .exit)) (now (sections .exit)) ⌝ }
 {
-    mark::mark(blocks, width, b, counts, cells, roots, waiting);
-    sweep::sweep(blocks, width, a, b, counts, cells, sections)
+    marking::mark(blocks, width, b, counts, cells, roots, waiting);
+    sweeping::sweep(blocks, width, a, b, counts, cells, sections)
 }

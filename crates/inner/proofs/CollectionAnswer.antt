@@ -9,7 +9,7 @@ use Rattle.rules.specs.Calls.{collect, reply, freeing, outcome, answer}
 use Rattle.rules.specs.Promise.{Promise}
 use Rattle.rules.specs.declared.Reply.{Reply}
 use Rattle.rules.proofs.Replies.{Passed}
-use Rattle.collector.specs.Sweep.{collectBy, collectBlocks}
+use Rattle.collector.specs.Collection.{collectBy, collectBlocks}
 use Rattle.theory.proofs.Memories.Fit.{Fit}
 use Rattle.theory.proofs.Memories.WaitingUnread.{collect-waiting}
 use Rattle.theory.proofs.EachCall.Accepted.{fit-accepted}

@@ -10,7 +10,7 @@ use Rattle.rules.specs.Sections.{figures}
 use Rattle.rules.specs.Calls.{settled}
 use Rattle.rules.proofs.Shape.{shape-facts, shape-test}
 use Rattle.sections.specs.Figures.{Upkeep}
-use Rattle.references.specs.Ready.{Ready}
+use Rattle.counting.specs.Ready.{Ready}
 use Rattle.theory.specs.Statements.{Undamaged}
 use Rattle.theory.proofs.Memories.Healthy.{Healthy}
 use Rattle.theory.proofs.Memories.Fit.{Fit, undamaged-fit}

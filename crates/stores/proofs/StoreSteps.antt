@@ -14,12 +14,12 @@ use Rattle.rules.specs.Heap.{Memory, lentMemory, memory}
 use Rattle.rules.specs.Store.{countUp, sticks, clearCells, letGo, putRoot, putCell, changeRoot, changeCell, storeRootIn, storeCellIn}
 use Rattle.rules.specs.Store.{storeSticks, placed, allocateIn}
 use Rattle.sections.specs.Figures.{Coherent}
-use Rattle.references.specs.Ready.{Ready}
-use Rattle.references.specs.Blocks.{letGoBlocks}
+use Rattle.counting.specs.Ready.{Ready}
+use Rattle.release.specs.Blocks.{letGoBlocks}
 use Rattle.stores.specs.Blocks.{putRootBlocks, putCellBlocks, changeRootBlocks, changeCellBlocks}
 use Rattle.stores.specs.Blocks.{storeRootBlocks, storeCellBlocks, allocateBlocks}
-use Rattle.references.proofs.Shapes.{planes-same, extents-written}
-use Rattle.references.proofs.OtherBuffers.{let-go-beside, let-go-blocks-beside}
+use Rattle.counting.proofs.Shapes.{planes-same, extents-written}
+use Rattle.release.proofs.OtherBuffers.{let-go-beside, let-go-blocks-beside}
 
 -- ---- what a store does where the value is present, and where it is not
 

@@ -5,7 +5,7 @@ use lib.Dec.{eqb}
 use lib.ListN.{getD, set}
 use Rattle.rules.specs.Heap.{Memory, withCounts, withCells, withRoots}
 use Rattle.rules.specs.Store.{countUp, placed}
-use Rattle.references.specs.Blocks.{letGoBlocks}
+use Rattle.release.specs.Blocks.{letGoBlocks}
 
 -- a value that is counted already is written, and what stood there is let go
 unfoldable pub putRootBlocks : ℕ → ℕ → Memory → ℕ → ℕ → ℕ

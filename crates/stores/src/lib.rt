@@ -9,11 +9,9 @@ ghost use Rattle.rules.specs.Heap.{withSections};
 ghost use Rattle.rules.specs.Lent.{before, after, lent};
 ghost use Rattle.rules.specs.Store.{putRoot, storeRootIn, storeCellIn, storeSticks, birthSticks, allocateIn};
 ghost use Rattle.sections.specs.Figures.{Coherent, Upkeep};
-ghost use Rattle.references.specs.Ready.{Ready};
+ghost use Rattle.counting.specs.Ready.{Ready};
 ghost use Rattle.stores.specs.Blocks.{putRootBlocks, storeRootBlocks, storeCellBlocks, allocateBlocks};
 use blocks::Ref;
-use references::counting;
-use references::release;
 
 // The number of blocks that were freed, and whether the count of the object that the stored reference names came to the capacity.
 pub struct Stored {

@@ -1,6 +1,6 @@
 -- `collector::collect` meets its contract: a marking of some buffers and a sweep of others are the collection of all.
 use borrow.Author.Needs.{needs}
-use Rattle.references.proofs.Shapes.{planes-same}
+use Rattle.counting.proofs.Shapes.{planes-same}
 use Rattle.collector.proofs.Collects.{collected-memory, collected-blocks}
 use Rattle.collector.proofs.collect.Statement.{statement}
 use Rattle.collector.proofs.collect.Tie as tie

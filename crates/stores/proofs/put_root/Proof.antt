@@ -2,7 +2,7 @@
 use borrow.Author.Needs.{needs}
 use Rattle.rules.specs.Store.{putRoot}
 use Rattle.stores.specs.Blocks.{putRootBlocks}
-use Rattle.references.proofs.OtherBuffers.{let-go-beside, let-go-blocks-beside}
+use Rattle.release.proofs.OtherBuffers.{let-go-beside, let-go-blocks-beside}
 use Rattle.stores.proofs.put_root.Statement.{statement}
 use Rattle.stores.proofs.put_root.Tie as tie
 

@@ -4,7 +4,7 @@ use mathlib.Core.Path.{refl, _∙_}
 use native.Mathlib.Omega.{arith}
 use lib.ListN.{length-set}
 use borrow.Author.Needs.{needs}
-use Rattle.references.proofs.Shapes.{planes-same, extents-cell}
+use Rattle.counting.proofs.Shapes.{planes-same, extents-cell}
 use Rattle.stores.proofs.StoreSteps.{cell-present, cell-changed, store-cell-done, store-cell-blocks}
 use Rattle.stores.proofs.store_cell.Statement.{statement}
 use Rattle.stores.proofs.store_cell.Tie as tie

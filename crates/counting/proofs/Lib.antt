@@ -1,0 +1,4 @@
+pub mod Shapes
+pub mod Counts
+pub mod CountUp
+pub mod Stack

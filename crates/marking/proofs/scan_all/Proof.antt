@@ -1,0 +1,120 @@
+-- `marking::scan_all` meets its contract: after each turn what counts and stack lead to is what they led to at first. The measure
+-- is the number of blocks that can still be scanned.
+use mathlib.Core.Path.{_≡_}
+use mathlib.Core.List.{[]}
+use Prim.Native.Nat.{_-_, _<_}
+use native.Mathlib.Omega.{arith}
+use lib.ListN.{length}
+use Rattle.rules.specs.Heap.{memory}
+use Rattle.counting.specs.Ready.{Planes}
+use Rattle.counting.specs.Stack.{topFirst}
+use Rattle.counting.proofs.Counts.{counted-le}
+use Rattle.marking.specs.Mark.{scan}
+use Rattle.marking.specs.Stack.{MarkStack, unscanned}
+use Rattle.marking.proofs.Stacks.{mark-stack-pop, mark-stack-emptied}
+use Rattle.marking.proofs.Scans.{Leading, leading-start, leading-next, leading-done}
+use Rattle.marking.proofs.scan_all.Statement.{statement}
+use Rattle.marking.proofs.scan_all.Tie as tie
+
+abbrev Inv-loop : tie.InvT-loop
+Inv-loop blocks width b counts₀ cells waiting₀ top t₀ counts waiting t =
+    Planes blocks width counts × MarkStack blocks width counts waiting t
+    × Leading blocks width (memory [] b [] cells [] [])
+    (scan blocks blocks width (memory [] b [] cells [] []) counts₀ (topFirst waiting₀ top)) counts waiting t
+
+abbrev μ-loop : tie.MeasureT-loop
+μ-loop blocks width b counts₀ cells waiting₀ top t₀ counts waiting t = unscanned blocks width counts t
+
+loop-holds : tie.Need-loop-holds Inv-loop μ-loop
+loop-holds c =
+    let s = c .before .before .before .before in
+    (s .pre .0, s .pre .1, leading-start _ _ _ _ _ _ (s .pre .1))
+
+sub-t : tie.Need-sub-t Inv-loop μ-loop
+sub-t c = omega arith
+
+-- the top of the stack lies in the waiting list
+inside : (c : tie.In-loop Inv-loop μ-loop) → c .before .loop .t - 1 < length (c .before .loop .waiting)
+inside c =
+    let s = c .before .before .before .before .before .before in
+    omega (arith, counted-le (s .args .blocks) (s .args .width) (c .before .loop .counts))
+
+mul-i : tie.Need-mul-i Inv-loop μ-loop
+mul-i c = omega (arith, inside c)
+
+slice-read-i : tie.Need-slice-read-i Inv-loop μ-loop
+slice-read-i c = omega (arith, inside (c .before))
+
+cast-i : tie.Need-cast-i Inv-loop μ-loop
+cast-i c = omega (arith, c .slice-known3 .given (c .before .before .loop .t - 1))
+
+mul-waiting : tie.Need-mul-waiting Inv-loop μ-loop
+mul-waiting c = omega (arith, inside (c .before))
+
+slice-write-waiting : tie.Need-slice-write-waiting Inv-loop μ-loop
+slice-write-waiting c = omega (arith, inside (c .before))
+
+object-size-requires : tie.Need-object-size-requires Inv-loop μ-loop
+object-size-requires c κs =
+    let l = c .before .before in
+    (omega arith, l .loop .inv .1 .blocks (l .loop .t - 1) (omega arith))
+
+mul-visit-each : tie.Need-mul-visit-each Inv-loop μ-loop
+mul-visit-each c = omega arith
+
+mul-visit-each-2 : tie.Need-mul-visit-each-2 Inv-loop μ-loop
+mul-visit-each-2 c = omega arith
+
+visit-each-requires : tie.Need-visit-each-requires Inv-loop μ-loop
+visit-each-requires c κs =
+    let l = c .before .before .before .before .before in
+    (l .loop .inv .0, mark-stack-pop _ _ _ _ _ (omega arith) (l .loop .inv .1), omega arith)
+
+loop-less : tie.Need-loop-less Inv-loop μ-loop
+loop-less c =
+    let r = c .before .before .before .before in
+    let l = r .before .before .before .before .before .before in
+    omega (arith, r .visit-each .ensures .left-is, l .loop .inv .1 .room)
+
+loop-again : tie.Need-loop-again Inv-loop μ-loop
+loop-again c =
+    let r = c .before .before .before .before in
+    let l = r .before .before .before .before .before .before in
+    let m = r .visit-each .ensures in
+    let size = r .before .before .before .object-size .ensures .0 in
+    (m .planes, m .stack, leading-next _ _ _ _ _ _ _ (l .loop .inv .2) (omega arith) _ size _ _ _ m)
+
+same-length : tie.Need-same-length Inv-loop μ-loop
+same-length c = omega arith
+
+same-length-2 : tie.Need-same-length-2 Inv-loop μ-loop
+same-length-2 c = omega arith
+
+returns : tie.Need-returns Inv-loop μ-loop
+returns c =
+    let l = c .before in
+    let empty : l .loop .t ≡ 0 = omega arith in
+    (leading-done _ _ _ _ _ _ _ (l .loop .inv .2) empty, mark-stack-emptied _ _ _ _ (rw empty at (l .loop .inv .1)))
+
+pub scan-all-spec : {M : Type 1} → statement M
+scan-all-spec =
+    tie.close
+    (tie.spec
+    Inv-loop
+    μ-loop
+    loop-holds
+    sub-t
+    mul-i
+    slice-read-i
+    cast-i
+    mul-waiting
+    slice-write-waiting
+    object-size-requires
+    mul-visit-each
+    mul-visit-each-2
+    visit-each-requires
+    loop-less
+    loop-again
+    same-length
+    same-length-2
+    returns)

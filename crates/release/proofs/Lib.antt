@@ -1,0 +1,2 @@
+pub mod ReleaseLoop
+pub mod OtherBuffers

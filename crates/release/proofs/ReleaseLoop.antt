@@ -1,0 +1,164 @@
+-- The loop that frees waiting objects goes as `release` does, and counts as `releasedBlocks` does.
+use mathlib.Core.Path.{_≡_, refl, sym, ap, ap₂, _∙_}
+use mathlib.Core.List.{List, [], _∷_}
+use Prim.Native.Nat.{ℕ, zero, suc, _+_, _-_, _*_, _/_, _≤_, _<_}
+use native.Mathlib.Omega.{arith}
+use lib.ListN.{getD, set, replicate}
+use Rattle.bitmap.specs.Bit.{setBit, fillBits}
+use Rattle.planes.specs.Plane.{setCount}
+use Rattle.planes.proofs.Counts.{set-count-there}
+use Rattle.rules.specs.Heap.{Memory, memory, withCounts, sizeFrom, maxBlocks}
+use Rattle.rules.specs.Store.{Work, work, countDownEach, clearCells, freed, release}
+use Rattle.counting.specs.Ready.{Planes, Extents}
+use Rattle.counting.specs.Stack.{topFirst, counted, Stack}
+use Rattle.dropping.specs.Down.{Down}
+use Rattle.release.specs.Blocks.{releasedBlocks}
+use Rattle.counting.proofs.Shapes.{extents-written}
+use Rattle.counting.proofs.Stack.{top-first-kept, top-first-pop, stack-emptied}
+
+-- ---- one object freed
+
+-- the counts and the stack once the object of n blocks at i is freed
+abbrev after : ℕ → ℕ → Memory → ℕ → ℕ → List ℕ → Work
+after N w h i n rest = countDownEach N w (work (freed N w h i n .counts) rest) (h .cells) (4 * i) (4 * n)
+
+-- the memory then
+abbrev left : ℕ → ℕ → Memory → ℕ → ℕ → List ℕ → Memory
+left N w h i n rest = withCounts (after N w h i n rest .counts) (freed N w h i n)
+
+module _ (f N w : ℕ) (h : Memory) (i n : ℕ) (rest : List ℕ) (some : 0 < f) (size : n ≡ sizeFrom (N - i) (h .b) i) where
+  one-more : f ≡ suc (f - 1)
+  one-more = omega arith
+
+  release-pop : release f N w h (i ∷ rest) ≡ release (f - 1) N w (left N w h i n rest) (after N w h i n rest .stack)
+  unfolding release
+  release-pop =
+      ap (λ (k : ℕ). release k N w h (i ∷ rest)) one-more
+      ∙ ap (λ (m : ℕ). release (f - 1) N w (left N w h i m rest) (after N w h i m rest .stack)) (sym size)
+
+  released-pop : releasedBlocks f N w h (i ∷ rest)
+      ≡ n + releasedBlocks (f - 1) N w (left N w h i n rest) (after N w h i n rest .stack)
+  unfolding releasedBlocks
+  released-pop =
+      ap (λ (k : ℕ). releasedBlocks k N w h (i ∷ rest)) one-more
+      ∙ ap (λ (m : ℕ). m + releasedBlocks (f - 1) N w (left N w h i m rest) (after N w h i m rest .stack)) (sym size)
+
+-- ---- the loop
+
+-- What it keeps: what is still to be done from here gives `goal`, and what is still to be counted gives `total`. The last part bounds
+-- the sum: whatever can still come to be freed has at most `maxBlocks` blocks.
+pub record ReleaseUnderWay (N w : ℕ) (goal : Memory) (total : ℕ) (a b counts cells waiting : List ℕ) (top done : ℕ) : Type 0 where
+  pub planes : Planes N w counts
+  pub extents : Extents N a b cells
+  pub stack : Stack N w counts waiting top
+  pub steps : ℕ
+  pub enough : top + counted N w counts ≤ steps
+  pub rest : goal ≡ release steps N w (memory a b counts cells [] []) (topFirst waiting top)
+  pub blocks : total ≡ done + releasedBlocks steps N w (memory a b counts cells [] []) (topFirst waiting top)
+  pub bound : done + maxBlocks * (top + counted N w counts) ≤ maxBlocks * maxBlocks
+
+pub releasing-start :
+    (N w : ℕ) (a b counts cells waiting : List ℕ) (top : ℕ)
+    → Planes N w counts → Extents N a b cells → Stack N w counts waiting top
+    → ReleaseUnderWay N w (release N N w (memory a b counts cells [] []) (topFirst waiting top))
+    (releasedBlocks N N w (memory a b counts cells [] []) (topFirst waiting top)) a b counts cells waiting top 0
+releasing-start N w a b counts cells waiting top p x s = record {
+  planes = p;
+  extents = x;
+  stack = s;
+  steps = N;
+  enough = s .room;
+  rest = refl;
+  blocks = omega arith;
+  bound = omega (arith, s .room, p .most);
+}
+
+-- an object of n blocks at i is taken off the stack and freed
+module _ (N w : ℕ) (goal : Memory) (total : ℕ) (a b counts cells waiting : List ℕ) (top done i n : ℕ)
+    (a′ b′ counts′ cells′ waiting′ : List ℕ) (top′ : ℕ)
+    (taken : 0 < top) (ei : i ≡ getD waiting (top - 1) 0) (size : n ≡ sizeFrom (N - i) b i) (inside : i + n ≤ N)
+    (ea : a′ ≡ fillBits a i n 0) (eb : b′ ≡ setBit b (i + n - 1) 1) (ee : cells′ ≡ clearCells cells (4 * i) (4 * n))
+    (down :
+    Down N w (countDownEach N w (work counts (topFirst (set waiting (top - 1) 0) (top - 1))) cells (4 * i) (4 * n))
+    (top - 1 + counted N w counts) counts′ waiting′ top′)
+    (r : ReleaseUnderWay N w goal total a b counts cells waiting top done) where
+  abbrev before : Memory
+  before = memory a b counts cells [] []
+
+  abbrev rest : List ℕ
+  rest = topFirst waiting (top - 1)
+
+  popped : topFirst waiting top ≡ i ∷ rest
+  popped = top-first-pop waiting top taken ∙ ap {B = List ℕ} (λ x. x ∷ rest) (sym ei)
+
+  -- the count of a freed object is 0 already
+  same-work : work counts (topFirst (set waiting (top - 1) 0) (top - 1)) ≡ work (setCount (N / 8) w counts i 0) rest
+  same-work =
+      ap₂ (λ (c l : List ℕ). work c l)
+      (sym (set-count-there (N / 8) w counts i 0 (rw ei (r .stack .uncounted (top - 1) (omega arith)))))
+      (top-first-kept waiting (top - 1) (top - 1) 0 (omega arith))
+
+  result : after N w before i n rest ≡ work counts′ (topFirst waiting′ top′)
+  unfolding freed
+  result = sym (down .result ∙ ap (λ (s : Work). countDownEach N w s cells (4 * i) (4 * n)) same-work)
+
+  memory-left : left N w before i n rest ≡ memory a′ b′ counts′ cells′ [] []
+  unfolding freed
+  memory-left = λ k. memory (sym ea k) (sym eb k) (result k .counts) (sym ee k) [] []
+
+  stack-left : after N w before i n rest .stack ≡ topFirst waiting′ top′
+  stack-left = ap (λ (s : Work). s .stack) result
+
+  release-left : release (r .steps) N w before (topFirst waiting top)
+      ≡ release (r .steps - 1) N w (memory a′ b′ counts′ cells′ [] []) (topFirst waiting′ top′)
+  release-left =
+      ap (λ (s : List ℕ). release (r .steps) N w before s) popped
+      ∙ release-pop (r .steps) N w before i n rest (omega (arith, r .enough)) size
+      ∙ ap₂ (λ (g : Memory) (s : List ℕ). release (r .steps - 1) N w g s) memory-left stack-left
+
+  blocks-left : releasedBlocks (r .steps) N w before (topFirst waiting top)
+      ≡ n + releasedBlocks (r .steps - 1) N w (memory a′ b′ counts′ cells′ [] []) (topFirst waiting′ top′)
+  blocks-left =
+      ap (λ (s : List ℕ). releasedBlocks (r .steps) N w before s) popped
+      ∙ released-pop (r .steps) N w before i n rest (omega (arith, r .enough)) size
+      ∙ ap₂ (λ (g : Memory) (s : List ℕ). n + releasedBlocks (r .steps - 1) N w g s) memory-left stack-left
+
+  pub releasing-step : ReleaseUnderWay N w goal total a′ b′ counts′ cells′ waiting′ top′ (done + n)
+  releasing-step = record {
+    planes = down .planes;
+    extents = extents-written N a b cells a′ b′ cells′ i n 0 (i + n - 1) 1 (4 * i) (4 * n) ea eb ee (r .extents);
+    stack = down .stack;
+    steps = r .steps - 1;
+    enough = omega (arith, down .kept, r .enough);
+    rest = r .rest ∙ release-left;
+    blocks = omega (arith, r .blocks, blocks-left);
+    bound = omega (arith, down .kept, r .bound, r .planes .most);
+  }
+
+-- nothing waits any more
+module _ (N w : ℕ) (goal : Memory) (total : ℕ) (a b counts cells waiting : List ℕ) (top done : ℕ)
+    (r : ReleaseUnderWay N w goal total a b counts cells waiting top done) (none : top ≡ 0) where
+  pub releasing-done : memory a b counts cells [] [] ≡ goal
+  unfolding release topFirst
+  releasing-done =
+      sym
+      (r .rest ∙ ap (λ (k : ℕ). release (r .steps) N w (memory a b counts cells [] []) (topFirst waiting k)) none ∙ end (r .steps))
+    where
+      end : (f : ℕ) → release f N w (memory a b counts cells [] []) [] ≡ memory a b counts cells [] []
+      end zero = refl
+      end (suc f) = refl
+
+  pub blocks-done : done ≡ total
+  unfolding releasedBlocks topFirst
+  blocks-done = omega (arith, r .blocks, last)
+    where
+      end : (f : ℕ) → releasedBlocks f N w (memory a b counts cells [] []) [] ≡ 0
+      end zero = refl
+      end (suc f) = refl
+
+      last : releasedBlocks (r .steps) N w (memory a b counts cells [] []) (topFirst waiting top) ≡ 0
+      last =
+          ap (λ (k : ℕ). releasedBlocks (r .steps) N w (memory a b counts cells [] []) (topFirst waiting k)) none ∙ end (r .steps)
+
+  pub waiting-done : waiting ≡ replicate N 0
+  waiting-done = stack-emptied N w counts waiting (rw none at (r .stack))

@@ -1,0 +1,178 @@
+-- `release::release_all` meets its contract: what is left to do and to count gives what is asked. The measure is the number of
+-- objects that can still come to be freed.
+use mathlib.Core.Path.{_≡_, refl, sym, _∙_}
+use mathlib.Core.List.{[]}
+use Prim.Native.Nat.{_+_, _-_}
+use native.Mathlib.Omega.{arith}
+use Rattle.rules.specs.Heap.{memory}
+use Rattle.rules.specs.Store.{release}
+use Rattle.sections.specs.Figures.{Upkeep}
+use Rattle.counting.specs.Stack.{topFirst, counted}
+use Rattle.release.specs.Blocks.{releasedBlocks}
+use Rattle.counting.proofs.Stack.{stack-pop}
+use Rattle.release.proofs.ReleaseLoop.{ReleaseUnderWay, releasing-start, releasing-step, releasing-done, blocks-done, waiting-done}
+use Rattle.release.proofs.release_all.Statement.{statement}
+use Rattle.release.proofs.release_all.Tie as tie
+
+abbrev Inv-loop : tie.InvT-loop
+Inv-loop blocks width a₀ b₀ counts₀ cells₀ waiting₀ sections₀ top freed₀ t₀ a b counts cells waiting sections freed t =
+    ReleaseUnderWay blocks width
+    (release blocks blocks width (memory a₀ b₀ counts₀ cells₀ [] []) (topFirst waiting₀ top))
+    (releasedBlocks blocks blocks width (memory a₀ b₀ counts₀ cells₀ [] []) (topFirst waiting₀ top))
+    a b counts cells waiting t freed
+    × Upkeep blocks freed a₀ sections₀ a sections
+
+abbrev μ-loop : tie.MeasureT-loop
+μ-loop blocks width a₀ b₀ counts₀ cells₀ waiting₀ sections₀ top freed₀ t₀ a b counts cells waiting sections freed t =
+    t + counted blocks width counts
+
+loop-holds : tie.Need-loop-holds Inv-loop μ-loop
+loop-holds c =
+    let start = c .before .before .before .before .before .before in (
+      releasing-start _ _ _ _ _ _ _ _ (start .pre .0) (start .pre .1) (start .pre .2),
+      record { coherent = start .pre .3; untouched = λ _. (refl, refl) },
+    )
+
+sub-t : tie.Need-sub-t Inv-loop μ-loop
+sub-t c = omega arith
+
+mul-i : tie.Need-mul-i Inv-loop μ-loop
+mul-i c = omega arith
+
+slice-read-i : tie.Need-slice-read-i Inv-loop μ-loop
+slice-read-i c = omega arith
+
+cast-i : tie.Need-cast-i Inv-loop μ-loop
+cast-i c =
+    let l = c .before .before .loop in
+    omega (arith, l .inv .0 .stack .blocks (l .t - 1) (omega arith))
+
+mul-waiting : tie.Need-mul-waiting Inv-loop μ-loop
+mul-waiting c = omega arith
+
+slice-write-waiting : tie.Need-slice-write-waiting Inv-loop μ-loop
+slice-write-waiting c = omega arith
+
+object-size-requires : tie.Need-object-size-requires Inv-loop μ-loop
+object-size-requires c κs =
+    let l = c .before .before .before .loop in
+    (omega (arith, l .inv .0 .extents .b-length, l .inv .0 .planes .eighths), l .inv .0 .stack .blocks (l .t - 1) (omega arith))
+
+clear-extent-requires : tie.Need-clear-extent-requires Inv-loop μ-loop
+clear-extent-requires c κs =
+    let sized = c .before .before .before in
+    let l = sized .before .before .before .before .loop in
+    let inv = l .inv .0 in (
+      l .inv .1 .coherent,
+      inv .extents .a-length,
+      inv .extents .b-length,
+      omega (arith, sized .object-size .ensures .1, inv .stack .blocks (l .t - 1) (omega arith)),
+      sized .object-size .ensures .2,
+    )
+
+mul-drop-cells : tie.Need-mul-drop-cells Inv-loop μ-loop
+mul-drop-cells c = omega arith
+
+mul-drop-cells-2 : tie.Need-mul-drop-cells-2 Inv-loop μ-loop
+mul-drop-cells-2 c = omega arith
+
+drop-cells-requires : tie.Need-drop-cells-requires Inv-loop μ-loop
+drop-cells-requires c κs =
+    let cleared = c .before .before .before .before .before .before .before .before .before in
+    let sized = cleared .before .before .before .before in
+    let test = sized .before .before .before in
+    let l = test .before .loop in
+    let size = sized .object-size .ensures in (
+      l .inv .0 .planes,
+      stack-pop _ _ _ _ (l .t) (test .loop-test .taken) (l .inv .0 .stack),
+      omega (arith, l .inv .0 .extents .cells-length),
+    )
+
+add-freed : tie.Need-add-freed Inv-loop μ-loop
+add-freed c =
+    let cleared = c .before .before .before .before .before .before .before .before .before .before .before .before .before .before .before .before in
+    let sized = cleared .before .before .before .before in
+    let inv = sized .before .before .before .before .loop .inv .0 in
+    let size = sized .object-size .ensures in
+    omega (arith, inv .bound, inv .planes .most)
+
+loop-less : tie.Need-loop-less Inv-loop μ-loop
+loop-less c =
+    let dropped = c .before .before .before .before .before .before in
+    let cleared = dropped .before .before .before .before .before .before .before .before .before .before in
+    let taken = cleared .before .before .before .before .before .before .before .loop-test .taken in
+    let kept = dropped .drop-cells .ensures .0 .kept in
+    omega arith
+
+loop-again : tie.Need-loop-again Inv-loop μ-loop
+loop-again c =
+    let dropped = c .before .before .before .before .before .before in
+    let cleared = dropped .before .before .before .before .before .before .before .before .before .before in
+    let sized = cleared .before .before .before .before in
+    let test = sized .before .before .before in
+    let l = test .before .loop in
+    let size = sized .object-size .ensures in
+    let extent = cleared .clear-extent .ensures in
+    let cells = dropped .drop-cells .ensures in (
+      releasing-step _ _ _ _ _ _ _ _ _ (l .t) _ _ _ _ _ _ _ _ _ (test .loop-test .taken) refl (size .0) (size .2)
+          (extent .0) (extent .1) (cells .1) (cells .0) (l .inv .0),
+      record { coherent = extent .2; untouched = λ none. absurd (omega (arith, none, size .1)) },
+    )
+
+same-length : tie.Need-same-length Inv-loop μ-loop
+same-length c = c .before .loop .inv .0 .extents .a-length ∙ sym (c .before .before .before .before .before .before .before .before .pre .1 .a-length)
+
+same-length-2 : tie.Need-same-length-2 Inv-loop μ-loop
+same-length-2 c = c .before .loop .inv .0 .extents .b-length ∙ sym (c .before .before .before .before .before .before .before .before .pre .1 .b-length)
+
+same-length-3 : tie.Need-same-length-3 Inv-loop μ-loop
+same-length-3 c = c .before .loop .inv .0 .planes .length-is ∙ sym (c .before .before .before .before .before .before .before .before .pre .0 .length-is)
+
+same-length-4 : tie.Need-same-length-4 Inv-loop μ-loop
+same-length-4 c = c .before .loop .inv .0 .extents .cells-length ∙ sym (c .before .before .before .before .before .before .before .before .pre .1 .cells-length)
+
+same-length-5 : tie.Need-same-length-5 Inv-loop μ-loop
+same-length-5 c = c .before .loop .inv .0 .stack .length-is ∙ sym (c .before .before .before .before .before .before .before .before .pre .2 .length-is)
+
+same-length-6 : tie.Need-same-length-6 Inv-loop μ-loop
+same-length-6 c = c .before .loop .inv .1 .coherent .length-is ∙ sym (c .before .before .before .before .before .before .before .before .pre .3 .length-is)
+
+returns : tie.Need-returns Inv-loop μ-loop
+returns c =
+    let kept = c .before .loop .inv in
+    let inv = kept .0 in
+    let none : c .before .loop .t ≡ 0 = omega arith in (
+      releasing-done _ _ _ _ _ _ _ _ _ _ _ inv none,
+      blocks-done _ _ _ _ _ _ _ _ _ _ _ inv none,
+      waiting-done _ _ _ _ _ _ _ _ _ _ _ inv none,
+      kept .1,
+    )
+
+pub release-all-spec : {M : Type 1} → statement M
+release-all-spec =
+    tie.close
+    (tie.spec
+    Inv-loop
+    μ-loop
+    loop-holds
+    sub-t
+    mul-i
+    slice-read-i
+    cast-i
+    mul-waiting
+    slice-write-waiting
+    object-size-requires
+    clear-extent-requires
+    mul-drop-cells
+    mul-drop-cells-2
+    drop-cells-requires
+    add-freed
+    loop-less
+    loop-again
+    same-length
+    same-length-2
+    same-length-3
+    same-length-4
+    same-length-5
+    same-length-6
+    returns)

@@ -1,0 +1,80 @@
+// Letting go of a reference: the object that it names is freed where no reference is left, and so is all that only freed objects name. The
+// figures of sections in which blocks become free are left unknown.
+ghost use mathlib.Core.Path.{_≡_};
+ghost use mathlib.Core.List.{[]};
+ghost use lib.ListN.{replicate};
+ghost use Rattle.rules.specs.Heap.{memory};
+ghost use Rattle.rules.specs.Store.{release, letGo};
+ghost use Rattle.sections.specs.Figures.{Coherent, Upkeep};
+ghost use Rattle.counting.specs.Ready.{Planes, Extents};
+ghost use Rattle.counting.specs.Stack.{topFirst, Stack};
+ghost use Rattle.release.specs.Blocks.{releasedBlocks, letGoBlocks};
+use blocks::Ref;
+use sections::extents;
+
+// Frees the objects on the stack, and those whose counts come to 0 by that. The number of blocks freed.
+fn release_all(
+    blocks: usize,
+    width: usize,
+    a: &mut [u8],
+    b: &mut [u8],
+    counts: &mut [u8],
+    cells: &mut [Ref],
+    waiting: &mut [Ref],
+    sections: &mut [Ref],
+    top: usize,
+) -> usize
+    requires { ⌜ Planes blocks width (now counts) × Extents blocks (now a) (now b) (now cells)
+        × Stack blocks width (now counts) (now waiting) top × Coherent blocks (now a) (now sections) ⌝ }
+    ensures { λ r.
+        ⌜ (memory (now (a .exit)) (now (b .exit)) (now (counts .exit)) (now (cells .exit)) [] []
+        ≡ release blocks blocks width
+        (memory (now (a .entry)) (now (b .entry)) (now (counts .entry)) (now (cells .entry)) [] [])
+        (topFirst (now (waiting .entry)) top))
+        × (r
+        ≡ releasedBlocks blocks blocks width
+        (memory (now (a .entry)) (now (b .entry)) (now (counts .entry)) (now (cells .entry)) [] [])
+        (topFirst (now (waiting .entry)) top))
+        × (now (waiting .exit) ≡ replicate blocks 0)
+        × Upkeep blocks r (now (a .entry)) (now (sections .entry)) (now (a .exit)) (now (sections .exit)) ⌝ }
+{
+    let mut freed: usize = 0;
+    let mut t = top;
+    while 0 < t {
+        t -= 1;
+        let i = waiting[t] as usize;
+        waiting[t] = 0;
+        let n = blocks::objects::object_size(blocks, b, i);
+        extents::clear_extent(blocks, a, b, sections, i, n);
+        t = dropping::drop_cells(blocks, width, counts, cells, waiting, 4 * i, 4 * n, t);
+        freed += n;
+    }
+    freed
+}
+
+// Lets go of the reference v, if it is one, with all that this frees. The number of blocks freed.
+pub fn let_go(
+    blocks: usize,
+    width: usize,
+    a: &mut [u8],
+    b: &mut [u8],
+    counts: &mut [u8],
+    cells: &mut [Ref],
+    waiting: &mut [Ref],
+    sections: &mut [Ref],
+    v: Ref,
+) -> usize
+    requires { ⌜ Planes blocks width (now counts) × Extents blocks (now a) (now b) (now cells) × (now waiting ≡ replicate blocks 0)
+        × Coherent blocks (now a) (now sections) ⌝ }
+    ensures { λ r.
+        ⌜ (memory (now (a .exit)) (now (b .exit)) (now (counts .exit)) (now (cells .exit)) [] (now (waiting .exit))
+        ≡ letGo blocks width
+        (memory (now (a .entry)) (now (b .entry)) (now (counts .entry)) (now (cells .entry)) [] (now (waiting .entry))) v)
+        × (r
+        ≡ letGoBlocks blocks width
+        (memory (now (a .entry)) (now (b .entry)) (now (counts .entry)) (now (cells .entry)) [] (now (waiting .entry))) v)
+        × Upkeep blocks r (now (a .entry)) (now (sections .entry)) (now (a .exit)) (now (sections .exit)) ⌝ }
+{
+    let top = dropping::count_down(blocks, width, counts, waiting, v, 0);
+    release_all(blocks, width, a, b, counts, cells, waiting, sections, top)
+}

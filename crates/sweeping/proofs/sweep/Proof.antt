@@ -1,0 +1,96 @@
+-- `sweeping::sweep` meets its contract: after i turns the buffers are swept below block i. The measure is what is left of the blocks.
+use mathlib.Core.Path.{_≡_, refl, sym, ap, _∙_}
+use mathlib.Core.List.{[]}
+use Prim.Native.Nat.{_≤_, _-_, _*_}
+use native.Mathlib.Omega.{arith}
+use lib.ListN.{length}
+use Rattle.rules.specs.Heap.{memory, maxBlocks}
+use Rattle.sections.specs.Figures.{Coherent}
+use Rattle.sweeping.specs.Sweep.{sweep, sweepBlocks}
+use Rattle.sweeping.proofs.Sweeps.{sweep-next, sweep-blocks-next}
+use Rattle.sweeping.proofs.sweep.Statement.{statement}
+use Rattle.sweeping.proofs.sweep.Tie as tie
+
+abbrev Inv-loop : tie.InvT-loop
+Inv-loop blocks width a₀ b₀ counts cells₀ sections₀ freed₀ i₀ a b cells sections freed i =
+    (i ≤ blocks) × (length a ≡ length a₀) × (length b ≡ length b₀) × (length cells ≡ length cells₀)
+    × (memory a b counts cells [] [] ≡ sweep blocks width (memory a₀ b₀ counts cells₀ [] []) i)
+    × (freed ≡ sweepBlocks blocks width (memory a₀ b₀ counts cells₀ [] []) i) × (freed ≤ maxBlocks * i)
+    × Coherent blocks a sections
+
+abbrev μ-loop : tie.MeasureT-loop
+μ-loop blocks width a₀ b₀ counts cells₀ sections₀ freed₀ i₀ a b cells sections freed i = blocks - i
+
+loop-holds : tie.Need-loop-holds Inv-loop μ-loop
+unfolding sweep sweepBlocks
+loop-holds c =
+    let start = c .before .before .before .before .before in
+    (omega arith, refl, refl, refl, refl, refl, omega arith, start .pre .4)
+
+sweep-one-requires : tie.Need-sweep-one-requires Inv-loop μ-loop
+sweep-one-requires c κs =
+    let l = c .before .before .before .before .before in
+    let start = l .before .before .before .before .before .before in
+    let v = l .loop .inv in
+    (start .pre .0, v .1 ∙ start .pre .1, v .2 ∙ start .pre .2, v .3 ∙ start .pre .3, omega arith, v .7)
+
+add-freed : tie.Need-add-freed Inv-loop μ-loop
+add-freed c = omega arith
+
+add-i : tie.Need-add-i Inv-loop μ-loop
+add-i c = omega arith
+
+loop-less : tie.Need-loop-less Inv-loop μ-loop
+loop-less c = omega arith
+
+loop-again : tie.Need-loop-again Inv-loop μ-loop
+loop-again c =
+    let r = c .before .before .before .before .before .before .before .before in
+    let l = r .before .before .before .before .before .before in
+    let v = l .loop .inv in (
+      omega arith,
+      omega arith,
+      omega arith,
+      omega arith,
+      sweep-next _ _ _ _ _ (v .4) _ (r .sweep-one .ensures .0),
+      sweep-blocks-next _ _ _ _ _ (v .4) _ _ (v .5) (r .sweep-one .ensures .1),
+      omega arith,
+      r .sweep-one .ensures .3,
+    )
+
+same-length : tie.Need-same-length Inv-loop μ-loop
+same-length c = omega arith
+
+same-length-2 : tie.Need-same-length-2 Inv-loop μ-loop
+same-length-2 c = omega arith
+
+same-length-3 : tie.Need-same-length-3 Inv-loop μ-loop
+same-length-3 c = omega arith
+
+same-length-4 : tie.Need-same-length-4 Inv-loop μ-loop
+same-length-4 c =
+    c .before .loop .inv .7 .length-is ∙ sym (c .before .before .before .before .before .before .before .pre .4 .length-is)
+
+returns : tie.Need-returns Inv-loop μ-loop
+returns c =
+    let v = c .before .loop .inv in
+    let done : c .before .loop .i ≡ c .before .before .before .before .before .before .before .args .blocks = omega arith in
+    (v .4 ∙ ap (sweep _ _ _) done, v .5 ∙ ap (sweepBlocks _ _ _) done, v .7)
+
+pub sweep-spec : {M : Type 1} → statement M
+sweep-spec =
+    tie.close
+    (tie.spec
+    Inv-loop
+    μ-loop
+    loop-holds
+    sweep-one-requires
+    add-freed
+    add-i
+    loop-less
+    loop-again
+    same-length
+    same-length-2
+    same-length-3
+    same-length-4
+    returns)

@@ -1,0 +1,99 @@
+-- `sweeping::sweep_one` meets its contract: each return is a law of `sweepOne`.
+use mathlib.Core.Path.{sym, _∙_}
+use borrow.Author.Needs.{needs}
+use borrow.Author.Tests.{not-true, not-false}
+use Rattle.sweeping.proofs.Sweeps.{sweep-not-first, sweep-marked, sweep-unmarked}
+use Rattle.sweeping.proofs.sweep_one.Statement.{statement}
+use Rattle.sweeping.proofs.sweep_one.Tie as tie
+
+is-first-requires : tie.Need-is-first-requires
+is-first-requires c κs = search needs
+
+same-length : tie.Need-same-length
+same-length c = search needs
+
+same-length-2 : tie.Need-same-length-2
+same-length-2 c = search needs
+
+returns : tie.Need-returns
+returns c =
+    let s = c .before .before .before .before .before .before .before .before .before in
+    sweep-not-first _ _ _ _ _ (s .pre .5) (sym (c .before .is-first .ensures) ∙ not-true _ (c .if1 .taken))
+
+get-count-requires : tie.Need-get-count-requires
+get-count-requires c κs = search needs
+
+same-length-3 : tie.Need-same-length-3
+same-length-3 c = search needs
+
+same-length-4 : tie.Need-same-length-4
+same-length-4 c = search needs
+
+returns-2 : tie.Need-returns-2
+returns-2 c =
+    let f = c .before .before in
+    let s = f .before .before .before .before .before .before .before .before .before in
+    sweep-marked _ _ _ _ _ (s .pre .5) (sym (f .before .is-first .ensures) ∙ not-false _ (f .if1 .left))
+    (λ z. c .if2 .taken (c .before .get-count .ensures .0 ∙ z))
+
+object-size-requires : tie.Need-object-size-requires
+object-size-requires c κs = search needs
+
+clear-extent-requires : tie.Need-clear-extent-requires
+clear-extent-requires c κs = search needs
+
+mul-clear-cells : tie.Need-mul-clear-cells
+mul-clear-cells c = search needs
+
+mul-clear-cells-2 : tie.Need-mul-clear-cells-2
+mul-clear-cells-2 c = search needs
+
+clear-cells-requires : tie.Need-clear-cells-requires
+clear-cells-requires c κs = search needs
+
+same-length-5 : tie.Need-same-length-5
+same-length-5 c = search needs
+
+same-length-6 : tie.Need-same-length-6
+same-length-6 c = search needs
+
+same-length-7 : tie.Need-same-length-7
+same-length-7 c = search needs
+
+same-length-8 : tie.Need-same-length-8
+same-length-8 c = search needs
+
+returns-3 : tie.Need-returns-3
+returns-3 c =
+    let k = c .before .before in
+    let x = k .before .before .before .before .before .before .before .before in
+    let o = x .before .before .before .before in
+    let g = o .before .before in
+    let f = g .before .before in
+    let size = o .object-size .ensures in
+    let cleared = x .clear-extent .ensures in
+    sweep-unmarked _ _ _ _ _ _ _ _ (size .0) (size .2) (sym (f .before .is-first .ensures) ∙ not-false _ (f .if1 .left))
+    (sym (g .before .get-count .ensures .0) ∙ g .if2 .left) _ _ _ (cleared .0) (cleared .1) (k .clear-cells .ensures) _ (cleared .2)
+
+pub sweep-one-spec : {M : Type 1} → statement M
+sweep-one-spec =
+    tie.close
+    (tie.spec
+    is-first-requires
+    same-length
+    same-length-2
+    returns
+    get-count-requires
+    same-length-3
+    same-length-4
+    returns-2
+    object-size-requires
+    clear-extent-requires
+    mul-clear-cells
+    mul-clear-cells-2
+    clear-cells-requires
+    same-length-5
+    same-length-6
+    same-length-7
+    same-length-8
+    returns-3)
