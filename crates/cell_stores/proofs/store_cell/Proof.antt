@@ -1,13 +1,13 @@
--- `stores::store_cell` meets its contract: letting go is the same beside the roots, with the counts counted up and the cell written; where
+-- `cell_stores::store_cell` meets its contract: letting go is the same beside the roots, with the counts counted up and the cell written; where
 -- the value is present nothing is done.
 use mathlib.Core.Path.{refl, _∙_}
 use native.Mathlib.Omega.{arith}
 use lib.ListN.{length-set}
 use borrow.Author.Needs.{needs}
 use Rattle.references.proofs.Shapes.{planes-same, extents-cell}
-use Rattle.stores.proofs.StoreSteps.{cell-present, cell-changed, store-cell-done, store-cell-blocks}
-use Rattle.stores.proofs.store_cell.Statement.{statement}
-use Rattle.stores.proofs.store_cell.Tie as tie
+use Rattle.cell_stores.proofs.CellSteps.{cell-present, cell-changed, store-cell-done, store-cell-blocks}
+use Rattle.cell_stores.proofs.store_cell.Statement.{statement}
+use Rattle.cell_stores.proofs.store_cell.Tie as tie
 
 -- the places: counted up, and the old object let go
 abbrev up : tie.After-let-go → tie.After-count-up

@@ -1,12 +1,12 @@
--- `stores::place` meets its contract: the buffers that are handed on are those of `placed`.
+-- `placement::place` meets its contract: the buffers that are handed on are those of `placed`.
 use mathlib.Core.Path.{ap, _∙_}
 use Prim.Native.Nat.{ℕ}
 use native.Mathlib.Omega.{arith}
 use lib.Dec.{eqb}
 use borrow.Author.Needs.{needs}
-use Rattle.stores.proofs.StoreSteps.{ready-placed, place-done, place-blocks}
-use Rattle.stores.proofs.place.Statement.{statement}
-use Rattle.stores.proofs.place.Tie as tie
+use Rattle.placement.proofs.PlacingSteps.{ready-placed, place-done, place-blocks}
+use Rattle.placement.proofs.place.Statement.{statement}
+use Rattle.placement.proofs.place.Tie as tie
 
 -- the places: the extent marked, the count written, the cells cleared, the root written
 abbrev marked : tie.After-set-count → tie.After-mark-extent
@@ -55,7 +55,6 @@ put-root-requires c κs =
     let pre = marked count .before .before .before .before .before .before .before .before .before .before .before .before .pre in (
       ready-placed _ _ _ _ _ _ _ _ _ _ _ _ _ _ _ (extent .0) (extent .1) (count .set-count .ensures) (clear .clear-cells .ensures) _ (extent .2) (pre .0),
       pre .3,
-      omega arith,
     )
 
 returns : tie.Need-returns

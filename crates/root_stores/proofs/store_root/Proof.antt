@@ -1,10 +1,10 @@
--- `stores::store_root` meets its contract: the counts that are handed on are those counted up; where the value is present nothing is done.
+-- `root_stores::store_root` meets its contract: the counts that are handed on are those counted up; where the value is present nothing is done.
 use mathlib.Core.Path.{refl, _∙_}
 use native.Mathlib.Omega.{arith}
 use borrow.Author.Needs.{needs}
-use Rattle.stores.proofs.StoreSteps.{ready-counts, root-present, root-changed, store-root-done, store-root-blocks}
-use Rattle.stores.proofs.store_root.Statement.{statement}
-use Rattle.stores.proofs.store_root.Tie as tie
+use Rattle.root_stores.proofs.RootSteps.{ready-counts, root-present, root-changed, store-root-done, store-root-blocks}
+use Rattle.root_stores.proofs.store_root.Statement.{statement}
+use Rattle.root_stores.proofs.store_root.Tie as tie
 
 -- the places: counted up, and the root written
 abbrev up : tie.After-put-root → tie.After-count-up
@@ -31,7 +31,7 @@ count-up-requires c κs = search needs
 put-root-requires : tie.Need-put-root-requires
 put-root-requires c κs =
     let pre = c .before .before .before .before .before .before .before .before .before .before .before .before .before .before .before .before .before .before .before .before .pre in
-    (ready-counts _ _ _ _ _ _ _ _ _ _ (omega arith) (pre .0), pre .1, pre .2)
+    (ready-counts _ _ _ _ _ _ _ _ _ _ (omega arith) (pre .0), pre .1)
 
 returns-2 : tie.Need-returns-2
 returns-2 c =
