@@ -1,8 +1,8 @@
--- `figures::line::write_line` meets its contract.
-use Rattle.figures.proofs.Lines.{figures-written, refusal-written}
+-- `line::write_line` meets its contract.
+use Rattle.line.proofs.Lines.{figures-written, refusal-written}
 use borrow.Author.Needs.{needs}
-use Rattle.figures.proofs.line.write_line.Statement.{statement}
-use Rattle.figures.proofs.line.write_line.Tie as tie
+use Rattle.line.proofs.write_line.Statement.{statement}
+use Rattle.line.proofs.write_line.Tie as tie
 
 put-figures-requires : tie.Need-put-figures-requires
 put-figures-requires c κs = search needs

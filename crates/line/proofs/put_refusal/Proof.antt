@@ -1,10 +1,10 @@
--- `figures::line::put_refusal` meets its contract.
+-- `line::put_refusal` meets its contract.
 use native.Mathlib.Omega.{arith}
-use Rattle.figures.specs.Line.{refusalLine}
-use Rattle.figures.proofs.Lines.{put-next}
+use Rattle.line.specs.Line.{refusalLine}
+use Rattle.line.proofs.Lines.{put-next}
 use borrow.Author.Needs.{needs}
-use Rattle.figures.proofs.line.put_refusal.Statement.{statement}
-use Rattle.figures.proofs.line.put_refusal.Tie as tie
+use Rattle.line.proofs.put_refusal.Statement.{statement}
+use Rattle.line.proofs.put_refusal.Tie as tie
 
 slice-aggregate-put-text : tie.Need-slice-aggregate-put-text
 slice-aggregate-put-text c = search needs

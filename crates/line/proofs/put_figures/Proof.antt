@@ -1,10 +1,10 @@
--- `figures::line::put_figures` meets its contract: six items, one behind the other.
+-- `line::put_figures` meets its contract: six items, one behind the other.
 use native.Mathlib.Omega.{arith}
-use Rattle.figures.specs.Line.{figuresLine}
-use Rattle.figures.proofs.Lines.{put-next}
+use Rattle.line.specs.Line.{figuresLine}
+use Rattle.line.proofs.Lines.{put-next}
 use borrow.Author.Needs.{needs}
-use Rattle.figures.proofs.line.put_figures.Statement.{statement}
-use Rattle.figures.proofs.line.put_figures.Tie as tie
+use Rattle.line.proofs.put_figures.Statement.{statement}
+use Rattle.line.proofs.put_figures.Tie as tie
 
 slice-aggregate-put-item : tie.Need-slice-aggregate-put-item
 slice-aggregate-put-item c = search needs

@@ -7,8 +7,8 @@ use lib.ListN.{length, drop}
 use borrow.Author.Tests.{eq-eqb, ne-eqb}
 use Rattle.text.specs.Text.{Put}
 use Rattle.text.proofs.Writing.{put-both}
 use Rattle.figures.specs.declared.tally.Run.{Run}
-use Rattle.figures.specs.Line.{figuresLine, refusalLine, line}
+use Rattle.line.specs.Line.{figuresLine, refusalLine, line}
 
 -- a piece more, behind what stands at the start of the buffer
 pub put-next :

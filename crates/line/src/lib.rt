@@ -1,12 +1,12 @@
-// The printed line.
+// The printed line of a run of records.
 ghost use mathlib.Core.Path.{_≡_};
 ghost use mathlib.Core.List.{_++_};
 ghost use Prim.Native.Nat.{_+_, _≤_};
 ghost use lib.ListN.{length, drop};
 ghost use Rattle.text.specs.Text.{Put};
-ghost use Rattle.figures.specs.Line.{item, figuresLine, refusalLine, line, longestLine};
-use crate::tally::Run;
-use crate::tally::Tally;
+ghost use Rattle.line.specs.Line.{item, figuresLine, refusalLine, line, longestLine};
+use figures::tally::Run;
+use figures::tally::Tally;
 
 // The longest line: six numbers of 20 digits, each with a byte behind it.
 pub const MAX_LINE: usize = 126;

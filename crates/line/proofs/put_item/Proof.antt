@@ -1,10 +1,10 @@
--- `figures::line::put_item` meets its contract.
+-- `line::put_item` meets its contract.
 use native.Mathlib.Omega.{arith}
 use Rattle.text.proofs.Decimals.{decimal-short}
 use Rattle.text.proofs.Writing.{put-both}
 use borrow.Author.Needs.{needs}
-use Rattle.figures.proofs.line.put_item.Statement.{statement}
-use Rattle.figures.proofs.line.put_item.Tie as tie
+use Rattle.line.proofs.put_item.Statement.{statement}
+use Rattle.line.proofs.put_item.Tie as tie
 
 put-decimal-requires : tie.Need-put-decimal-requires
 put-decimal-requires c κs = omega (arith, decimal-short (c .before .before .before .args .n) (search needs))
