@@ -10,7 +10,9 @@ use Rattle.bitmap.specs.Bit.{zeros}
 use Rattle.rules.specs.Heap.{Memory, isFirst, sizeAt, isRef}
 use Rattle.rules.specs.Store.{freed, release, letGo, putRoot, putCell, changeRoot, changeCell, storeRootIn, storeCellIn}
 use Rattle.release.specs.Blocks.{releasedBlocks, letGoBlocks}
-use Rattle.stores.specs.Blocks.{putRootBlocks, putCellBlocks, changeRootBlocks, changeCellBlocks, storeRootBlocks, storeCellBlocks}
+use Rattle.stores.specs.Blocks.{putRootBlocks}
+use Rattle.root_stores.specs.Blocks.{changeRootBlocks, storeRootBlocks}
+use Rattle.cell_stores.specs.Blocks.{putCellBlocks, changeCellBlocks, storeCellBlocks}
 use Rattle.theory.proofs.Memories.Healthy.{Healthy}
 use Rattle.theory.proofs.Memories.ViewRelease.{Releasing, freed-zeros, releasing-next}
 use Rattle.theory.proofs.Memories.Stores.{store-root, store-cell}

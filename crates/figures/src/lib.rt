@@ -1,3 +1,2 @@
-// The figures of a run of records, and its printed line.
-pub mod line;
+// The figures of a run of records.
 pub mod tally;

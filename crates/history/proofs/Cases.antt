@@ -5,7 +5,7 @@ use Rattle.rules.proofs.Cases.{computed}
 use Rattle.records.specs.Records.{fieldsAt, unnamed, unless, onRoots, allocating, copying, writing, reading, clearing, operation, asked}
 use Rattle.text.specs.Text.{decimalIn, decimal}
 use Rattle.figures.specs.Figures.{countedIn, toldStuck, momentIn, noted, notedAll}
-use Rattle.figures.specs.Line.{figuresLine, refusalLine, line}
+use Rattle.line.specs.Line.{figuresLine, refusalLine, line}
 use Rattle.turns.specs.Turns.{triedAgain, turnOf, afterTurn}
 use Rattle.history.specs.Runs.{ranFrom, ended, ran}
 use Rattle.history.specs.Cases.{cases, outcome, bytesOf, expected}

@@ -7,7 +7,7 @@ use mathlib.Core.List.{List, [], _∷_, _++_}
 use lib.ListN.{getD}
 use Rattle.rules.specs.Store.{formatted}
 use Rattle.figures.specs.Figures.{noFigures, run}
-use Rattle.figures.specs.Line.{line}
+use Rattle.line.specs.Line.{line}
 use Rattle.history.specs.Runs.{ran}
 
 -- ---- records

@@ -12,7 +12,7 @@ use Rattle.rules.specs.Store.{birthSticks, allocateIn}
 use Rattle.rules.specs.Calls.{allocate, reply}
 use Rattle.rules.specs.Promise.{Promise}
 use Rattle.rules.specs.declared.Reply.{Reply}
-use Rattle.stores.specs.Blocks.{allocateBlocks}
+use Rattle.placement.specs.Blocks.{allocateBlocks}
 use Rattle.theory.specs.Balance.{freedBlocks, inUse, allocates, allocatedBy}
 use Rattle.theory.proofs.Maps.Totals.{free-and-sizes}
 use Rattle.theory.proofs.EachCall.Balance.{answer-even}

@@ -12,7 +12,8 @@ use Rattle.rules.specs.Promise.{Promise}
 use Rattle.rules.specs.declared.Reply.{Reply}
 use Rattle.rules.proofs.Replies.{Passed}
 use Rattle.rules.proofs.Promised.{promised}
-use Rattle.stores.specs.Blocks.{storeRootBlocks, storeCellBlocks}
+use Rattle.root_stores.specs.Blocks.{storeRootBlocks}
+use Rattle.cell_stores.specs.Blocks.{storeCellBlocks}
 use Rattle.theory.proofs.Memories.Fit.{Fit}
 use Rattle.theory.proofs.EachCall.Accepted.{fit-accepted}
 use Rattle.theory.proofs.Memories.WaitingUnread.{store-root-waiting, store-cell-waiting}

@@ -38,7 +38,7 @@ pub fn allocate(
     ensures { λ done.
         ⌜ Allocating blocks width n r (before a b counts cells roots waiting sections) done (after a b counts cells roots waiting sections) ⌝ }
 {
-    let placed = stores::place(
+    let placed = placement::place(
         blocks,
         width,
         a,
@@ -80,7 +80,7 @@ pub fn store_root(
         ⌜ Promise blocks width (Call.storeRoot r v) (before a b counts cells roots waiting sections) reply
         (after a b counts cells roots waiting sections) ⌝ }
 {
-    let stored = stores::store_root(
+    let stored = root_stores::store_root(
         blocks,
         width,
         a,
@@ -118,7 +118,7 @@ pub fn store_cell(
         ⌜ Promise blocks width (Call.storeCell at j v) (before a b counts cells roots waiting sections) reply
         (after a b counts cells roots waiting sections) ⌝ }
 {
-    let written = stores::store_cell(
+    let written = cell_stores::store_cell(
         blocks,
         width,
         a,

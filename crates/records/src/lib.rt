@@ -4,7 +4,7 @@ ghost use mathlib.Core.List.{[], _∷_};
 ghost use Prim.Native.Nat.{_+_, _*_, _≤_, _<_};
 ghost use lib.ListN.{length};
 ghost use Rattle.rules.specs.Heap.{memory};
-ghost use Rattle.records.specs.Records.{fieldsAt, areZero, unnamed, copying, writing, reading, clearing, asked};
+ghost use Rattle.records.specs.Records.{pair, fieldsAt, areZero, unnamed, copying, writing, reading, clearing, asked};
 ghost use Rattle.records.specs.Meaning.{meaning};
 ghost use Rattle.records.specs.Readable.{Readable};
 use blocks::Ref;
@@ -42,6 +42,14 @@ fn word(v: Ref) -> usize
     v as usize
 }
 
+// The number that the bytes at two places make.
+fn pair_at(bytes: &[u8], low: usize, high: usize) -> usize
+    requires { ⌜ (low < length (now bytes)) × (high < length (now bytes)) ⌝ }
+    ensures { λ r. ⌜ r ≡ pair (now (bytes .entry)) low high ⌝ }
+{
+    wide(bytes[low]) + 256 * wide(bytes[high])
+}
+
 // The record that begins at place `at`.
 pub fn fields_at(bytes: &[u8], at: usize) -> Fields
     requires { ⌜ at + 8 ≤ length (now bytes) ⌝ }
@@ -52,8 +60,8 @@ pub fn fields_at(bytes: &[u8], at: usize) -> Fields
         d: wide(bytes[at + 1]),
         s: wide(bytes[at + 2]),
         unused: wide(bytes[at + 3]),
-        c: wide(bytes[at + 4]) + 256 * wide(bytes[at + 5]),
-        size: wide(bytes[at + 6]) + 256 * wide(bytes[at + 7]),
+        c: pair_at(bytes, at + 4, at + 5),
+        size: pair_at(bytes, at + 6, at + 7),
     }
 }
 

@@ -1,10 +1,9 @@
 // What is printed: the line of a run to standard output, what went wrong to standard error.
 use crate::run::Outcome;
-use figures::line;
-use figures::line::MAX_LINE;
 use figures::tally::Run;
 use libc::STDERR_FILENO;
 use libc::STDOUT_FILENO;
+use line::MAX_LINE;
 
 fn complain(text: &[u8]) {
     io::write_all(STDERR_FILENO, text);

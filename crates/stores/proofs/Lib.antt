@@ -1,1 +1,1 @@
-pub mod StoreSteps
+pub mod Sticking
