@@ -13,6 +13,7 @@ use Rattle.planes.proofs.Counts.{bytes-set-count}
 use Rattle.rules.specs.Heap.{Memory, withCounts, capacity, isFirst, sizeAt}
 use Rattle.rules.specs.Store.{Work, work, freed, countUp}
 use Rattle.rules.specs.Collection.{marked, referencesFrom, reached, swept, recounted, collected}
+use Rattle.rules.proofs.Tests.{choose}
 use Rattle.collector.specs.Mark.{visit, visitEach, scan, markCounts}
 use Rattle.collector.specs.Sweep.{isUnmarked, sweepOne, sweep, collectBy}
 
@@ -20,11 +21,6 @@ pub record Bytewise (h : Memory) : Type 0 where
   pub a : Bytes (h .a)
   pub b : Bytes (h .b)
   pub counts : Bytes (h .counts)
-
--- what holds of both holds of the one chosen
-choose : {A : Type 0} (P : A → Type 0) (t : Bool) {x y : A} → P x → P y → P (elim t [ true ↦ x | false ↦ y ])
-choose P true p q = p
-choose P false p q = q
 
 module _ (N w : ℕ) where
   freed-bytes : (h : Memory) (x n : ℕ) → Bytewise h → Bytewise (freed N w h x n)
