@@ -1,5 +1,5 @@
 -- The three bitmaps of a memory hold bytes, and a collection keeps them so, the rule's and the collector's.
-use mathlib.Core.Bool.{Bool, true, false, not, _&&_, _||_}
+use mathlib.Core.Bool.{Bool, not, _&&_, _||_}
 use mathlib.Core.List.{List, [], _∷_}
 use Prim.Native.Nat.{ℕ, zero, suc, _+_, _-_, _*_, _/_, min}
 use native.Mathlib.Omega.{arith}

@@ -1,5 +1,5 @@
 -- The answer of a collection on a fit memory, and that of the collector: memory and number of blocks freed.
-use mathlib.Core.Path.{_≡_, sym, ap, _∙_}
+use mathlib.Core.Path.{_≡_, _∙_}
 use Prim.Native.Nat.{ℕ}
 use Rattle.rules.specs.Heap.{Memory, withSections}
 use Rattle.rules.specs.Sections.{figures}

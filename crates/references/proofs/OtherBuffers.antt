@@ -4,7 +4,7 @@ use mathlib.Core.Path.{_≡_, refl, sym, ap, _∙_}
 use mathlib.Core.List.{List, [], _∷_}
 use Prim.Native.Nat.{ℕ, zero, suc, _+_}
 use lib.ListN.{replicate}
-use Rattle.rules.specs.Heap.{Memory, lentMemory, memory, withCounts, withWaiting, sizeAt}
+use Rattle.rules.specs.Heap.{Memory, lentMemory, memory, withWaiting, sizeAt}
 use Rattle.rules.specs.Store.{Work, work, countDown, freed, workAfter, memoryAfter, release, letGo}
 use Rattle.rules.proofs.Unread as unread
 use Rattle.rules.proofs.Unread.{beside, release-beside}
