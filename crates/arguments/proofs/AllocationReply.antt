@@ -18,7 +18,7 @@ use Rattle.rules.proofs.Promised.{promised}
 use Rattle.theory.proofs.Maps.LowestChunk.{room}
 use Rattle.theory.proofs.Memories.Fit.{Fit}
 use Rattle.theory.proofs.EachCall.Accepted.{fit-refused}
-use Rattle.arguments.specs.Replies.{found, allocateReply}
+use Rattle.arguments.specs.Replies.{ownTest, found, allocateReply}
 
 -- ---- the reply, over its two tests and its search
 
@@ -83,6 +83,14 @@ module _ (N : ℕ) (a : List ℕ) (roots n r : ℕ) where
   allocate-accepts x e accepts =
       tested-accepts (leb 1 n && leb n N) (ltb r roots) (lowestFree N (exponent n) a) (ap (λ (y : Reply). y .number) (sym e) ∙ accepts)
       ∙ ap (λ (y : Reply). reply 0 (y .value) 0) (sym e)
+
+pub allocate-goes-on :
+    (N : ℕ) (h : Memory) (n r : ℕ) (x : Reply) → x ≡ allocateReply N (h .a) (length (h .roots)) n r → x .number ≡ 0
+    → ownTest N h (allocate n r) .number ≡ 0
+unfolding ownTest ownRefusals allocateReply
+allocate-goes-on N h n r x tested accepts =
+    tested-number (leb 1 n && leb n N) (ltb r (length (h .roots))) (lowestFree N (exponent n) (h .a))
+    ∙ ap (λ (y : Reply). y .number) (sym tested) ∙ accepts
 
 module _ (N w : ℕ) (h : Memory) (n r : ℕ) where
   allocate-stopped :

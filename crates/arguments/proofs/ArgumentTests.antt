@@ -101,10 +101,16 @@ module _ (N : ℕ) (h : Memory) (a j v : ℕ) where
 
 -- ---- a return
 
-module _ (N w : ℕ) (h : Memory) (fit : Fit N w h) (chosen : ℕ) where
-  pub return-refused : (x : Reply) → x ≡ returnTest (length (h .roots)) chosen → (x .number ≡ 0 → ⊥) → Promise N w (returnRoots chosen) h x h
+module _ (N : ℕ) (h : Memory) (chosen : ℕ) (x : Reply) (tested : x ≡ returnTest (length (h .roots)) chosen) where
+  same-return-test : x ≡ ownTest N h (returnRoots chosen)
   unfolding ownTest ownRefusals returnTest
-  return-refused x tested = own-refused N h (returnRoots chosen) x tested w fit
+  same-return-test = tested
+
+  pub return-goes-on : x .number ≡ 0 → ownTest N h (returnRoots chosen) .number ≡ 0
+  return-goes-on = goes-on N h (returnRoots chosen) x same-return-test
+
+  pub return-refused : (w : ℕ) → Fit N w h → (x .number ≡ 0 → ⊥) → Promise N w (returnRoots chosen) h x h
+  return-refused = own-refused N h (returnRoots chosen) x same-return-test
 
 -- ---- a look
 

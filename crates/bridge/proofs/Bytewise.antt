@@ -1,5 +1,5 @@
 -- The three bitmaps of a memory hold bytes, and a collection keeps them so, the rule's and the collector's.
-use mathlib.Core.Bool.{Bool, true, false, not, _&&_, _||_}
+use mathlib.Core.Bool.{Bool, not, _&&_, _||_}
 use mathlib.Core.List.{List, [], _∷_}
 use Prim.Native.Nat.{ℕ, zero, suc, _+_, _-_, _*_, _/_, min}
 use native.Mathlib.Omega.{arith}
@@ -13,6 +13,7 @@ use Rattle.planes.proofs.Counts.{bytes-set-count}
 use Rattle.rules.specs.Heap.{Memory, withCounts, capacity, isFirst, sizeAt}
 use Rattle.rules.specs.Store.{Work, work, freed, countUp}
 use Rattle.rules.specs.Collection.{marked, referencesFrom, reached, swept, recounted, collected}
+use Rattle.rules.proofs.Tests.{choose}
 use Rattle.marking.specs.Mark.{visit, visitEach, scan, markCounts}
 use Rattle.sweeping.specs.Sweep.{isUnmarked, sweepOne, sweep}
 use Rattle.collector.specs.Collection.{collectBy}
@@ -21,11 +22,6 @@ pub record Bytewise (h : Memory) : Type 0 where
   pub a : Bytes (h .a)
   pub b : Bytes (h .b)
   pub counts : Bytes (h .counts)
-
--- what holds of both holds of the one chosen
-choose : {A : Type 0} (P : A → Type 0) (t : Bool) {x y : A} → P x → P y → P (elim t [ true ↦ x | false ↦ y ])
-choose P true p q = p
-choose P false p q = q
 
 module _ (N w : ℕ) where
   freed-bytes : (h : Memory) (x n : ℕ) → Bytewise h → Bytewise (freed N w h x n)

@@ -3,7 +3,7 @@ use mathlib.Core.Path.{_≡_, sym, ap, _∙_}
 use mathlib.Core.Bool.{Bool}
 use mathlib.Core.Option.{Option, some, Option·getD}
 use Prim.Native.Nat.{ℕ}
-use lib.ListN.{length, replicate}
+use lib.ListN.{length}
 use Rattle.bitmap.specs.Bit.{one}
 use Rattle.rules.specs.Heap.{Memory, withSections, exponent, lowestFree}
 use Rattle.rules.specs.Sections.{figures}
@@ -13,12 +13,12 @@ use Rattle.rules.specs.Promise.{Promise}
 use Rattle.rules.specs.declared.Reply.{Reply}
 use Rattle.rules.proofs.Replies.{Passed}
 use Rattle.rules.proofs.Promised.{promised}
+use Rattle.rules.proofs.Unread.{allocate-beside}
 use Rattle.theory.proofs.Memories.Fit.{Fit}
 use Rattle.theory.proofs.EachCall.Accepted.{fit-accepted}
-use Rattle.theory.proofs.Memories.WaitingUnread.{allocate-waiting}
 use Rattle.arguments.proofs.AllocationReply.{Found}
 use Rattle.inner.specs.Usable.{Usable}
-use Rattle.inner.proofs.UsableHeap.{cleared-same, usable-fit, left-settled}
+use Rattle.inner.proofs.UsableHeap.{usable-fit, left-settled}
 
 module _ (N w : ℕ) (h : Memory) (n r at : ℕ) (free : Found N (h .a) (length (h .roots)) n r at) where
   pub allocate-answered :
@@ -36,6 +36,4 @@ module _ (N w : ℕ) (h : Memory) (n r at : ℕ) (free : Found N (h .a) (length 
       promised N w h (allocate n r) (reply 0 at (one (birthSticks w)), settled N (allocateIn N w h n r at))
       (allocate-answered (usable-fit N w h usable)) x g
       (replied ∙ ap (λ (t : Bool). reply 0 at (one t)) told)
-      (left-settled N (h .sections) g (allocateIn N w h n r at) left
-      (ap (λ (k : Memory). allocateIn N w k n r at) (sym (cleared-same N w h usable)) ∙ allocate-waiting N w (replicate N 0) h n r at)
-      listed)
+      (left-settled N w h usable (h .sections) g (allocateIn N w h n r at) left (allocate-beside N w (λ _. h .waiting) (λ l. l) h n r at) listed)

@@ -1,7 +1,6 @@
 -- The answer of a collection on a fit memory, and that of the collector: memory and number of blocks freed.
-use mathlib.Core.Path.{_≡_, sym, ap, _∙_}
+use mathlib.Core.Path.{_≡_, _∙_}
 use Prim.Native.Nat.{ℕ}
-use lib.ListN.{replicate}
 use Rattle.rules.specs.Heap.{Memory, withSections}
 use Rattle.rules.specs.Sections.{figures}
 use Rattle.rules.specs.Collection.{collected}
@@ -9,14 +8,14 @@ use Rattle.rules.specs.Calls.{collect, reply, freeing, outcome, answer}
 use Rattle.rules.specs.Promise.{Promise}
 use Rattle.rules.specs.declared.Reply.{Reply}
 use Rattle.rules.proofs.Replies.{Passed}
+use Rattle.rules.proofs.Unread.{collect-beside}
 use Rattle.collector.specs.Collection.{collectBy, collectBlocks}
 use Rattle.theory.proofs.Memories.Fit.{Fit}
-use Rattle.theory.proofs.Memories.WaitingUnread.{collect-waiting}
 use Rattle.theory.proofs.EachCall.Accepted.{fit-accepted}
 use Rattle.bridge.proofs.Bytewise.{Bytewise}
 use Rattle.bridge.proofs.CollectorProcedure.{collect-by-is, collect-blocks-is}
 use Rattle.inner.specs.Usable.{Usable}
-use Rattle.inner.proofs.UsableHeap.{cleared-same, usable-fit, usable-healthy, left-settled}
+use Rattle.inner.proofs.UsableHeap.{usable-fit, usable-healthy, left-settled}
 use Rattle.inner.proofs.StoreAnswer.{freeing-promised}
 
 module _ (N w : ℕ) (h : Memory) where
@@ -32,5 +31,5 @@ module _ (N w : ℕ) (h : Memory) where
       freeing-promised N w h (collected N w h) 0 collect (collect-answered (usable-fit N w h usable)) freed x g
       (counted ∙ collect-blocks-is N w h healthy)
       replied
-      (left-settled N (h .sections) g (collected N w h) (left ∙ collect-by-is N w h healthy bytes)
-      (ap (collected N w) (sym (cleared-same N w h usable)) ∙ collect-waiting N w (replicate N 0) h) listed)
+      (left-settled N w h usable (h .sections) g (collected N w h) (left ∙ collect-by-is N w h healthy bytes)
+      (collect-beside N w (λ _. h .waiting) (λ l. l) h) listed)

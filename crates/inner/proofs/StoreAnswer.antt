@@ -2,7 +2,7 @@
 use mathlib.Core.Path.{_≡_, sym, ap, _∙_}
 use mathlib.Core.Bool.{Bool}
 use Prim.Native.Nat.{ℕ, _+_, _-_, _*_}
-use lib.ListN.{getD, replicate}
+use lib.ListN.{getD}
 use Rattle.bitmap.specs.Bit.{one, zeros}
 use Rattle.rules.specs.Heap.{Memory, withSections}
 use Rattle.rules.specs.Sections.{figures}
@@ -12,15 +12,15 @@ use Rattle.rules.specs.Promise.{Promise}
 use Rattle.rules.specs.declared.Reply.{Reply}
 use Rattle.rules.proofs.Replies.{Passed}
 use Rattle.rules.proofs.Promised.{promised}
+use Rattle.rules.proofs.Unread.{store-root-beside, store-cell-beside}
 use Rattle.root_stores.specs.Blocks.{storeRootBlocks}
 use Rattle.cell_stores.specs.Blocks.{storeCellBlocks}
 use Rattle.theory.proofs.Memories.Fit.{Fit}
 use Rattle.theory.proofs.EachCall.Accepted.{fit-accepted}
-use Rattle.theory.proofs.Memories.WaitingUnread.{store-root-waiting, store-cell-waiting}
 use Rattle.bridge.proofs.FreedBlocks.{store-root-freed, store-cell-freed}
 use Rattle.arguments.proofs.ArgumentTests.{RootPassed, CellPassed}
 use Rattle.inner.specs.Usable.{Usable}
-use Rattle.inner.proofs.UsableHeap.{cleared-same, usable-fit, usable-healthy, left-settled}
+use Rattle.inner.proofs.UsableHeap.{usable-fit, usable-healthy, left-settled}
 
 -- whether the store makes an object stuck
 abbrev pub rootSticks : (N w : ℕ) → Memory → (r v : ℕ) → Bool
@@ -50,8 +50,7 @@ module _ (N w : ℕ) (h : Memory) (r v : ℕ) (passed : RootPassed N h r v) wher
       freeing-promised N w h (storeRootIn N w h r v) (one (rootSticks N w h r v)) (storeRoot r v) (root-answered (usable-fit N w h usable)) freed x g
       (counted ∙ sym (store-root-freed N w h healthy r v (passed .place) (passed .ref)))
       (replied ∙ ap (λ (t : Bool). reply 0 freed (one t)) told)
-      (left-settled N (h .sections) g (storeRootIn N w h r v) left
-      (ap (λ (k : Memory). storeRootIn N w k r v) (sym (cleared-same N w h usable)) ∙ store-root-waiting N w (replicate N 0) h r v) listed)
+      (left-settled N w h usable (h .sections) g (storeRootIn N w h r v) left (store-root-beside N w (λ _. h .waiting) (λ l. l) h r v) listed)
 
 module _ (N w : ℕ) (h : Memory) (a j v : ℕ) (passed : CellPassed N h a j v) where
   pub cell-answered :
@@ -69,7 +68,5 @@ module _ (N w : ℕ) (h : Memory) (a j v : ℕ) (passed : CellPassed N h a j v) 
       freed x g
       (counted ∙ sym (store-cell-freed N w h healthy a j v (passed .first) (passed .place) (passed .ref)))
       (replied ∙ ap (λ (t : Bool). reply 0 freed (one t)) told)
-      (left-settled N (h .sections) g (storeCellIn N w h (4 * a + j) v) left
-      (ap (λ (k : Memory). storeCellIn N w k (4 * a + j) v) (sym (cleared-same N w h usable))
-      ∙ store-cell-waiting N w (replicate N 0) h (4 * a + j) v)
-      listed)
+      (left-settled N w h usable (h .sections) g (storeCellIn N w h (4 * a + j) v) left
+      (store-cell-beside N w (λ _. h .waiting) (λ l. l) h (4 * a + j) v) listed)

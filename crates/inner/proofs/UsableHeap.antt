@@ -56,9 +56,10 @@ module _ (N w : ℕ) (h : Memory) where
         let same = upkeep .untouched none in
         same .1 ∙ usable-fit .listed ∙ ap (figures N) (sym (same .0))
 
--- what a call leaves, from what it left beside its list of sections, with the waiting list cleared and the list true
-pub left-settled :
-    (N : ℕ) (sections : List ℕ) (g k : Memory) → withSections sections g ≡ k → k ≡ withWaiting (replicate N 0) k
-    → g .sections ≡ figures N (g .a) → g ≡ settled N k
-left-settled N sections g k left idle listed =
-    ap (λ (x : List ℕ). withSections x g) listed ∙ ap (λ (m : Memory). withSections (figures N (m .a)) m) (left ∙ idle)
+    -- what a call leaves, from what it left beside its list of sections: it handed the waiting list on, and the list is true
+    pub left-settled :
+        (sections : List ℕ) (g k : Memory) → withSections sections g ≡ k → k ≡ withWaiting (h .waiting) k
+        → g .sections ≡ figures N (g .a) → g ≡ settled N k
+    left-settled sections g k left unread listed =
+        ap (λ (x : List ℕ). withSections x g) listed
+        ∙ ap (λ (m : Memory). withSections (figures N (m .a)) m) (left ∙ unread ∙ ap (λ (x : List ℕ). withWaiting x k) (usable .idle))

@@ -1,52 +1,24 @@
 -- Letting go, as the rules have it, touches neither the roots, the waiting list nor the list of sections: it is the same whatever stands
--- there.
+-- there, and so are the blocks that it frees.
 use mathlib.Core.Path.{_≡_, refl, sym, ap, _∙_}
 use mathlib.Core.List.{List, [], _∷_}
-use Prim.Native.Nat.{ℕ, zero, suc, _+_, _*_}
+use Prim.Native.Nat.{ℕ, zero, suc, _+_}
 use lib.ListN.{replicate}
-use Rattle.rules.specs.Heap.{Memory, lentMemory, memory, withCounts, withRoots, withWaiting, withSections, sizeAt}
-use Rattle.rules.specs.Store.{Work, work, countDown, countDownEach, freed, release, letGo}
+use Rattle.rules.specs.Heap.{Memory, lentMemory, memory, withWaiting, sizeAt}
+use Rattle.rules.specs.Store.{Work, work, countDown, freed, workAfter, memoryAfter, release, letGo}
+use Rattle.rules.proofs.Unread as unread
+use Rattle.rules.proofs.Unread.{beside, release-beside}
 use Rattle.counting.specs.Stack.{topFirst}
 use Rattle.release.specs.Blocks.{releasedBlocks, letGoBlocks}
 
--- the memory with other roots, another waiting list and another list of sections
-abbrev lent : List ℕ → List ℕ → List ℕ → Memory → Memory
-lent roots waiting sections h = withRoots roots (withWaiting waiting (withSections sections h))
-
-module _ (N w : ℕ) (roots waiting sections : List ℕ) where
-  release-elsewhere : (f : ℕ) (h : Memory) (stack : List ℕ)
-      → release f N w (lent roots waiting sections h) stack ≡ lent roots waiting sections (release f N w h stack)
-  unfolding release freed
-  release-elsewhere zero h stack = refl
-  release-elsewhere (suc f) h [] = refl
-  release-elsewhere (suc f) h (i ∷ rest) =
-      let n = sizeAt N h i in
-      let g = freed N w h i n in
-      let s = countDownEach N w (work (g .counts) rest) (h .cells) (4 * i) (4 * n) in
-      release-elsewhere f (withCounts (s .counts) g) (s .stack)
-
-  released-elsewhere : (f : ℕ) (h : Memory) (stack : List ℕ)
-      → releasedBlocks f N w (lent roots waiting sections h) stack ≡ releasedBlocks f N w h stack
-  unfolding releasedBlocks freed
-  released-elsewhere zero h stack = refl
-  released-elsewhere (suc f) h [] = refl
-  released-elsewhere (suc f) h (i ∷ rest) =
-      let n = sizeAt N h i in
-      let g = freed N w h i n in
-      let s = countDownEach N w (work (g .counts) rest) (h .cells) (4 * i) (4 * n) in
-      ap (λ (k : ℕ). n + k) (released-elsewhere f (withCounts (s .counts) g) (s .stack))
-
-  let-go-elsewhere : (h : Memory) (v : ℕ) → letGo N w (lent roots waiting sections h) v ≡ lent roots waiting sections (letGo N w h v)
-  unfolding letGo
-  let-go-elsewhere h v =
-      let s = countDown N w (work (h .counts) []) v in
-      release-elsewhere N (withCounts (s .counts) h) (s .stack)
-
-  let-go-blocks-elsewhere : (h : Memory) (v : ℕ) → letGoBlocks N w (lent roots waiting sections h) v ≡ letGoBlocks N w h v
-  unfolding letGoBlocks
-  let-go-blocks-elsewhere h v =
-      let s = countDown N w (work (h .counts) []) v in
-      released-elsewhere N (withCounts (s .counts) h) (s .stack)
+released-beside : (N w : ℕ) (roots waiting sections : List ℕ → List ℕ) (f : ℕ) (h : Memory) (stack : List ℕ)
+    → releasedBlocks f N w (beside roots waiting sections h) stack ≡ releasedBlocks f N w h stack
+unfolding releasedBlocks freed
+released-beside N w roots waiting sections zero h stack = refl
+released-beside N w roots waiting sections (suc f) h [] = refl
+released-beside N w roots waiting sections (suc f) h (i ∷ rest) =
+    ap (λ (k : ℕ). sizeAt N h i + k)
+    (released-beside N w roots waiting sections f (memoryAfter N w h i rest) ((workAfter N w h i rest) .stack))
 
 -- ---- letting go, in the code's two steps: v counted down on an empty stack, then what waits is freed
 
@@ -58,8 +30,8 @@ module _ (N w : ℕ) (a b counts cells waiting : List ℕ) (v : ℕ) (counts₁ 
       → memory a′ b′ counts′ cells′ [] waiting′ ≡ letGo N w (memory a b counts cells [] waiting) v
   unfolding letGo topFirst
   let-go-done a′ b′ counts′ cells′ waiting′ released idle idle′ =
-      ap (λ (h : Memory). lent [] waiting′ [] h) released
-      ∙ sym (release-elsewhere N w [] waiting′ [] N (memory a b counts₁ cells [] []) (topFirst waiting₁ top))
+      ap (withWaiting waiting′) released
+      ∙ sym (release-beside N w (λ l. l) (λ _. waiting′) (λ l. l) N (memory a b counts₁ cells [] []) (topFirst waiting₁ top))
       ∙ ap (λ (x : List ℕ). release N N w (memory a b counts₁ cells [] x) (topFirst waiting₁ top)) (idle′ ∙ sym idle)
       ∙ ap (λ (s : Work). release N N w (memory a b (s .counts) cells [] waiting) (s .stack)) down
 
@@ -69,7 +41,7 @@ module _ (N w : ℕ) (a b counts cells waiting : List ℕ) (v : ℕ) (counts₁ 
   unfolding letGoBlocks topFirst
   let-go-blocks-done n released =
       released
-      ∙ sym (released-elsewhere N w [] waiting [] N (memory a b counts₁ cells [] []) (topFirst waiting₁ top))
+      ∙ sym (released-beside N w (λ l. l) (λ _. waiting) (λ l. l) N (memory a b counts₁ cells [] []) (topFirst waiting₁ top))
       ∙ ap (λ (s : Work). releasedBlocks N N w (memory a b (s .counts) cells [] waiting) (s .stack)) down
 
 -- the same beside roots and a list of sections
@@ -77,12 +49,13 @@ pub let-go-beside : (N w : ℕ) (a b counts cells roots waiting sections : List 
     → memory a′ b′ counts′ cells′ [] waiting′ ≡ letGo N w (memory a b counts cells [] waiting) v
     → lentMemory a′ b′ counts′ cells′ roots waiting′ sections ≡ letGo N w (lentMemory a b counts cells roots waiting sections) v
 let-go-beside N w a b counts cells roots waiting sections v a′ b′ counts′ cells′ waiting′ e =
-    let h = memory a b counts cells [] waiting in
-    ap (λ (g : Memory). withRoots roots (withSections sections g)) (e ∙ let-go-elsewhere N w [] waiting [] h v)
-    ∙ sym (let-go-elsewhere N w roots waiting sections h v)
+    ap (beside (λ _. roots) (λ l. l) (λ _. sections)) e
+    ∙ sym (unread.let-go-beside N w (λ _. roots) (λ l. l) (λ _. sections) (memory a b counts cells [] waiting) v)
 
 pub let-go-blocks-beside : (N w : ℕ) (a b counts cells roots waiting sections : List ℕ) (v n : ℕ)
     → n ≡ letGoBlocks N w (memory a b counts cells [] waiting) v
     → n ≡ letGoBlocks N w (lentMemory a b counts cells roots waiting sections) v
+unfolding letGoBlocks
 let-go-blocks-beside N w a b counts cells roots waiting sections v n e =
-    e ∙ sym (let-go-blocks-elsewhere N w roots waiting sections (memory a b counts cells [] waiting) v)
+    let s = countDown N w (work counts []) v in
+    e ∙ sym (released-beside N w (λ _. roots) (λ l. l) (λ _. sections) N (memory a b (s .counts) cells [] waiting) (s .stack))

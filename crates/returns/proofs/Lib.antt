@@ -1,2 +1,1 @@
 pub mod ReturnAnswer
-pub mod SectionsUnread

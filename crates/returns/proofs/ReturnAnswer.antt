@@ -7,17 +7,17 @@ use native.Mathlib.Omega.{arith}
 use lib.ListN.{length, replicate}
 use borrow.Author.Tests.{eq-eqb, ne-eqb}
 use Rattle.bitmap.specs.Bit.{bitOf, zeros}
-use Rattle.rules.specs.Heap.{Memory, withWaiting, withSections}
+use Rattle.rules.specs.Heap.{Memory, withSections}
 use Rattle.rules.specs.Store.{storeRootIn, chosenBelow, clearChosen, returnIn}
 use Rattle.rules.specs.Calls.{returnRoots, storeRoot, reply, Answer, settled, freeing, outcome, answer}
 use Rattle.rules.specs.Promise.{Promise}
 use Rattle.rules.specs.declared.Reply.{Reply}
 use Rattle.rules.proofs.Replies.{Passed, passed-own}
 use Rattle.rules.proofs.Tests.{first-not}
+use Rattle.rules.proofs.Unread.{store-root-beside}
 use Rattle.theory.proofs.Memories.Fit.{Fit}
 use Rattle.theory.proofs.EachCall.Accepted.{fit-accepted}
 use Rattle.theory.proofs.EachCall.Clearing.{none-ref, root-cleared}
-use Rattle.theory.proofs.Memories.WaitingUnread.{store-root-waiting}
 use Rattle.arguments.specs.Replies.{ownTest, storeRootTest, returnTest}
 use Rattle.arguments.proofs.ArgumentTests.{root-passed}
 use Rattle.inner.specs.Usable.{Usable}
@@ -25,7 +25,6 @@ use Rattle.inner.proofs.UsableHeap.{cleared-same, usable-fit, left-settled}
 use Rattle.inner.proofs.StoreAnswer.{root-answered, freeing-promised}
 use Rattle.inner.proofs.UsableAfterCalls.{usable-kept}
 use Rattle.returns.specs.Returns.{Turn}
-use Rattle.returns.proofs.SectionsUnread.{store-root-sections}
 
 -- ---- the answer
 
@@ -59,15 +58,14 @@ module _ (N w : ℕ) (h : Memory) (usable : Usable N w h) (chosen r : ℕ) where
       let fit = usable-fit N w h usable in
       let end : Memory = storeRootIn N w h r 0 in
       let stored = root-answered N w h r 0 (root-passed N h r 0 (zero-passes N h r inside)) fit in
-      let idle : withWaiting (replicate N 0) end ≡ end =
-      sym (store-root-waiting N w (replicate N 0) h r 0) ∙ ap (λ (k : Memory). storeRootIn N w k r 0) (cleared-same N w h usable) in
       let is : g ≡ settled N end = promise .after-is ∙ ap (λ (y : Answer). y .1) stored in
       let value : x .value ≡ zeros (end .a) - zeros (h .a) =
       ap (λ (y : Reply). y .value) (promise .reply-is) ∙ ap (λ (y : Answer). y .0 .value) stored in
       let grows = root-cleared N w (λ i. Unit {0}) h (fit .healthy) r inside tt .grows in
       record {
         after-is = λ l.
-            ap (withSections l) is ∙ ap (withSections l) idle ∙ sym (store-root-sections N w l h r 0)
+            ap (withSections l) is ∙ sym (store-root-beside N w (λ _. replicate N 0) (λ _. l) h r 0)
+            ∙ ap (λ (k : Memory). storeRootIn N w (withSections l k) r 0) (cleared-same N w h usable)
             ∙ rw (eq-eqb (bitOf chosen r) 1 e, clearChosen) refl;
         usable = usable-kept N w h usable (storeRoot r 0) x g promise;
         blocks = omega (arith, value, grows, ap (λ (k : Memory). zeros (k .a)) is);
@@ -113,5 +111,4 @@ module _ (N w : ℕ) (start : Memory) (chosen : ℕ) where
       freeing-promised N w start end 0 (returnRoots chosen) (return-answered N w start (usable-fit N w start usable) chosen passes)
       freed x h
       (omega (arith, p .blocks, ap (λ (k : Memory). zeros (k .a)) is)) replied
-      (left-settled N (h .sections) h h refl (sym (cleared-same N w h (p .usable))) (usable-fit N w h (p .usable) .listed)
-      ∙ ap (settled N) is)
+      (left-settled N w h (p .usable) (h .sections) h h refl refl (usable-fit N w h (p .usable) .listed) ∙ ap (settled N) is)

@@ -12,3 +12,4 @@ pub mod Sections
 pub mod Replies
 pub mod Promised
 pub mod Counting
+pub mod Unread

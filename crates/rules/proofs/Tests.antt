@@ -20,6 +20,17 @@ pub false-unless : (t : Bool) → (t ≡ true → ⊥) → t ≡ false
 false-unless true h = absurd (h refl)
 false-unless false h = refl
 
+-- what holds of both holds of the one chosen
+pub choose : {A : Type 0} (P : A → Type 0) (t : Bool) {x y : A} → P x → P y → P (elim t [ true ↦ x | false ↦ y ])
+choose P true p q = p
+choose P false p q = q
+
+pub choose-both :
+    {A B : Type 0} (f : A → B) (t : Bool) (x y : A) {u v : B} → u ≡ f x → v ≡ f y
+    → elim t [ true ↦ u | false ↦ v ] ≡ f (elim t [ true ↦ x | false ↦ y ])
+choose-both f true x y p q = p
+choose-both f false x y p q = q
+
 -- ---- two tests
 
 pub and-true : (s t : Bool) → s && t ≡ true → (s ≡ true) × (t ≡ true)

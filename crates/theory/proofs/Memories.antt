@@ -14,6 +14,5 @@ pub mod ViewSweep
 pub mod Rounds
 pub mod Recount
 pub mod ViewCollection
-pub mod WaitingUnread
 pub mod SameView
 pub mod Orders

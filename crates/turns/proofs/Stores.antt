@@ -11,8 +11,8 @@ use Rattle.rules.specs.Calls.{Call, storeRoot, storeCell, answer}
 use Rattle.rules.specs.Promise.{Promise}
 use Rattle.rules.specs.declared.Reply.{Reply}
 use Rattle.theory.specs.Balance.{freedBlocks, inUse, allocates, allocatedBy}
-use Rattle.theory.proofs.Memories.Fit.{Fit}
 use Rattle.theory.proofs.EachCall.Balance.{blocks-add-up}
+use Rattle.theory.proofs.EachCall.Five.{store-root-not-five, store-cell-not-five}
 use Rattle.inner.specs.Usable.{Usable}
 use Rattle.inner.proofs.UsableHeap.{usable-fit}
 use Rattle.records.specs.Records.{makes, stops}
@@ -21,7 +21,7 @@ use Rattle.figures.specs.Figures.{countedIn, toldStuck, momentIn, noted, notedA
 use Rattle.turns.specs.Turns.{madeOn, turnOf}
 use Rattle.turns.specs.Outcomes.{done, withCollection, withAllocation}
 use Rattle.turns.specs.Steps.{Acted}
-use Rattle.turns.proofs.Refusals.{Keeps, store-root-keeps, store-cell-keeps}
+use Rattle.turns.proofs.Refusals.{refused-keeps}
 use Rattle.turns.proofs.Blocks.{accepted-allocates, call-balance}
 use Rattle.turns.proofs.Figures.{noted-refused, noted-accepted}
 use Rattle.turns.proofs.Turns.{acted-as, turn-once}
@@ -44,7 +44,7 @@ record Plain (c : Call) : Type 0 where
   told : (x : Reply) → toldStuck c x ≡ eqb (x .second) 1
   none-new : allocates c ≡ 0
   frees : (N w : ℕ) (h : Memory) → let x = answer N w h c in x .0 .number ≡ 0 → x .0 .value ≡ freedBlocks N h (x .1)
-  keeps : (N w : ℕ) (h : Memory) → Fit N w h → Keeps h (answer N w h c)
+  not-five : (N w : ℕ) (h : Memory) → answer N w h c .0 .number ≡ 5 → ⊥
 
 store-root-plain : (r v : ℕ) → Plain (storeRoot r v)
 unfolding countedIn toldStuck allocates
@@ -54,7 +54,7 @@ store-root-plain r v =
       told = λ x. refl;
       none-new = refl;
       frees = λ N w h e. blocks-add-up N w h .store-root r v e .by-objects;
-      keeps = λ N w h fit. store-root-keeps N w h fit r v;
+      not-five = λ N w h. store-root-not-five N w h r v;
     }
 
 store-cell-plain : (a j v : ℕ) → Plain (storeCell a j v)
@@ -65,7 +65,7 @@ store-cell-plain a j v =
       told = λ x. refl;
       none-new = refl;
       frees = λ N w h e. blocks-add-up N w h .store-cell a j v e .by-objects;
-      keeps = λ N w h fit. store-cell-keeps N w h fit a j v;
+      not-five = λ N w h. store-cell-not-five N w h a j v;
     }
 
 module _ (N w : ℕ) (h : Memory) (usable : Usable N w h) where
@@ -74,7 +74,7 @@ module _ (N w : ℕ) (h : Memory) (usable : Usable N w h) where
       → Acted N h (turnOf N w h (makes c)) (done (x .number) 0 false (x .value) (eqb (x .second) 1)) g
   unfolding notedAll withCollection withAllocation momentIn
   acted-plain c plain {x} {g} promise =
-      acted-as (turn-once N w h c (plain .keeps N w h (usable-fit N w h usable) .other-number))
+      acted-as (turn-once N w h c (plain .not-five N w h))
       record {
         number-is = ap (λ (y : Reply). y .number) (promise .reply-is);
         after-is = promise .after-is;
@@ -91,17 +91,13 @@ module _ (N w : ℕ) (h : Memory) (usable : Usable N w h) where
           let none : allocatedBy c x ≡ 0 = accepted-allocates c x e ∙ plain .none-new in
           omega (arith, call-balance N w h usable c promise)
 
+      kept : (x .number ≡ 0 → ⊥) → (g ≡ h) × (x .value ≡ 0) × (x .second ≡ 0)
+      kept = refused-keeps N w h (usable-fit N w h usable) c promise
+
       balance : inUse N h + 0 ≡ x .value + inUse N g
       balance = elim (ℕ-discrete (x .number) 0) [
         | yes e ↦ accepted-balance e
-        | no e ↦
-            let kept =
-            plain .keeps N w h (usable-fit N w h usable) .kept (λ z. e (ap (λ (y : Reply). y .number) (promise .reply-is) ∙ z)) in
-            omega (
-              arith,
-              ap (λ (y : Reply). y .value) (promise .reply-is) ∙ kept .1,
-              ap (λ (m : Memory). inUse N m) (promise .after-is ∙ kept .0),
-            )
+        | no e ↦ omega (arith, kept e .1, ap (inUse N) (kept e .0))
       ]
 
       second-is : answer N w h c .0 .second ≡ x .second
@@ -109,10 +105,7 @@ module _ (N w : ℕ) (h : Memory) (usable : Usable N w h) where
 
       -- a refused one sticks nothing
       untold : (x .number ≡ 0 → ⊥) → eqb (x .second) 1 ≡ false
-      untold refused =
-          let kept =
-          plain .keeps N w h (usable-fit N w h usable) .kept (λ z. refused (ap (λ (y : Reply). y .number) (promise .reply-is) ∙ z)) in
-          ne-eqb (x .second) 1 (λ e. omega (arith, kept .2, second-is))
+      untold refused = ne-eqb (x .second) 1 (λ e. omega (arith, kept refused .2))
 
       counted : (t : Tally) → noted (madeOn N w h c) t ≡ momentIn (eqb (x .second) 1) t
       counted t = elim (ℕ-discrete (answer N w h c .0 .number) 0) [

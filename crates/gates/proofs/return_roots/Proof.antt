@@ -21,7 +21,7 @@ returns-2 : tie.Need-returns-2
 returns-2 c =
     let passed = c .before in
     gate-open _ _ _ _ (passed .before .check .ensures) (passed .if1 .left) _ _ _ (c .return-test .ensures)
-    (λ fit. return-refused _ _ _ fit _ _ (c .return-test .ensures))
+    (return-refused _ _ _ _ (c .return-test .ensures) _)
 
 pub return-roots-spec : {M : Type 1} → statement M
 return-roots-spec = tie.close (tie.spec check-requires returns return-test-requires returns-2)

@@ -1,8 +1,9 @@
 -- `mutate::allocate` meets its contract: the gate, and then the work on the cleared heap.
 use mathlib.Core.Path.{refl, _∙_}
 use borrow.Author.Needs.{needs}
-use Rattle.arguments.proofs.AllocationReply.{allocate-accepts}
-use Rattle.mutate.proofs.GateThenAct.{cleared-usable, allocate-cleared}
+use Rattle.rules.specs.Calls.{outcome}
+use Rattle.arguments.proofs.AllocationReply.{allocate-accepts, allocate-goes-on}
+use Rattle.mutate.proofs.GateThenAct.{cleared-usable, promised-back}
 use Rattle.mutate.proofs.allocate.Statement.{statement}
 use Rattle.mutate.proofs.allocate.Tie as tie
 
@@ -34,13 +35,13 @@ allocate-requires-2 c κs =
     )
 
 returns-2 : tie.Need-returns-2
+unfolding outcome
 returns-2 c =
     let clear = cleared (done c .before) in
     let gate = passed clear in
     let facts = gate .before .allocate .ensures in
-    allocate-cleared _ _ _ (facts .fit (gate .if1 .left)) _ (clear .clear-all .ensures)
-    _ _ _ (allocate-accepts _ _ _ _ _ _ (facts .tested (gate .if1 .left)) (gate .if1 .left)) _ _
-    (done c .allocate2 .ensures .promise)
+    promised-back _ _ _ (facts .fit (gate .if1 .left)) _ (clear .clear-all .ensures) _
+    (allocate-goes-on _ _ _ _ _ (facts .tested (gate .if1 .left)) (gate .if1 .left)) refl _ _ (done c .allocate2 .ensures .promise)
 
 pub allocate-spec : {M : Type 1} → statement M
 allocate-spec =

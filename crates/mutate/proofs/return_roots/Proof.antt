@@ -1,8 +1,10 @@
 -- `mutate::return_roots` meets its contract: the gate, and then the work on the cleared heap.
 use mathlib.Core.Path.{refl, sym, ap, _∙_}
 use borrow.Author.Needs.{needs}
+use Rattle.rules.specs.Calls.{freeing, outcome}
 use Rattle.rules.specs.declared.Reply.{Reply}
-use Rattle.mutate.proofs.GateThenAct.{cleared-usable, return-roots-cleared}
+use Rattle.arguments.proofs.ArgumentTests.{return-goes-on}
+use Rattle.mutate.proofs.GateThenAct.{cleared-usable, promised-back}
 use Rattle.mutate.proofs.return_roots.Statement.{statement}
 use Rattle.mutate.proofs.return_roots.Tie as tie
 
@@ -34,13 +36,13 @@ clear-roots-requires c κs =
     )
 
 returns-2 : tie.Need-returns-2
+unfolding freeing outcome
 returns-2 c =
     let clear = cleared (done c .before) in
     let gate = passed clear in
     let facts = gate .before .return-roots .ensures in
-    return-roots-cleared _ _ _ (facts .fit (gate .if1 .left)) _ (clear .clear-all .ensures)
-    _ _ (facts .tested (gate .if1 .left)) (gate .if1 .left) _ _
-    (done c .clear-roots .ensures)
+    promised-back _ _ _ (facts .fit (gate .if1 .left)) _ (clear .clear-all .ensures) _
+    (return-goes-on _ _ _ _ (facts .tested (gate .if1 .left)) (gate .if1 .left)) refl _ _ (done c .clear-roots .ensures)
 
 pub return-roots-spec : {M : Type 1} → statement M
 return-roots-spec =

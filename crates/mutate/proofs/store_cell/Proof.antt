@@ -1,8 +1,9 @@
 -- `mutate::store_cell` meets its contract: the gate, and then the work on the cleared heap.
 use mathlib.Core.Path.{refl, _∙_}
 use borrow.Author.Needs.{needs}
+use Rattle.rules.specs.Calls.{freeing, outcome}
 use Rattle.arguments.proofs.ArgumentTests.{cell-goes-on}
-use Rattle.mutate.proofs.GateThenAct.{cleared-usable, store-cell-cleared}
+use Rattle.mutate.proofs.GateThenAct.{cleared-usable, promised-back}
 use Rattle.mutate.proofs.store_cell.Statement.{statement}
 use Rattle.mutate.proofs.store_cell.Tie as tie
 
@@ -34,13 +35,13 @@ store-cell-requires-2 c κs =
     )
 
 returns-2 : tie.Need-returns-2
+unfolding freeing outcome
 returns-2 c =
     let clear = cleared (done c .before) in
     let gate = passed clear in
     let facts = gate .before .store-cell .ensures in
-    store-cell-cleared _ _ _ (facts .fit (gate .if1 .left)) _ (clear .clear-all .ensures)
-    _ _ _ _ (facts .tested (gate .if1 .left)) (gate .if1 .left) _ _
-    (done c .store-cell2 .ensures)
+    promised-back _ _ _ (facts .fit (gate .if1 .left)) _ (clear .clear-all .ensures) _
+    (cell-goes-on _ _ _ _ _ _ (facts .tested (gate .if1 .left)) (gate .if1 .left)) refl _ _ (done c .store-cell2 .ensures)
 
 pub store-cell-spec : {M : Type 1} → statement M
 store-cell-spec =

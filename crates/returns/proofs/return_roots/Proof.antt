@@ -18,7 +18,7 @@ return-test-requires c κs = usable-healthy _ _ _ (entry c .pre) .shape .roots-m
 
 returns : tie.Need-returns
 returns c =
-    return-refused _ _ _ (usable-fit _ _ _ (entry (c .before .before) .pre)) _ _ (c .before .return-test .ensures) (c .if1 .taken)
+    return-refused _ _ _ _ (c .before .return-test .ensures) _ (usable-fit _ _ _ (entry (c .before .before) .pre)) (c .if1 .taken)
 
 clear-roots-requires : tie.Need-clear-roots-requires
 clear-roots-requires c κs =

@@ -1,7 +1,7 @@
 -- Two memories that were written from one, bit by bit in the maps and the counts, and that show one object graph are equal: sizes have one
 -- pair of maps, counts one buffer, and the slots are the roots and the cells themselves.
 use mathlib.Core.Path.{_≡_, sym, ap, _∙_, subst}
-use mathlib.Core.Bool.{Bool, true, false, _||_}
+use mathlib.Core.Bool.{_||_}
 use mathlib.Core.List.{List, _++_}
 use Prim.Native.Nat.{ℕ, zero, suc, _+_, _-_, _*_, _/_, _<_}
 use native.Mathlib.Omega.{arith}
@@ -13,6 +13,7 @@ use Rattle.planes.specs.Plane.{countAt, setCount}
 use Rattle.planes.proofs.Counts.{rewritten-set-count, counts-bits}
 use Rattle.rules.specs.Heap.{Memory, capacity, sizeAt}
 use Rattle.rules.specs.Store.{Work, work, countDown, countDownEach, freed, memoryAfter}
+use Rattle.rules.proofs.Tests.{choose}
 use Rattle.rules.proofs.Shape.{Shaped}
 use Rattle.theory.proofs.Maps.Extents.{Represents, sizesOf, same-a, same-b}
 use Rattle.theory.proofs.Graphs.Graph.{Graph, count}
@@ -33,11 +34,6 @@ rewrites-same h = record { a = same; b = same; counts = same }
 pub rewrites-trans : {h g k : Memory} → Rewrites h g → Rewrites g k → Rewrites h k
 rewrites-trans p q =
     record { a = rewritten-trans (p .a) (q .a); b = rewritten-trans (p .b) (q .b); counts = rewritten-trans (p .counts) (q .counts) }
-
--- what holds of both holds of the one chosen
-choose : {A : Type 0} (P : A → Type 0) (t : Bool) {x y : A} → P x → P y → P (elim t [ true ↦ x | false ↦ y ])
-choose P true p q = p
-choose P false p q = q
 
 pub down-rewritten : (N w : ℕ) (s : Work) (v : ℕ) → Rewritten (s .counts) ((countDown N w s v) .counts)
 unfolding countDown
