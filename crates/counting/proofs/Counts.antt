@@ -1,21 +1,20 @@
--- Laws of a block's count when another count is written, and of the number of blocks that have one: `counted`.
+-- Laws of a block's count when another count is written, and of the number of blocks whose count passes a test: `passing`.
 use mathlib.Core.Path.{_≡_, ap, _∙_}
 use mathlib.Core.Logic.{_≢_}
-use mathlib.Core.Bool.{not}
+use mathlib.Core.Bool.{Bool}
 use mathlib.Core.List.{List}
 use Prim.Native.Nat.{ℕ, _+_, _/_, _^_, _≤_, _<_}
 use native.Mathlib.Omega.{arith}
-use lib.Dec.{eqb}
 use Rattle.bitmap.specs.Bit.{one}
 use Rattle.bitmap.proofs.Zeros.{count-le, count-change}
 use Rattle.planes.specs.Plane.{countAt, setCount}
 use Rattle.planes.proofs.Counts.{count-set-same, count-set-other}
 use Rattle.counting.specs.Ready.{Planes}
-use Rattle.counting.specs.Stack.{counted}
+use Rattle.counting.specs.Stack.{passing}
 
-pub counted-le : (N w : ℕ) (counts : List ℕ) → counted N w counts ≤ N
-unfolding counted
-counted-le N w counts = count-le (λ i. not (eqb (countAt (N / 8) w counts i) 0)) N
+pub passing-le : (test : ℕ → Bool) (N w : ℕ) (counts : List ℕ) → passing test N w counts ≤ N
+unfolding passing
+passing-le test N w counts = count-le (λ i. test (countAt (N / 8) w counts i)) N
 
 module _ (N w : ℕ) (counts : List ℕ) (p : Planes N w counts) (i v : ℕ) (inside : i < N) where
   pub count-written : v < 2 ^ w → countAt (N / 8) w (setCount (N / 8) w counts i v) i ≡ v
@@ -24,14 +23,13 @@ module _ (N w : ℕ) (counts : List ℕ) (p : Planes N w counts) (i v : ℕ) (in
   pub count-kept : (j : ℕ) → j < N → j ≢ i → countAt (N / 8) w (setCount (N / 8) w counts i v) j ≡ countAt (N / 8) w counts j
   count-kept j l d = count-set-other (N / 8) w counts i v j (omega (arith, p .eighths)) (omega (arith, p .eighths)) d
 
-  pub counted-set : v < 2 ^ w
-      → counted N w (setCount (N / 8) w counts i v) + one (not (eqb (countAt (N / 8) w counts i) 0))
-      ≡ counted N w counts + one (not (eqb v 0))
-  unfolding counted
-  counted-set fits =
+  pub passing-set : (test : ℕ → Bool) → v < 2 ^ w
+      → passing test N w (setCount (N / 8) w counts i v) + one (test (countAt (N / 8) w counts i)) ≡ passing test N w counts + one (test v)
+  unfolding passing
+  passing-set test fits =
       count-change
-      (λ j. not (eqb (countAt (N / 8) w (setCount (N / 8) w counts i v) j) 0))
-      (λ j. not (eqb (countAt (N / 8) w counts j) 0))
+      (λ j. test (countAt (N / 8) w (setCount (N / 8) w counts i v) j))
+      (λ j. test (countAt (N / 8) w counts j))
       N i inside
-      (λ j l d. ap (λ (x : ℕ). not (eqb x 0)) (count-kept j l d))
-      ∙ ap (λ (x : ℕ). counted N w counts + one (not (eqb x 0))) (count-written fits)
+      (λ j l d. ap test (count-kept j l d))
+      ∙ ap (λ (x : ℕ). passing test N w counts + one (test x)) (count-written fits)

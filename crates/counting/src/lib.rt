@@ -1,4 +1,4 @@
-// The capacity of a count, and a count up.
+// The capacity of a count, and a count up. `specs` has besides what every crate that counts asks of the lent lists.
 ghost use mathlib.Core.Path.{_≡_};
 ghost use Prim.Native.Nat.{_≤_, _<_};
 ghost use Rattle.rules.specs.Heap.{capacity};

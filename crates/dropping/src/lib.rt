@@ -4,8 +4,7 @@ ghost use Prim.Native.Nat.{_+_, _≤_};
 ghost use lib.ListN.{length};
 ghost use Rattle.rules.specs.Store.{work, countDown, countDownEach, clearCells};
 ghost use Rattle.counting.specs.Ready.{Planes};
-ghost use Rattle.counting.specs.Stack.{topFirst, counted, Stack};
-ghost use Rattle.dropping.specs.Down.{Down};
+ghost use Rattle.counting.specs.Stack.{topFirst, counted, remaining, Stack, Worked};
 use blocks::Ref;
 
 // Counts down the object that v names, if any; where its count comes to 0 it goes onto the stack. The stack's new height.
@@ -17,11 +16,11 @@ pub fn count_down(
     v: Ref,
     top: usize,
 ) -> usize
-    requires { ⌜ Planes blocks width (now counts) × Stack blocks width (now counts) (now waiting) top ⌝ }
+    requires { ⌜ Planes blocks width (now counts) × Stack counted blocks width (now counts) (now waiting) top ⌝ }
     ensures { λ r.
-        ⌜ Down blocks width
+        ⌜ Worked counted blocks width
         (countDown blocks width (work (now (counts .entry)) (topFirst (now (waiting .entry)) top)) v)
-        (top + counted blocks width (now (counts .entry)))
+        (remaining counted blocks width (now (counts .entry)) top)
         (now (counts .exit)) (now (waiting .exit)) r ⌝ }
 {
     if v == 0 {
@@ -59,12 +58,12 @@ pub fn drop_cells(
     n: usize,
     top: usize,
 ) -> usize
-    requires { ⌜ Planes blocks width (now counts) × Stack blocks width (now counts) (now waiting) top
+    requires { ⌜ Planes blocks width (now counts) × Stack counted blocks width (now counts) (now waiting) top
         × (j + n ≤ length (now cells)) ⌝ }
     ensures { λ r.
-        ⌜ Down blocks width
+        ⌜ Worked counted blocks width
         (countDownEach blocks width (work (now (counts .entry)) (topFirst (now (waiting .entry)) top)) (now (cells .entry)) j n)
-        (top + counted blocks width (now (counts .entry)))
+        (remaining counted blocks width (now (counts .entry)) top)
         (now (counts .exit)) (now (waiting .exit)) r
         × (now (cells .exit) ≡ clearCells (now (cells .entry)) j n) ⌝ }
 {

@@ -6,11 +6,9 @@ use native.Mathlib.Omega.{arith}
 use lib.ListN.{length, getD, set, replicate}
 use Rattle.rules.specs.Heap.{Memory, lentMemory, memory, sizeAt}
 use Rattle.rules.specs.Store.{Work, work}
-use Rattle.counting.specs.Stack.{topFirst}
-use Rattle.counting.proofs.Counts.{counted-le}
+use Rattle.counting.specs.Stack.{topFirst, uncounted, remaining, Stack, Worked}
 use Rattle.counting.proofs.Stack.{top-first-kept, top-first-pop}
 use Rattle.marking.specs.Mark.{visitEach, scan, markCounts}
-use Rattle.marking.specs.Stack.{MarkStack, unscanned, AfterVisits}
 
 -- a scan with an empty stack is at its end
 scan-empty : (steps N w : ℕ) (h : Memory) (counts : List ℕ) → scan steps N w h counts [] ≡ counts
@@ -29,19 +27,19 @@ scan-next steps N w h counts i rest some =
 -- Counts and stack lead to the result, in `steps` steps, which are enough.
 pub record Leading (N w : ℕ) (h : Memory) (result counts waiting : List ℕ) (top : ℕ) : Type 0 where
   pub steps : ℕ
-  pub enough : unscanned N w counts top ≤ steps
+  pub enough : remaining uncounted N w counts top ≤ steps
   pub leads : scan steps N w h counts (topFirst waiting top) ≡ result
 
 module _ (N w : ℕ) (h : Memory) (counts waiting : List ℕ) (top : ℕ) where
-  pub leading-start : MarkStack N w counts waiting top → Leading N w h (scan N N w h counts (topFirst waiting top)) counts waiting top
-  leading-start s = record { steps = N; enough = omega (arith, counted-le N w counts, s .room); leads = refl }
+  pub leading-start : Stack uncounted N w counts waiting top → Leading N w h (scan N N w h counts (topFirst waiting top)) counts waiting top
+  leading-start s = record { steps = N; enough = s .room; leads = refl }
 
   module _ (result : List ℕ) (before : Leading N w h result counts waiting top) where
     -- the object on top of the stack is scanned
     pub leading-next : 0 < top → (n : ℕ) → n ≡ sizeAt N h (getD waiting (top - 1) 0) → (counts′ waiting′ : List ℕ) (top′ : ℕ)
-        → AfterVisits N w
+        → Worked uncounted N w
         (visitEach N w (work counts (topFirst (set waiting (top - 1) 0) (top - 1))) (h .cells) (4 * getD waiting (top - 1) 0) (4 * n))
-        (unscanned N w counts (top - 1)) counts′ waiting′ top′
+        (remaining uncounted N w counts (top - 1)) counts′ waiting′ top′
         → Leading N w h result counts′ waiting′ top′
     leading-next some n size counts′ waiting′ top′ next =
         let i : ℕ = getD waiting (top - 1) 0 in

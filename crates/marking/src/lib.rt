@@ -7,8 +7,7 @@ ghost use lib.ListN.{length, replicate};
 ghost use Rattle.rules.specs.Heap.{memory};
 ghost use Rattle.rules.specs.Store.{work};
 ghost use Rattle.counting.specs.Ready.{Planes};
-ghost use Rattle.counting.specs.Stack.{topFirst};
-ghost use Rattle.marking.specs.Stack.{MarkStack, unscanned, AfterVisits};
+ghost use Rattle.counting.specs.Stack.{topFirst, uncounted, remaining, Stack, Worked};
 ghost use Rattle.marking.specs.Mark.{visit, visitEach, scan, markCounts};
 use blocks::Ref;
 
@@ -21,10 +20,10 @@ fn visit_one(
     v: Ref,
     top: usize,
 ) -> usize
-    requires { ⌜ Planes blocks width (now counts) × MarkStack blocks width (now counts) (now waiting) top ⌝ }
+    requires { ⌜ Planes blocks width (now counts) × Stack uncounted blocks width (now counts) (now waiting) top ⌝ }
     ensures { λ r.
-        ⌜ AfterVisits blocks width (visit blocks width (work (now (counts .entry)) (topFirst (now (waiting .entry)) top)) v)
-        (unscanned blocks width (now (counts .entry)) top) (now (counts .exit)) (now (waiting .exit)) r ⌝ }
+        ⌜ Worked uncounted blocks width (visit blocks width (work (now (counts .entry)) (topFirst (now (waiting .entry)) top)) v)
+        (remaining uncounted blocks width (now (counts .entry)) top) (now (counts .exit)) (now (waiting .exit)) r ⌝ }
 {
     if v == 0 {
         return top;
@@ -57,12 +56,12 @@ fn visit_each(
     n: usize,
     top: usize,
 ) -> usize
-    requires { ⌜ Planes blocks width (now counts) × MarkStack blocks width (now counts) (now waiting) top
+    requires { ⌜ Planes blocks width (now counts) × Stack uncounted blocks width (now counts) (now waiting) top
         × (j + n ≤ length (now refs)) ⌝ }
     ensures { λ r.
-        ⌜ AfterVisits blocks width
+        ⌜ Worked uncounted blocks width
         (visitEach blocks width (work (now (counts .entry)) (topFirst (now (waiting .entry)) top)) (now (refs .entry)) j n)
-        (unscanned blocks width (now (counts .entry)) top) (now (counts .exit)) (now (waiting .exit)) r ⌝ }
+        (remaining uncounted blocks width (now (counts .entry)) top) (now (counts .exit)) (now (waiting .exit)) r ⌝ }
 {
     let mut t = top;
     let mut i = 0;
@@ -83,7 +82,7 @@ fn scan_all(
     waiting: &mut [Ref],
     top: usize,
 )
-    requires { ⌜ Planes blocks width (now counts) × MarkStack blocks width (now counts) (now waiting) top
+    requires { ⌜ Planes blocks width (now counts) × Stack uncounted blocks width (now counts) (now waiting) top
         × (length (now b) ≡ blocks / 8) × (length (now cells) ≡ 4 * blocks) ⌝ }
     ensures { λ _.
         ⌜ (now (counts .exit)

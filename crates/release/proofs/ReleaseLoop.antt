@@ -4,14 +4,14 @@ use mathlib.Core.List.{List, [], _∷_}
 use Prim.Native.Nat.{ℕ, zero, suc, _+_, _-_, _*_, _/_, _≤_, _<_}
 use native.Mathlib.Omega.{arith}
 use lib.ListN.{getD, set, replicate}
+use borrow.Author.Tests.{eqb-true, not-false}
 use Rattle.bitmap.specs.Bit.{setBit, fillBits}
 use Rattle.planes.specs.Plane.{setCount}
 use Rattle.planes.proofs.Counts.{set-count-there}
 use Rattle.rules.specs.Heap.{Memory, memory, withCounts, sizeFrom, maxBlocks}
 use Rattle.rules.specs.Store.{Work, work, countDownEach, clearCells, freed, release}
 use Rattle.counting.specs.Ready.{Planes, Extents}
-use Rattle.counting.specs.Stack.{topFirst, counted, Stack}
-use Rattle.dropping.specs.Down.{Down}
+use Rattle.counting.specs.Stack.{topFirst, counted, remaining, Stack, Worked}
 use Rattle.release.specs.Blocks.{releasedBlocks}
 use Rattle.counting.proofs.Shapes.{extents-written}
 use Rattle.counting.proofs.Stack.{top-first-kept, top-first-pop, stack-emptied}
@@ -50,16 +50,16 @@ module _ (f N w : ℕ) (h : Memory) (i n : ℕ) (rest : List ℕ) (some : 0 < f)
 pub record ReleaseUnderWay (N w : ℕ) (goal : Memory) (total : ℕ) (a b counts cells waiting : List ℕ) (top done : ℕ) : Type 0 where
   pub planes : Planes N w counts
   pub extents : Extents N a b cells
-  pub stack : Stack N w counts waiting top
+  pub stack : Stack counted N w counts waiting top
   pub steps : ℕ
-  pub enough : top + counted N w counts ≤ steps
+  pub enough : remaining counted N w counts top ≤ steps
   pub rest : goal ≡ release steps N w (memory a b counts cells [] []) (topFirst waiting top)
   pub blocks : total ≡ done + releasedBlocks steps N w (memory a b counts cells [] []) (topFirst waiting top)
-  pub bound : done + maxBlocks * (top + counted N w counts) ≤ maxBlocks * maxBlocks
+  pub bound : done + maxBlocks * remaining counted N w counts top ≤ maxBlocks * maxBlocks
 
 pub releasing-start :
     (N w : ℕ) (a b counts cells waiting : List ℕ) (top : ℕ)
-    → Planes N w counts → Extents N a b cells → Stack N w counts waiting top
+    → Planes N w counts → Extents N a b cells → Stack counted N w counts waiting top
     → ReleaseUnderWay N w (release N N w (memory a b counts cells [] []) (topFirst waiting top))
     (releasedBlocks N N w (memory a b counts cells [] []) (topFirst waiting top)) a b counts cells waiting top 0
 releasing-start N w a b counts cells waiting top p x s = record {
@@ -79,8 +79,8 @@ module _ (N w : ℕ) (goal : Memory) (total : ℕ) (a b counts cells waiting : L
     (taken : 0 < top) (ei : i ≡ getD waiting (top - 1) 0) (size : n ≡ sizeFrom (N - i) b i) (inside : i + n ≤ N)
     (ea : a′ ≡ fillBits a i n 0) (eb : b′ ≡ setBit b (i + n - 1) 1) (ee : cells′ ≡ clearCells cells (4 * i) (4 * n))
     (down :
-    Down N w (countDownEach N w (work counts (topFirst (set waiting (top - 1) 0) (top - 1))) cells (4 * i) (4 * n))
-    (top - 1 + counted N w counts) counts′ waiting′ top′)
+    Worked counted N w (countDownEach N w (work counts (topFirst (set waiting (top - 1) 0) (top - 1))) cells (4 * i) (4 * n))
+    (remaining counted N w counts (top - 1)) counts′ waiting′ top′)
     (r : ReleaseUnderWay N w goal total a b counts cells waiting top done) where
   abbrev before : Memory
   before = memory a b counts cells [] []
@@ -95,7 +95,7 @@ module _ (N w : ℕ) (goal : Memory) (total : ℕ) (a b counts cells waiting : L
   same-work : work counts (topFirst (set waiting (top - 1) 0) (top - 1)) ≡ work (setCount (N / 8) w counts i 0) rest
   same-work =
       ap₂ (λ (c l : List ℕ). work c l)
-      (sym (set-count-there (N / 8) w counts i 0 (rw ei (r .stack .uncounted (top - 1) (omega arith)))))
+      (sym (set-count-there (N / 8) w counts i 0 (rw ei (eqb-true _ 0 (not-false _ (r .stack .come (top - 1) (omega arith)))))))
       (top-first-kept waiting (top - 1) (top - 1) 0 (omega arith))
 
   result : after N w before i n rest ≡ work counts′ (topFirst waiting′ top′)
@@ -129,10 +129,10 @@ module _ (N w : ℕ) (goal : Memory) (total : ℕ) (a b counts cells waiting : L
     extents = extents-written N a b cells a′ b′ cells′ i n 0 (i + n - 1) 1 (4 * i) (4 * n) ea eb ee (r .extents);
     stack = down .stack;
     steps = r .steps - 1;
-    enough = omega (arith, down .kept, r .enough);
+    enough = omega (arith, down .left-is, r .enough);
     rest = r .rest ∙ release-left;
     blocks = omega (arith, r .blocks, blocks-left);
-    bound = omega (arith, down .kept, r .bound, r .planes .most);
+    bound = omega (arith, down .left-is, r .bound, r .planes .most);
   }
 
 -- nothing waits any more
@@ -161,4 +161,4 @@ module _ (N w : ℕ) (goal : Memory) (total : ℕ) (a b counts cells waiting : L
           ap (λ (k : ℕ). releasedBlocks (r .steps) N w (memory a b counts cells [] []) (topFirst waiting k)) none ∙ end (r .steps)
 
   pub waiting-done : waiting ≡ replicate N 0
-  waiting-done = stack-emptied N w counts waiting (rw none at (r .stack))
+  waiting-done = stack-emptied counted N w counts waiting (rw none at (r .stack))

@@ -7,7 +7,7 @@ ghost use Rattle.rules.specs.Heap.{memory};
 ghost use Rattle.rules.specs.Store.{release, letGo};
 ghost use Rattle.sections.specs.Figures.{Coherent, Upkeep};
 ghost use Rattle.counting.specs.Ready.{Planes, Extents};
-ghost use Rattle.counting.specs.Stack.{topFirst, Stack};
+ghost use Rattle.counting.specs.Stack.{topFirst, counted, Stack};
 ghost use Rattle.release.specs.Blocks.{releasedBlocks, letGoBlocks};
 use blocks::Ref;
 use sections::extents;
@@ -25,7 +25,7 @@ fn release_all(
     top: usize,
 ) -> usize
     requires { ⌜ Planes blocks width (now counts) × Extents blocks (now a) (now b) (now cells)
-        × Stack blocks width (now counts) (now waiting) top × Coherent blocks (now a) (now sections) ⌝ }
+        × Stack counted blocks width (now counts) (now waiting) top × Coherent blocks (now a) (now sections) ⌝ }
     ensures { λ r.
         ⌜ (memory (now (a .exit)) (now (b .exit)) (now (counts .exit)) (now (cells .exit)) [] []
         ≡ release blocks blocks width

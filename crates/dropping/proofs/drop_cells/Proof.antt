@@ -6,8 +6,7 @@ use Prim.Native.Nat.{ℕ, _+_, _-_, _≤_}
 use native.Mathlib.Omega.{arith}
 use lib.ListN.{length, set}
 use Rattle.rules.specs.Store.{work, countDownEach, clearCells}
-use Rattle.counting.specs.Stack.{topFirst, counted}
-use Rattle.dropping.specs.Down.{Down}
+use Rattle.counting.specs.Stack.{topFirst, counted, remaining, Worked}
 use Rattle.blocks.proofs.Cells.{clear-more, length-clear}
 use Rattle.dropping.proofs.CountDown.{each-more}
 use Rattle.dropping.proofs.drop_cells.Statement.{statement}
@@ -16,7 +15,7 @@ use Rattle.dropping.proofs.drop_cells.Tie as tie
 abbrev Inv-loop : tie.InvT-loop
 Inv-loop blocks width counts₀ cells₀ waiting₀ j n top t₀ i₀ counts cells waiting t i =
     (i ≤ n) × (cells ≡ clearCells cells₀ j i)
-    × Down blocks width (countDownEach blocks width (work counts₀ (topFirst waiting₀ top)) cells₀ j i) (top + counted blocks width counts₀)
+    × Worked counted blocks width (countDownEach blocks width (work counts₀ (topFirst waiting₀ top)) cells₀ j i) (remaining counted blocks width counts₀ top)
     counts waiting t
 
 abbrev μ-loop : tie.MeasureT-loop
@@ -26,7 +25,7 @@ loop-holds : tie.Need-loop-holds Inv-loop μ-loop
 unfolding clearCells countDownEach
 loop-holds c =
     let start = c .before .before .before in
-    (omega arith, refl, record { result = refl; planes = start .pre .0; stack = start .pre .1; kept = omega arith })
+    (omega arith, refl, record { result = refl; planes = start .pre .0; stack = start .pre .1; left-is = refl })
 
 -- the cells keep their number
 same-cells : (c : tie.At-loop Inv-loop μ-loop) → length (c .loop .cells) ≡ length (c .before .before .before .before .args .cells .now)

@@ -6,7 +6,7 @@ use lib.ListN.{replicate}
 use borrow.Author.Needs.{needs}
 use Rattle.counting.specs.Stack.{topFirst}
 use Rattle.counting.proofs.Shapes.{planes-same}
-use Rattle.marking.proofs.Stacks.{mark-stack-empty}
+use Rattle.counting.proofs.Stack.{stack-empty}
 use Rattle.marking.proofs.Scans.{mark-parts}
 use Rattle.marking.proofs.mark.Statement.{statement}
 use Rattle.marking.proofs.mark.Tie as tie
@@ -18,7 +18,7 @@ visit-each-requires : tie.Need-visit-each-requires
 visit-each-requires c κs =
     let f = c .before .before .before .before in
     let s = f .before .before .before .before .before .before .before in
-    (planes-same _ _ _ _ (s .pre .0) (omega arith), mark-stack-empty _ _ _ _ (s .pre .3), omega arith)
+    (planes-same _ _ _ _ (s .pre .0) (omega arith), stack-empty _ _ _ _ _ (s .pre .3), omega arith)
 
 scan-all-requires : tie.Need-scan-all-requires
 scan-all-requires c κs = search needs

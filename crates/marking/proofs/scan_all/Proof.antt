@@ -2,28 +2,25 @@
 -- is the number of blocks that can still be scanned.
 use mathlib.Core.Path.{_≡_}
 use mathlib.Core.List.{[]}
-use Prim.Native.Nat.{_-_, _<_}
+use Prim.Native.Nat.{_-_}
 use native.Mathlib.Omega.{arith}
-use lib.ListN.{length}
 use Rattle.rules.specs.Heap.{memory}
 use Rattle.counting.specs.Ready.{Planes}
-use Rattle.counting.specs.Stack.{topFirst}
-use Rattle.counting.proofs.Counts.{counted-le}
+use Rattle.counting.specs.Stack.{topFirst, uncounted, remaining, Stack}
+use Rattle.counting.proofs.Stack.{stack-pop, stack-emptied}
 use Rattle.marking.specs.Mark.{scan}
-use Rattle.marking.specs.Stack.{MarkStack, unscanned}
-use Rattle.marking.proofs.Stacks.{mark-stack-pop, mark-stack-emptied}
 use Rattle.marking.proofs.Scans.{Leading, leading-start, leading-next, leading-done}
 use Rattle.marking.proofs.scan_all.Statement.{statement}
 use Rattle.marking.proofs.scan_all.Tie as tie
 
 abbrev Inv-loop : tie.InvT-loop
 Inv-loop blocks width b counts₀ cells waiting₀ top t₀ counts waiting t =
-    Planes blocks width counts × MarkStack blocks width counts waiting t
+    Planes blocks width counts × Stack uncounted blocks width counts waiting t
     × Leading blocks width (memory [] b [] cells [] [])
     (scan blocks blocks width (memory [] b [] cells [] []) counts₀ (topFirst waiting₀ top)) counts waiting t
 
 abbrev μ-loop : tie.MeasureT-loop
-μ-loop blocks width b counts₀ cells waiting₀ top t₀ counts waiting t = unscanned blocks width counts t
+μ-loop blocks width b counts₀ cells waiting₀ top t₀ counts waiting t = remaining uncounted blocks width counts t
 
 loop-holds : tie.Need-loop-holds Inv-loop μ-loop
 loop-holds c =
@@ -33,26 +30,20 @@ loop-holds c =
 sub-t : tie.Need-sub-t Inv-loop μ-loop
 sub-t c = omega arith
 
--- the top of the stack lies in the waiting list
-inside : (c : tie.In-loop Inv-loop μ-loop) → c .before .loop .t - 1 < length (c .before .loop .waiting)
-inside c =
-    let s = c .before .before .before .before .before .before in
-    omega (arith, counted-le (s .args .blocks) (s .args .width) (c .before .loop .counts))
-
 mul-i : tie.Need-mul-i Inv-loop μ-loop
-mul-i c = omega (arith, inside c)
+mul-i c = omega arith
 
 slice-read-i : tie.Need-slice-read-i Inv-loop μ-loop
-slice-read-i c = omega (arith, inside (c .before))
+slice-read-i c = omega arith
 
 cast-i : tie.Need-cast-i Inv-loop μ-loop
 cast-i c = omega (arith, c .slice-known3 .given (c .before .before .loop .t - 1))
 
 mul-waiting : tie.Need-mul-waiting Inv-loop μ-loop
-mul-waiting c = omega (arith, inside (c .before))
+mul-waiting c = omega arith
 
 slice-write-waiting : tie.Need-slice-write-waiting Inv-loop μ-loop
-slice-write-waiting c = omega (arith, inside (c .before))
+slice-write-waiting c = omega arith
 
 object-size-requires : tie.Need-object-size-requires Inv-loop μ-loop
 object-size-requires c κs =
@@ -68,13 +59,11 @@ mul-visit-each-2 c = omega arith
 visit-each-requires : tie.Need-visit-each-requires Inv-loop μ-loop
 visit-each-requires c κs =
     let l = c .before .before .before .before .before in
-    (l .loop .inv .0, mark-stack-pop _ _ _ _ _ (omega arith) (l .loop .inv .1), omega arith)
+    (l .loop .inv .0, stack-pop _ _ _ _ _ _ (omega arith) (l .loop .inv .1), omega arith)
 
 loop-less : tie.Need-loop-less Inv-loop μ-loop
 loop-less c =
-    let r = c .before .before .before .before in
-    let l = r .before .before .before .before .before .before in
-    omega (arith, r .visit-each .ensures .left-is, l .loop .inv .1 .room)
+    omega (arith, c .before .before .before .before .visit-each .ensures .left-is)
 
 loop-again : tie.Need-loop-again Inv-loop μ-loop
 loop-again c =
@@ -94,7 +83,7 @@ returns : tie.Need-returns Inv-loop μ-loop
 returns c =
     let l = c .before in
     let empty : l .loop .t ≡ 0 = omega arith in
-    (leading-done _ _ _ _ _ _ _ (l .loop .inv .2) empty, mark-stack-emptied _ _ _ _ (rw empty at (l .loop .inv .1)))
+    (leading-done _ _ _ _ _ _ _ (l .loop .inv .2) empty, stack-emptied _ _ _ _ _ (rw empty at (l .loop .inv .1)))
 
 pub scan-all-spec : {M : Type 1} → statement M
 scan-all-spec =

@@ -4,9 +4,8 @@ use mathlib.Core.Path.{_≡_, refl}
 use Prim.Native.Nat.{_≤_, _-_}
 use native.Mathlib.Omega.{arith}
 use Rattle.rules.specs.Store.{work}
-use Rattle.counting.specs.Stack.{topFirst}
+use Rattle.counting.specs.Stack.{topFirst, uncounted, remaining, Worked}
 use Rattle.marking.specs.Mark.{visitEach}
-use Rattle.marking.specs.Stack.{unscanned, AfterVisits}
 use Rattle.marking.proofs.Visits.{marking-more}
 use Rattle.marking.proofs.visit_each.Statement.{statement}
 use Rattle.marking.proofs.visit_each.Tie as tie
@@ -14,7 +13,7 @@ use Rattle.marking.proofs.visit_each.Tie as tie
 abbrev Inv-loop : tie.InvT-loop
 Inv-loop blocks width counts₀ refs waiting₀ j n top t₀ i₀ counts waiting t i =
     (i ≤ n)
-    × AfterVisits blocks width (visitEach blocks width (work counts₀ (topFirst waiting₀ top)) refs j i) (unscanned blocks width counts₀ top)
+    × Worked uncounted blocks width (visitEach blocks width (work counts₀ (topFirst waiting₀ top)) refs j i) (remaining uncounted blocks width counts₀ top)
     counts waiting t
 
 abbrev μ-loop : tie.MeasureT-loop

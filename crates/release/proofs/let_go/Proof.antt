@@ -8,7 +8,7 @@ use Rattle.release.proofs.let_go.Tie as tie
 count-down-requires : tie.Need-count-down-requires
 count-down-requires c κs =
     let pre = c .before .before .before .before .before .before .before .before .pre in
-    (pre .0, stack-empty _ _ _ _ (pre .2))
+    (pre .0, stack-empty _ _ _ _ _ (pre .2))
 
 release-all-requires : tie.Need-release-all-requires
 release-all-requires c κs = search needs

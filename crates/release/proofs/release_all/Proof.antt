@@ -2,12 +2,12 @@
 -- objects that can still come to be freed.
 use mathlib.Core.Path.{_≡_, refl, sym, _∙_}
 use mathlib.Core.List.{[]}
-use Prim.Native.Nat.{_+_, _-_}
+use Prim.Native.Nat.{_-_}
 use native.Mathlib.Omega.{arith}
 use Rattle.rules.specs.Heap.{memory}
 use Rattle.rules.specs.Store.{release}
 use Rattle.sections.specs.Figures.{Upkeep}
-use Rattle.counting.specs.Stack.{topFirst, counted}
+use Rattle.counting.specs.Stack.{topFirst, counted, remaining}
 use Rattle.release.specs.Blocks.{releasedBlocks}
 use Rattle.counting.proofs.Stack.{stack-pop}
 use Rattle.release.proofs.ReleaseLoop.{ReleaseUnderWay, releasing-start, releasing-step, releasing-done, blocks-done, waiting-done}
@@ -24,7 +24,7 @@ Inv-loop blocks width a₀ b₀ counts₀ cells₀ waiting₀ sections₀ top fr
 
 abbrev μ-loop : tie.MeasureT-loop
 μ-loop blocks width a₀ b₀ counts₀ cells₀ waiting₀ sections₀ top freed₀ t₀ a b counts cells waiting sections freed t =
-    t + counted blocks width counts
+    remaining counted blocks width counts t
 
 loop-holds : tie.Need-loop-holds Inv-loop μ-loop
 loop-holds c =
@@ -84,7 +84,7 @@ drop-cells-requires c κs =
     let l = test .before .loop in
     let size = sized .object-size .ensures in (
       l .inv .0 .planes,
-      stack-pop _ _ _ _ (l .t) (test .loop-test .taken) (l .inv .0 .stack),
+      stack-pop _ _ _ _ _ (l .t) (test .loop-test .taken) (l .inv .0 .stack),
       omega (arith, l .inv .0 .extents .cells-length),
     )
 
@@ -101,7 +101,7 @@ loop-less c =
     let dropped = c .before .before .before .before .before .before in
     let cleared = dropped .before .before .before .before .before .before .before .before .before .before in
     let taken = cleared .before .before .before .before .before .before .before .loop-test .taken in
-    let kept = dropped .drop-cells .ensures .0 .kept in
+    let kept = dropped .drop-cells .ensures .0 .left-is in
     omega arith
 
 loop-again : tie.Need-loop-again Inv-loop μ-loop
