@@ -8,10 +8,10 @@ use Rattle.inner.specs.Usable.{Usable}
 use Rattle.theory.proofs.Memories.Stores.{roots-named}
 use Rattle.inner.proofs.UsableHeap.{usable-healthy}
 use Rattle.records.specs.declared.Fields.{Fields}
-use Rattle.records.specs.declared.Plan.{Plan}
-use Rattle.records.specs.Meaning.{meaning}
-use Rattle.records.specs.Readable.{Readable}
-use Rattle.records.specs.Records.{Asked, onRoots, copying, writing, reading, clearing, operation, asked}
+use Rattle.plans.specs.declared.Plan.{Plan}
+use Rattle.plans.specs.Meaning.{meaning}
+use Rattle.plans.specs.Readable.{Readable}
+use Rattle.plans.specs.Asked.{Asked, onRoots, copying, writing, reading, clearing, operation, asked}
 use Rattle.turns.specs.declared.outcome.Done.{Done}
 use Rattle.turns.specs.Turns.{turnOf}
 use Rattle.turns.specs.Steps.{Acted}

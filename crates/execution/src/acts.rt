@@ -1,13 +1,13 @@
 // The calls of one record, on an undamaged heap with a cleared waiting list.
 ghost use Rattle.rules.specs.Lent.{before, after, lent};
 ghost use Rattle.inner.specs.Usable.{Usable};
-ghost use Rattle.records.specs.Meaning.{meaning};
+ghost use Rattle.plans.specs.Meaning.{meaning};
 ghost use Rattle.turns.specs.Turns.{turnOf};
 ghost use Rattle.turns.specs.Steps.{Acted};
 use blocks::Ref;
 use inner::acts;
 use inner::steps;
-use records::Plan;
+use plans::Plan;
 use turns::outcome::Done;
 
 // The calls that a plan asks for.

@@ -1,7 +1,7 @@
 // One record of a history, on an undamaged heap with a cleared waiting list: the calls it asks for, and what they add to the run.
 ghost use Rattle.rules.specs.Lent.{before, after, lent};
 ghost use Rattle.inner.specs.Usable.{Usable};
-ghost use Rattle.records.specs.Records.{asked};
+ghost use Rattle.plans.specs.Asked.{asked};
 ghost use Rattle.turns.specs.Turns.{turnOf};
 ghost use Rattle.turns.specs.Steps.{Going, Stepped};
 use blocks::Ref;
@@ -33,7 +33,7 @@ pub fn step(
         (asked blocks (before a b counts cells roots waiting sections) f))
         state next (after a b counts cells roots waiting sections) ⌝ }
 {
-    let plan = records::plan_of(blocks, b, cells, roots, f);
+    let plan = plans::plan_of(blocks, b, cells, roots, f);
     let done = acts::act(
         blocks,
         width,

@@ -17,7 +17,8 @@ use Rattle.theory.specs.Demand.{Chain}
 use Rattle.theory.specs.Statements.{Undamaged}
 use Rattle.theory.specs.Balance.{allocates, allocatedBy, blocksAllocated}
 use Rattle.theory.proofs.Theorems.{theory}
-use Rattle.records.specs.Records.{Asked, makes, stops, asked, fieldsAt, recordLength}
+use Rattle.records.specs.Records.{fieldsAt, recordLength}
+use Rattle.plans.specs.Asked.{Asked, makes, stops, asked}
 use Rattle.figures.specs.declared.tally.Tally.{Tally}
 use Rattle.figures.specs.declared.tally.Run.{Run}
 use Rattle.figures.specs.Figures.{countedIn, momentIn, toldStuck, noted, notedAll, run}

@@ -2,7 +2,8 @@
 use mathlib.Core.Path.{_≡_, refl}
 use mathlib.Core.List.{map}
 use Rattle.rules.proofs.Cases.{computed}
-use Rattle.records.specs.Records.{fieldsAt, unnamed, unless, onRoots, allocating, copying, writing, reading, clearing, operation, asked}
+use Rattle.records.specs.Records.{fieldsAt, unnamed}
+use Rattle.plans.specs.Asked.{unless, onRoots, allocating, copying, writing, reading, clearing, operation, asked}
 use Rattle.text.specs.Text.{decimalIn, decimal}
 use Rattle.figures.specs.Figures.{countedIn, toldStuck, momentIn, noted, notedAll}
 use Rattle.line.specs.Line.{figuresLine, refusalLine, line}

@@ -7,7 +7,8 @@ use lib.ListN.{length}
 use borrow.Author.Tests.{eq-eqb, ne-eqb}
 use Rattle.rules.specs.Heap.{Memory}
 use Rattle.inner.specs.Usable.{Usable}
-use Rattle.records.specs.Records.{recordLength, fieldsAt, asked}
+use Rattle.records.specs.Records.{recordLength, fieldsAt}
+use Rattle.plans.specs.Asked.{asked}
 use Rattle.records.specs.declared.Fields.{Fields}
 use Rattle.figures.specs.declared.tally.Run.{Run}
 use Rattle.turns.specs.declared.noting.Running.{Running}

@@ -13,7 +13,8 @@ use borrow.Author.Tests.{eq-eqb, ne-eqb}
 use Rattle.rules.specs.Heap.{Memory}
 use Rattle.theory.specs.Words.{Made}
 use Rattle.records.specs.declared.Fields.{Fields}
-use Rattle.records.specs.Records.{recordLength, fieldsAt, asked}
+use Rattle.records.specs.Records.{recordLength, fieldsAt}
+use Rattle.plans.specs.Asked.{asked}
 use Rattle.figures.specs.declared.tally.Run.{Run}
 use Rattle.figures.specs.Figures.{run, mostRecords}
 use Rattle.turns.specs.Turns.{Turn, turnOf, afterTurn}

@@ -8,7 +8,8 @@ use lib.Dec.{eqb}
 use Rattle.rules.specs.Heap.{Memory}
 use Rattle.rules.specs.Store.{formatted}
 use Rattle.theory.specs.Words.{Made}
-use Rattle.records.specs.Records.{recordLength, fieldsAt, asked}
+use Rattle.records.specs.Records.{recordLength, fieldsAt}
+use Rattle.plans.specs.Asked.{asked}
 use Rattle.figures.specs.declared.tally.Run.{Run}
 use Rattle.figures.specs.Figures.{run, newRun, mostRecords}
 use Rattle.turns.specs.Turns.{Turn, turnOf, afterTurn}

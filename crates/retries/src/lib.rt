@@ -3,7 +3,7 @@
 ghost use Rattle.rules.specs.Lent.{before, after, lent};
 ghost use Rattle.rules.specs.Calls.{Call};
 ghost use Rattle.inner.specs.Usable.{Usable};
-ghost use Rattle.records.specs.Records.{makes};
+ghost use Rattle.plans.specs.Asked.{makes};
 ghost use Rattle.turns.specs.Turns.{turnOf};
 ghost use Rattle.turns.specs.Steps.{Acted};
 use blocks::Ref;

@@ -12,7 +12,7 @@ use Rattle.theory.proofs.EachCall.Balance.{blocks-add-up}
 use Rattle.inner.specs.Usable.{Usable}
 use Rattle.inner.proofs.UsableHeap.{usable-fit}
 use Rattle.inner.proofs.CollectionAnswer.{collect-answered}
-use Rattle.records.specs.Records.{makes}
+use Rattle.plans.specs.Asked.{makes}
 use Rattle.figures.specs.declared.tally.Tally.{Tally}
 use Rattle.figures.specs.Figures.{collected, countedIn, toldStuck, momentIn, noted, notedAll}
 use Rattle.turns.specs.Turns.{madeOn, turnOf}

@@ -14,7 +14,7 @@ use Rattle.theory.specs.Balance.{inUse, allocates, allocatedBy}
 use Rattle.inner.specs.Usable.{Usable}
 use Rattle.inner.specs.Allocating.{Allocating}
 use Rattle.inner.specs.declared.acts.Allocated.{Allocated}
-use Rattle.records.specs.Records.{makes}
+use Rattle.plans.specs.Asked.{makes}
 use Rattle.figures.specs.declared.tally.Tally.{Tally}
 use Rattle.figures.specs.Figures.{allocated, countedIn, toldStuck, momentIn, noted, notedAll}
 use Rattle.turns.specs.declared.outcome.Done.{Done}

@@ -16,7 +16,7 @@ use Rattle.inner.specs.Allocating.{Allocating}
 use Rattle.inner.specs.declared.acts.Allocated.{Allocated}
 use Rattle.inner.proofs.UsableHeap.{usable-healthy}
 use Rattle.inner.proofs.UsableAfterCalls.{usable-kept}
-use Rattle.records.specs.Records.{makes}
+use Rattle.plans.specs.Asked.{makes}
 use Rattle.figures.specs.declared.tally.Tally.{Tally}
 use Rattle.figures.specs.Figures.{collected, momentIn, noted, notedAll}
 use Rattle.turns.specs.Turns.{madeOn, Turn, turn, triedAgain, turnOf}

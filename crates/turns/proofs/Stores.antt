@@ -15,7 +15,7 @@ use Rattle.theory.proofs.EachCall.Balance.{blocks-add-up}
 use Rattle.theory.proofs.EachCall.Five.{store-root-not-five, store-cell-not-five}
 use Rattle.inner.specs.Usable.{Usable}
 use Rattle.inner.proofs.UsableHeap.{usable-fit}
-use Rattle.records.specs.Records.{makes, stops}
+use Rattle.plans.specs.Asked.{makes, stops}
 use Rattle.figures.specs.declared.tally.Tally.{Tally}
 use Rattle.figures.specs.Figures.{countedIn, toldStuck, momentIn, noted, notedAll}
 use Rattle.turns.specs.Turns.{madeOn, turnOf}

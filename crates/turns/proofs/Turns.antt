@@ -5,9 +5,9 @@ use Prim.Native.Nat.{ℕ}
 use borrow.Author.Tests.{eq-eqb, ne-eqb}
 use Rattle.rules.specs.Heap.{Memory}
 use Rattle.rules.specs.Calls.{Call, answer}
-use Rattle.records.specs.declared.Plan.{Plan}
-use Rattle.records.specs.Meaning.{meaning}
-use Rattle.records.specs.Records.{makes}
+use Rattle.plans.specs.declared.Plan.{Plan}
+use Rattle.plans.specs.Meaning.{meaning}
+use Rattle.plans.specs.Asked.{makes}
 use Rattle.turns.specs.declared.outcome.Done.{Done}
 use Rattle.turns.specs.Turns.{madeOn, Turn, turn, triedAgain, turnOf}
 use Rattle.turns.specs.Steps.{Acted}

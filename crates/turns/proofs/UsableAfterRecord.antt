@@ -7,7 +7,7 @@ use Rattle.rules.specs.Heap.{Memory}
 use Rattle.rules.specs.Calls.{Call, collect, answer}
 use Rattle.inner.specs.Usable.{Usable}
 use Rattle.inner.proofs.UsableAfterCalls.{usable-kept}
-use Rattle.records.specs.Records.{Asked, makes, stops}
+use Rattle.plans.specs.Asked.{Asked, makes, stops}
 use Rattle.figures.specs.declared.tally.Run.{Run}
 use Rattle.turns.specs.Turns.{Turn, triedAgain, turnOf, afterTurn}
 use Rattle.turns.proofs.Turns.{turn-once, turn-again}

@@ -7,7 +7,7 @@ use Rattle.rules.specs.Heap.{Memory}
 use Rattle.rules.specs.Calls.{Call, collect, answer}
 use Rattle.theory.specs.Words.{Made}
 use Rattle.theory.specs.Balance.{inUse}
-use Rattle.records.specs.Records.{Asked, makes, stops}
+use Rattle.plans.specs.Asked.{Asked, makes, stops}
 use Rattle.figures.specs.declared.tally.Run.{Run}
 use Rattle.figures.specs.Figures.{used, notedAll, run}
 

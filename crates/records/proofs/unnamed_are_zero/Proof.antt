@@ -1,7 +1,7 @@
 -- `records::unnamed_are_zero` meets its contract.
 use mathlib.Core.Path.{sym, _∙_}
 use Rattle.rules.specs.Tools.{all}
-use Rattle.records.proofs.Plans.{unused-set, unnamed-zero, unknown-zero}
+use Rattle.records.proofs.Unnamed.{unused-set, unnamed-zero, unknown-zero}
 use borrow.Author.Needs.{needs}
 use Rattle.records.proofs.unnamed_are_zero.Statement.{statement}
 use Rattle.records.proofs.unnamed_are_zero.Tie as tie

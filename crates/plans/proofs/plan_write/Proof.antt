@@ -1,9 +1,9 @@
--- `records::plan_write` meets its contract.
+-- `plans::plan_write` meets its contract.
 use mathlib.Core.Path.{sym, _∙_}
-use Rattle.records.proofs.Plans.{write-target, write-source, write-empty, write-asked}
+use Rattle.plans.proofs.Plans.{write-target, write-source, write-empty, write-asked}
 use borrow.Author.Needs.{needs}
-use Rattle.records.proofs.plan_write.Statement.{statement}
-use Rattle.records.proofs.plan_write.Tie as tie
+use Rattle.plans.proofs.plan_write.Statement.{statement}
+use Rattle.plans.proofs.plan_write.Tie as tie
 
 returns : tie.Need-returns
 returns c = sym (write-target _ _ (c .if1 .taken))

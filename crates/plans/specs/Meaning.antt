@@ -1,9 +1,9 @@
 -- What the code's plan of a record stands for. "Where an answer is an enum, a definition gives this paper's number and values for each of
 -- its cases."
 use Rattle.rules.specs.Calls.{allocate, storeRoot, storeCell, collect}
-use Rattle.records.specs.declared.Plan.{Plan}
-use Rattle.records.specs.declared.Plan.the-variants.{Stop, Allocate, StoreRoot, StoreCell, Collect}
-use Rattle.records.specs.Records.{Asked, makes, stops}
+use Rattle.plans.specs.declared.Plan.{Plan}
+use Rattle.plans.specs.declared.Plan.the-variants.{Stop, Allocate, StoreRoot, StoreCell, Collect}
+use Rattle.plans.specs.Asked.{Asked, makes, stops}
 
 abbrev pub meaning : Plan → Asked
 meaning (Stop number) = stops number

@@ -1,9 +1,9 @@
--- `records::plan_copy` meets its contract.
+-- `plans::plan_copy` meets its contract.
 use mathlib.Core.Path.{sym}
-use Rattle.records.proofs.Plans.{copy-target, copy-source, copy-asked}
+use Rattle.plans.proofs.Plans.{copy-target, copy-source, copy-asked}
 use borrow.Author.Needs.{needs}
-use Rattle.records.proofs.plan_copy.Statement.{statement}
-use Rattle.records.proofs.plan_copy.Tie as tie
+use Rattle.plans.proofs.plan_copy.Statement.{statement}
+use Rattle.plans.proofs.plan_copy.Tie as tie
 
 returns : tie.Need-returns
 returns c = sym (copy-target _ _ (c .if1 .taken))

@@ -1,10 +1,10 @@
--- `records::plan_read` meets its contract.
+-- `plans::plan_read` meets its contract.
 use mathlib.Core.Path.{sym, _∙_}
 use native.Mathlib.Omega.{arith}
-use Rattle.records.proofs.Plans.{read-target, read-source, read-empty, read-past, read-asked}
+use Rattle.plans.proofs.Plans.{read-target, read-source, read-empty, read-past, read-asked}
 use borrow.Author.Needs.{needs}
-use Rattle.records.proofs.plan_read.Statement.{statement}
-use Rattle.records.proofs.plan_read.Tie as tie
+use Rattle.plans.proofs.plan_read.Statement.{statement}
+use Rattle.plans.proofs.plan_read.Tie as tie
 
 returns : tie.Need-returns
 returns c = sym (read-target _ _ _ (c .if1 .taken))

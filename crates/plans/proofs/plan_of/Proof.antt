@@ -1,12 +1,13 @@
--- `records::plan_of` meets its contract: each operation's plan is the one of its number.
+-- `plans::plan_of` meets its contract: each operation's plan is the one of its number.
 use mathlib.Core.Path.{_≡_, sym, _∙_}
 use mathlib.Core.Bool.{true}
 use borrow.Author.Tests.{not-true, not-false}
-use Rattle.records.specs.Records.{unnamed, areZero, onRoots, allocating, copying, writing, clearing}
-use Rattle.records.proofs.Plans.{nonzero-asked, known-asked, unknown-asked}
+use Rattle.records.specs.Records.{unnamed, areZero}
+use Rattle.plans.specs.Asked.{onRoots, allocating, copying, writing, clearing}
+use Rattle.plans.proofs.Plans.{nonzero-asked, known-asked, unknown-asked}
 use borrow.Author.Needs.{needs}
-use Rattle.records.proofs.plan_of.Statement.{statement}
-use Rattle.records.proofs.plan_of.Tie as tie
+use Rattle.plans.proofs.plan_of.Statement.{statement}
+use Rattle.plans.proofs.plan_of.Tie as tie
 
 -- past the first test the unnamed fields are 0
 zero : (c : tie.Else1) → areZero (unnamed (c .before .before .before .before .before .args .f)) ≡ true

@@ -1,8 +1,8 @@
--- `records::plan_clear` meets its contract.
+-- `plans::plan_clear` meets its contract.
 use mathlib.Core.Path.{sym}
-use Rattle.records.proofs.Plans.{clear-target, clear-asked}
-use Rattle.records.proofs.plan_clear.Statement.{statement}
-use Rattle.records.proofs.plan_clear.Tie as tie
+use Rattle.plans.proofs.Plans.{clear-target, clear-asked}
+use Rattle.plans.proofs.plan_clear.Statement.{statement}
+use Rattle.plans.proofs.plan_clear.Tie as tie
 
 returns : tie.Need-returns
 returns c = sym (clear-target _ _ (c .if1 .taken))
