@@ -1,1 +1,2 @@
 pub mod BySections
+pub mod SearchedParts

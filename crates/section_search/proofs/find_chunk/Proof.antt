@@ -7,7 +7,8 @@ use Rattle.rules.specs.Heap.{sectionLength, sectionCount}
 use Rattle.rules.proofs.Shape.{blocks-le}
 use Rattle.chunks.specs.Search.{lowestIn, Search}
 use Rattle.section_search.proofs.BySections.{found-longer, found-none, found-within, chosen-none, chosen-some, figures-length, on-figures}
-use Rattle.sections.proofs.SectionPlaces.{Place, place, whole-heap, whole-section}
+use Rattle.sections.proofs.SectionPlaces.{Place, place}
+use Rattle.section_search.proofs.SearchedParts.{whole-heap, whole-section}
 use borrow.Author.Needs.{needs}
 use Rattle.section_search.proofs.find_chunk.Statement.{statement}
 use Rattle.section_search.proofs.find_chunk.Tie as tie
