@@ -1,16 +1,14 @@
 // A list of calls from standard input, made through the public calls. docs/FILES.md states the file's form and what is printed.
-mod entries;
 mod lent;
-mod output;
-mod perform;
+mod reading;
 mod run;
 
 fn main() {
-    let heap = entries::read_entry(8);
+    let heap = reading::read_entry(8);
     if heap.bytes < 24 {
-        output::say(b"header: cut off\n");
+        entries::output::say(b"header: cut off\n");
     } else if lent::is_too_large(heap) {
-        output::say(b"header: too large\n");
+        entries::output::say(b"header: too large\n");
     } else {
         run::run(heap);
     }

@@ -1,38 +1,45 @@
 // The run over the whole input, on buffers of the largest lengths, of which parts are lent.
 ghost use Rattle.calls.specs.Within.{Within};
-use crate::entries;
-use crate::entries::Entry;
 use crate::lent;
-use crate::output;
-use crate::perform;
+use crate::reading;
 use blocks::MAX_BLOCKS;
 use blocks::Ref;
+use entries::Entry;
+use entries::output;
 use rules::Reply;
 
 // More entries than any input has: together they are longer than 2^64 bytes.
 const MOST: usize = 1152921504606846976;
+
+// What is wrong with an entry.
+fn say_wrong(call: usize, text: &[u8]) -> bool {
+    output::say(b"call ");
+    output::say_number(call);
+    output::say(b": ");
+    output::say(text)
+}
 
 // Entry number k. A length is set here, and what is wrong with an entry is said here: then nothing is left to do, as of a length.
 fn next_entry(lengths: &mut [usize; lent::BUFFERS], k: usize) -> Entry
     requires { ⌜ Within (now lengths) ⌝ }
     ensures { λ _. ⌜ Within (now (lengths .exit)) ⌝ }
 {
-    let mut e = entries::read_entry(0);
+    let mut e = reading::read_entry(0);
     let kind = e.kind;
     if e.bytes < 32 {
         if e.bytes > 0 {
-            output::say_wrong(k, b"cut off\n");
+            say_wrong(k, b"cut off\n");
         }
         e.kind = entries::END;
     } else if kind == entries::LENGTH {
         if !lent::set_length(lengths, e.x, e.y) {
-            output::say_wrong(k, b"length out of range\n");
+            say_wrong(k, b"length out of range\n");
         }
     } else if kind == entries::NEW && lent::is_too_large(e) {
-        output::say_wrong(k, b"too large\n");
+        say_wrong(k, b"too large\n");
         e.kind = entries::LENGTH;
     } else if kind > entries::LAST_CALL && kind != entries::LOAD && kind != entries::NEW {
-        output::say_wrong(k, b"unknown call ");
+        say_wrong(k, b"unknown call ");
         output::say_number(kind);
         output::end_line();
         e.kind = entries::LENGTH;
@@ -46,7 +53,7 @@ fn say_outcome(kind: usize, reply: Reply, k: usize) -> bool {
         return output::say_reply(reply);
     }
     if kind == entries::LOAD && reply.number != 0 {
-        return output::say_wrong(k, b"load out of range\n");
+        return say_wrong(k, b"load out of range\n");
     }
     reply.number == 0
 }
@@ -72,7 +79,7 @@ pub fn run(first: Entry) {
         let lroots = lengths[4];
         let lwaiting = lengths[5];
         let lsections = lengths[6];
-        let reply = perform::perform(
+        let reply = entries::perform::perform(
             heap,
             &mut a[..la],
             &mut b[..lb],

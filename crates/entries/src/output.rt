@@ -1,5 +1,4 @@
 // Standard output. A failed write is said on standard error. A function says whether its last write was made.
-use crate::entries;
 use blocks::Ref;
 use libc::STDERR_FILENO;
 use libc::STDOUT_FILENO;
@@ -38,14 +37,6 @@ pub fn say_reply(reply: Reply) -> bool {
     end_line()
 }
 
-// What is wrong with an entry.
-pub fn say_wrong(call: usize, text: &[u8]) -> bool {
-    say(b"call ");
-    say_number(call);
-    say(b": ");
-    say(text)
-}
-
 fn wide_ref(number: Ref) -> usize {
     number as usize
 }
@@ -54,7 +45,7 @@ fn wide_ref(number: Ref) -> usize {
 pub fn say_bytes(list: &[u8]) -> bool {
     let mut i = 0;
     while i < list.len() {
-        if !say_item(i, entries::wide(list[i])) {
+        if !say_item(i, crate::wide(list[i])) {
             return false;
         }
         i += 1;

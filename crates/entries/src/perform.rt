@@ -1,6 +1,5 @@
 // What is done with the lent buffers. Here alone they are all lent on.
-use crate::entries;
-use crate::entries::Entry;
+use crate::Entry;
 use crate::output;
 use blocks::Ref;
 use rules::Reply;
@@ -82,7 +81,7 @@ pub fn perform(
     let x = e.x;
     let y = e.y;
     let z = e.z;
-    if kind == entries::LOAD {
+    if kind == crate::LOAD {
         return match x {
             0 => load_byte(a, y, z),
             1 => load_byte(b, y, z),

@@ -1,8 +1,8 @@
 -- Each call hands its buffers back as long as they were, and so does a load.
 use mathlib.Core.Path.{refl}
 use borrow.Author.Needs.{needs}
-use Rattle.calls.proofs.perform.perform.Statement.{statement}
-use Rattle.calls.proofs.perform.perform.Tie as tie
+use Rattle.entries.proofs.perform.perform.Statement.{statement}
+use Rattle.entries.proofs.perform.perform.Tie as tie
 
 -- the places: in each arm the call has returned
 abbrev formatted : tie.After-slice-known21 → tie.After-format

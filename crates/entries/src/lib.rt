@@ -1,0 +1,32 @@
+// The entries of a list of calls, performed and answered: for the program `calls`.
+ghost use Prim.Native.Nat.{_<_};
+
+pub mod output;
+pub mod perform;
+
+// The kinds of entries: calls, from 0 to LAST_CALL; and, at the end of a byte's numbers, out of the way of calls to come, what is none.
+pub const LAST_CALL: usize = 8;
+
+pub const LOAD: usize = 253;
+
+pub const LENGTH: usize = 254;
+
+pub const NEW: usize = 255;
+
+// What is left of an entry after which nothing follows; in a file this kind is unknown.
+pub const END: usize = 256;
+
+// An entry: how many of its bytes were read, its kind, and its numbers (of a call its arguments, of a heap its blocks, width and roots).
+pub struct Entry {
+    pub bytes: usize,
+    pub kind: usize,
+    pub x: usize,
+    pub y: usize,
+    pub z: usize,
+}
+
+pub fn wide(byte: u8) -> usize
+    ensures { λ r. ⌜ r < 256 ⌝ }
+{
+    byte as usize
+}
