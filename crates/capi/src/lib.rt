@@ -79,7 +79,7 @@ pub extern "C" fn huwekapo_store_root(
         ⌜ Promise blocks width (Call.storeRoot r v) (before a b counts cells roots waiting sections) reply
         (after a b counts cells roots waiting sections) ⌝ }
 {
-    mutate::store_root(
+    assignment::store_root(
         blocks,
         width,
         a,
@@ -113,7 +113,7 @@ pub extern "C" fn huwekapo_store_cell(
         ⌜ Promise blocks width (Call.storeCell at j v) (before a b counts cells roots waiting sections) reply
         (after a b counts cells roots waiting sections) ⌝ }
 {
-    mutate::store_cell(
+    assignment::store_cell(
         blocks,
         width,
         a,
@@ -146,7 +146,7 @@ pub extern "C" fn huwekapo_return_roots(
         ⌜ Promise blocks width (Call.returnRoots chosen) (before a b counts cells roots waiting sections) reply
         (after a b counts cells roots waiting sections) ⌝ }
 {
-    mutate::return_roots(
+    assignment::return_roots(
         blocks,
         width,
         a,

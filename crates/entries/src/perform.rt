@@ -97,10 +97,10 @@ pub fn perform(
     match kind {
         0 => mutate::format(n, w, a, b, counts, cells, roots, waiting, sections),
         2 => mutate::allocate(n, w, a, b, counts, cells, roots, waiting, sections, x, y),
-        3 => mutate::store_root(n, w, a, b, counts, cells, roots, waiting, sections, x, y),
-        4 => mutate::store_cell(n, w, a, b, counts, cells, roots, waiting, sections, x, y, z),
+        3 => assignment::store_root(n, w, a, b, counts, cells, roots, waiting, sections, x, y),
+        4 => assignment::store_cell(n, w, a, b, counts, cells, roots, waiting, sections, x, y, z),
         5 => mutate::collect(n, w, a, b, counts, cells, roots, waiting, sections),
-        8 => mutate::return_roots(n, w, a, b, counts, cells, roots, waiting, sections, chosen),
+        8 => assignment::return_roots(n, w, a, b, counts, cells, roots, waiting, sections, chosen),
         _ => read(n, w, a, b, counts, cells, roots, waiting, sections, e),
     }
 }

@@ -4,3 +4,4 @@ pub mod AllocationAnswer
 pub mod CollectionAnswer
 pub mod UsableAfterCalls
 pub mod AllocationBlocks
+pub mod ClearedHeap

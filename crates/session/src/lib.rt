@@ -39,7 +39,7 @@ pub fn one_life(
         1,
         0,
     );
-    mutate::store_root(
+    assignment::store_root(
         blocks,
         width,
         a,

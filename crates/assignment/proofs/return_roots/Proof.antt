@@ -1,12 +1,12 @@
--- `mutate::return_roots` meets its contract: the gate, and then the work on the cleared heap.
+-- `assignment::return_roots` meets its contract: the gate, and then the work on the cleared heap.
 use mathlib.Core.Path.{refl, sym, ap, _∙_}
 use borrow.Author.Needs.{needs}
 use Rattle.rules.specs.Calls.{freeing, outcome}
 use Rattle.rules.specs.declared.Reply.{Reply}
 use Rattle.arguments.proofs.ArgumentTests.{return-goes-on}
-use Rattle.mutate.proofs.GateThenAct.{cleared-usable, promised-back}
-use Rattle.mutate.proofs.return_roots.Statement.{statement}
-use Rattle.mutate.proofs.return_roots.Tie as tie
+use Rattle.inner.proofs.ClearedHeap.{cleared-usable, promised-back}
+use Rattle.assignment.proofs.return_roots.Statement.{statement}
+use Rattle.assignment.proofs.return_roots.Tie as tie
 
 -- the places: past the gate, the waiting list cleared, the roots cleared
 abbrev passed : tie.After-clear-all → tie.Else1

@@ -1,11 +1,11 @@
--- `mutate::store_cell` meets its contract: the gate, and then the work on the cleared heap.
+-- `assignment::store_cell` meets its contract: the gate, and then the work on the cleared heap.
 use mathlib.Core.Path.{refl, _∙_}
 use borrow.Author.Needs.{needs}
 use Rattle.rules.specs.Calls.{freeing, outcome}
 use Rattle.arguments.proofs.ArgumentTests.{cell-goes-on}
-use Rattle.mutate.proofs.GateThenAct.{cleared-usable, promised-back}
-use Rattle.mutate.proofs.store_cell.Statement.{statement}
-use Rattle.mutate.proofs.store_cell.Tie as tie
+use Rattle.inner.proofs.ClearedHeap.{cleared-usable, promised-back}
+use Rattle.assignment.proofs.store_cell.Statement.{statement}
+use Rattle.assignment.proofs.store_cell.Tie as tie
 
 -- the places: past the gate, the waiting list cleared, the store done
 abbrev passed : tie.After-clear-all → tie.Else1
