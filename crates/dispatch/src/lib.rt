@@ -6,7 +6,6 @@ use arguments::looking;
 use arguments::replies;
 use blocks::Ref;
 use inner::acts;
-use inner::steps;
 use rules::Reply;
 
 // The call that the four words stand for. All other codes are answered 9.

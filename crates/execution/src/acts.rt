@@ -6,7 +6,6 @@ ghost use Rattle.turns.specs.Turns.{turnOf};
 ghost use Rattle.turns.specs.Steps.{Acted};
 use blocks::Ref;
 use inner::acts;
-use inner::steps;
 use plans::Plan;
 use turns::outcome::Done;
 

@@ -1,4 +1,3 @@
-// The calls on a heap that is known to be undamaged: their own tests and their work, without the tests of numbers 1 and 2. The public
-// calls test once and come here; a run of many calls starts from a formatted heap and stays here.
+// The work of the calls on a heap that is known to be undamaged, once their tests are passed. The public calls test and come here; a run of
+// many calls starts from a formatted heap and comes here by the crate `steps`.
 pub mod acts;
-pub mod steps;

@@ -8,7 +8,6 @@ ghost use Rattle.turns.specs.Turns.{turnOf};
 ghost use Rattle.turns.specs.Steps.{Acted};
 use blocks::Ref;
 use inner::acts;
-use inner::steps;
 use turns::outcome;
 use turns::outcome::Done;
 

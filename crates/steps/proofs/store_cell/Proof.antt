@@ -2,10 +2,10 @@
 use mathlib.Core.Path.{refl}
 use native.Mathlib.Omega.{arith}
 use Rattle.arguments.proofs.ArgumentTests.{cell-goes-on, cell-refused}
 use Rattle.inner.proofs.UsableHeap.{usable-fit, usable-healthy}
 use borrow.Author.Needs.{needs}
-use Rattle.inner.proofs.steps.store_cell.Statement.{statement}
-use Rattle.inner.proofs.steps.store_cell.Tie as tie
+use Rattle.steps.proofs.store_cell.Statement.{statement}
+use Rattle.steps.proofs.store_cell.Tie as tie
 
 -- the place where the work is done
 abbrev done : tie.After-slice-known12 → tie.After-store-cell

@@ -3,11 +3,11 @@ use mathlib.Core.Path.{refl}
 use native.Mathlib.Omega.{arith}
 use Rattle.rules.proofs.Shape.{shaped-blocks}
 use Rattle.arguments.proofs.AllocationReply.{allocate-accepts, allocate-refused}
 use Rattle.inner.proofs.UsableHeap.{usable-fit}
 use Rattle.inner.proofs.AllocationBlocks.{allocate-refusing}
 use borrow.Author.Needs.{needs}
-use Rattle.inner.proofs.steps.allocate.Statement.{statement}
-use Rattle.inner.proofs.steps.allocate.Tie as tie
+use Rattle.steps.proofs.allocate.Statement.{statement}
+use Rattle.steps.proofs.allocate.Tie as tie
 
 -- the place where the work is done
 abbrev done : tie.After-slice-known14 → tie.After-allocate

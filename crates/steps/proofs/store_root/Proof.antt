@@ -2,10 +2,10 @@
 use mathlib.Core.Path.{refl}
 use native.Mathlib.Omega.{arith}
 use Rattle.arguments.proofs.ArgumentTests.{root-goes-on, root-refused}
 use Rattle.inner.proofs.UsableHeap.{usable-fit, usable-healthy}
 use borrow.Author.Needs.{needs}
-use Rattle.inner.proofs.steps.store_root.Statement.{statement}
-use Rattle.inner.proofs.steps.store_root.Tie as tie
+use Rattle.steps.proofs.store_root.Statement.{statement}
+use Rattle.steps.proofs.store_root.Tie as tie
 
 -- the place where the work is done
 abbrev done : tie.After-slice-known14 → tie.After-store-root

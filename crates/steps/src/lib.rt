@@ -2,13 +2,13 @@
 ghost use Rattle.rules.specs.Lent.{before, after, lent};
 ghost use Rattle.rules.specs.Calls.{Call};
 ghost use Rattle.rules.specs.Promise.{Promise};
 ghost use Rattle.inner.specs.Allocating.{Allocating};
 ghost use Rattle.inner.specs.Usable.{Usable};
-use crate::acts;
-use crate::acts::Allocated;
 use arguments::allocating;
 use arguments::storing;
 use blocks::Ref;
+use inner::acts;
+use inner::acts::Allocated;
 use rules::Reply;
 
 // Allocates n blocks into root r; a refused allocation frees nothing.
