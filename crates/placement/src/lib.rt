@@ -35,7 +35,7 @@ pub fn place(
         × Coherent blocks (now (a .exit)) (now (sections .exit)) ⌝ }
 {
     let stuck = counting::capacity_of(width) == 1;
-    sections::extents::mark_extent(blocks, a, b, sections, i, n);
+    section_extents::mark_extent(blocks, a, b, sections, i, n);
     planes::set_count(counts, blocks / 8, width, i, 1);
     object_extents::clear_cells(cells, 4 * i, 4 * n);
     let freed = stores::put_root(

@@ -10,7 +10,6 @@ ghost use Rattle.counting.specs.Ready.{Planes, Extents};
 ghost use Rattle.counting.specs.Stack.{topFirst, counted, Stack};
 ghost use Rattle.release.specs.Blocks.{releasedBlocks, letGoBlocks};
 use blocks::Ref;
-use sections::extents;
 
 // Frees the objects on the stack, and those whose counts come to 0 by that. The number of blocks freed.
 fn release_all(
@@ -45,7 +44,7 @@ fn release_all(
         let i = waiting[t] as usize;
         waiting[t] = 0;
         let n = blocks::objects::object_size(blocks, b, i);
-        extents::clear_extent(blocks, a, b, sections, i, n);
+        section_extents::clear_extent(blocks, a, b, sections, i, n);
         t = dropping::drop_cells(blocks, width, counts, cells, waiting, 4 * i, 4 * n, t);
         freed += n;
     }

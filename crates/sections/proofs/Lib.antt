@@ -1,4 +1,3 @@
 pub mod SectionPlaces
 pub mod Lists
-pub mod Forget
 pub mod FreeHeap

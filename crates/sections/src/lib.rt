@@ -9,10 +9,8 @@ ghost use Rattle.sections.specs.Figures.{Coherent};
 use blocks::Ref;
 use chunk_figures::largest_free;
 
-pub mod extents;
-
 // The longest section, in blocks.
-const MAX_SECTION: usize = 256;
+pub const MAX_SECTION: usize = 256;
 
 // A figure that no section has: it has to be found anew.
 pub const UNKNOWN: Ref = 65535;

@@ -36,7 +36,7 @@ fn sweep_one(
         return 0;
     }
     let n = blocks::objects::object_size(blocks, b, i);
-    sections::extents::clear_extent(blocks, a, b, sections, i, n);
+    section_extents::clear_extent(blocks, a, b, sections, i, n);
     object_extents::clear_cells(cells, 4 * i, 4 * n);
     n
 }

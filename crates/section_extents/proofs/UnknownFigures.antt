@@ -15,9 +15,10 @@ use Rattle.rules.specs.Heap.{isBlocks, sectionLength, sectionCount, exponent}
 use Rattle.rules.specs.Sections.{figure}
 use Rattle.rules.proofs.Shape.{blocks-le}
 use Rattle.rules.proofs.Sections.{divided}
-use Rattle.sections.specs.Figures.{Coherent, Forgotten}
 use Rattle.chunk_figures.proofs.Figures.{same-figure}
+use Rattle.sections.specs.Figures.{Coherent}
 use Rattle.sections.proofs.SectionPlaces.{section-size}
+use Rattle.section_extents.specs.Forgotten.{Forgotten}
 
 -- ---- the section of a block
 

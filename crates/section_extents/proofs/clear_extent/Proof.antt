@@ -1,16 +1,16 @@
--- `mark_extent` meets its contract: the figures that may change are unknown.
+-- `clear_extent` meets its contract: the figures that may change are unknown.
 use native.Mathlib.Omega.{arith}
 use borrow.Author.Needs.{needs}
 use Rattle.rules.proofs.Shape.{blocks-facts, blocks-le}
-use Rattle.sections.proofs.Forget.{coherent-filled}
-use Rattle.sections.proofs.extents.mark_extent.Statement.{statement}
-use Rattle.sections.proofs.extents.mark_extent.Tie as tie
+use Rattle.section_extents.proofs.UnknownFigures.{coherent-filled}
+use Rattle.section_extents.proofs.clear_extent.Statement.{statement}
+use Rattle.section_extents.proofs.clear_extent.Tie as tie
 
 forget-requires : tie.Need-forget-requires
 forget-requires c κs = search needs
 
-mark-extent-requires : tie.Need-mark-extent-requires
-mark-extent-requires c κs =
+clear-extent-requires : tie.Need-clear-extent-requires
+clear-extent-requires c κs =
     let s = c .before .before .before .before .before .before .before .before .before in
     let eighths = blocks-facts (s .args .blocks) (s .pre .0 .blocks) .2 in (
       s .pre .3,
@@ -33,19 +33,19 @@ returns c =
     let written = c .before .before .before .before in
     let unknown = written .before .before .before .before .before in
     let s = unknown .before .before .before .before .before in
-    let extent = written .mark-extent .ensures in (
+    let extent = written .clear-extent .ensures in (
       extent .0,
       extent .1,
-      coherent-filled (s .args .blocks) (s .args .i) (s .args .n) 1 (s .args .a .now) (written .mark-extent .last .0) (s .args .sections .now)
+      coherent-filled (s .args .blocks) (s .args .i) (s .args .n) 0 (s .args .a .now) (written .clear-extent .last .0) (s .args .sections .now)
           (unknown .forget .last .1 .0) (omega arith) (s .pre .0) (unknown .forget .ensures) (extent .0),
     )
 
-pub mark-extent-spec : {M : Type 1} → statement M
-mark-extent-spec =
+pub clear-extent-spec : {M : Type 1} → statement M
+clear-extent-spec =
     tie.close
     (tie.spec
     forget-requires
-    mark-extent-requires
+    clear-extent-requires
     same-length
     same-length-2
     same-length-3

@@ -2,9 +2,9 @@
 use Prim.Native.Nat.{_+_, _-_, _≤_}
 use native.Mathlib.Omega.{arith}
 use Rattle.rules.proofs.Shape.{blocks-le}
-use Rattle.sections.proofs.Forget.{Sections, sections-of, Forgetting, forgetting-start, forgetting-next, forgotten}
-use Rattle.sections.proofs.extents.forget.Statement.{statement}
-use Rattle.sections.proofs.extents.forget.Tie as tie
+use Rattle.section_extents.proofs.UnknownFigures.{Sections, sections-of, Forgetting, forgetting-start, forgetting-next, forgotten}
+use Rattle.section_extents.proofs.forget.Statement.{statement}
+use Rattle.section_extents.proofs.forget.Tie as tie
 
 abbrev Inv-loop : tie.InvT-loop
 Inv-loop blocks sections₀ i n last s₀ sections s =

@@ -1,8 +1,8 @@
 -- `section_of` meets its contract: a heap of less than 256 blocks is one section.
 use native.Mathlib.Omega.{arith}
-use Rattle.sections.proofs.Forget.{only-section, long-section}
-use Rattle.sections.proofs.extents.section_of.Statement.{statement}
-use Rattle.sections.proofs.extents.section_of.Tie as tie
+use Rattle.section_extents.proofs.UnknownFigures.{only-section, long-section}
+use Rattle.section_extents.proofs.section_of.Statement.{statement}
+use Rattle.section_extents.proofs.section_of.Tie as tie
 
 returns : tie.Need-returns
 returns c = only-section (c .before .args .blocks) (c .before .args .i) (omega arith) (c .before .pre)

@@ -6,10 +6,11 @@ ghost use Prim.Native.Nat.{_+_, _-_, _/_, _<_, _≤_};
 ghost use lib.ListN.{length};
 ghost use Rattle.bitmap.specs.Bit.{setBit, fillBits};
 ghost use Rattle.rules.specs.Heap.{isBlocks, sectionLength, sectionCount};
-ghost use Rattle.sections.specs.Figures.{Coherent, Forgotten};
-use crate::MAX_SECTION;
-use crate::UNKNOWN;
+ghost use Rattle.sections.specs.Figures.{Coherent};
+ghost use Rattle.section_extents.specs.Forgotten.{Forgotten};
 use blocks::Ref;
+use sections::MAX_SECTION;
+use sections::UNKNOWN;
 
 // The number of the section that block i lies in.
 fn section_of(blocks: usize, i: usize) -> usize
