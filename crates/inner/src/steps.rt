@@ -6,7 +6,6 @@ ghost use Rattle.inner.specs.Allocating.{Allocating};
 ghost use Rattle.inner.specs.Usable.{Usable};
 use crate::acts;
 use crate::acts::Allocated;
-use arguments::allocating;
 use arguments::storing;
 use blocks::Ref;
 use rules::Reply;
@@ -29,7 +28,7 @@ pub fn allocate(
     ensures { λ done.
         ⌜ Allocating blocks width n r (before a b counts cells roots waiting sections) done (after a b counts cells roots waiting sections) ⌝ }
 {
-    let test = allocating::allocate_reply(blocks, a, sections, roots.len(), n, r);
+    let test = allocation_tests::allocate_reply(blocks, a, sections, roots.len(), n, r);
     let number = test.number;
     if number != 0 {
         return Allocated {
