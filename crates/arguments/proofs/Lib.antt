@@ -1,3 +1,1 @@
-pub mod SearchReply
 pub mod ArgumentTests
-pub mod AllocationReply

@@ -1,12 +1,10 @@
 -- The replies that depend on the arguments and on the heap before the call alone, once numbers 1, 2 and 11 are passed: for contracts of
 -- inner functions. Each is a part of the rules' `answer`.
 use Prim.Native.Nat.{ℕ}
-use mathlib.Core.Bool.{true, false, not, _&&_}
-use mathlib.Core.List.{List, [], _∷_}
-use mathlib.Core.Option.{Option, none, some}
-use lib.Dec.{leb, ltb}
+use mathlib.Core.Bool.{true, false, not}
+use mathlib.Core.List.{[], _∷_}
 use Rattle.rules.specs.Tools.{firstNumber}
-use Rattle.rules.specs.Heap.{Memory, countOf, isFirst, sizeAt, exponent, lowestFree}
+use Rattle.rules.specs.Heap.{Memory, countOf, isFirst, sizeAt}
 use Rattle.rules.specs.Store.{chosenBelow}
 use Rattle.rules.specs.Calls.{Call, storeRoot, storeCell, reply, ownRefusals}
 use Rattle.rules.specs.declared.Reply.{Reply}
@@ -25,17 +23,6 @@ storeCellTest N h at j v = ownTest N h (storeCell at j v)
 unfoldable pub returnTest : (roots chosen : ℕ) → Reply
 returnTest roots chosen = reply (firstNumber ((4, not (chosenBelow chosen roots)) ∷ [])) 0 0
 
--- the reply of an allocation but for its second value, and the whole reply of a look
-unfoldable pub found : Option ℕ → Reply
-found none = reply 5 0 0
-found (some i) = reply 0 i 0
-
-unfoldable pub allocateReply : ℕ → List ℕ → (roots n r : ℕ) → Reply
-allocateReply N a roots n r =
-    elim (leb 1 n && leb n N) [
-      | true ↦ elim (ltb r roots) [ true ↦ found (lowestFree N (exponent n) a) | false ↦ reply 4 0 0 ]
-      | false ↦ reply 3 0 0
-    ]
-
+-- the whole reply of a look
 unfoldable pub lookReply : ℕ → ℕ → Memory → ℕ → Reply
 lookReply N w h at = elim (isFirst N h at) [ true ↦ reply 0 (sizeAt N h at) (countOf N w h at) | false ↦ reply 6 0 0 ]

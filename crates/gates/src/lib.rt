@@ -5,9 +5,9 @@ ghost use lib.ListN.{length};
 ghost use Rattle.rules.specs.Heap.{memory};
 ghost use Rattle.rules.specs.Lent.{before};
 ghost use Rattle.rules.specs.Calls.{Call};
-ghost use Rattle.arguments.specs.Replies.{storeRootTest, storeCellTest, returnTest, allocateReply};
+ghost use Rattle.arguments.specs.Replies.{storeRootTest, storeCellTest, returnTest};
+ghost use Rattle.allocation_tests.specs.Replies.{allocateReply};
 ghost use Rattle.gates.specs.Gated.{Gated};
-use arguments::allocating;
 use arguments::returning;
 use arguments::storing;
 use blocks::Ref;
@@ -36,7 +36,7 @@ pub fn allocate(
     if number != 0 {
         return checked;
     }
-    allocating::allocate_reply(blocks, a, sections, roots.len(), n, r)
+    allocation_tests::allocate_reply(blocks, a, sections, roots.len(), n, r)
 }
 
 // The tests of a store in root r.

@@ -16,7 +16,7 @@ use Rattle.rules.proofs.Promised.{promised}
 use Rattle.rules.proofs.Unread.{allocate-beside}
 use Rattle.theory.proofs.Memories.Fit.{Fit}
 use Rattle.theory.proofs.EachCall.Accepted.{fit-accepted}
-use Rattle.arguments.proofs.AllocationReply.{Found}
+use Rattle.allocation_tests.proofs.AllocationReply.{Found}
 use Rattle.inner.specs.Usable.{Usable}
 use Rattle.inner.proofs.UsableHeap.{usable-fit, left-settled}
 

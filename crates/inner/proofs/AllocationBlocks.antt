@@ -17,7 +17,7 @@ use Rattle.theory.specs.Balance.{freedBlocks, inUse, allocates, allocatedBy}
 use Rattle.theory.proofs.Maps.Totals.{free-and-sizes}
 use Rattle.theory.proofs.EachCall.Balance.{answer-even}
 use Rattle.bridge.proofs.PlacedBlocks.{allocate-freed}
-use Rattle.arguments.proofs.AllocationReply.{Found}
+use Rattle.allocation_tests.proofs.AllocationReply.{Found}
 use Rattle.inner.specs.Usable.{Usable}
 use Rattle.inner.specs.Allocating.{Allocating}
 use Rattle.inner.specs.declared.acts.Allocated.{Allocated}

@@ -4,7 +4,6 @@ ghost use Rattle.rules.specs.Calls.{Call};
 ghost use Rattle.rules.specs.Promise.{Promise};
 ghost use Rattle.inner.specs.Allocating.{Allocating};
 ghost use Rattle.inner.specs.Usable.{Usable};
-use arguments::allocating;
 use arguments::storing;
 use blocks::Ref;
 use inner::acts;
@@ -29,7 +28,7 @@ pub fn allocate(
     ensures { λ done.
         ⌜ Allocating blocks width n r (before a b counts cells roots waiting sections) done (after a b counts cells roots waiting sections) ⌝ }
 {
-    let test = allocating::allocate_reply(blocks, a, sections, roots.len(), n, r);
+    let test = allocation_tests::allocate_reply(blocks, a, sections, roots.len(), n, r);
     let number = test.number;
     if number != 0 {
         return Allocated {

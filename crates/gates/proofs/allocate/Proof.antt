@@ -4,7 +4,7 @@ use native.Mathlib.Omega.{arith}
 use borrow.Author.Needs.{needs}
 use Rattle.rules.specs.Calls.{allocate}
 use Rattle.rules.proofs.Shape.{shaped-blocks}
-use Rattle.arguments.proofs.AllocationReply.{allocate-refused}
+use Rattle.allocation_tests.proofs.AllocationReply.{allocate-refused}
 use Rattle.gates.proofs.CheckAtGate.{checked-passed, gate-shut, gate-open}
 use Rattle.gates.proofs.allocate.Statement.{statement}
 use Rattle.gates.proofs.allocate.Tie as tie

@@ -2,7 +2,7 @@
 use mathlib.Core.Path.{refl}
 use native.Mathlib.Omega.{arith}
 use Rattle.rules.proofs.Shape.{shaped-blocks}
-use Rattle.arguments.proofs.AllocationReply.{allocate-accepts, allocate-refused}
+use Rattle.allocation_tests.proofs.AllocationReply.{allocate-accepts, allocate-refused}
 use Rattle.inner.proofs.UsableHeap.{usable-fit}
 use Rattle.inner.proofs.AllocationBlocks.{allocate-refusing}
 use borrow.Author.Needs.{needs}

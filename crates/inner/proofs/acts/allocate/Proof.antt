@@ -1,7 +1,7 @@
 -- `inner::acts::allocate` meets its contract: the object is placed where the search found room.
 use mathlib.Core.Path.{_∙_}
 use native.Mathlib.Omega.{arith}
-use Rattle.arguments.proofs.AllocationReply.{allocate-passed}
+use Rattle.allocation_tests.proofs.AllocationReply.{allocate-passed}
 use Rattle.inner.proofs.UsableHeap.{usable-healthy, usable-ready}
 use Rattle.inner.proofs.AllocationBlocks.{allocate-accepting}
 use borrow.Author.Needs.{needs}

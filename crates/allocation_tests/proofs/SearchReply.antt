@@ -9,7 +9,7 @@ use Rattle.rules.specs.Heap.{exponent, lowestFree}
 use Rattle.rules.specs.Calls.{reply}
 use Rattle.theory.proofs.Maps.LowestChunk.{room}
 use Rattle.chunks.specs.Search.{orElse}
-use Rattle.arguments.specs.Replies.{found, allocateReply}
+use Rattle.allocation_tests.specs.Replies.{found, allocateReply}
 
 -- ---- what is found
 

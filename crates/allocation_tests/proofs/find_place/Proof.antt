@@ -1,11 +1,11 @@
--- `allocating::find_place` meets its contract: a chunk of the object's size is sought.
+-- `allocation_tests::find_place` meets its contract: a chunk of the object's size is sought.
 use native.Mathlib.Omega.{arith}
 use lib.Pow.{pow-mono}
 use Rattle.rules.specs.Heap.{exponent}
 use Rattle.rules.proofs.Shape.{blocks-le, blocks-power}
 use Rattle.rules.proofs.Chunks.{exponent-least}
-use Rattle.arguments.proofs.allocating.find_place.Statement.{statement}
-use Rattle.arguments.proofs.allocating.find_place.Tie as tie
+use Rattle.allocation_tests.proofs.find_place.Statement.{statement}
+use Rattle.allocation_tests.proofs.find_place.Tie as tie
 
 chunk-size-requires : tie.Need-chunk-size-requires
 chunk-size-requires c κs = omega (arith, blocks-le (c .before .before .args .blocks) (c .before .before .pre .0))

@@ -18,7 +18,8 @@ use Rattle.rules.proofs.Promised.{promised}
 use Rattle.theory.proofs.Maps.LowestChunk.{room}
 use Rattle.theory.proofs.Memories.Fit.{Fit}
 use Rattle.theory.proofs.EachCall.Accepted.{fit-refused}
-use Rattle.arguments.specs.Replies.{ownTest, found, allocateReply}
+use Rattle.arguments.specs.Replies.{ownTest}
+use Rattle.allocation_tests.specs.Replies.{found, allocateReply}
 
 -- ---- the reply, over its two tests and its search
 

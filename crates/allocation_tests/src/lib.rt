@@ -1,4 +1,4 @@
-// The tests of an allocation, which end with the search for a place.
+// The tests of an allocation, which end with the search for a place. Nothing here writes.
 ghost use mathlib.Core.Path.{_≡_};
 ghost use mathlib.Core.Bool.{true};
 ghost use Prim.Native.Nat.{_*_, _≤_};
@@ -6,8 +6,8 @@ ghost use lib.ListN.{length};
 ghost use Rattle.rules.specs.Heap.{isBlocks, exponent};
 ghost use Rattle.rules.specs.Sections.{figures};
 ghost use Rattle.section_search.specs.Search.{Found};
-ghost use Rattle.arguments.specs.Replies.{allocateReply};
-use crate::replies;
+ghost use Rattle.allocation_tests.specs.Replies.{allocateReply};
+use arguments::replies;
 use blocks::Ref;
 use chunks::Searched;
 use rules::Reply;

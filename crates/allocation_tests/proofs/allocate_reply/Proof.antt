@@ -1,12 +1,12 @@
--- `allocating::allocate_reply` meets its contract: the refusals in order, then what the search found.
+-- `allocation_tests::allocate_reply` meets its contract: the refusals in order, then what the search found.
 use mathlib.Core.Path.{_∙_}
 use native.Mathlib.Omega.{arith}
 use borrow.Author.Needs.{needs}
 use borrow.Author.Tests.{le-leb, lt-leb, le-ltb}
-use Rattle.arguments.specs.Replies.{allocateReply}
-use Rattle.arguments.proofs.SearchReply.{nothing-found, place-found}
-use Rattle.arguments.proofs.allocating.allocate_reply.Statement.{statement}
-use Rattle.arguments.proofs.allocating.allocate_reply.Tie as tie
+use Rattle.allocation_tests.specs.Replies.{allocateReply}
+use Rattle.allocation_tests.proofs.SearchReply.{nothing-found, place-found}
+use Rattle.allocation_tests.proofs.allocate_reply.Statement.{statement}
+use Rattle.allocation_tests.proofs.allocate_reply.Tie as tie
 
 refusal-requires : tie.Need-refusal-requires
 refusal-requires c κs = search needs

@@ -1,0 +1,2 @@
+pub mod SearchReply
+pub mod AllocationReply
