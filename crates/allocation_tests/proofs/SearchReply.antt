@@ -8,7 +8,7 @@ use borrow.Author.Tests.{le-leb, lt-ltb}
 use Rattle.rules.specs.Heap.{exponent, lowestFree}
 use Rattle.rules.specs.Calls.{reply}
 use Rattle.theory.proofs.Maps.LowestChunk.{room}
-use Rattle.chunks.specs.Search.{orElse}
+use Rattle.chunk_walk.specs.Search.{orElse}
 use Rattle.allocation_tests.specs.Replies.{found, allocateReply}
 
 -- ---- what is found

@@ -18,7 +18,7 @@ fn find_place(blocks: usize, a: &[u8], sections: &[Ref], n: usize) -> Searched
     requires { ⌜ (isBlocks blocks ≡ true) × (blocks ≤ 8 * length (now a)) × (now sections ≡ figures blocks (now a)) × (1 ≤ n) × (n ≤ blocks) ⌝ }
     ensures { λ r. ⌜ Found blocks (exponent n) (now (a .entry)) (r .at) (r .looks) ⌝ }
 {
-    let size = chunks::chunk_size(n);
+    let size = chunk_sizes::chunk_size(n);
     find_chunk(blocks, a, sections, size)
 }
 

@@ -14,7 +14,8 @@ use Rattle.rules.specs.Heap.{Memory, withCounts, capacity, isFirst, sizeAt}
 use Rattle.rules.specs.Store.{Work, work, freed, countUp}
 use Rattle.rules.specs.Collection.{marked, referencesFrom, reached, swept, recounted, collected}
 use Rattle.rules.proofs.Tests.{choose}
-use Rattle.marking.specs.Mark.{visit, visitEach, scan, markCounts}
+use Rattle.visiting.specs.Visit.{visit, visitEach}
+use Rattle.marking.specs.Mark.{scan, markCounts}
 use Rattle.sweeping.specs.Sweep.{isUnmarked, sweepOne, sweep}
 use Rattle.collector.specs.Collection.{collectBy}
 

@@ -14,7 +14,8 @@ use Rattle.planes.specs.Plane.{countAt}
 use Rattle.planes.proofs.Counts.{count-all-zero}
 use Rattle.rules.specs.Heap.{Memory, capacity, sizeAt}
 use Rattle.rules.specs.Store.{Work, work, countUp}
-use Rattle.marking.specs.Mark.{visit, visitEach, scan, markCounts}
+use Rattle.visiting.specs.Visit.{visit, visitEach}
+use Rattle.marking.specs.Mark.{scan, markCounts}
 use Rattle.rules.proofs.Tabulate.{length-tabulate, getD-tabulate}
 use Rattle.theory.proofs.Maps.Extents.{sizesOf, length-sizes-of, extent}
 use Rattle.theory.proofs.Graphs.Occurrences.{equals-same, occurrences-cons}

@@ -1,37 +1,14 @@
-// Free chunks of the A-map: the size of chunk that an object asks for, and the search for the lowest.
+// The search of the A-map for the lowest free chunk.
 ghost use mathlib.Core.Path.{_≡_};
-ghost use Prim.Native.Nat.{ℕ, _+_, _*_, _^_, _<_, _≤_};
+ghost use Prim.Native.Nat.{ℕ, _*_, _^_, _≤_};
 ghost use lib.ListN.{length};
-ghost use Rattle.rules.specs.Heap.{exponent};
-ghost use Rattle.chunks.specs.Search.{judgedFree, Part, lowestIn, Search};
-
-// The least power of two that is n or more.
-pub fn chunk_size(n: usize) -> usize
-    requires { ⌜ n ≤ 65536 ⌝ }
-    ensures { λ r. ⌜ (r ≡ 2 ^ exponent n) × (r ≤ 65536) ⌝ }
-{
-    let mut size: usize = 1;
-    while size < n {
-        size = size * 2;
-    }
-    size
-}
+ghost use Rattle.chunk_walk.specs.Search.{Part, lowestIn, Search};
+use chunk_walk::is_judged_free;
 
 // What a search found: the first block of a chunk, or the end of the part searched, and how many blocks it looked at.
 pub struct Searched {
     pub at: usize,
     pub looks: usize,
-}
-
-// Whether a chunk of `size` blocks ends before block `end` and is free: `stretch` is the length of the free stretch that ends there.
-fn is_judged_free(end: usize, size: usize, stretch: usize) -> bool
-    requires { ⌜ ((k : ℕ) × (size ≡ 2 ^ k)) ⌝ }
-    ensures { λ r. ⌜ r ≡ judgedFree end size stretch ⌝ }
-{
-    if stretch < size {
-        return false;
-    }
-    end & (size - 1) == 0
 }
 
 // The first block of the lowest free chunk of `size` blocks from block `from` up to block `to`, or `to` where none is free. The walk

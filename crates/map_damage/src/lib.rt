@@ -65,7 +65,7 @@ pub fn has_unaligned(blocks: usize, a: &[u8], b: &[u8]) -> bool
     while i < blocks {
         if blocks::objects::is_first(blocks, a, b, i) {
             let size = blocks::objects::object_size(blocks, b, i);
-            if i % chunks::chunk_size(size) != 0 {
+            if i % chunk_sizes::chunk_size(size) != 0 {
                 return true;
             }
         }

@@ -8,7 +8,8 @@ use Rattle.rules.specs.Heap.{Memory, lentMemory, memory, sizeAt}
 use Rattle.rules.specs.Store.{Work, work}
 use Rattle.counting.specs.Stack.{topFirst, uncounted, remaining, Stack, Worked}
 use Rattle.counting.proofs.Stack.{top-first-kept, top-first-pop}
-use Rattle.marking.specs.Mark.{visitEach, scan, markCounts}
+use Rattle.visiting.specs.Visit.{visitEach}
+use Rattle.marking.specs.Mark.{scan, markCounts}
 
 -- a scan with an empty stack is at its end
 scan-empty : (steps N w : ℕ) (h : Memory) (counts : List ℕ) → scan steps N w h counts [] ≡ counts

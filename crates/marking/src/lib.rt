@@ -2,75 +2,13 @@
 // not 0 is the mark. The waiting list, cleared before and after, is the stack of objects still to be scanned.
 ghost use mathlib.Core.Path.{_≡_};
 ghost use mathlib.Core.List.{[]};
-ghost use Prim.Native.Nat.{_+_, _*_, _/_, _≤_};
+ghost use Prim.Native.Nat.{_*_, _/_};
 ghost use lib.ListN.{length, replicate};
 ghost use Rattle.rules.specs.Heap.{memory};
-ghost use Rattle.rules.specs.Store.{work};
 ghost use Rattle.counting.specs.Ready.{Planes};
-ghost use Rattle.counting.specs.Stack.{topFirst, uncounted, remaining, Stack, Worked};
-ghost use Rattle.marking.specs.Mark.{visit, visitEach, scan, markCounts};
+ghost use Rattle.counting.specs.Stack.{topFirst, uncounted, Stack};
+ghost use Rattle.marking.specs.Mark.{scan, markCounts};
 use blocks::Ref;
-
-// Counts up the object that v names, if any; where its count was 0 it goes onto the stack. The stack's new height.
-fn visit_one(
-    blocks: usize,
-    width: usize,
-    counts: &mut [u8],
-    waiting: &mut [Ref],
-    v: Ref,
-    top: usize,
-) -> usize
-    requires { ⌜ Planes blocks width (now counts) × Stack uncounted blocks width (now counts) (now waiting) top ⌝ }
-    ensures { λ r.
-        ⌜ Worked uncounted blocks width (visit blocks width (work (now (counts .entry)) (topFirst (now (waiting .entry)) top)) v)
-        (remaining uncounted blocks width (now (counts .entry)) top) (now (counts .exit)) (now (waiting .exit)) r ⌝ }
-{
-    if v == 0 {
-        return top;
-    }
-    // Past the last block: it names no object.
-    if blocks < v as usize {
-        return top;
-    }
-    let block = v as usize - 1;
-    let count = planes::get_count(counts, blocks / 8, width, block);
-    if count == 0 {
-        planes::set_count(counts, blocks / 8, width, block, 1);
-        waiting[top] = v - 1;
-        return top + 1;
-    }
-    if count < counting::capacity_of(width) {
-        planes::set_count(counts, blocks / 8, width, block, count + 1);
-    }
-    top
-}
-
-// Visits the n references from place j on.
-fn visit_each(
-    blocks: usize,
-    width: usize,
-    counts: &mut [u8],
-    refs: &[Ref],
-    waiting: &mut [Ref],
-    j: usize,
-    n: usize,
-    top: usize,
-) -> usize
-    requires { ⌜ Planes blocks width (now counts) × Stack uncounted blocks width (now counts) (now waiting) top
-        × (j + n ≤ length (now refs)) ⌝ }
-    ensures { λ r.
-        ⌜ Worked uncounted blocks width
-        (visitEach blocks width (work (now (counts .entry)) (topFirst (now (waiting .entry)) top)) (now (refs .entry)) j n)
-        (remaining uncounted blocks width (now (counts .entry)) top) (now (counts .exit)) (now (waiting .exit)) r ⌝ }
-{
-    let mut t = top;
-    let mut i = 0;
-    while i < n {
-        t = visit_one(blocks, width, counts, waiting, refs[j + i], t);
-        i += 1;
-    }
-    t
-}
 
 // Visits what the cells of the objects on the stack name, until the stack is empty.
 fn scan_all(
@@ -96,7 +34,7 @@ fn scan_all(
         let i = waiting[t] as usize;
         waiting[t] = 0;
         let n = blocks::objects::object_size(blocks, b, i);
-        t = visit_each(blocks, width, counts, cells, waiting, 4 * i, 4 * n, t);
+        t = visiting::visit_each(blocks, width, counts, cells, waiting, 4 * i, 4 * n, t);
     }
 }
 
@@ -117,6 +55,6 @@ pub fn mark(
         × (now (waiting .exit) ≡ replicate blocks 0) ⌝ }
 {
     bitmap::fill_bytes(counts, 0);
-    let top = visit_each(blocks, width, counts, roots, waiting, 0, roots.len(), 0);
+    let top = visiting::visit_each(blocks, width, counts, roots, waiting, 0, roots.len(), 0);
     scan_all(blocks, width, b, counts, cells, waiting, top);
 }

@@ -8,7 +8,7 @@ use native.Mathlib.Omega.{arith}
 use lib.Pow.{pow-lt, pow-add}
 use Rattle.rules.specs.Heap.{isBlocks}
 use Rattle.rules.proofs.Shape.{blocks-facts, blocks-power}
-use Rattle.chunks.specs.Search.{Part}
+use Rattle.chunk_walk.specs.Search.{Part}
 use Rattle.sections.proofs.SectionPlaces.{Place}
 
 -- a multiple of a power of two is one of every power that is not larger

@@ -6,7 +6,7 @@ ghost use Prim.Native.Nat.{ℕ, _*_, _^_, _≤_};
 ghost use lib.ListN.{length};
 ghost use Rattle.rules.specs.Heap.{isBlocks};
 ghost use Rattle.rules.specs.Sections.{figures, sufficesFrom};
-ghost use Rattle.chunks.specs.Search.{orElse};
+ghost use Rattle.chunk_walk.specs.Search.{orElse};
 ghost use Rattle.section_search.specs.Search.{Found};
 use blocks::Ref;
 use chunks::Searched;

@@ -8,9 +8,9 @@ use native.Mathlib.Nat.{zero-mod, add-mod-right}
 use native.Mathlib.Omega.{arith}
 use lib.Count.{leading-le}
 use lib.ListN.{getD}
-use Rattle.chunks.specs.Search.{judgedFree}
-use Rattle.chunks.proofs.Parts.{partOf}
-use Rattle.chunks.proofs.Walk.{Walked, size-positive, walked-start, walked-none, judged-true, judged-free, judged-used, ChunkAt, chunk-at, byte-inside, free-byte, used-byte, free-chunk, used-chunk}
+use Rattle.chunk_walk.specs.Search.{judgedFree}
+use Rattle.chunk_walk.proofs.Parts.{partOf}
+use Rattle.chunk_walk.proofs.Walk.{Walked, size-positive, walked-start, walked-none, judged-true, judged-free, judged-used, ChunkAt, chunk-at, byte-inside, free-byte, used-byte, free-chunk, used-chunk}
 use Rattle.chunks.proofs.lowest_chunk.Statement.{statement}
 use Rattle.chunks.proofs.lowest_chunk.Tie as tie
 

@@ -1,4 +1,4 @@
--- `chunks::chunk_size` meets its contract: `size` is a power of two, and the search for the exponent has come to its exponent.
+-- `chunk_sizes::chunk_size` meets its contract: `size` is a power of two, and the search for the exponent has come to its exponent.
 -- The measure is what is left to n.
 use mathlib.Core.Path.{_≡_, refl, sym, ap, _∙_}
 use Prim.Native.Nat.{ℕ, _≤_, _<_, _+_, _-_, _^_}
@@ -7,9 +7,9 @@ use native.Mathlib.Numerals.{add-one}
 use native.Mathlib.Omega.{arith}
 use lib.Pow.{pow-pos, pow-mono}
 use Rattle.rules.specs.Heap.{exponent, exponentFrom}
-use Rattle.chunks.proofs.Powers.{exponent-lt, exponent-start, exponent-next, exponent-here}
-use Rattle.chunks.proofs.chunk_size.Statement.{statement}
-use Rattle.chunks.proofs.chunk_size.Tie as tie
+use Rattle.chunk_sizes.proofs.Powers.{exponent-lt, exponent-start, exponent-next, exponent-here}
+use Rattle.chunk_sizes.proofs.chunk_size.Statement.{statement}
+use Rattle.chunk_sizes.proofs.chunk_size.Tie as tie
 
 abbrev Inv-loop : tie.InvT-loop
 Inv-loop n size₀ size = (k : ℕ) × (size ≡ 2 ^ k) × (k ≤ 16) × (exponentFrom (n - k) k n ≡ exponent n)

@@ -15,7 +15,7 @@ use Rattle.rules.specs.Store.{Work, work, countUp}
 use Rattle.counting.specs.Ready.{Planes}
 use Rattle.counting.specs.Stack.{topFirst, uncounted, remaining, Stack, Worked}
 use Rattle.counting.proofs.Worked.{unchanged, kept, push-room, pushed, worked-next}
-use Rattle.marking.specs.Mark.{visit, visitEach}
+use Rattle.visiting.specs.Visit.{visit, visitEach}
 
 module _ (N w : ℕ) (counts waiting : List ℕ) (v top : ℕ) (p : Planes N w counts) (s : Stack uncounted N w counts waiting top) where
   -- what a visit has to leave

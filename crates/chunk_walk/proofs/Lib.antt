@@ -1,4 +1,3 @@
 pub mod LowestChunk
 pub mod Parts
-pub mod Powers
 pub mod Walk

@@ -15,10 +15,10 @@ use borrow.Author.Tests.{le-leb, leb-true, eq-eqb, eqb-true}
 use Rattle.bitmap.specs.Bit.{bitAt}
 use Rattle.rules.proofs.Tests.{and-true}
 use Rattle.rules.proofs.Chunks.{Free, Used}
-use Rattle.chunks.specs.Search.{judgedFree, Part, lowestIn, Search}
-use Rattle.chunks.proofs.Parts.{Tail, partOf, part-whole, part-free, part-used, byte-free, byte-full}
-use Rattle.chunks.proofs.Powers.{exponent-lt}
-use Rattle.chunks.proofs.LowestChunk.{Missed, multiples-apart, sum-multiple, multiple-lower, search-found, search-none}
+use Rattle.chunk_walk.specs.Search.{judgedFree, Part, lowestIn, Search}
+use Rattle.chunk_walk.proofs.Parts.{Tail, partOf, part-whole, part-free, part-used, byte-free, byte-full}
+use Rattle.chunk_sizes.proofs.Powers.{exponent-lt}
+use Rattle.chunk_walk.proofs.LowestChunk.{Missed, multiples-apart, sum-multiple, multiple-lower, search-found, search-none}
 
 -- `looks` blocks are looked at, the free stretch that ends there is `stretch` blocks long, and no chunk that ends before block `judged` is free
 pub record Walked (from to : ℕ) (a : List ℕ) (size looks stretch judged : ℕ) : Type 0 where

@@ -12,7 +12,7 @@ use Rattle.bitmap.specs.Bit.{bitOf, bitAt}
 use Rattle.bitmap.proofs.Bits.{bit-zero, bit-ones}
 use Rattle.bitmap.proofs.Maps.{bit-of-byte}
 use Rattle.rules.proofs.Chunks.{Free}
-use Rattle.chunks.proofs.LowestChunk.{multiples-apart}
+use Rattle.chunk_walk.proofs.LowestChunk.{multiples-apart}
 
 -- ---- the byte that starts at block p
 

@@ -1,13 +1,13 @@
--- `chunks::is_judged_free` meets its contract: the mask of a power of two leaves the remainder.
+-- `chunk_walk::is_judged_free` meets its contract: the mask of a power of two leaves the remainder.
 use mathlib.Core.Path.{_≡_, sym, ap, _∙_}
 use Prim.Native.Nat.{ℕ, _-_, _%_}
 use native.Mathlib.Omega.{arith}
 use lib.Bits.{bitAnd, and-mask}
 use lib.Pow.{pow-pos}
 use borrow.Author.Tests.{lt-leb, le-leb}
-use Rattle.chunks.specs.Search.{judgedFree}
-use Rattle.chunks.proofs.is_judged_free.Statement.{statement}
-use Rattle.chunks.proofs.is_judged_free.Tie as tie
+use Rattle.chunk_walk.specs.Search.{judgedFree}
+use Rattle.chunk_walk.proofs.is_judged_free.Statement.{statement}
+use Rattle.chunk_walk.proofs.is_judged_free.Tie as tie
 
 returns : tie.Need-returns
 unfolding judgedFree

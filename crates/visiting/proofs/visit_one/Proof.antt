@@ -1,10 +1,10 @@
--- `marking::visit_one` meets its contract: each return is a law of `visit`.
+-- `visiting::visit_one` meets its contract: each return is a law of `visit`.
 use Prim.Native.Nat.{_<_}
 use native.Mathlib.Omega.{arith}
 use borrow.Author.Needs.{needs}
-use Rattle.marking.proofs.Visits.{visit-none, visit-past, room-to-push, visit-first, visit-again, visit-stuck}
-use Rattle.marking.proofs.visit_one.Statement.{statement}
-use Rattle.marking.proofs.visit_one.Tie as tie
+use Rattle.visiting.proofs.Visits.{visit-none, visit-past, room-to-push, visit-first, visit-again, visit-stuck}
+use Rattle.visiting.proofs.visit_one.Statement.{statement}
+use Rattle.visiting.proofs.visit_one.Tie as tie
 
 returns : tie.Need-returns
 returns c = search visit-none

@@ -11,7 +11,7 @@ use lib.Pow.{pow-pos, mod-mod-pow}
 use Rattle.rules.specs.Heap.{chunkFree, lowestFrom, lowestFree}
 use Rattle.rules.proofs.Tests.{false-unless}
 use Rattle.rules.proofs.Chunks.{Free, Used, chunk-free, free-chunk, free-not-used}
-use Rattle.chunks.specs.Search.{Part, lowestIn, Search}
+use Rattle.chunk_walk.specs.Search.{Part, lowestIn, Search}
 
 -- ---- multiples, which chunks start and end at
 

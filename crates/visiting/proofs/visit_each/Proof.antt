@@ -1,14 +1,14 @@
--- `marking::visit_each` meets its contract: after i turns the counts and the stack are those that i visits give. The measure is
+-- `visiting::visit_each` meets its contract: after i turns the counts and the stack are those that i visits give. The measure is
 -- what is left of n.
 use mathlib.Core.Path.{_≡_, refl}
 use Prim.Native.Nat.{_≤_, _-_}
 use native.Mathlib.Omega.{arith}
 use Rattle.rules.specs.Store.{work}
 use Rattle.counting.specs.Stack.{topFirst, uncounted, remaining, Worked}
-use Rattle.marking.specs.Mark.{visitEach}
-use Rattle.marking.proofs.Visits.{marking-more}
-use Rattle.marking.proofs.visit_each.Statement.{statement}
-use Rattle.marking.proofs.visit_each.Tie as tie
+use Rattle.visiting.specs.Visit.{visitEach}
+use Rattle.visiting.proofs.Visits.{marking-more}
+use Rattle.visiting.proofs.visit_each.Statement.{statement}
+use Rattle.visiting.proofs.visit_each.Tie as tie
 
 abbrev Inv-loop : tie.InvT-loop
 Inv-loop blocks width counts₀ refs waiting₀ j n top t₀ i₀ counts waiting t i =
