@@ -50,8 +50,11 @@ abbrev rule-6 : tie.Start → Bool
 rule-6 s = someBelow (badCount (s .args .blocks) (s .args .width) (whole s)) (s .args .blocks)
 
 -- where the code starts from
+abbrev entry : tie.After-shared-slice-known7 → tie.Start
+entry c = c .before .before .before .before .before .before .before
+
 abbrev start-1 : tie.After-has-end-on-free → tie.Start
-start-1 c = c .before .before .before .before .before .before .before .before
+start-1 c = entry (c .before)
 
 abbrev start-2 : tie.After-has-open-end → tie.Start
 start-2 c = start-1 (c .before .before)
@@ -115,7 +118,7 @@ fails-6 c = sym (test-6 (c .before)) ∙ c .if6 .left
 -- ---- the needs
 
 has-end-on-free-requires : tie.Need-has-end-on-free-requires
-has-end-on-free-requires c κs = let len = right (c .before .before .before .before .before .before .before) in omega arith
+has-end-on-free-requires c κs = let len = right (entry c) in omega arith
 
 returns : tie.Need-returns
 unfolding damage firstNumber

@@ -11,9 +11,12 @@ use Rattle.dispatch.proofs.Reading.{check-promise, look-promise, free-p
 use Rattle.dispatch.proofs.step.Statement.{statement}
 use Rattle.dispatch.proofs.step.Tie as tie
 
--- the places: the entry, and in each arm the call that has just returned
+-- the places: the entry, the arm of the format, and in each arm the call that has just returned
 abbrev entry : tie.After-slice-known7 → tie.Start
 entry c = c .before .before .before .before .before .before .before
+
+abbrev format-chosen : tie.After-format-arg7 → tie.At-match-keys1
+format-chosen c = c .before .before .before .before .before .before .before
 
 abbrev formatted : tie.After-slice-known14 → tie.After-format
 formatted c = c .before .before .before .before .before .before .before .before .before .before .before .before .before .before
@@ -34,7 +37,7 @@ abbrev returned : tie.After-slice-known47 → tie.After-return-roots
 returned c = c .before .before .before .before .before .before .before .before .before .before .before .before .before .before
 
 format-requires : tie.Need-format-requires
-format-requires c κs = entry (c .before .before .before .before .before .before .before .before) .pre .undamaged .intact .right-shape
+format-requires c κs = entry (format-chosen c .before) .pre .undamaged .intact .right-shape
 
 acceptance-requires : tie.Need-acceptance-requires
 acceptance-requires c κs = search needs
@@ -79,8 +82,7 @@ returns : tie.Need-returns
 unfolding decoded
 returns c =
     let called = formatted c in
-    stepped-as _ _ 0 _ _ _ (omega arith) (called .before .before .before .before .before .before .before .before .match .keys1)
-    (called .format .ensures)
+    stepped-as _ _ 0 _ _ _ (omega arith) (format-chosen (called .before) .match .keys1) (called .format .ensures)
 
 returns-2 : tie.Need-returns-2
 unfolding decoded
@@ -93,29 +95,29 @@ returns-3 : tie.Need-returns-3
 unfolding decoded
 returns-3 c =
     let called = allocated c in
-    stepped-as _ _ 2 _ _ _ (omega arith) (called .before .before .before .before .before .before .before .before .match .keys3)
-    (called .allocate .ensures .promise)
+    let chosen = called .before .before .before .before .before .before .before .before in
+    stepped-as _ _ 2 _ _ _ (omega arith) (chosen .match .keys3) (called .allocate .ensures .promise)
 
 returns-4 : tie.Need-returns-4
 unfolding decoded
 returns-4 c =
     let called = root-stored c in
-    stepped-as _ _ 3 _ _ _ (omega arith) (called .before .before .before .before .before .before .before .before .match .keys4)
-    (called .store-root .ensures)
+    let chosen = called .before .before .before .before .before .before .before .before in
+    stepped-as _ _ 3 _ _ _ (omega arith) (chosen .match .keys4) (called .store-root .ensures)
 
 returns-5 : tie.Need-returns-5
 unfolding decoded
 returns-5 c =
     let called = cell-stored c in
-    stepped-as _ _ 4 _ _ _ (omega arith) (called .before .before .before .before .before .before .before .before .match .keys5)
-    (called .store-cell .ensures)
+    let chosen = called .before .before .before .before .before .before .before .before in
+    stepped-as _ _ 4 _ _ _ (omega arith) (chosen .match .keys5) (called .store-cell .ensures)
 
 returns-6 : tie.Need-returns-6
 unfolding decoded
 returns-6 c =
     let called = collected c in
-    stepped-as _ _ 5 _ _ _ (omega arith) (called .before .before .before .before .before .before .before .before .match .keys6)
-    (called .collect .ensures)
+    let chosen = called .before .before .before .before .before .before .before .before in
+    stepped-as _ _ 5 _ _ _ (omega arith) (chosen .match .keys6) (called .collect .ensures)
 
 returns-7 : tie.Need-returns-7
 unfolding decoded
@@ -135,8 +137,8 @@ returns-9 : tie.Need-returns-9
 unfolding decoded
 returns-9 c =
     let called = returned c in
-    stepped-as _ _ 8 _ _ _ (omega arith) (called .before .before .before .before .before .before .before .before .match .keys9)
-    (called .return-roots .ensures)
+    let chosen = called .before .before .before .before .before .before .before .before in
+    stepped-as _ _ 8 _ _ _ (omega arith) (chosen .match .keys9) (called .return-roots .ensures)
 
 returns-10 : tie.Need-returns-10
 returns-10 c =

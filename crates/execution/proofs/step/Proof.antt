@@ -9,28 +9,28 @@ use Rattle.execution.proofs.step.Tie as tie
 abbrev acted : tie.After-slice-known14 → tie.After-act
 acted c = c .before .before .before .before .before .before .before .before .before .before .before .before .before .before
 
-abbrev planned-at : tie.After-act → tie.After-plan-of
-planned-at c = c .before .before .before .before .before .before .before .before
+abbrev planned-at : tie.After-act-arg7 → tie.After-plan-of
+planned-at c = c .before .before .before .before .before .before .before
 
-abbrev start : tie.After-plan-of → tie.Start
-start c = c .before .before .before .before .before .before .before .before .before .before .before
+abbrev start : tie.After-plan-of-arg3 → tie.Start
+start c = c .before .before .before .before .before .before .before .before .before .before
 
 plan-of-requires : tie.Need-plan-of-requires
-plan-of-requires c κs = usable-readable _ _ _ (c .before .before .before .before .before .before .before .before .before .before .pre .0)
+plan-of-requires c κs = usable-readable _ _ _ (start c .pre .0)
 
 act-requires : tie.Need-act-requires
-act-requires c κs = start (c .before .before .before .before .before .before .before) .pre .0
+act-requires c κs = start (planned-at c .before) .pre .0
 
 noted-requires : tie.Need-noted-requires
 noted-requires c κs =
-    let pre = start (planned-at (acted c)) .pre in
+    let pre = start (planned-at (acted c .before) .before) .pre in
     can-note _ (usable-healthy _ _ _ (pre .0) .shape .blocks-max) _ _ (pre .1) _ _ _ (acted c .act .ensures)
 
 returns : tie.Need-returns
 returns c =
     let act = acted (c .before) in
-    let plan = planned-at act in
-    let pre = start plan .pre in
+    let plan = planned-at (act .before) in
+    let pre = start (plan .before) .pre in
     noted-stepped _ (usable-healthy _ _ _ (pre .0) .shape .blocks-max) _ _ (pre .1) _ _ _
     (planned _ _ _ _ (plan .plan-of .result) (plan .plan-of .ensures) (act .act .ensures)) _ (c .noted .ensures)
 

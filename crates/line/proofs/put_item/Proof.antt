@@ -6,20 +6,30 @@ use borrow.Author.Needs.{needs}
 use Rattle.line.proofs.put_item.Statement.{statement}
 use Rattle.line.proofs.put_item.Tie as tie
 
+-- the places: the start, and the number written
+abbrev start : tie.After-put-decimal-arg → tie.Start
+start c = c .before .before .before
+
+abbrev numbered : tie.After-put-text-arg → tie.After-put-decimal
+numbered c = c .before .before .before
+
 put-decimal-requires : tie.Need-put-decimal-requires
-put-decimal-requires c κs = omega (arith, decimal-short (c .before .before .before .args .n) (search needs))
+put-decimal-requires c κs = omega (arith, decimal-short (start c .args .n) (search needs))
 
 put-text-requires : tie.Need-put-text-requires
-put-text-requires c κs = omega (arith, decimal-short (c .before .before .before .before .before .before .before .args .n) (search needs), c .before .before .before .put-decimal .ensures .end-is)
+put-text-requires c κs =
+    omega (arith, decimal-short (start (numbered c .before) .args .n) (search needs), numbered c .put-decimal .ensures .end-is)
 
 same-length : tie.Need-same-length
 same-length c = search needs
 
 returns : tie.Need-returns
 returns c =
-    let short = decimal-short (c .before .before .before .before .before .before .before .before .before .before .args .n) (search needs) in (
-      put-both (omega arith) (c .before .before .before .before .before .before .put-decimal .ensures) (c .before .before .put-text .ensures),
-      omega (arith, c .before .before .before .before .before .before .put-decimal .ensures .end-is, c .before .before .put-text .ensures .end-is),
+    let text = c .before .before in
+    let number = numbered (text .before) in
+    let short = decimal-short (start (number .before) .args .n) (search needs) in (
+      put-both (omega arith) (number .put-decimal .ensures) (text .put-text .ensures),
+      omega (arith, number .put-decimal .ensures .end-is, text .put-text .ensures .end-is),
     )
 
 pub put-item-spec : {M : Type 1} → statement M

@@ -8,15 +8,18 @@ use Rattle.placement.proofs.PlacingSteps.{ready-placed, place-done, pla
 use Rattle.placement.proofs.place.Statement.{statement}
 use Rattle.placement.proofs.place.Tie as tie
 
--- the places: the extent marked, the count written, the cells cleared, the root written
+-- the places: the start, the extent marked, the count written, the cells cleared, the root written
+abbrev start : tie.After-mark-extent → tie.Start
+start c = c .before .before .before .before .before .before .before .before .before .before .before .before
+
 abbrev marked : tie.After-set-count → tie.After-mark-extent
 marked c = c .before .before .before .before .before .before .before .before
 
 abbrev counted : tie.After-clear-cells → tie.After-set-count
 counted c = c .before .before .before .before
 
-abbrev cleared : tie.After-put-root → tie.After-clear-cells
-cleared c = c .before .before .before .before .before .before .before .before .before .before
+abbrev cleared : tie.After-put-root-arg7 → tie.After-clear-cells
+cleared c = c .before .before .before .before .before .before .before .before .before
 
 abbrev put : tie.After-slice-known19 → tie.After-put-root
 put c = c .before .before .before .before .before .before .before .before .before .before .before .before .before .before
@@ -44,22 +47,22 @@ add-put-root c = search needs
 
 cast-put-root : tie.Need-cast-put-root
 cast-put-root c =
-    let pre = marked (counted (c .before .before .before .before .before .before .before .before .before)) .before .before .before .before .before .before .before .before .before .before .before .before .pre in
+    let pre = start (marked (counted (cleared c))) .pre in
     omega (arith, pre .1, pre .2, pre .0 .planes .most)
 
 put-root-requires : tie.Need-put-root-requires
 put-root-requires c κs =
-    let clear = c .before .before .before .before .before .before .before .before .before in
+    let clear = cleared c in
     let count = counted clear in
     let extent = marked count .mark-extent .ensures in
-    let pre = marked count .before .before .before .before .before .before .before .before .before .before .before .before .pre in (
+    let pre = start (marked count) .pre in (
       ready-placed _ _ _ _ _ _ _ _ _ _ _ _ _ _ _ (extent .0) (extent .1) (count .set-count .ensures) (clear .clear-cells .ensures) _ (extent .2) (pre .0),
       pre .3,
     )
 
 returns : tie.Need-returns
 returns c =
-    let clear = cleared (put c) in
+    let clear = cleared (put c .before) in
     let count = counted clear in
     let extent = marked count .mark-extent .ensures in
     let counts = count .set-count .ensures in
@@ -83,11 +86,11 @@ place-spec =
     add-put-root
     cast-put-root
     put-root-requires
-    (λ c. put c .put-root .kept .1 .1 .0 ∙ marked (counted (cleared (put c))) .mark-extent .kept .1 .0)
-    (λ c. put c .put-root .kept .1 .1 .1 .0 ∙ marked (counted (cleared (put c))) .mark-extent .kept .1 .1 .0)
-    (λ c. put c .put-root .kept .1 .1 .1 .1 .0 ∙ counted (cleared (put c)) .set-count .kept .0)
-    (λ c. put c .put-root .kept .1 .1 .1 .1 .1 .0 ∙ cleared (put c) .clear-cells .kept .0)
+    (λ c. put c .put-root .kept .1 .1 .0 ∙ marked (counted (cleared (put c .before))) .mark-extent .kept .1 .0)
+    (λ c. put c .put-root .kept .1 .1 .1 .0 ∙ marked (counted (cleared (put c .before))) .mark-extent .kept .1 .1 .0)
+    (λ c. put c .put-root .kept .1 .1 .1 .1 .0 ∙ counted (cleared (put c .before)) .set-count .kept .0)
+    (λ c. put c .put-root .kept .1 .1 .1 .1 .1 .0 ∙ cleared (put c .before) .clear-cells .kept .0)
     (λ c. put c .put-root .kept .1 .1 .1 .1 .1 .1 .0)
     (λ c. put c .put-root .kept .1 .1 .1 .1 .1 .1 .1 .0)
-    (λ c. put c .put-root .kept .1 .1 .1 .1 .1 .1 .1 .1 .0 ∙ marked (counted (cleared (put c))) .mark-extent .kept .1 .1 .1 .0)
+    (λ c. put c .put-root .kept .1 .1 .1 .1 .1 .1 .1 .1 .0 ∙ marked (counted (cleared (put c .before))) .mark-extent .kept .1 .1 .1 .0)
     returns)

@@ -23,8 +23,8 @@ first c = c .before .before .before .before .before .before .before .before .bef
 abbrev only : tie.Then1 → tie.After-allocate
 only c = c .before .before .before .before .before .before .before .before .before .before .before .before .before .before .before
 
-abbrev start : tie.After-allocate → tie.Start
-start c = c .before .before .before .before .before .before .before .before .before .before .before .before .before .before .before
+abbrev start : tie.After-allocate-arg7 → tie.Start
+start c = c .before .before .before .before .before .before .before .before .before .before .before .before .before .before
 
 -- those of an allocation that was tried twice, from its return
 abbrev last-try : tie.After-done-after2 → tie.After-allocate2
@@ -37,7 +37,7 @@ abbrev first-try : tie.After-done-after2 → tie.After-allocate
 first-try c = first (none-free (collection c .before))
 
 allocate-requires : tie.Need-allocate-requires
-allocate-requires c κs = c .before .before .before .before .before .before .before .before .before .before .before .before .before .before .pre
+allocate-requires c κs = start c .pre
 
 done-after-requires : tie.Need-done-after-requires
 done-after-requires c κs = search needs
@@ -45,28 +45,28 @@ done-after-requires c κs = search needs
 returns : tie.Need-returns
 returns c =
     let try = only (c .before) in
-    rw (c .done-after .ensures) (acted-once _ _ _ (start try .pre) _ _ _ _ (try .allocate .ensures) (c .before .if1 .taken))
+    rw (c .done-after .ensures) (acted-once _ _ _ (start (try .before) .pre) _ _ _ _ (try .allocate .ensures) (c .before .if1 .taken))
 
 collect-requires : tie.Need-collect-requires
 collect-requires c κs =
     let try = first (none-free c) in
-    usable-kept _ _ _ (start try .pre) _ _ _ (try .allocate .ensures .promise)
+    usable-kept _ _ _ (start (try .before) .pre) _ _ _ (try .allocate .ensures .promise)
 
 allocate-requires-2 : tie.Need-allocate-requires-2
 allocate-requires-2 c κs =
     let try = first (none-free (forced c .before)) in
-    usable-kept _ _ _ (usable-kept _ _ _ (start try .pre) _ _ _ (try .allocate .ensures .promise)) _ _ _ (forced c .collect .ensures)
+    usable-kept _ _ _ (usable-kept _ _ _ (start (try .before) .pre) _ _ _ (try .allocate .ensures .promise)) _ _ _ (forced c .collect .ensures)
 
 done-after-requires-2 : tie.Need-done-after-requires-2
 done-after-requires-2 c κs =
     let again = forced (second c .before) in
     let try = first (none-free (again .before)) in
-    freed-fits _ _ _ (start try .pre) _ _ _ _ (try .allocate .ensures) _ _ (again .collect .ensures) _ _ (second c .allocate2 .ensures)
+    freed-fits _ _ _ (start (try .before) .pre) _ _ _ _ (try .allocate .ensures) _ _ (again .collect .ensures) _ _ (second c .allocate2 .ensures)
 
 returns-2 : tie.Need-returns-2
 returns-2 c =
     rw (c .done-after2 .ensures)
-    (acted-twice _ _ _ (start (first-try c) .pre) _ _ _ _ (first-try c .allocate .ensures) _ _ (collection c .collect .ensures)
+    (acted-twice _ _ _ (start (first-try c .before) .pre) _ _ _ _ (first-try c .allocate .ensures) _ _ (collection c .collect .ensures)
     _ _ (last-try c .allocate2 .ensures) (none-free (collection c .before) .if1 .left))
 
 pub allocate-spec : {M : Type 1} → statement M

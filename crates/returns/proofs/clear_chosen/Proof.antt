@@ -5,9 +5,12 @@ use Rattle.returns.proofs.ReturnAnswer.{turn-none, zero-passes, turn-on
 use Rattle.returns.proofs.clear_chosen.Statement.{statement}
 use Rattle.returns.proofs.clear_chosen.Tie as tie
 
--- the places: the entry, and the root cleared
+-- the places: the entry, the root found chosen, the root cleared
 abbrev entry : tie.After-slice-known7 → tie.Start
 entry c = c .before .before .before .before .before .before .before
+
+abbrev chosen : tie.After-store-root-arg7 → tie.Else1
+chosen c = c .before .before .before .before .before .before .before
 
 abbrev cleared : tie.After-slice-known14 → tie.After-store-root
 cleared c = c .before .before .before .before .before .before .before .before .before .before .before .before .before .before
@@ -22,14 +25,14 @@ returns c = turn-none _ _ _ (entry (c .before) .pre .0) _ _ (c .if1 .taken)
 
 store-root-requires : tie.Need-store-root-requires
 store-root-requires c κs =
-    let start = entry (c .before .before .before .before .before .before .before .before) in
+    let start = entry (chosen c .before) in
     (start .pre .0, zero-passes _ _ _ (start .pre .1))
 
 returns-2 : tie.Need-returns-2
 returns-2 c =
-    let chosen = cleared c .before .before .before .before .before .before .before .before in
-    let pre = entry (chosen .before) .pre in
-    turn-one _ _ _ (pre .0) _ _ (pre .1) (omega (arith, chosen .if1 .left)) _ _ (cleared c .store-root .ensures)
+    let tested = chosen (cleared c .before) in
+    let pre = entry (tested .before) .pre in
+    turn-one _ _ _ (pre .0) _ _ (pre .1) (omega (arith, tested .if1 .left)) _ _ (cleared c .store-root .ensures)
 
 pub clear-chosen-spec : {M : Type 1} → statement M
 clear-chosen-spec =

@@ -22,20 +22,20 @@ abbrev μ-loop : tie.MeasureT-loop
     length roots₀ - r
 
 -- the places: the entry, a turn of the loop, its root seen to
-abbrev entry : tie.At-loop Inv-loop μ-loop → tie.Start Inv-loop μ-loop
-entry c = c .before .before .before .before .before .before .before .before
+abbrev entry : tie.After-slice-known7 Inv-loop μ-loop → tie.Start Inv-loop μ-loop
+entry c = c .before .before .before .before .before .before .before
 
-abbrev turn : tie.After-slice-known14 Inv-loop μ-loop → tie.In-loop Inv-loop μ-loop
-turn c = c .before .before .before .before .before .before .before .before .before .before .before .before .before .before .before .before .before .before .before .before .before .before
+abbrev turn : tie.After-clear-chosen-arg7 Inv-loop μ-loop → tie.In-loop Inv-loop μ-loop
+turn c = c .before .before .before .before .before .before .before
 
 abbrev seen : tie.After-slice-known14 Inv-loop μ-loop → tie.After-clear-chosen Inv-loop μ-loop
 seen c = c .before .before .before .before .before .before .before .before .before .before .before .before .before .before
 
 loop-holds : tie.Need-loop-holds Inv-loop μ-loop
-loop-holds c = progress-start _ _ _ _ (c .before .before .before .before .before .before .before .pre .0)
+loop-holds c = progress-start _ _ _ _ (entry c .pre .0)
 
 clear-chosen-requires : tie.Need-clear-chosen-requires Inv-loop μ-loop
-clear-chosen-requires c κs = (c .before .before .before .before .before .before .before .before .loop .inv .usable, omega arith)
+clear-chosen-requires c κs = (turn c .before .loop .inv .usable, omega arith)
 
 -- what was freed so far are blocks of the heap
 add-freed : tie.Need-add-freed Inv-loop μ-loop
@@ -45,7 +45,7 @@ add-freed c =
     omega (
       arith,
       made .ensures .blocks,
-      turn c .before .loop .inv .blocks,
+      turn (seen c .before) .before .loop .inv .blocks,
       zeros-le (made .last .1 .1 .0),
       shape .length-a,
       shape .whole-bytes,
@@ -54,18 +54,18 @@ add-freed c =
 
 add-r : tie.Need-add-r Inv-loop μ-loop
 add-r c =
-    let test = turn c in
+    let test = turn (seen c .before) in
     omega (arith, test .loop-test .taken, usable-healthy _ _ _ (test .before .loop .inv .usable) .shape .roots-max)
 
 loop-less : tie.Need-loop-less Inv-loop μ-loop
 loop-less c =
-    let test = turn c in
+    let test = turn (seen c .before) in
     omega (arith, test .loop-test .taken, test .before .loop .inv .roots-length)
 
 loop-again : tie.Need-loop-again Inv-loop μ-loop
 loop-again c =
     let made = seen c .clear-chosen in
-    let test = turn c in
+    let test = turn (seen c .before) in
     progress-next _ _ _ _ (test .loop-test .taken) (made .kept .1 .1 .1 .1 .1 .1 .0) (made .ensures) (test .before .loop .inv)
 
 acceptance-requires : tie.Need-acceptance-requires Inv-loop μ-loop
@@ -75,21 +75,21 @@ acceptance-requires c κs = search needs
 shaped-now :
     (c : tie.After-acceptance Inv-loop μ-loop)
     → let l = c .before .before .loop in
-    let args = entry (c .before .before) .args in
+    let args = entry (c .before .before .before) .args in
     Shaped (args .blocks) (args .width) (lentMemory (l .a) (l .b) (l .counts) (l .cells) (l .roots) (l .waiting) (l .sections))
 shaped-now c = usable-healthy _ _ _ (c .before .before .loop .inv .usable) .shape
 
 shaped-before :
     (c : tie.After-acceptance Inv-loop μ-loop)
-    → let args = entry (c .before .before) .args in
+    → let args = entry (c .before .before .before) .args in
     Shaped (args .blocks) (args .width)
     (lentMemory (args .a .now) (args .b .now) (args .counts .now) (args .cells .now) (args .roots .now) (args .waiting .now)
     (args .sections .now))
-shaped-before c = usable-healthy _ _ _ (entry (c .before .before) .pre .0) .shape
+shaped-before c = usable-healthy _ _ _ (entry (c .before .before .before) .pre .0) .shape
 
 returns : tie.Need-returns Inv-loop μ-loop
 returns c =
-    let pre = entry (c .before .before) .pre in
+    let pre = entry (c .before .before .before) .pre in
     progress-done _ _ _ _ _ (pre .0) (pre .1) (omega arith) (c .before .before .loop .inv) (c .acceptance .ensures)
 
 pub clear-roots-spec : {M : Type 1} → statement M

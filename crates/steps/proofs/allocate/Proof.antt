@@ -9,26 +9,29 @@ use borrow.Author.Needs.{needs}
 use Rattle.steps.proofs.allocate.Statement.{statement}
 use Rattle.steps.proofs.allocate.Tie as tie
 
--- the place where the work is done
+-- the places: the start, and the work done
+abbrev start : tie.After-allocate-reply-arg2 → tie.Start
+start c = c .before .before .before .before .before .before .before .before .before
+
 abbrev done : tie.After-slice-known14 → tie.After-allocate
 done c = c .before .before .before .before .before .before .before .before .before .before .before .before .before .before
 
 allocate-reply-requires : tie.Need-allocate-reply-requires
 allocate-reply-requires c κs =
-    let fit = usable-fit _ _ _ (c .before .before .before .before .before .before .before .before .before .pre) in
+    let fit = usable-fit _ _ _ (start c .pre) in
     let shape = fit .healthy .shape in
     (shaped-blocks _ _ _ shape, omega (arith, shape .length-a, shape .whole-bytes), fit .listed)
 
 returns : tie.Need-returns
 returns c =
-    let usable = c .before .before .before .before .before .before .before .before .before .before .before .pre in
+    let usable = start (c .before .before) .pre in
     allocate-refusing _ _ _ usable _ _ _ (c .if1 .taken) refl
     (allocate-refused _ _ _ _ _ (usable-fit _ _ _ usable) _ (c .before .allocate-reply .ensures) (c .if1 .taken))
 
 allocate-requires : tie.Need-allocate-requires
 allocate-requires c κs =
     let tested = c .before .before .before .before .before .before .before in
-    (tested .before .before .before .before .before .before .before .before .before .before .before .pre, allocate-accepts _ _ _ _ _ _ (tested .before .allocate-reply .ensures) (tested .if1 .left))
+    (start (tested .before .before) .pre, allocate-accepts _ _ _ _ _ _ (tested .before .allocate-reply .ensures) (tested .if1 .left))
 
 returns-2 : tie.Need-returns-2
 returns-2 c = search needs

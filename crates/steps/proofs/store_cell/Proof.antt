@@ -7,23 +7,26 @@ use borrow.Author.Needs.{needs}
 use Rattle.steps.proofs.store_cell.Statement.{statement}
 use Rattle.steps.proofs.store_cell.Tie as tie
 
--- the place where the work is done
+-- the places: the start, and the work done
+abbrev start : tie.After-store-cell-test-arg2 → tie.Start
+start c = c .before .before .before .before .before .before .before .before .before
+
 abbrev done : tie.After-slice-known12 → tie.After-store-cell
 done c = c .before .before .before .before .before .before .before .before .before .before .before .before
 
 store-cell-test-requires : tie.Need-store-cell-test-requires
 store-cell-test-requires c κs =
-    let shape = usable-healthy _ _ _ (c .before .before .before .before .before .before .before .before .before .pre) .shape in
+    let shape = usable-healthy _ _ _ (start c .pre) .shape in
     (omega (arith, shape .length-a, shape .whole-bytes), omega (arith, shape .length-b, shape .whole-bytes), shape .blocks-max)
 
 returns : tie.Need-returns
 returns c =
-    cell-refused _ _ _ _ _ _ (c .before .store-cell-test .ensures) _ (usable-fit _ _ _ (c .before .before .before .before .before .before .before .before .before .before .before .pre)) (c .if1 .taken)
+    cell-refused _ _ _ _ _ _ (c .before .store-cell-test .ensures) _ (usable-fit _ _ _ (start (c .before .before) .pre)) (c .if1 .taken)
 
 store-cell-requires : tie.Need-store-cell-requires
 store-cell-requires c κs =
     let tested = c .before .before .before .before .before .before in
-    (tested .before .before .before .before .before .before .before .before .before .before .before .pre, cell-goes-on _ _ _ _ _ _ (tested .before .store-cell-test .ensures) (tested .if1 .left))
+    (start (tested .before .before) .pre, cell-goes-on _ _ _ _ _ _ (tested .before .store-cell-test .ensures) (tested .if1 .left))
 
 returns-2 : tie.Need-returns-2
 returns-2 c = search needs

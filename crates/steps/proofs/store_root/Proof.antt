@@ -7,23 +7,26 @@ use borrow.Author.Needs.{needs}
 use Rattle.steps.proofs.store_root.Statement.{statement}
 use Rattle.steps.proofs.store_root.Tie as tie
 
--- the place where the work is done
+-- the places: the start, and the work done
+abbrev start : tie.After-store-root-test-arg3 → tie.Start
+start c = c .before .before .before .before .before .before .before .before .before .before
+
 abbrev done : tie.After-slice-known14 → tie.After-store-root
 done c = c .before .before .before .before .before .before .before .before .before .before .before .before .before .before
 
 store-root-test-requires : tie.Need-store-root-test-requires
 store-root-test-requires c κs =
-    let shape = usable-healthy _ _ _ (c .before .before .before .before .before .before .before .before .before .before .pre) .shape in
+    let shape = usable-healthy _ _ _ (start c .pre) .shape in
     (omega (arith, shape .length-a, shape .whole-bytes), omega (arith, shape .length-b, shape .whole-bytes))
 
 returns : tie.Need-returns
 returns c =
-    root-refused _ _ _ _ _ (c .before .store-root-test .ensures) _ (usable-fit _ _ _ (c .before .before .before .before .before .before .before .before .before .before .before .before .pre)) (c .if1 .taken)
+    root-refused _ _ _ _ _ (c .before .store-root-test .ensures) _ (usable-fit _ _ _ (start (c .before .before) .pre)) (c .if1 .taken)
 
 store-root-requires : tie.Need-store-root-requires
 store-root-requires c κs =
     let tested = c .before .before .before .before .before .before .before in
-    (tested .before .before .before .before .before .before .before .before .before .before .before .before .pre, root-goes-on _ _ _ _ _ (tested .before .store-root-test .ensures) (tested .if1 .left))
+    (start (tested .before .before) .pre, root-goes-on _ _ _ _ _ (tested .before .store-root-test .ensures) (tested .if1 .left))
 
 returns-2 : tie.Need-returns-2
 returns-2 c = search needs

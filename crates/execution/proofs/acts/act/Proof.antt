@@ -7,7 +7,22 @@ use Rattle.turns.proofs.Collections.{acted-collect}
 use Rattle.execution.proofs.acts.act.Statement.{statement}
 use Rattle.execution.proofs.acts.act.Tie as tie
 
--- the places: each arm's call made, from where the arm returns
+-- the places: the entry; each arm with its plan known, from where its call is made; that call made, from where the arm returns
+abbrev entry : tie.After-slice-known7 → tie.Start
+entry c = c .before .before .before .before .before .before .before
+
+abbrev allocating : tie.After-allocate-arg7 → tie.After-plan2
+allocating c = c .before .before .before .before .before .before .before .before
+
+abbrev root-storing : tie.After-store-root-arg7 → tie.After-plan3
+root-storing c = c .before .before .before .before .before .before .before .before
+
+abbrev cell-storing : tie.After-store-cell-arg7 → tie.After-plan4
+cell-storing c = c .before .before .before .before .before .before .before .before
+
+abbrev collecting : tie.After-collect-arg7 → tie.After-enum-told
+collecting c = c .before .before .before .before .before .before .before
+
 abbrev allocated : tie.After-slice-known14 → tie.After-allocate
 allocated c = c .before .before .before .before .before .before .before .before .before .before .before .before .before .before
 
@@ -27,55 +42,48 @@ enum-known-plan-2 : tie.Need-enum-known-plan-2
 enum-known-plan-2 c = search needs
 
 allocate-requires : tie.Need-allocate-requires
-allocate-requires c κs =
-    c .before .before .before .before .before .before .before .before .before .before .before .before .before .before .before .before .before .pre
+allocate-requires c κs = entry (allocating c .before .before) .pre
 
 enum-known-plan-3 : tie.Need-enum-known-plan-3
 enum-known-plan-3 c = search needs
 
 store-root-requires : tie.Need-store-root-requires
-store-root-requires c κs =
-    c .before .before .before .before .before .before .before .before .before .before .before .before .before .before .before .before .before .pre
+store-root-requires c κs = entry (root-storing c .before .before) .pre
 
 enum-known-plan-4 : tie.Need-enum-known-plan-4
 enum-known-plan-4 c = search needs
 
 store-cell-requires : tie.Need-store-cell-requires
-store-cell-requires c κs =
-    c .before .before .before .before .before .before .before .before .before .before .before .before .before .before .before .before .before .pre
+store-cell-requires c κs = entry (cell-storing c .before .before) .pre
 
 enum-told : tie.Need-enum-told
 enum-told c = search needs
 
 collect-requires : tie.Need-collect-requires
-collect-requires c κs =
-    c .before .before .before .before .before .before .before .before .before .before .before .before .before .before .before .before .pre
+collect-requires c κs = entry (collecting c .before .before) .pre
 
 returns : tie.Need-returns
 returns c = acted-plan _ (c .before .plan .given .1) (acted-stop _ _ _ _)
 
 returns-2 : tie.Need-returns-2
 returns-2 c =
-    let arm = allocated c .before .before .before .before .before .before .before .before .before in
+    let arm = allocating (allocated c .before) in
     acted-plan _ (arm .plan2 .given .1) (allocated c .allocate .ensures)
 
 returns-3 : tie.Need-returns-3
 returns-3 c =
-    let arm = root-stored c .before .before .before .before .before .before .before .before .before in
-    let start = arm .before .before .before .before .before .before .before .before .before in
-    acted-plan _ (arm .plan3 .given .1) (acted-root _ _ _ (start .pre) _ _ (root-stored c .store-root .ensures))
+    let arm = root-storing (root-stored c .before) in
+    acted-plan _ (arm .plan3 .given .1) (acted-root _ _ _ (entry (arm .before .before) .pre) _ _ (root-stored c .store-root .ensures))
 
 returns-4 : tie.Need-returns-4
 returns-4 c =
-    let arm = cell-stored c .before .before .before .before .before .before .before .before .before in
-    let start = arm .before .before .before .before .before .before .before .before .before in
-    acted-plan _ (arm .plan4 .given .1) (acted-cell _ _ _ (start .pre) _ _ _ (cell-stored c .store-cell .ensures))
+    let arm = cell-storing (cell-stored c .before) in
+    acted-plan _ (arm .plan4 .given .1) (acted-cell _ _ _ (entry (arm .before .before) .pre) _ _ _ (cell-stored c .store-cell .ensures))
 
 returns-5 : tie.Need-returns-5
 returns-5 c =
-    let arm = collected c .before .before .before .before .before .before .before .before in
-    let start = arm .before .before .before .before .before .before .before .before .before in
-    acted-plan _ (arm .enum-told .given .1) (acted-collect _ _ _ (start .pre) (collected c .collect .ensures))
+    let arm = collecting (collected c .before) in
+    acted-plan _ (arm .enum-told .given .1) (acted-collect _ _ _ (entry (arm .before .before) .pre) (collected c .collect .ensures))
 
 pub act-spec : {M : Type 1} → statement M
 act-spec =

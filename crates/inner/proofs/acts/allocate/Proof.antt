@@ -8,16 +8,19 @@ use borrow.Author.Needs.{needs}
 use Rattle.inner.proofs.acts.allocate.Statement.{statement}
 use Rattle.inner.proofs.acts.allocate.Tie as tie
 
--- the places: the work done, and unknown figures found anew
+-- the places, from the last back: unknown figures found anew, the work done, the start
 abbrev renewed : tie.After-telling → tie.After-renew
 renewed c = c .before .before .before
 
-abbrev done : tie.After-renew → tie.After-place
-done c = c .before .before .before .before .before .before .before .before .before .before .before .before .before .before .before .before .before
+abbrev done : tie.After-renew-arg2 → tie.After-place
+done c = c .before .before .before .before .before .before .before .before .before .before .before .before .before .before .before .before
+
+abbrev start : tie.After-place-arg7 → tie.Start
+start c = c .before .before .before .before .before .before .before .before .before .before .before .before .before .before
 
 place-requires : tie.Need-place-requires
 place-requires c κs =
-    let pre = c .before .before .before .before .before .before .before .before .before .before .before .before .before .before .pre in
+    let pre = start c .pre in
     let free = allocate-passed _ _ _ _ _ _ (pre .1) in
     (usable-ready _ _ _ (pre .0), free .some-blocks, free .inside, free .place)
 
@@ -26,14 +29,14 @@ telling-requires c κs = search needs
 
 renew-requires : tie.Need-renew-requires
 renew-requires c κs =
-    let work = c .before .before .before .before .before .before .before .before .before .before .before .before .before .before .before .before in
-    let shape = usable-healthy _ _ _ (work .before .before .before .before .before .before .before .before .before .before .before .before .before .before .before .pre .0) .shape in
+    let work = done c in
+    let shape = usable-healthy _ _ _ (start (work .before) .pre .0) .shape in
     (work .place .ensures .3, omega (arith, work .place .kept .1 .1 .0, shape .length-a, shape .whole-bytes))
 
 returns : tie.Need-returns
 returns c =
-    let work = done (renewed c) in
-    let pre = work .before .before .before .before .before .before .before .before .before .before .before .before .before .before .before .pre in
+    let work = done (renewed c .before) in
+    let pre = start (work .before) .pre in
     let placed = work .place .ensures in
     allocate-accepting _ _ _ (pre .0) _ _ _ (allocate-passed _ _ _ _ _ _ (pre .1)) _ _ _ (placed .0) (renewed c .renew .ensures) (placed .1)
     (placed .2) (c .telling .ensures)
@@ -45,11 +48,11 @@ allocate-spec =
     place-requires
     renew-requires
     telling-requires
-    (λ c. done (renewed c) .place .kept .1 .1 .0)
-    (λ c. done (renewed c) .place .kept .1 .1 .1 .0)
-    (λ c. done (renewed c) .place .kept .1 .1 .1 .1 .0)
-    (λ c. done (renewed c) .place .kept .1 .1 .1 .1 .1 .0)
-    (λ c. done (renewed c) .place .kept .1 .1 .1 .1 .1 .1 .0)
-    (λ c. done (renewed c) .place .kept .1 .1 .1 .1 .1 .1 .1 .0)
-    (λ c. renewed c .renew .kept .1 .1 .0 ∙ done (renewed c) .place .kept .1 .1 .1 .1 .1 .1 .1 .1 .0)
+    (λ c. done (renewed c .before) .place .kept .1 .1 .0)
+    (λ c. done (renewed c .before) .place .kept .1 .1 .1 .0)
+    (λ c. done (renewed c .before) .place .kept .1 .1 .1 .1 .0)
+    (λ c. done (renewed c .before) .place .kept .1 .1 .1 .1 .1 .0)
+    (λ c. done (renewed c .before) .place .kept .1 .1 .1 .1 .1 .1 .0)
+    (λ c. done (renewed c .before) .place .kept .1 .1 .1 .1 .1 .1 .1 .0)
+    (λ c. renewed c .renew .kept .1 .1 .0 ∙ done (renewed c .before) .place .kept .1 .1 .1 .1 .1 .1 .1 .1 .0)
     returns)

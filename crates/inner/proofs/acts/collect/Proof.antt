@@ -8,31 +8,34 @@ use borrow.Author.Needs.{needs}
 use Rattle.inner.proofs.acts.collect.Statement.{statement}
 use Rattle.inner.proofs.acts.collect.Tie as tie
 
--- the places: the work done, and unknown figures found anew
+-- the places, from the last back: unknown figures found anew, the work done, the start
 abbrev renewed : tie.After-acceptance → tie.After-renew
 renewed c = c .before .before .before
 
-abbrev done : tie.After-renew → tie.After-collect
-done c = c .before .before .before .before .before .before .before .before .before .before .before .before .before .before .before
+abbrev done : tie.After-renew-arg2 → tie.After-collect
+done c = c .before .before .before .before .before .before .before .before .before .before .before .before .before .before
+
+abbrev start : tie.After-collect-arg6 → tie.Start
+start c = c .before .before .before .before .before .before .before .before .before .before .before .before .before
 
 collect-requires : tie.Need-collect-requires
-collect-requires c κs = usable-ready _ _ _ (c .before .before .before .before .before .before .before .before .before .before .before .before .before .pre)
+collect-requires c κs = usable-ready _ _ _ (start c .pre)
 
 acceptance-requires : tie.Need-acceptance-requires
 acceptance-requires c κs = search needs
 
 renew-requires : tie.Need-renew-requires
 renew-requires c κs =
-    let work = c .before .before .before .before .before .before .before .before .before .before .before .before .before .before in
-    let shape = usable-healthy _ _ _ (work .before .before .before .before .before .before .before .before .before .before .before .before .before .before .pre) .shape in
+    let work = done c in
+    let shape = usable-healthy _ _ _ (start (work .before) .pre) .shape in
     (work .collect .ensures .2, omega (arith, work .collect .kept .1 .1 .0, shape .length-a, shape .whole-bytes))
 
 returns : tie.Need-returns
 returns c =
-    let work = done (renewed c) in
+    let work = done (renewed c .before) in
     let counts-lent = work .before .before .before .before .before .before .before .before .before .before .before in
     let freed = work .collect .ensures in
-    collect-promised _ _ _ (counts-lent .before .before .before .pre)
+    collect-promised _ _ _ (start (work .before) .pre)
     (record {
       a = bytes-given _ (counts-lent .before .before .slice-known .given);
       b = bytes-given _ (counts-lent .before .slice-known2 .given);
@@ -51,10 +54,10 @@ collect-spec =
     collect-requires
     renew-requires
     acceptance-requires
-    (λ c. done (renewed c) .collect .kept .1 .1 .0)
-    (λ c. done (renewed c) .collect .kept .1 .1 .1 .0)
-    (λ c. done (renewed c) .collect .kept .1 .1 .1 .1 .0)
-    (λ c. done (renewed c) .collect .kept .1 .1 .1 .1 .1 .0)
-    (λ c. done (renewed c) .collect .kept .1 .1 .1 .1 .1 .1 .1 .0)
-    (λ c. renewed c .renew .kept .1 .1 .0 ∙ done (renewed c) .collect .kept .1 .1 .1 .1 .1 .1 .1 .1 .0)
+    (λ c. done (renewed c .before) .collect .kept .1 .1 .0)
+    (λ c. done (renewed c .before) .collect .kept .1 .1 .1 .0)
+    (λ c. done (renewed c .before) .collect .kept .1 .1 .1 .1 .0)
+    (λ c. done (renewed c .before) .collect .kept .1 .1 .1 .1 .1 .0)
+    (λ c. done (renewed c .before) .collect .kept .1 .1 .1 .1 .1 .1 .1 .0)
+    (λ c. renewed c .renew .kept .1 .1 .0 ∙ done (renewed c .before) .collect .kept .1 .1 .1 .1 .1 .1 .1 .1 .0)
     returns)
