@@ -30,9 +30,12 @@ same-length c = search needs
 returns : tie.Need-returns
 unfolding refusalLine
 returns c =
-    let one = c .before .before .before .before .before .before .before .before .before .before .before .before .put-text .ensures in
-    let two = c .before .before .before .before .before .before .before .put-item .ensures in
-    let three = c .before .before .put-item2 .ensures in (
+    let at-three = c .before .before in
+    let at-two = at-three .before .before .before .before .before in
+    let at-one = at-two .before .before .before .before .before in
+    let one = at-one .put-text .ensures in
+    let two = at-two .put-item .ensures in
+    let three = at-three .put-item2 .ensures in (
       put-next (put-next one (omega (arith, one .end-is)) (two .0)) (omega (arith, one .end-is)) (three .0),
       omega (arith, one .end-is, two .1, three .1),
     )

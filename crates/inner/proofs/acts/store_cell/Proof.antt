@@ -8,32 +8,35 @@ use borrow.Author.Needs.{needs}
 use Rattle.inner.proofs.acts.store_cell.Statement.{statement}
 use Rattle.inner.proofs.acts.store_cell.Tie as tie
 
--- the places: the work done, and unknown figures found anew
+-- the places, from the last back: unknown figures found anew, the work done, the start
 abbrev renewed : tie.After-telling → tie.After-renew-after
 renewed c = c .before .before .before
 
-abbrev done : tie.After-renew-after → tie.After-store-cell
-done c = c .before .before .before .before .before .before .before .before .before .before .before .before .before .before .before
+abbrev done : tie.After-renew-after-arg2 → tie.After-store-cell
+done c = c .before .before .before .before .before .before .before .before .before .before .before .before .before .before
+
+abbrev start : tie.After-store-cell-arg6 → tie.Start
+start c = c .before .before .before .before .before .before .before .before .before .before .before .before .before
 
 mul-store-cell : tie.Need-mul-store-cell
 mul-store-cell c =
-    let pre = c .before .before .before .before .before .before .before .before .before .before .before .before .before .pre in
+    let pre = start c .pre in
     record { fits = omega (arith, cell-passed _ _ _ _ _ (pre .1) .cell-inside, usable-healthy _ _ _ (pre .0) .shape .blocks-max) }
 
 add-store-cell : tie.Need-add-store-cell
 add-store-cell c =
-    let pre = c .before .before .before .before .before .before .before .before .before .before .before .before .before .pre in
+    let pre = start c .pre in
     record { fits = omega (arith, cell-passed _ _ _ _ _ (pre .1) .cell-inside, usable-healthy _ _ _ (pre .0) .shape .blocks-max) }
 
 -- a reference is at most the number of blocks, so it fits a cell
 cast-store-cell : tie.Need-cast-store-cell
 cast-store-cell c =
-    let pre = c .before .before .before .before .before .before .before .before .before .before .before .before .before .pre in
+    let pre = start c .pre in
     omega (arith, cell-passed _ _ _ _ _ (pre .1) .inside, usable-healthy _ _ _ (pre .0) .shape .blocks-max)
 
 store-cell-requires : tie.Need-store-cell-requires
 store-cell-requires c κs =
-    let pre = c .before .before .before .before .before .before .before .before .before .before .before .before .before .pre in
+    let pre = start c .pre in
     let passed = cell-passed _ _ _ _ _ (pre .1) in
     (usable-ready _ _ _ (pre .0), passed .cell-inside, passed .inside)
 
@@ -42,16 +45,16 @@ telling-requires c κs = search needs
 
 renew-after-requires : tie.Need-renew-after-requires
 renew-after-requires c κs =
-    let work = c .before .before .before .before .before .before .before .before .before .before .before .before .before .before in
-    let usable = work .before .before .before .before .before .before .before .before .before .before .before .before .before .before .pre .0 in
+    let work = done c in
+    let usable = start (work .before) .pre .0 in
     let shape = usable-healthy _ _ _ usable .shape in
     let upkeep = work .store-cell .ensures .3 in
     (upkeep .coherent, omega (arith, work .store-cell .kept .1 .1 .0, shape .length-a, shape .whole-bytes), list-untouched _ _ _ usable _ _ _ upkeep)
 
 returns : tie.Need-returns
 returns c =
-    let work = done (renewed c) in
-    let pre = work .before .before .before .before .before .before .before .before .before .before .before .before .before .before .pre in
+    let work = done (renewed c .before) in
+    let pre = start (work .before) .pre in
     let stored = work .store-cell .ensures in
     cell-promised _ _ _ _ _ _ (cell-passed _ _ _ _ _ (pre .1)) (pre .0) _ _ _ _ (stored .0) (renewed c .renew-after .ensures) (stored .1) (stored .2)
     (c .telling .ensures)
@@ -66,10 +69,10 @@ store-cell-spec =
     store-cell-requires
     renew-after-requires
     telling-requires
-    (λ c. done (renewed c) .store-cell .kept .1 .1 .0)
-    (λ c. done (renewed c) .store-cell .kept .1 .1 .1 .0)
-    (λ c. done (renewed c) .store-cell .kept .1 .1 .1 .1 .0)
-    (λ c. done (renewed c) .store-cell .kept .1 .1 .1 .1 .1 .0)
-    (λ c. done (renewed c) .store-cell .kept .1 .1 .1 .1 .1 .1 .1 .0)
-    (λ c. renewed c .renew-after .kept .1 .1 .0 ∙ done (renewed c) .store-cell .kept .1 .1 .1 .1 .1 .1 .1 .1 .0)
+    (λ c. done (renewed c .before) .store-cell .kept .1 .1 .0)
+    (λ c. done (renewed c .before) .store-cell .kept .1 .1 .1 .0)
+    (λ c. done (renewed c .before) .store-cell .kept .1 .1 .1 .1 .0)
+    (λ c. done (renewed c .before) .store-cell .kept .1 .1 .1 .1 .1 .0)
+    (λ c. done (renewed c .before) .store-cell .kept .1 .1 .1 .1 .1 .1 .1 .0)
+    (λ c. renewed c .renew-after .kept .1 .1 .0 ∙ done (renewed c .before) .store-cell .kept .1 .1 .1 .1 .1 .1 .1 .1 .0)
     returns)
