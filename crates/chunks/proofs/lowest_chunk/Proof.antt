@@ -35,6 +35,16 @@ Inv-bytes a from to size looks₀ stretch₀ looks stretch =
 abbrev μ-bytes : tie.MeasureT-bytes
 μ-bytes a from to size looks₀ stretch₀ looks stretch = to - (from + looks)
 
+-- the places: from the loops inside a byte, and from a byte of free blocks, back to the byte's first block; and to the entry
+abbrev byte : tie.At-loop Inv-loop μ-loop Inv-stretches μ-stretches Inv-bytes μ-bytes → tie.Else1 Inv-loop μ-loop Inv-stretches μ-stretches Inv-bytes μ-bytes
+byte l = l .before .before .before .before .before
+
+abbrev start : tie.At-loop Inv-loop μ-loop Inv-stretches μ-stretches Inv-bytes μ-bytes → tie.Start Inv-loop μ-loop Inv-stretches μ-stretches Inv-bytes μ-bytes
+start l = byte l .before .before .before
+
+abbrev free-first : tie.Else6 Inv-loop μ-loop Inv-stretches μ-stretches Inv-bytes μ-bytes → tie.At-bytes Inv-loop μ-loop Inv-stretches μ-stretches Inv-bytes μ-bytes
+free-first c = c .before .before .before .before
+
 bytes-holds : tie.Need-bytes-holds Inv-loop μ-loop Inv-stretches μ-stretches Inv-bytes μ-bytes
 bytes-holds c =
     let s = c .before in
@@ -75,10 +85,10 @@ loop-holds : tie.Need-loop-holds Inv-loop μ-loop Inv-stretches μ-stretches Inv
 loop-holds c = (omega arith, c .stretches .inv .0, refl, c .stretches .inv .2, c .stretches .inv .3)
 
 bytes-less : tie.Need-bytes-less Inv-loop μ-loop Inv-stretches μ-stretches Inv-bytes μ-bytes
-bytes-less c = omega (arith, inside (c .before .before .before .before .before .before))
+bytes-less c = omega (arith, inside (byte (c .before)))
 
 bytes-again : tie.Need-bytes-again Inv-loop μ-loop Inv-stretches μ-stretches Inv-bytes μ-bytes
-bytes-again c = (omega (arith, c .before .before .before .before .before .before .before .bytes .inv .0), c .before .loop .inv .4)
+bytes-again c = (omega (arith, byte (c .before) .before .bytes .inv .0), c .before .loop .inv .4)
 
 cast-chunk : tie.Need-cast-chunk Inv-loop μ-loop Inv-stretches μ-stretches Inv-bytes μ-bytes
 cast-chunk c = omega arith
@@ -93,16 +103,16 @@ cast-chunk-2 : tie.Need-cast-chunk-2 Inv-loop μ-loop Inv-stretches μ-stretches
 cast-chunk-2 c = omega arith
 
 shl-chunk : tie.Need-shl-chunk Inv-loop μ-loop Inv-stretches μ-stretches Inv-bytes μ-bytes
-shl-chunk c = omega (arith, positive (c .before .before .before .before .before .before .before .before .before))
+shl-chunk c = omega (arith, positive (start (c .before)))
 
 chunk : (c : tie.In-loop Inv-loop μ-loop Inv-stretches μ-stretches Inv-bytes μ-bytes)
-    → let b = c .before .before .before .before .before .before .before in
+    → let b = byte (c .before) .before in
     let s = b .before .before in
     ChunkAt (s .args .from) (s .args .to) (s .args .size) (c .before .loop .looks) (s .args .from + b .bytes .looks) (c .before .loop .i)
 chunk c =
     let l = c .before in
-    let small = c .before .before .before .before in
-    let e = small .before .before in
+    let small = l .before .before .before in
+    let e = byte l in
     let b = e .before in
     let s = b .before .before in
     chunk-at (s .args .from) (s .args .to) (s .args .a .now) (s .args .size) (b .bytes .looks) (b .bytes .stretch) (s .pre .0) (b .bytes .inv .1) (b .bytes .inv .0) (e .if1 .left)
@@ -117,18 +127,18 @@ add-looks c = omega (arith, chunk c .inside)
 cast-stretch : tie.Need-cast-stretch Inv-loop μ-loop Inv-stretches μ-stretches Inv-bytes μ-bytes
 cast-stretch c =
     let l = c .before .before in
-    let b = l .before .before .before .before .before .before in
+    let b = byte l .before in
     let s = b .before .before in
     omega (arith, leading-le 8 (partOf (getD (s .args .a .now) ((s .args .from + b .bytes .looks) / 8) 0) (l .loop .i) (s .args .size)))
 
 stretches-less : tie.Need-stretches-less Inv-loop μ-loop Inv-stretches μ-stretches Inv-bytes μ-bytes
-stretches-less c = omega (arith, chunk (c .before) .within, positive (c .before .before .before .before .before .before .before .before .before .before))
+stretches-less c = omega (arith, chunk (c .before) .within, positive (start (c .before .before)))
 
 stretches-again : tie.Need-stretches-again Inv-loop μ-loop Inv-stretches μ-stretches Inv-bytes μ-bytes
 stretches-again c =
     let i = c .before in
     let l = i .before in
-    let b = l .before .before .before .before .before .before in
+    let b = byte l .before in
     let s = b .before .before in (
       chunk i .within,
       omega arith,
@@ -140,26 +150,26 @@ stretches-again c =
 -- where it is free, the stretch is longer by a chunk
 longer : (c : tie.Else4 Inv-loop μ-loop Inv-stretches μ-stretches Inv-bytes μ-bytes)
     → let l = c .before .before in
-    let s = l .before .before .before .before .before .before .before .before in
+    let s = start l in
     Walked (s .args .from) (s .args .to) (s .args .a .now) (s .args .size) (l .loop .looks + s .args .size) (l .loop .stretch + s .args .size)
     (s .args .from + (l .loop .looks + s .args .size))
 longer c =
     let i = c .before in
     let l = i .before in
-    let b = l .before .before .before .before .before .before in
+    let b = byte l .before in
     let s = b .before .before in
     free-chunk (s .args .from) (s .args .to) (s .args .a .now) (s .args .size) (l .loop .looks) (l .loop .stretch) (s .args .from + b .bytes .looks) (l .loop .i) (l .loop .inv .4) (chunk i)
     (c .if4 .left)
 
 longer-on : (c : tie.Else4 Inv-loop μ-loop Inv-stretches μ-stretches Inv-bytes μ-bytes)
     → let l = c .before .before in
-    let s = l .before .before .before .before .before .before .before .before in
+    let s = start l in
     judgedFree (s .args .from + (l .loop .looks + s .args .size)) (s .args .size) (l .loop .stretch + s .args .size) ≡ false
     → Walked (s .args .from) (s .args .to) (s .args .a .now) (s .args .size) (l .loop .looks + s .args .size) (l .loop .stretch + s .args .size)
     (s .args .from + (l .loop .looks + s .args .size) + 1)
 longer-on c judged =
     let l = c .before .before in
-    let s = l .before .before .before .before .before .before .before .before in
+    let s = start l in
     judged-used (s .args .from) (s .args .to) (s .args .a .now) (s .args .size) (l .loop .looks + s .args .size) (l .loop .stretch + s .args .size) (longer c) judged
 
 add-stretch : tie.Need-add-stretch Inv-loop μ-loop Inv-stretches μ-stretches Inv-bytes μ-bytes
@@ -169,7 +179,7 @@ add-is-judged-free : tie.Need-add-is-judged-free Inv-loop μ-loop Inv-stretches 
 add-is-judged-free c = omega (arith, longer c .inside)
 
 is-judged-free-requires : tie.Need-is-judged-free-requires Inv-loop μ-loop Inv-stretches μ-stretches Inv-bytes μ-bytes
-is-judged-free-requires c κs = power (c .before .before .before .before .before .before .before .before .before .before)
+is-judged-free-requires c κs = power (start (c .before .before))
 
 add-at : tie.Need-add-at Inv-loop μ-loop Inv-stretches μ-stretches Inv-bytes μ-bytes
 add-at c = omega (arith, longer (c .before .before) .inside)
@@ -178,13 +188,13 @@ sub-at : tie.Need-sub-at Inv-loop μ-loop Inv-stretches μ-stretches Inv-bytes �
 sub-at c = omega arith
 
 loop-less : tie.Need-loop-less Inv-loop μ-loop Inv-stretches μ-stretches Inv-bytes μ-bytes
-loop-less c = omega (arith, chunk (c .before .before .before) .within, positive (c .before .before .before .before .before .before .before .before .before .before .before .before))
+loop-less c = omega (arith, chunk (c .before .before .before) .within, positive (start (c .before .before .before .before)))
 
 loop-again : tie.Need-loop-again Inv-loop μ-loop Inv-stretches μ-stretches Inv-bytes μ-bytes
 loop-again c =
     let i = c .before .before .before in
     let l = i .before in
-    let s = l .before .before .before .before .before .before .before .before in (
+    let s = start l in (
       omega arith,
       omega (arith, chunk i .within),
       omega arith,
@@ -225,7 +235,7 @@ bytes-again-2 c =
     )
 
 eight-free : (c : tie.Else6 Inv-loop μ-loop Inv-stretches μ-stretches Inv-bytes μ-bytes)
-    → let b = c .before .before .before .before in
+    → let b = free-first c in
     let s = b .before .before in
     Walked (s .args .from) (s .args .to) (s .args .a .now) (s .args .size) (b .bytes .looks + 8) (b .bytes .stretch + 8) (s .args .from + (b .bytes .looks + 8))
 eight-free c =
@@ -243,14 +253,14 @@ add-is-judged-free-2 : tie.Need-add-is-judged-free-2 Inv-loop μ-loop Inv-stretc
 add-is-judged-free-2 c = omega (arith, eight-free c .inside)
 
 is-judged-free-requires-2 : tie.Need-is-judged-free-requires-2 Inv-loop μ-loop Inv-stretches μ-stretches Inv-bytes μ-bytes
-is-judged-free-requires-2 c κs = power (c .before .before .before .before .before .before)
+is-judged-free-requires-2 c κs = power (free-first c .before .before)
 
 add-at-2 : tie.Need-add-at-2 Inv-loop μ-loop Inv-stretches μ-stretches Inv-bytes μ-bytes
 add-at-2 c = omega (arith, eight-free (c .before .before) .inside)
 
 sub-at-2 : tie.Need-sub-at-2 Inv-loop μ-loop Inv-stretches μ-stretches Inv-bytes μ-bytes
 sub-at-2 c =
-    let b = c .before .before .before .before .before .before in
+    let b = free-first (c .before .before) in
     let s = b .before .before in
     let judged = judged-true (s .args .from + (b .bytes .looks + 8)) (s .args .size) (b .bytes .stretch + 8) in
     omega (arith, eight-free (c .before .before) .within, judged (sym (c .before .is-judged-free2 .ensures) ∙ c .if7 .taken) .0)
@@ -260,7 +270,7 @@ bytes-less-3 c = omega (arith, eight-free (c .before .before) .inside)
 
 bytes-again-3 : tie.Need-bytes-again-3 Inv-loop μ-loop Inv-stretches μ-stretches Inv-bytes μ-bytes
 bytes-again-3 c =
-    let b = c .before .before .before .before .before .before in
+    let b = free-first (c .before .before) in
     let s = b .before .before in (
       omega (arith, b .bytes .inv .0),
       judged-used (s .args .from) (s .args .to) (s .args .a .now) (s .args .size) (b .bytes .looks + 8) (b .bytes .stretch + 8) (eight-free (c .before .before)) (sym (c .before .is-judged-free2 .ensures) ∙ c .if7 .left),
@@ -278,13 +288,13 @@ returns-2 : tie.Need-returns-2 Inv-loop μ-loop Inv-stretches μ-stretches Inv-b
 returns-2 c k e =
     let j = c .before .before in
     let l = j .before .before in
-    let s = l .before .before .before .before .before .before .before .before in
+    let s = start l in
     judged-free (s .args .from) (s .args .to) (s .args .a .now) (s .args .size) (l .loop .looks + s .args .size) (l .loop .stretch + s .args .size) (longer j) (s .pre .0)
     (sym (c .before .is-judged-free .ensures) ∙ c .if5 .taken) k e
 
 returns-3 : tie.Need-returns-3 Inv-loop μ-loop Inv-stretches μ-stretches Inv-bytes μ-bytes
 returns-3 c k e =
-    let b = c .before .before .before .before .before .before in
+    let b = free-first (c .before .before) in
     let s = b .before .before in
     judged-free (s .args .from) (s .args .to) (s .args .a .now) (s .args .size) (b .bytes .looks + 8) (b .bytes .stretch + 8) (eight-free (c .before .before)) (s .pre .0)
     (sym (c .before .is-judged-free2 .ensures) ∙ c .if7 .taken) k e

@@ -6,16 +6,25 @@ use Rattle.dropping.proofs.CountDown.{down-none, down-past, down-zero, 
 use Rattle.dropping.proofs.count_down.Statement.{statement}
 use Rattle.dropping.proofs.count_down.Tie as tie
 
+-- the places: the entry, v found not 0, its count read
+abbrev start : tie.Else1 → tie.Start
+start c = c .before .before .before
+
+abbrev some : tie.After-get-count → tie.Else1
+some c = c .before .before .before
+
+abbrev at-count : tie.Else4 → tie.After-get-count
+at-count c = c .before .before .before
+
 returns : tie.Need-returns
 returns c =
-    let start = c .before .before .before in
-    down-none _ _ _ _ _ _ (start .pre .0) (start .pre .1) (c .if1 .taken)
+    let pre = c .before .before .before .pre in
+    down-none _ _ _ _ _ _ (pre .0) (pre .1) (c .if1 .taken)
 
 returns-2 : tie.Need-returns-2
 returns-2 c =
-    let some = c .before in
-    let start = some .before .before .before in
-    down-past _ _ _ _ _ _ (start .pre .0) (start .pre .1) (some .if1 .left) (c .if2 .taken)
+    let pre = start (c .before) .pre in
+    down-past _ _ _ _ _ _ (pre .0) (pre .1) (c .before .if1 .left) (c .if2 .taken)
 
 sub-block : tie.Need-sub-block
 sub-block c = search needs
@@ -28,10 +37,10 @@ same-length c = search needs
 
 returns-3 : tie.Need-returns-3
 returns-3 c =
-    let some = c .before .before .before .before in
-    let start = some .before .before .before in
+    let named = some (c .before) in
+    let pre = start named .pre in
     let zero-there = sym (c .before .get-count .ensures .0) ∙ c .if3 .taken in
-    down-zero _ _ _ _ _ _ (start .pre .0) (start .pre .1) (some .if1 .left) (omega arith) zero-there
+    down-zero _ _ _ _ _ _ (pre .0) (pre .1) (named .if1 .left) (omega arith) zero-there
 
 capacity-of-requires : tie.Need-capacity-of-requires
 capacity-of-requires c κs = search needs
@@ -41,11 +50,10 @@ same-length-2 c = search needs
 
 returns-4 : tie.Need-returns-4
 returns-4 c =
-    let at-count = c .before .before .before in
-    let some = at-count .before .before .before in
-    let start = some .before .before .before in
-    down-stuck _ _ _ _ _ _ (start .pre .0) (start .pre .1) _ _ (omega arith)
-    (some .if1 .left) (at-count .get-count .ensures .0) (c .before .capacity-of .ensures .0) (c .if4 .taken)
+    let count = c .before .before .before in
+    let pre = start (some count) .pre in
+    down-stuck _ _ _ _ _ _ (pre .0) (pre .1) _ _ (omega arith)
+    (some count .if1 .left) (count .get-count .ensures .0) (c .before .capacity-of .ensures .0) (c .if4 .taken)
 
 sub-set-count : tie.Need-sub-set-count
 sub-set-count c = search needs
@@ -55,19 +63,17 @@ set-count-requires c κs = search needs
 
 -- past the fourth test the count is written one lower
 lowered-here : (c : tie.After-slice-known3) →
-    let at-count = c .before .before .before .before .before .before .before in
-    let args = at-count .before .before .before .before .before .before .args in
+    let count = at-count (c .before .before .before .before) in
+    let args = start (some count) .args in
     Lowered (args .blocks) (args .width) (args .counts .now) (args .waiting .now) (args .top) (args .v)
-    (at-count .get-count .result) (c .before .before .set-count .last .0)
+    (count .get-count .result) (c .before .before .set-count .last .0)
 lowered-here c =
     let at-test = c .before .before .before .before in
-    let at-zero = at-test .before .before in
-    let at-count = at-zero .before in
-    let some = at-count .before .before .before in
-    let start = some .before .before .before in
-    lowered _ _ _ _ _ _ (start .pre .0) (start .pre .1) _ _ (omega arith) (some .if1 .left)
-    (at-count .get-count .ensures .0) (at-test .before .capacity-of .ensures .0) _ (c .before .before .set-count .ensures)
-    (at-zero .if3 .left) (at-test .if4 .left)
+    let count = at-count at-test in
+    let pre = start (some count) .pre in
+    lowered _ _ _ _ _ _ (pre .0) (pre .1) _ _ (omega arith) (some count .if1 .left)
+    (count .get-count .ensures .0) (at-test .before .capacity-of .ensures .0) _ (c .before .before .set-count .ensures)
+    (at-test .before .before .if3 .left) (at-test .if4 .left)
 
 sub-waiting : tie.Need-sub-waiting
 sub-waiting c = search needs

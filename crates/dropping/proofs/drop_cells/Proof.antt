@@ -21,16 +21,23 @@ Inv-loop blocks width counts₀ cells₀ waiting₀ j n top t₀ i₀ counts cel
 abbrev μ-loop : tie.MeasureT-loop
 μ-loop blocks width counts₀ cells₀ waiting₀ j n top t₀ i₀ counts cells waiting t i = n - i
 
+-- the places: the entry, and a turn's beginning
+abbrev start : tie.After-slice-known3 Inv-loop μ-loop → tie.Start Inv-loop μ-loop
+start c = c .before .before .before
+
+abbrev turn : tie.After-count-down-arg2 Inv-loop μ-loop → tie.At-loop Inv-loop μ-loop
+turn c = c .before .before .before .before
+
 loop-holds : tie.Need-loop-holds Inv-loop μ-loop
 unfolding clearCells countDownEach
 loop-holds c =
-    let start = c .before .before .before in
-    (omega arith, refl, record { result = refl; planes = start .pre .0; stack = start .pre .1; left-is = refl })
+    let pre = start c .pre in
+    (omega arith, refl, record { result = refl; planes = pre .0; stack = pre .1; left-is = refl })
 
 -- the cells keep their number
-same-cells : (c : tie.At-loop Inv-loop μ-loop) → length (c .loop .cells) ≡ length (c .before .before .before .before .args .cells .now)
+same-cells : (c : tie.At-loop Inv-loop μ-loop) → length (c .loop .cells) ≡ length (start (c .before) .args .cells .now)
 same-cells c =
-    let args = c .before .before .before .before .args in
+    let args = start (c .before) .args in
     ap length (c .loop .inv .1) ∙ length-clear (args .cells .now) (args .j) (c .loop .i)
 
 add-v : tie.Need-add-v Inv-loop μ-loop
@@ -53,8 +60,7 @@ slice-write-cells c = omega (arith, same-cells (c .before .before))
 
 count-down-requires : tie.Need-count-down-requires Inv-loop μ-loop
 count-down-requires c κs =
-    let l = c .before .before .before .before in
-    let inv = l .loop .inv in
+    let inv = turn c .loop .inv in
     (inv .2 .planes, inv .2 .stack)
 
 add-i : tie.Need-add-i Inv-loop μ-loop
@@ -66,27 +72,27 @@ loop-less c = omega arith
 loop-again : tie.Need-loop-again Inv-loop μ-loop
 loop-again c =
     let called = c .before .before .before .before in
-    let l = called .before .before .before .before .before in
+    let l = turn (called .before) in
     let inv = l .loop .inv in
-    let args = l .before .before .before .before .args in (
+    let args = start (l .before) .args in (
       omega arith,
       ap (λ (x : List ℕ). set x (args .j + l .loop .i) 0) (inv .1) ∙ clear-more (args .cells .now) (args .j) (l .loop .i),
       each-more _ _ _ _ _ (l .loop .i) _ _ _ _ _ _ _ _ (inv .1) (inv .2) (called .count-down .ensures),
     )
 
 same-length : tie.Need-same-length Inv-loop μ-loop
-same-length c = c .before .loop .inv .2 .planes .length-is ∙ sym (c .before .before .before .before .before .pre .0 .length-is)
+same-length c = c .before .loop .inv .2 .planes .length-is ∙ sym (start (c .before .before) .pre .0 .length-is)
 
 same-length-2 : tie.Need-same-length-2 Inv-loop μ-loop
 same-length-2 c = same-cells (c .before)
 
 same-length-3 : tie.Need-same-length-3 Inv-loop μ-loop
-same-length-3 c = c .before .loop .inv .2 .stack .length-is ∙ sym (c .before .before .before .before .before .pre .1 .length-is)
+same-length-3 c = c .before .loop .inv .2 .stack .length-is ∙ sym (start (c .before .before) .pre .1 .length-is)
 
 returns : tie.Need-returns Inv-loop μ-loop
 returns c =
     let l = c .before .loop in
-    let done : l .i ≡ c .before .before .before .before .before .args .n = omega arith in
+    let done : l .i ≡ start (c .before .before) .args .n = omega arith in
     (rw (← done) (l .inv .2), rw (← done) (l .inv .1))
 
 pub drop-cells-spec : {M : Type 1} → statement M

@@ -13,20 +13,23 @@ sections c = c .before .before .before
 abbrev waiting : tie.After-acceptance → tie.After-clear-all3
 waiting c = sections c .before .before .before .before
 
-abbrev roots : tie.After-acceptance → tie.After-clear-all2
-roots c = waiting c .before .before .before .before
+abbrev roots : tie.After-clear-all3 → tie.After-clear-all2
+roots w = w .before .before .before .before
 
-abbrev cells : tie.After-acceptance → tie.After-clear-all
-cells c = roots c .before .before .before .before
+abbrev cells : tie.After-clear-all3 → tie.After-clear-all
+cells w = roots w .before .before .before .before
 
-abbrev counts : tie.After-acceptance → tie.After-fill-bytes3
-counts c = cells c .before .before .before .before
+abbrev counts : tie.After-clear-all3 → tie.After-fill-bytes3
+counts w = cells w .before .before .before .before
 
-abbrev b : tie.After-acceptance → tie.After-fill-bytes2
-b c = counts c .before .before .before .before
+abbrev b : tie.After-clear-all3 → tie.After-fill-bytes2
+b w = counts w .before .before .before .before
 
-abbrev a : tie.After-acceptance → tie.After-fill-bytes
-a c = b c .before .before .before .before
+abbrev a : tie.After-clear-all3 → tie.After-fill-bytes
+a w = b w .before .before .before .before
+
+abbrev start : tie.After-clear-all3 → tie.Start
+start w = a w .before .before .before .before .before .before .before .before .before
 
 fill-bytes-requires : tie.Need-fill-bytes-requires
 fill-bytes-requires c κs = search needs
@@ -48,7 +51,7 @@ clear-all-requires-3 c κs = search needs
 
 fill-free-requires : tie.Need-fill-free-requires
 fill-free-requires c κs =
-    let s = c .before .before .before .before .before .before .before .before .before .before .before .before .before .before .before .before .before .before .before .before .before .before .before .before .before .before .before .before .before .before .before .before in
+    let s = start (c .before .before .before) in
     let lent : Memory =
     lentMemory (s .args .a .now) (s .args .b .now) (s .args .counts .now) (s .args .cells .now) (s .args .roots .now) (s .args .waiting .now)
     (s .args .sections .now) in
@@ -60,13 +63,14 @@ acceptance-requires c κs = search needs
 
 returns : tie.Need-returns
 returns c =
-    format-done _ _ _ (a c .before .before .before .before .before .before .before .before .before .pre) _ (c .acceptance .ensures) _ _ _ _ _ _ _
-    (a c .fill-bytes .ensures)
-    (b c .fill-bytes2 .ensures)
-    (counts c .fill-bytes3 .ensures)
-    (cells c .clear-all .ensures)
-    (roots c .clear-all2 .ensures)
-    (waiting c .clear-all3 .ensures)
+    let w = waiting c in
+    format-done _ _ _ (start w .pre) _ (c .acceptance .ensures) _ _ _ _ _ _ _
+    (a w .fill-bytes .ensures)
+    (b w .fill-bytes2 .ensures)
+    (counts w .fill-bytes3 .ensures)
+    (cells w .clear-all .ensures)
+    (roots w .clear-all2 .ensures)
+    (w .clear-all3 .ensures)
     (sections c .fill-free .ensures)
 
 pub format-spec : {M : Type 1} → statement M
@@ -81,11 +85,11 @@ format-spec =
     clear-all-requires-3
     fill-free-requires
     acceptance-requires
-    (λ c. a c .fill-bytes .kept .0)
-    (λ c. b c .fill-bytes2 .kept .0)
-    (λ c. counts c .fill-bytes3 .kept .0)
-    (λ c. cells c .clear-all .kept .0)
-    (λ c. roots c .clear-all2 .kept .0)
+    (λ c. a (waiting c) .fill-bytes .kept .0)
+    (λ c. b (waiting c) .fill-bytes2 .kept .0)
+    (λ c. counts (waiting c) .fill-bytes3 .kept .0)
+    (λ c. cells (waiting c) .clear-all .kept .0)
+    (λ c. roots (waiting c) .clear-all2 .kept .0)
     (λ c. waiting c .clear-all3 .kept .0)
     (λ c. sections c .fill-free .kept .1 .0)
     returns)

@@ -9,8 +9,12 @@ use borrow.Author.Needs.{needs}
 use Rattle.plans.proofs.plan_of.Statement.{statement}
 use Rattle.plans.proofs.plan_of.Tie as tie
 
+-- where the code starts from
+abbrev start : tie.Else1 → tie.Start
+start c = c .before .before .before .before .before
+
 -- past the first test the unnamed fields are 0
-zero : (c : tie.Else1) → areZero (unnamed (c .before .before .before .before .before .args .f)) ≡ true
+zero : (c : tie.Else1) → areZero (unnamed (start c .args .f)) ≡ true
 zero c = sym (c .before .unnamed-are-zero .ensures) ∙ not-false _ (c .if1 .left)
 
 unnamed-are-zero-requires : tie.Need-unnamed-are-zero-requires

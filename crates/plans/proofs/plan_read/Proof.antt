@@ -6,6 +6,10 @@ use borrow.Author.Needs.{needs}
 use Rattle.plans.proofs.plan_read.Statement.{statement}
 use Rattle.plans.proofs.plan_read.Tie as tie
 
+-- where both roots were in range
+abbrev inside : tie.After-word → tie.Else2
+inside c = c .before .before
+
 returns : tie.Need-returns
 returns c = sym (read-target _ _ _ (c .if1 .taken))
 
@@ -22,22 +26,26 @@ word-requires : tie.Need-word-requires
 word-requires c κs = search needs
 
 returns-3 : tie.Need-returns-3
-returns-3 c = sym (read-empty _ _ _ (c .before .before .before .before .if1 .left) (c .before .before .before .if2 .left) (sym (c .before .word .ensures) ∙ c .if3 .taken))
+returns-3 c = sym (read-empty _ _ _ (inside (c .before) .before .if1 .left) (inside (c .before) .if2 .left) (sym (c .before .word .ensures) ∙ c .if3 .taken))
 
 sub-at : tie.Need-sub-at
 sub-at c = search needs
 
 object-size-requires : tie.Need-object-size-requires
-object-size-requires c κs = (c .before .before .before .before .before .before .before .before .pre .b-length, omega (arith, c .before .before .before .before .before .before .before .before .pre .named (c .before .before .before .before .before .before .before .before .args .f .s), c .before .word .ensures))
+object-size-requires c κs =
+    let start = c .before .before .before .before .before .before .before .before in
+    (start .pre .b-length, omega (arith, start .pre .named (start .args .f .s), c .before .word .ensures))
 
 mul-if4 : tie.Need-mul-if4
 mul-if4 c = search needs
 
 returns-4 : tie.Need-returns-4
 returns-4 c =
-    let size = rw (c .before .before .before .word .ensures) at (c .before .object-size .ensures .0) in
+    let some = c .before .before in
+    let owner = some .before in
+    let size = rw (owner .word .ensures) at (c .before .object-size .ensures .0) in
     sym
-    (read-past _ _ _ (c .before .before .before .before .before .before .if1 .left) (c .before .before .before .before .before .if2 .left) (λ z. c .before .before .if3 .left (c .before .before .before .word .ensures ∙ z))
+    (read-past _ _ _ (inside owner .before .if1 .left) (inside owner .if2 .left) (λ z. some .if3 .left (owner .word .ensures ∙ z))
     (omega (arith, size, c .if4 .taken)))
 
 mul-word-2 : tie.Need-mul-word-2
@@ -57,10 +65,13 @@ word-requires-2 c κs = search needs
 
 returns-5 : tie.Need-returns-5
 returns-5 c =
-    let size = rw (c .before .before .before .before .before .word .ensures) at (c .before .before .before .object-size .ensures .0) in
-    rw (c .word2 .ensures, c .before .before .before .before .before .word .ensures)
+    let sized = c .before .before .before in
+    let some = sized .before in
+    let owner = some .before in
+    let size = rw (owner .word .ensures) at (sized .object-size .ensures .0) in
+    rw (c .word2 .ensures, owner .word .ensures)
     (sym
-    (read-asked _ _ _ (c .before .before .before .before .before .before .before .before .if1 .left) (c .before .before .before .before .before .before .before .if2 .left) (λ z. c .before .before .before .before .if3 .left (c .before .before .before .before .before .word .ensures ∙ z))
+    (read-asked _ _ _ (inside owner .before .if1 .left) (inside owner .if2 .left) (λ z. some .if3 .left (owner .word .ensures ∙ z))
     (omega (arith, size, c .before .before .if4 .left))))
 
 pub plan-read-spec : {M : Type 1} → statement M

@@ -5,6 +5,10 @@ use borrow.Author.Needs.{needs}
 use Rattle.plans.proofs.plan_write.Statement.{statement}
 use Rattle.plans.proofs.plan_write.Tie as tie
 
+-- where both roots were in range
+abbrev inside : tie.After-word → tie.Else2
+inside c = c .before .before
+
 returns : tie.Need-returns
 returns c = sym (write-target _ _ (c .if1 .taken))
 
@@ -21,7 +25,7 @@ word-requires : tie.Need-word-requires
 word-requires c κs = search needs
 
 returns-3 : tie.Need-returns-3
-returns-3 c = sym (write-empty _ _ (c .before .before .before .before .if1 .left) (c .before .before .before .if2 .left) (sym (c .before .word .ensures) ∙ c .if3 .taken))
+returns-3 c = sym (write-empty _ _ (inside (c .before) .before .if1 .left) (inside (c .before) .if2 .left) (sym (c .before .word .ensures) ∙ c .if3 .taken))
 
 sub-t6 : tie.Need-sub-t6
 sub-t6 c = search needs
@@ -37,8 +41,10 @@ word-requires-2 c κs = search needs
 
 returns-4 : tie.Need-returns-4
 returns-4 c =
-    rw (c .word2 .ensures, c .before .before .before .word .ensures)
-    (sym (write-asked _ _ (c .before .before .before .before .before .before .if1 .left) (c .before .before .before .before .before .if2 .left) (λ z. c .before .before .if3 .left (c .before .before .before .word .ensures ∙ z))))
+    let some = c .before .before in
+    let owner = some .before in
+    rw (c .word2 .ensures, owner .word .ensures)
+    (sym (write-asked _ _ (inside owner .before .if1 .left) (inside owner .if2 .left) (λ z. some .if3 .left (owner .word .ensures ∙ z))))
 
 pub plan-write-spec : {M : Type 1} → statement M
 plan-write-spec =

@@ -58,11 +58,14 @@ pair-at-requires-2 c κs = search needs
 returns : tie.Need-returns
 unfolding fieldsAt
 returns c = λ i.
+    let fourth = c .before .before in
+    let third = fourth .before .before in
+    let second = third .before .before in
     record {
-      operation = c .before .before .before .before .before .before .before .before .wide .ensures .0 i;
-      d = c .before .before .before .before .before .before .wide2 .ensures .0 i;
-      s = c .before .before .before .before .wide3 .ensures .0 i;
-      unused = c .before .before .wide4 .ensures .0 i;
+      operation = second .before .before .wide .ensures .0 i;
+      d = second .wide2 .ensures .0 i;
+      s = third .wide3 .ensures .0 i;
+      unused = fourth .wide4 .ensures .0 i;
       c = c .before .pair-at .ensures i;
       size = c .pair-at2 .ensures i;
     }

@@ -41,12 +41,13 @@ get-bit-requires c κs = omega arith
 returns : tie.Need-returns Inv-loop μ-loop
 unfolding badCell
 returns c =
-    let l = c .before .before .before .before .before in
+    let get-a = c .before in
+    let l = get-a .before .before .before .before in
     let s = l .before .before .before .before in
     let a = s .args .a .now in
     let j = l .loop .j in
-    let free = eq-eqb (bitAt a (j / 4)) 0 (sym (c .before .get-bit .ensures .0) ∙ c .if2 .taken) in
-    let some = ne-eqb (getD (s .args .cells .now) j 0) 0 (c .before .before .if1 .taken) in
+    let free = eq-eqb (bitAt a (j / 4)) 0 (sym (get-a .get-bit .ensures .0) ∙ c .if2 .taken) in
+    let some = ne-eqb (getD (s .args .cells .now) j 0) 0 (get-a .before .if1 .taken) in
     searched-hit
     (test s)
     (4 * s .args .blocks)
@@ -55,7 +56,9 @@ returns c =
     (rw (free, some, badCell))
 
 cast-is-reference : tie.Need-cast-is-reference Inv-loop μ-loop
-cast-is-reference c = omega (arith, c .before .before .before .shared-slice-known4 .given (c .before .before .before .before .before .loop .j))
+cast-is-reference c =
+    let read = c .before .before .before in
+    omega (arith, read .shared-slice-known4 .given (read .before .before .loop .j))
 
 is-reference-requires : tie.Need-is-reference-requires Inv-loop μ-loop
 is-reference-requires c κs = omega arith

@@ -5,9 +5,13 @@ use Rattle.release.proofs.OtherBuffers.{let-go-done, let-go-blocks-done
 use Rattle.release.proofs.let_go.Statement.{statement}
 use Rattle.release.proofs.let_go.Tie as tie
 
+-- where the code starts from
+abbrev start : tie.After-count-down-arg2 → tie.Start
+start c = c .before .before .before .before .before .before .before .before
+
 count-down-requires : tie.Need-count-down-requires
 count-down-requires c κs =
-    let pre = c .before .before .before .before .before .before .before .before .pre in
+    let pre = start c .pre in
     (pre .0, stack-empty _ _ _ _ _ (pre .2))
 
 release-all-requires : tie.Need-release-all-requires
@@ -35,10 +39,9 @@ returns : tie.Need-returns
 returns c =
     let freed = c .before .before .before .before .before .before .before .before .before .before .before .before in
     let counted = freed .before .before .before .before .before .before .before .before .before .before .before in
-    let start = counted .before .before .before .before .before .before .before .before .before in
     let down = counted .count-down .ensures .result in
     let released = freed .release-all .ensures in (
-      let-go-done _ _ _ _ _ _ _ _ _ _ _ down _ _ _ _ _ (released .0) (start .pre .2) (released .2),
+      let-go-done _ _ _ _ _ _ _ _ _ _ _ down _ _ _ _ _ (released .0) (start (counted .before) .pre .2) (released .2),
       let-go-blocks-done _ _ _ _ _ _ _ _ _ _ _ down _ (released .1),
       released .3,
     )

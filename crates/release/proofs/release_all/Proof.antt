@@ -26,12 +26,26 @@ abbrev μ-loop : tie.MeasureT-loop
 μ-loop blocks width a₀ b₀ counts₀ cells₀ waiting₀ sections₀ top freed₀ t₀ a b counts cells waiting sections freed t =
     remaining counted blocks width counts t
 
+-- the places: the entry, a turn's beginning, an object's size found, its extent cleared, its cells dropped
+abbrev start : tie.After-slice-known6 Inv-loop μ-loop → tie.Start Inv-loop μ-loop
+start c = c .before .before .before .before .before .before
+
+abbrev turn : tie.After-object-size Inv-loop μ-loop → tie.In-loop Inv-loop μ-loop
+turn c = c .before .before .before
+
+abbrev sized : tie.After-clear-extent Inv-loop μ-loop → tie.After-object-size Inv-loop μ-loop
+sized c = c .before .before .before .before
+
+abbrev cleared : tie.After-drop-cells-arg3 Inv-loop μ-loop → tie.After-clear-extent Inv-loop μ-loop
+cleared c = c .before .before .before .before .before .before .before .before .before
+
+abbrev dropped : tie.After-slice-known13 Inv-loop μ-loop → tie.After-drop-cells Inv-loop μ-loop
+dropped c = c .before .before .before .before .before .before
+
 loop-holds : tie.Need-loop-holds Inv-loop μ-loop
 loop-holds c =
-    let start = c .before .before .before .before .before .before in (
-      releasing-start _ _ _ _ _ _ _ _ (start .pre .0) (start .pre .1) (start .pre .2),
-      record { coherent = start .pre .3; untouched = λ _. (refl, refl) },
-    )
+    let pre = start c .pre in
+    (releasing-start _ _ _ _ _ _ _ _ (pre .0) (pre .1) (pre .2), record { coherent = pre .3; untouched = λ _. (refl, refl) })
 
 sub-t : tie.Need-sub-t Inv-loop μ-loop
 sub-t c = omega arith
@@ -60,14 +74,14 @@ object-size-requires c κs =
 
 clear-extent-requires : tie.Need-clear-extent-requires Inv-loop μ-loop
 clear-extent-requires c κs =
-    let sized = c .before .before .before in
-    let l = sized .before .before .before .before .loop in
+    let found = c .before .before .before in
+    let l = turn found .before .loop in
     let inv = l .inv .0 in (
       l .inv .1 .coherent,
       inv .extents .a-length,
       inv .extents .b-length,
-      omega (arith, sized .object-size .ensures .1, inv .stack .blocks (l .t - 1) (omega arith)),
-      sized .object-size .ensures .2,
+      omega (arith, found .object-size .ensures .1, inv .stack .blocks (l .t - 1) (omega arith)),
+      found .object-size .ensures .2,
     )
 
 mul-drop-cells : tie.Need-mul-drop-cells Inv-loop μ-loop
@@ -78,11 +92,10 @@ mul-drop-cells-2 c = omega arith
 
 drop-cells-requires : tie.Need-drop-cells-requires Inv-loop μ-loop
 drop-cells-requires c κs =
-    let cleared = c .before .before .before .before .before .before .before .before .before in
-    let sized = cleared .before .before .before .before in
-    let test = sized .before .before .before in
+    let found = sized (cleared c) in
+    let test = turn found in
     let l = test .before .loop in
-    let size = sized .object-size .ensures in (
+    let size = found .object-size .ensures in (
       l .inv .0 .planes,
       stack-pop _ _ _ _ _ (l .t) (test .loop-test .taken) (l .inv .0 .stack),
       omega (arith, l .inv .0 .extents .cells-length),
@@ -90,52 +103,47 @@ drop-cells-requires c κs =
 
 add-freed : tie.Need-add-freed Inv-loop μ-loop
 add-freed c =
-    let cleared = c .before .before .before .before .before .before .before .before .before .before .before .before .before .before .before .before in
-    let sized = cleared .before .before .before .before in
-    let inv = sized .before .before .before .before .loop .inv .0 in
-    let size = sized .object-size .ensures in
+    let found = sized (cleared (dropped c .before)) in
+    let inv = turn found .before .loop .inv .0 in
+    let size = found .object-size .ensures in
     omega (arith, inv .bound, inv .planes .most)
 
 loop-less : tie.Need-loop-less Inv-loop μ-loop
 loop-less c =
-    let dropped = c .before .before .before .before .before .before in
-    let cleared = dropped .before .before .before .before .before .before .before .before .before .before in
-    let taken = cleared .before .before .before .before .before .before .before .loop-test .taken in
-    let kept = dropped .drop-cells .ensures .0 .left-is in
+    let taken = turn (sized (cleared (dropped c .before))) .loop-test .taken in
+    let kept = dropped c .drop-cells .ensures .0 .left-is in
     omega arith
 
 loop-again : tie.Need-loop-again Inv-loop μ-loop
 loop-again c =
-    let dropped = c .before .before .before .before .before .before in
-    let cleared = dropped .before .before .before .before .before .before .before .before .before .before in
-    let sized = cleared .before .before .before .before in
-    let test = sized .before .before .before in
+    let clear = cleared (dropped c .before) in
+    let test = turn (sized clear) in
     let l = test .before .loop in
-    let size = sized .object-size .ensures in
-    let extent = cleared .clear-extent .ensures in
-    let cells = dropped .drop-cells .ensures in (
+    let size = sized clear .object-size .ensures in
+    let extent = clear .clear-extent .ensures in
+    let cells = dropped c .drop-cells .ensures in (
       releasing-step _ _ _ _ _ _ _ _ _ (l .t) _ _ _ _ _ _ _ _ _ (test .loop-test .taken) refl (size .0) (size .2)
           (extent .0) (extent .1) (cells .1) (cells .0) (l .inv .0),
       record { coherent = extent .2; untouched = λ none. absurd (omega (arith, none, size .1)) },
     )
 
 same-length : tie.Need-same-length Inv-loop μ-loop
-same-length c = c .before .loop .inv .0 .extents .a-length ∙ sym (c .before .before .before .before .before .before .before .before .pre .1 .a-length)
+same-length c = c .before .loop .inv .0 .extents .a-length ∙ sym (start (c .before .before) .pre .1 .a-length)
 
 same-length-2 : tie.Need-same-length-2 Inv-loop μ-loop
-same-length-2 c = c .before .loop .inv .0 .extents .b-length ∙ sym (c .before .before .before .before .before .before .before .before .pre .1 .b-length)
+same-length-2 c = c .before .loop .inv .0 .extents .b-length ∙ sym (start (c .before .before) .pre .1 .b-length)
 
 same-length-3 : tie.Need-same-length-3 Inv-loop μ-loop
-same-length-3 c = c .before .loop .inv .0 .planes .length-is ∙ sym (c .before .before .before .before .before .before .before .before .pre .0 .length-is)
+same-length-3 c = c .before .loop .inv .0 .planes .length-is ∙ sym (start (c .before .before) .pre .0 .length-is)
 
 same-length-4 : tie.Need-same-length-4 Inv-loop μ-loop
-same-length-4 c = c .before .loop .inv .0 .extents .cells-length ∙ sym (c .before .before .before .before .before .before .before .before .pre .1 .cells-length)
+same-length-4 c = c .before .loop .inv .0 .extents .cells-length ∙ sym (start (c .before .before) .pre .1 .cells-length)
 
 same-length-5 : tie.Need-same-length-5 Inv-loop μ-loop
-same-length-5 c = c .before .loop .inv .0 .stack .length-is ∙ sym (c .before .before .before .before .before .before .before .before .pre .2 .length-is)
+same-length-5 c = c .before .loop .inv .0 .stack .length-is ∙ sym (start (c .before .before) .pre .2 .length-is)
 
 same-length-6 : tie.Need-same-length-6 Inv-loop μ-loop
-same-length-6 c = c .before .loop .inv .1 .coherent .length-is ∙ sym (c .before .before .before .before .before .before .before .before .pre .3 .length-is)
+same-length-6 c = c .before .loop .inv .1 .coherent .length-is ∙ sym (start (c .before .before) .pre .3 .length-is)
 
 returns : tie.Need-returns Inv-loop μ-loop
 returns c =

@@ -13,6 +13,10 @@ Inv-loop blocks sections₀ i n last s₀ sections s =
 abbrev μ-loop : tie.MeasureT-loop
 μ-loop blocks sections₀ i n last s₀ sections s = last + 1 - s
 
+-- where the code starts from
+abbrev start : tie.In-loop Inv-loop μ-loop → tie.Start Inv-loop μ-loop
+start c = c .before .before .before .before .before
+
 add-section-of : tie.Need-add-section-of Inv-loop μ-loop
 add-section-of c = omega (arith, c .before .pre .3, blocks-le (c .before .args .blocks) (c .before .pre .0))
 
@@ -40,7 +44,7 @@ mul-sections c = let inv = c .before .loop .inv in omega (arith, inv .0 .below, 
 slice-write-sections : tie.Need-slice-write-sections Inv-loop μ-loop
 slice-write-sections c =
     let inv = c .before .loop .inv in
-    omega (arith, inv .0 .below, inv .1 .same-length, c .before .before .before .before .before .pre .1)
+    omega (arith, inv .0 .below, inv .1 .same-length, start c .pre .1)
 
 add-s : tie.Need-add-s Inv-loop μ-loop
 add-s c = let inv = c .before .loop .inv in omega (arith, inv .0 .below, inv .0 .few)
@@ -52,7 +56,7 @@ loop-again : tie.Need-loop-again Inv-loop μ-loop
 loop-again c =
     let inv = c .before .loop .inv in (
       inv .0,
-      forgetting-next _ _ _ _ (inv .1) (inv .2) (omega (arith, inv .0 .below, inv .1 .same-length, c .before .before .before .before .before .pre .1)),
+      forgetting-next _ _ _ _ (inv .1) (inv .2) (omega (arith, inv .0 .below, inv .1 .same-length, start c .pre .1)),
       omega (arith, inv .2),
       omega arith,
     )

@@ -13,6 +13,10 @@ use borrow.Author.Needs.{needs}
 use Rattle.section_search.proofs.find_chunk.Statement.{statement}
 use Rattle.section_search.proofs.find_chunk.Tie as tie
 
+-- where the code starts from
+abbrev start : tie.After-lowest-section → tie.Start
+start l = l .before .before .before .before .before
+
 section-length-requires : tie.Need-section-length-requires
 section-length-requires c κs = search needs
 
@@ -38,16 +42,16 @@ lowest-section-requires c κs = search needs
 returns-2 : tie.Need-returns-2
 returns-2 c = λ k e.
     let l = c .before in
-    let s = l .before .before .before .before .before in
+    let s = start l in
     let sections = s .args .sections .now in
     let none-is = chosen-none (length sections) sections (s .args .size) (l .lowest-section .result) (l .lowest-section .ensures) (c .if2 .taken) in
     found-none (s .args .blocks) k (s .args .a .now) (s .pre .1 .0) (omega (arith, l .before .before .section-length .ensures, l .before .if1 .left))
     (sym (on-figures (s .args .blocks) k (s .args .a .now) sections (s .args .size) (s .pre .1 .3) e) ∙ none-is)
 
 -- the section that is searched
-section : (c : tie.Else2) → Place (c .before .before .before .before .before .before .args .blocks) (c .before .lowest-section .result) (c .before .before .before .section-length .result)
+section : (c : tie.Else2) → Place (start (c .before) .args .blocks) (c .before .lowest-section .result) (c .before .before .before .section-length .result)
 section c =
-    let s = c .before .before .before .before .before .before in
+    let s = start (c .before) in
     let r : ℕ = c .before .lowest-section .result in
     let sections = s .args .sections .now in
     let chosen = chosen-some (length sections) sections (s .args .size) r (c .before .lowest-section .ensures) (c .if2 .left) in
@@ -65,7 +69,7 @@ add-lowest-chunk c = let at = section c in omega (arith, at .inside, at .few)
 
 lowest-chunk-requires-2 : tie.Need-lowest-chunk-requires-2
 lowest-chunk-requires-2 c κs =
-    let s = c .before .before .before .before .before .before in
+    let s = start (c .before) in
     let power = s .pre .0 in
     let at = section c in (
       whole-section (s .args .blocks) (c .before .lowest-section .result) (s .args .size) (c .before .before .before .section-length .result) (power .0) at (power .1) (omega arith),
@@ -75,7 +79,7 @@ lowest-chunk-requires-2 c κs =
 returns-3 : tie.Need-returns-3
 returns-3 c = λ k e.
     let l = c .before .before in
-    let s = l .before .before .before .before .before in
+    let s = start l in
     let sections = s .args .sections .now in
     let r : ℕ = l .lowest-section .result in
     let size = l .before .before .section-length in

@@ -31,6 +31,13 @@ tests s =
     ∷ eqb (s .args .sections) (sectionCount (s .args .blocks))
     ∷ []
 
+-- the places: from past the third test, of the width, back to the entry; and from past the seventh, of the maps, back to the third
+abbrev start : tie.Else3 → tie.Start
+start c = c .before .before .before .before
+
+abbrev third : tie.Else7 → tie.Else3
+third c = c .before .before .before .before
+
 is-blocks-requires : tie.Need-is-blocks-requires
 is-blocks-requires c κs = search needs
 
@@ -59,71 +66,72 @@ returns-3 c =
 returns-4 : tie.Need-returns-4
 unfolding shape
 returns-4 c =
-    let s = c .before .before .before .before .before in
+    let s = start (c .before) in
     sym (all-failed (tests s) 3 (lt-leb 1 (s .args .roots) (c .if4 .taken)))
 
 returns-5 : tie.Need-returns-5
 unfolding shape
 returns-5 c =
-    let s = c .before .before .before .before .before .before in
+    let s = start (c .before .before) in
     sym (all-failed (tests s) 4 (lt-leb (s .args .roots) 64 (c .if5 .taken)))
 
 returns-6 : tie.Need-returns-6
 unfolding shape
 returns-6 c =
-    let s = c .before .before .before .before .before .before .before in
+    let s = start (c .before .before .before) in
     sym (all-failed (tests s) 5 (ne-eqb (s .args .a) (s .args .blocks / 8) (c .if6 .taken)))
 
 returns-7 : tie.Need-returns-7
 unfolding shape
 returns-7 c =
-    let s = c .before .before .before .before .before .before .before .before in
+    let s = start (c .before .before .before .before) in
     sym (all-failed (tests s) 6 (ne-eqb (s .args .b) (s .args .blocks / 8) (c .if7 .taken)))
 
 mul-if8 : tie.Need-mul-if8
 mul-if8 c =
-    let s = c .before .before .before .before .before .before .before .before in
-    omega (arith, mul-le-mul-right (s .args .blocks / 8) (c .before .before .before .before .if3 .left))
+    omega (arith, mul-le-mul-right (start (third c) .args .blocks / 8) (third c .if3 .left))
 
 returns-8 : tie.Need-returns-8
 unfolding shape
 returns-8 c =
-    let s = c .before .before .before .before .before .before .before .before .before in
+    let s = start (third (c .before)) in
     sym (all-failed (tests s) 7 (ne-eqb (s .args .counts) (s .args .width * (s .args .blocks / 8)) (c .if8 .taken)))
 
 mul-if9 : tie.Need-mul-if9
 mul-if9 c =
-    let e = c .before .before .before .before .before .before .before in
+    let e = third (c .before) .before .before in
     omega (arith, blocks-le (e .before .before .args .blocks) (right-blocks e))
 
 returns-9 : tie.Need-returns-9
 unfolding shape
 returns-9 c =
-    let s = c .before .before .before .before .before .before .before .before .before .before in
+    let s = start (third (c .before .before)) in
     sym (all-failed (tests s) 8 (ne-eqb (s .args .cells) (4 * s .args .blocks) (c .if9 .taken)))
 
 returns-10 : tie.Need-returns-10
 unfolding shape
 returns-10 c =
-    let s = c .before .before .before .before .before .before .before .before .before .before .before in
+    let s = start (third (c .before .before .before)) in
     sym (all-failed (tests s) 9 (ne-eqb (s .args .waiting) (s .args .blocks) (c .if10 .taken)))
 
 section-count-requires : tie.Need-section-count-requires
-section-count-requires c κs = right-blocks (c .before .before .before .before .before .before .before .before .before)
+section-count-requires c κs = right-blocks (third (c .before .before .before) .before .before)
 
 returns-11 : tie.Need-returns-11
 unfolding shape all
 returns-11 c =
     let e = c .before in
-    let s = e .before .before .before .before .before .before .before .before .before .before .before in
+    let maps = e .before .before .before in
+    let width = third maps in
+    let s = start width in
     rw (
-      right-blocks (e .before .before .before .before .before .before .before .before .before),
-      le-leb 1 (s .args .width) (e .before .before .before .before .before .before .before .before .if2 .left),
-      le-leb (s .args .width) 4 (e .before .before .before .before .before .before .before .if3 .left),
-      le-leb 1 (s .args .roots) (e .before .before .before .before .before .before .if4 .left),
-      le-leb (s .args .roots) 64 (e .before .before .before .before .before .if5 .left),
-      eq-eqb (s .args .a) (s .args .blocks / 8) (e .before .before .before .before .if6 .left),
-      eq-eqb (s .args .b) (s .args .blocks / 8) (e .before .before .before .if7 .left),
+      right-blocks (width .before .before),
+      le-leb 1 (s .args .width) (width .before .if2 .left),
+      le-leb (s .args .width) 4 (width .if3 .left),
+      le-leb 1 (s .args .roots) (maps .before .before .before .if4 .left),
+      le-leb (s .args .roots) 64 (maps .before .before .if5 .left),
+      eq-eqb (s .args .a) (s .args .blocks / 8) (maps .before .if6 .left),
+      eq-eqb (s .args .b) (s .args .blocks / 8) (maps .if7 .left),
       eq-eqb (s .args .counts) (s .args .width * (s .args .blocks / 8)) (e .before .before .if8 .left),
       eq-eqb (s .args .cells) (4 * s .args .blocks) (e .before .if9 .left),
       eq-eqb (s .args .waiting) (s .args .blocks) (e .if10 .left),

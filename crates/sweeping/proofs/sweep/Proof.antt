@@ -21,18 +21,22 @@ Inv-loop blocks width a₀ b₀ counts cells₀ sections₀ freed₀ i₀ a b ce
 abbrev μ-loop : tie.MeasureT-loop
 μ-loop blocks width a₀ b₀ counts cells₀ sections₀ freed₀ i₀ a b cells sections freed i = blocks - i
 
+-- the places: the entry, and a turn's beginning
+abbrev start : tie.After-slice-known4 Inv-loop μ-loop → tie.Start Inv-loop μ-loop
+start c = c .before .before .before .before .before
+
+abbrev turn : tie.After-sweep-one-arg4 Inv-loop μ-loop → tie.At-loop Inv-loop μ-loop
+turn c = c .before .before .before .before .before
+
 loop-holds : tie.Need-loop-holds Inv-loop μ-loop
 unfolding sweep sweepBlocks
-loop-holds c =
-    let start = c .before .before .before .before .before in
-    (omega arith, refl, refl, refl, refl, refl, omega arith, start .pre .4)
+loop-holds c = (omega arith, refl, refl, refl, refl, refl, omega arith, start c .pre .4)
 
 sweep-one-requires : tie.Need-sweep-one-requires Inv-loop μ-loop
 sweep-one-requires c κs =
-    let l = c .before .before .before .before .before in
-    let start = l .before .before .before .before .before .before in
-    let v = l .loop .inv in
-    (start .pre .0, v .1 ∙ start .pre .1, v .2 ∙ start .pre .2, v .3 ∙ start .pre .3, omega arith, v .7)
+    let pre = start (turn c .before) .pre in
+    let v = turn c .loop .inv in
+    (pre .0, v .1 ∙ pre .1, v .2 ∙ pre .2, v .3 ∙ pre .3, omega arith, v .7)
 
 add-freed : tie.Need-add-freed Inv-loop μ-loop
 add-freed c = omega arith
@@ -45,17 +49,16 @@ loop-less c = omega arith
 
 loop-again : tie.Need-loop-again Inv-loop μ-loop
 loop-again c =
-    let r = c .before .before .before .before .before .before .before .before in
-    let l = r .before .before .before .before .before .before in
-    let v = l .loop .inv in (
+    let swept = c .before .before .before .before .before .before .before .before in
+    let v = turn (swept .before) .loop .inv in (
       omega arith,
       omega arith,
       omega arith,
       omega arith,
-      sweep-next _ _ _ _ _ (v .4) _ (r .sweep-one .ensures .0),
-      sweep-blocks-next _ _ _ _ _ (v .4) _ _ (v .5) (r .sweep-one .ensures .1),
+      sweep-next _ _ _ _ _ (v .4) _ (swept .sweep-one .ensures .0),
+      sweep-blocks-next _ _ _ _ _ (v .4) _ _ (v .5) (swept .sweep-one .ensures .1),
       omega arith,
-      r .sweep-one .ensures .3,
+      swept .sweep-one .ensures .3,
     )
 
 same-length : tie.Need-same-length Inv-loop μ-loop
@@ -68,13 +71,12 @@ same-length-3 : tie.Need-same-length-3 Inv-loop μ-loop
 same-length-3 c = omega arith
 
 same-length-4 : tie.Need-same-length-4 Inv-loop μ-loop
-same-length-4 c =
-    c .before .loop .inv .7 .length-is ∙ sym (c .before .before .before .before .before .before .before .pre .4 .length-is)
+same-length-4 c = c .before .loop .inv .7 .length-is ∙ sym (start (c .before .before) .pre .4 .length-is)
 
 returns : tie.Need-returns Inv-loop μ-loop
 returns c =
     let v = c .before .loop .inv in
-    let done : c .before .loop .i ≡ c .before .before .before .before .before .before .before .args .blocks = omega arith in
+    let done : c .before .loop .i ≡ start (c .before .before) .args .blocks = omega arith in
     (v .4 ∙ ap (sweep _ _ _) done, v .5 ∙ ap (sweepBlocks _ _ _) done, v .7)
 
 pub sweep-spec : {M : Type 1} → statement M

@@ -6,6 +6,10 @@ use Rattle.sweeping.proofs.Sweeps.{sweep-not-first, sweep-marked, sweep
 use Rattle.sweeping.proofs.sweep_one.Statement.{statement}
 use Rattle.sweeping.proofs.sweep_one.Tie as tie
 
+-- where the code starts from
+abbrev start : tie.After-is-first → tie.Start
+start c = c .before .before .before .before .before .before .before .before
+
 is-first-requires : tie.Need-is-first-requires
 is-first-requires c κs = search needs
 
@@ -16,9 +20,7 @@ same-length-2 : tie.Need-same-length-2
 same-length-2 c = search needs
 
 returns : tie.Need-returns
-returns c =
-    let s = c .before .before .before .before .before .before .before .before .before in
-    sweep-not-first _ _ _ _ _ (s .pre .5) (sym (c .before .is-first .ensures) ∙ not-true _ (c .if1 .taken))
+returns c = sweep-not-first _ _ _ _ _ (start (c .before) .pre .5) (sym (c .before .is-first .ensures) ∙ not-true _ (c .if1 .taken))
 
 get-count-requires : tie.Need-get-count-requires
 get-count-requires c κs = search needs
@@ -32,8 +34,7 @@ same-length-4 c = search needs
 returns-2 : tie.Need-returns-2
 returns-2 c =
     let f = c .before .before in
-    let s = f .before .before .before .before .before .before .before .before .before in
-    sweep-marked _ _ _ _ _ (s .pre .5) (sym (f .before .is-first .ensures) ∙ not-false _ (f .if1 .left))
+    sweep-marked _ _ _ _ _ (start (f .before) .pre .5) (sym (f .before .is-first .ensures) ∙ not-false _ (f .if1 .left))
     (λ z. c .if2 .taken (c .before .get-count .ensures .0 ∙ z))
 
 object-size-requires : tie.Need-object-size-requires

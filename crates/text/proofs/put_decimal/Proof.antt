@@ -9,8 +9,12 @@ use Rattle.text.proofs.Decimals.{decimal-is}
 use Rattle.text.proofs.put_decimal.Statement.{statement}
 use Rattle.text.proofs.put_decimal.Tie as tie
 
+-- where the code starts from
+abbrev start : tie.After-decimal → tie.Start
+start c = c .before .before .before
+
 -- what the kit wrote into the local buffer
-digits-are : (c : tie.After-decimal) → take (c .decimal .result) (c .decimal .last .1 .0) ≡ decimal (c .before .before .before .args .n)
+digits-are : (c : tie.After-decimal) → take (c .decimal .result) (c .decimal .last .1 .0) ≡ decimal (start c .args .n)
 digits-are c = c .decimal .ensures .1 .1 ∙ decimal-is _ _ (c .decimal .ensures .1 .0)
 
 decimal-requires : tie.Need-decimal-requires
@@ -23,17 +27,19 @@ slice-aggregate-put-text : tie.Need-slice-aggregate-put-text
 slice-aggregate-put-text c = search needs
 
 put-text-requires : tie.Need-put-text-requires
-put-text-requires c κs = rw (digits-are (c .before .before)) (c .before .before .before .before .before .pre)
+put-text-requires c κs = let written = c .before .before in rw (digits-are written) (start written .pre)
 
 same-length : tie.Need-same-length
 same-length c = search needs
 
 returns : tie.Need-returns
 returns c =
-    let start = c .before .before .before .before .before .before .before .before in
-    subst (λ (t : List ℕ). Put (start .args .out .now) (start .args .at) t (c .before .before .put-text .last .0) (c .before .before .put-text .result))
-    (digits-are (c .before .before .before .before .before))
-    (c .before .before .put-text .ensures)
+    let put = c .before .before in
+    let written = put .before .before .before in
+    let args = start written .args in
+    subst (λ (t : List ℕ). Put (args .out .now) (args .at) t (put .put-text .last .0) (put .put-text .result))
+    (digits-are written)
+    (put .put-text .ensures)
 
 pub put-decimal-spec : {M : Type 1} → statement M
 put-decimal-spec =

@@ -19,11 +19,18 @@ Inv-loop blocks width counts₀ refs waiting₀ j n top t₀ i₀ counts waiting
 abbrev μ-loop : tie.MeasureT-loop
 μ-loop blocks width counts₀ refs waiting₀ j n top t₀ i₀ counts waiting t i = n - i
 
+-- the places: the entry, and a turn's beginning
+abbrev start : tie.After-slice-known2 Inv-loop μ-loop → tie.Start Inv-loop μ-loop
+start c = c .before .before .before
+
+abbrev turn : tie.After-shared-slice-known2 Inv-loop μ-loop → tie.At-loop Inv-loop μ-loop
+turn c = c .before .before .before .before
+
 loop-holds : tie.Need-loop-holds Inv-loop μ-loop
 unfolding visitEach
 loop-holds c =
-    let s = c .before .before .before in
-    (omega arith, record { result = refl; planes = s .pre .0; stack = s .pre .1; left-is = refl })
+    let pre = start c .pre in
+    (omega arith, record { result = refl; planes = pre .0; stack = pre .1; left-is = refl })
 
 add-visit-one : tie.Need-add-visit-one Inv-loop μ-loop
 add-visit-one c = omega arith
@@ -36,8 +43,8 @@ shared-slice-read-visit-one c = omega arith
 
 visit-one-requires : tie.Need-visit-one-requires Inv-loop μ-loop
 visit-one-requires c κs =
-    let l = c .before .before .before .before in
-    (l .loop .inv .1 .planes, l .loop .inv .1 .stack)
+    let worked = turn c .loop .inv .1 in
+    (worked .planes, worked .stack)
 
 add-i : tie.Need-add-i Inv-loop μ-loop
 add-i c = omega arith
@@ -48,7 +55,7 @@ loop-less c = omega arith
 loop-again : tie.Need-loop-again Inv-loop μ-loop
 loop-again c =
     let r = c .before .before .before .before in
-    let l = r .before .before .before .before .before in
+    let l = turn (r .before) in
     (omega arith, marking-more _ _ _ _ _ _ _ _ _ _ _ _ _ (l .loop .inv .1) (r .visit-one .ensures))
 
 same-length : tie.Need-same-length Inv-loop μ-loop
@@ -59,7 +66,7 @@ same-length-2 c = omega arith
 
 returns : tie.Need-returns Inv-loop μ-loop
 returns c =
-    let done : c .before .loop .i ≡ c .before .before .before .before .before .args .n = omega arith in
+    let done : c .before .loop .i ≡ start (c .before .before) .args .n = omega arith in
     rw (← done) (c .before .loop .inv .1)
 
 pub visit-each-spec : {M : Type 1} → statement M

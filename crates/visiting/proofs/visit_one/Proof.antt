@@ -27,10 +27,12 @@ set-count-requires c κs = search needs
 sub-waiting : tie.Need-sub-waiting
 sub-waiting c = search needs
 
+-- where the code starts from
+abbrev start : tie.After-slice-known3 → tie.Start
+start c = c .before .before .before .before .before .before .before .before .before .before .before
+
 -- there is room for a push
-room : (c : tie.After-slice-known3)
-    → c .before .before .before .before .before .before .before .before .before .before .before .args .top
-    < c .before .before .before .before .before .before .before .before .before .before .before .args .blocks
+room : (c : tie.After-slice-known3) → start c .args .top < start c .args .blocks
 room c = search room-to-push
 
 mul-waiting : tie.Need-mul-waiting

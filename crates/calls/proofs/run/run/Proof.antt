@@ -17,15 +17,18 @@ abbrev μ-loop : tie.MeasureT-loop
 μ-loop heap₀ a₀ b₀ counts₀ cells₀ roots₀ waiting₀ sections₀ lengths₀ k₀ heap a b counts cells roots waiting sections lengths k =
     1152921504606846976 - k
 
--- the places: a turn's beginning, and the entry performed
+-- the places: a turn's beginning, the entry performed, and the entry read, from where four buffers are lent and from where it is performed
 abbrev turn : tie.After-next-entry Inv-loop μ-loop → tie.In-loop Inv-loop μ-loop
 turn c = c .before .before
 
 abbrev performed : tie.Else2 Inv-loop μ-loop → tie.After-perform Inv-loop μ-loop
 performed c = c .before .before .before .before .before .before .before .before .before .before .before
 
+abbrev lent-entry : tie.After-cells Inv-loop μ-loop → tie.After-next-entry Inv-loop μ-loop
+lent-entry c = c .before .before .before .before
+
 abbrev entry : tie.After-perform Inv-loop μ-loop → tie.After-next-entry Inv-loop μ-loop
-entry c = c .before .before .before .before .before .before .before .before
+entry c = lent-entry (c .before .before .before .before)
 
 -- each lent length is within its buffer
 fits-a : (c : tie.After-next-entry Inv-loop μ-loop) → getD (c .next-entry .last .0) 0 0 ≤ length (turn c .before .loop .a)
@@ -126,13 +129,13 @@ run-spec =
     (λ c. fits-counts (c .before .before))
     (λ c. sym (length-take-le _ _ (fits-counts (c .before .before .before))))
     (λ c. fits-cells (c .before .before .before))
-    (λ c. sym (length-take-le _ _ (fits-cells (c .before .before .before .before))))
-    (λ c. fits-roots (c .before .before .before .before))
-    (λ c. sym (length-take-le _ _ (fits-roots (c .before .before .before .before .before))))
-    (λ c. fits-waiting (c .before .before .before .before .before))
-    (λ c. sym (length-take-le _ _ (fits-waiting (c .before .before .before .before .before .before))))
-    (λ c. fits-sections (c .before .before .before .before .before .before))
-    (λ c. sym (length-take-le _ _ (fits-sections (c .before .before .before .before .before .before .before))))
+    (λ c. sym (length-take-le _ _ (fits-cells (lent-entry c))))
+    (λ c. fits-roots (lent-entry c))
+    (λ c. sym (length-take-le _ _ (fits-roots (lent-entry (c .before)))))
+    (λ c. fits-waiting (lent-entry (c .before)))
+    (λ c. sym (length-take-le _ _ (fits-waiting (lent-entry (c .before .before)))))
+    (λ c. fits-sections (lent-entry (c .before .before)))
+    (λ c. sym (length-take-le _ _ (fits-sections (lent-entry (c .before .before .before)))))
     (λ c κs. search needs)
     (λ c κs. search needs)
     (λ _. search needs)

@@ -34,8 +34,10 @@ returns-4 c = search needs
 
 returns-5 : tie.Need-returns-5
 returns-5 c =
-    let read = c .before .before .before .before .before .before .before .before .before .before .before .before .before .before .before .before .before .read-piece in
-    further _ _ _ _ _ _ _ (c .before .before .before .before .before .before .run-records .ensures) (omega (arith, read .ensures .1)) (c .before .before .before .before .if2 .left) (c .before .if3 .left)
+    let accepted = c .before .before .before .before in
+    let ran = accepted .before .before in
+    let read = ran .before .before .before .before .before .before .before .before .before .before .before in
+    further _ _ _ _ _ _ _ (ran .run-records .ensures) (omega (arith, read .read-piece .ensures .1)) (accepted .if2 .left) (c .before .if3 .left)
 
 pub run-piece-spec : {M : Type 1} → statement M
 run-piece-spec =
