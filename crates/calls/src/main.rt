@@ -6,9 +6,9 @@ mod run;
 fn main() {
     let heap = reading::read_entry(8);
     if heap.bytes < 24 {
-        entries::output::say(b"header: cut off\n");
+        output::say(b"header: cut off\n");
     } else if lent::is_too_large(heap) {
-        entries::output::say(b"header: too large\n");
+        output::say(b"header: too large\n");
     } else {
         run::run(heap);
     }

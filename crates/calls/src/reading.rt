@@ -8,10 +8,10 @@ fn half(bytes: &[u8; 32], at: usize) -> usize
     requires { ⌜ at + 4 ≤ 32 ⌝ }
     ensures { λ r. ⌜ r < 2 ^ 32 ⌝ }
 {
-    entries::wide(bytes[at])
-        + entries::wide(bytes[at + 1]) * 256
-        + entries::wide(bytes[at + 2]) * 65536
-        + entries::wide(bytes[at + 3]) * 16777216
+    output::wide(bytes[at])
+        + output::wide(bytes[at + 1]) * 256
+        + output::wide(bytes[at + 2]) * 65536
+        + output::wide(bytes[at + 3]) * 16777216
 }
 
 // The word at a place.

@@ -5,7 +5,6 @@ use crate::reading;
 use blocks::MAX_BLOCKS;
 use blocks::Ref;
 use entries::Entry;
-use entries::output;
 use rules::Reply;
 
 // More entries than any input has: together they are longer than 2^64 bytes.

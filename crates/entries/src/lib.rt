@@ -1,7 +1,4 @@
-// The entries of a list of calls, performed and answered: for the program `calls`.
-ghost use Prim.Native.Nat.{_<_};
-
-pub mod output;
+// The entries of a list of calls, performed: for the program `calls`.
 pub mod perform;
 
 // The kinds of entries: calls, from 0 to LAST_CALL; and, at the end of a byte's numbers, out of the way of calls to come, what is none.
@@ -23,10 +20,4 @@ pub struct Entry {
     pub x: usize,
     pub y: usize,
     pub z: usize,
-}
-
-pub fn wide(byte: u8) -> usize
-    ensures { λ r. ⌜ r < 256 ⌝ }
-{
-    byte as usize
 }

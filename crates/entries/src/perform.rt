@@ -1,17 +1,15 @@
 // What is done with the lent buffers. Here alone they are all lent on.
 use crate::Entry;
-use crate::output;
+use arguments::replies;
 use blocks::Ref;
 use rules::Reply;
 
 // What came of an entry that is no call, as a reply: the number is 0 where it was done.
 fn outcome(done: bool) -> Reply {
-    let number = if done { 0 } else { 1 };
-    Reply {
-        number: number,
-        value: 0,
-        second: 0,
+    if done {
+        return replies::acceptance(0);
     }
+    replies::refusal(1)
 }
 
 // What only reads: check, look and free blocks; of a length nothing is left to do; at the end of a heap its buffers, a line each.

@@ -1,4 +1,5 @@
-// Standard output. A failed write is said on standard error. A function says whether its last write was made.
+// Standard output of the program `calls`. A failed write is said on standard error. A function says whether its last write was made.
+ghost use Prim.Native.Nat.{_<_};
 use blocks::Ref;
 use libc::STDERR_FILENO;
 use libc::STDOUT_FILENO;
@@ -37,6 +38,12 @@ pub fn say_reply(reply: Reply) -> bool {
     end_line()
 }
 
+pub fn wide(byte: u8) -> usize
+    ensures { λ r. ⌜ r < 256 ⌝ }
+{
+    byte as usize
+}
+
 fn wide_ref(number: Ref) -> usize {
     number as usize
 }
@@ -45,7 +52,7 @@ fn wide_ref(number: Ref) -> usize {
 pub fn say_bytes(list: &[u8]) -> bool {
     let mut i = 0;
     while i < list.len() {
-        if !say_item(i, crate::wide(list[i])) {
+        if !say_item(i, wide(list[i])) {
             return false;
         }
         i += 1;
