@@ -10,9 +10,7 @@ use Rattle.bitmap.specs.Bit.{zeros}
 use Rattle.rules.specs.Heap.{Memory, isFirst, sizeAt, isRef}
 use Rattle.rules.specs.Store.{freed, release, letGo, putRoot, putCell, changeRoot, changeCell, storeRootIn, storeCellIn}
 use Rattle.release.specs.Blocks.{releasedBlocks, letGoBlocks}
-use Rattle.stores.specs.Blocks.{putRootBlocks}
-use Rattle.root_stores.specs.Blocks.{changeRootBlocks, storeRootBlocks}
-use Rattle.cell_stores.specs.Blocks.{putCellBlocks, changeCellBlocks, storeCellBlocks}
+use Rattle.stores.specs.Blocks.{putRootBlocks, storeRootBlocks, storeCellBlocks}
 use Rattle.theory.proofs.Memories.Healthy.{Healthy}
 use Rattle.theory.proofs.Memories.ViewRelease.{Releasing, freed-zeros, releasing-next}
 use Rattle.theory.proofs.Memories.Stores.{store-root, store-cell}
@@ -40,15 +38,15 @@ module _ (N w : ℕ) (h : Memory) (healthy : Healthy N w h) where
   pub store-root-freed :
       (r v : ℕ) → r < length (h .roots) → isRef N h v ≡ true
       → zeros ((storeRootIn N w h r v) .a) - zeros (h .a) ≡ storeRootBlocks N w h r v
-  unfolding storeRootIn changeRoot putRoot letGo storeRootBlocks changeRootBlocks putRootBlocks letGoBlocks
+  unfolding storeRootIn changeRoot putRoot letGo storeRootBlocks putRootBlocks letGoBlocks
   store-root-freed r v l ref =
-      choose-freed (eqb (getD (h .roots) r 0) v) (changeRoot N w h r v) (changeRootBlocks N w h r v)
+      choose-freed (eqb (getD (h .roots) r 0) v) _ _
       (omega (arith, release-zeros N w N (store-root N w h healthy v ref r l .releasing)))
 
   pub store-cell-freed :
       (a j v : ℕ) → isFirst N h a ≡ true → j < 4 * sizeAt N h a → isRef N h v ≡ true
       → zeros ((storeCellIn N w h (4 * a + j) v) .a) - zeros (h .a) ≡ storeCellBlocks N w h (4 * a + j) v
-  unfolding storeCellIn changeCell putCell letGo storeCellBlocks changeCellBlocks putCellBlocks letGoBlocks
+  unfolding storeCellIn changeCell putCell letGo storeCellBlocks letGoBlocks
   store-cell-freed a j v first l ref =
-      choose-freed (eqb (getD (h .cells) (4 * a + j) 0) v) (changeCell N w h (4 * a + j) v) (changeCellBlocks N w h (4 * a + j) v)
+      choose-freed (eqb (getD (h .cells) (4 * a + j) 0) v) _ _
       (omega (arith, release-zeros N w N (store-cell N w h healthy v ref a j first l .releasing)))

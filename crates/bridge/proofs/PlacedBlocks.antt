@@ -11,7 +11,6 @@ use Rattle.rules.specs.Heap.{Memory, exponent, lowestFree}
 use Rattle.rules.specs.Store.{letGo, putRoot, placed, allocateIn}
 use Rattle.release.specs.Blocks.{letGoBlocks}
 use Rattle.stores.specs.Blocks.{putRootBlocks}
-use Rattle.placement.specs.Blocks.{allocateBlocks}
 use Rattle.theory.proofs.Maps.Extents.{sizesOf, length-sizes-of}
 use Rattle.theory.proofs.Maps.LowestChunk.{Room, room}
 use Rattle.theory.proofs.Maps.Totals.{sum-set, free-and-sizes}
@@ -43,7 +42,7 @@ module _ (N w : ℕ) (h : Memory) (fit : Fit N w h) (n r i : ℕ) (some-blocks :
         fresh N w h fit n r i some-blocks l found,
       )
 
-  pub allocate-freed : zeros ((allocateIn N w h n r i) .a) + n ≡ zeros (h .a) + allocateBlocks N w h n r i
-  unfolding allocateIn placed putRoot letGo allocateBlocks putRootBlocks letGoBlocks
+  pub allocate-freed : zeros ((allocateIn N w h n r i) .a) + n ≡ zeros (h .a) + putRootBlocks N w (placed N w h i n) r (i + 1)
+  unfolding allocateIn placed putRoot letGo putRootBlocks letGoBlocks
   allocate-freed =
       omega (arith, release-zeros N w N (allocate-root N w h healthy n i (omega arith) space r l .releasing), placed-zeros)

@@ -7,7 +7,7 @@ ghost use Rattle.rules.specs.Lent.{before, after, lent};
 ghost use Rattle.rules.specs.Store.{storeCellIn, storeSticks};
 ghost use Rattle.sections.specs.Figures.{Upkeep};
 ghost use Rattle.counting.specs.Ready.{Ready};
-ghost use Rattle.cell_stores.specs.Blocks.{storeCellBlocks};
+ghost use Rattle.stores.specs.Blocks.{storeCellBlocks};
 use blocks::Ref;
 use stores::Stored;
 

@@ -8,11 +8,11 @@ use borrow.Author.Tests.{eq-eqb, ne-eqb}
 use Rattle.bitmap.specs.Bit.{one, zeros}
 use Rattle.rules.specs.Heap.{Memory, withSections}
 use Rattle.rules.specs.Sections.{figures}
-use Rattle.rules.specs.Store.{birthSticks, allocateIn}
+use Rattle.rules.specs.Store.{placed, birthSticks, allocateIn}
 use Rattle.rules.specs.Calls.{allocate, reply}
 use Rattle.rules.specs.Promise.{Promise}
 use Rattle.rules.specs.declared.Reply.{Reply}
-use Rattle.placement.specs.Blocks.{allocateBlocks}
+use Rattle.stores.specs.Blocks.{putRootBlocks}
 use Rattle.theory.specs.Balance.{freedBlocks, inUse, allocates, allocatedBy}
 use Rattle.theory.proofs.Maps.Totals.{free-and-sizes}
 use Rattle.theory.proofs.EachCall.Balance.{answer-even}
@@ -61,7 +61,8 @@ module _ (N w : ℕ) (h : Memory) (usable : Usable N w h) (n r : ℕ) where
 
   pub allocate-accepting :
       (at : ℕ) → Found N (h .a) (length (h .roots)) n r at → (stuck : Bool) (done : Allocated) (g : Memory)
-      → withSections (h .sections) g ≡ allocateIn N w h n r at → g .sections ≡ figures N (g .a) → done .freed ≡ allocateBlocks N w h n r at → stuck ≡ birthSticks w → done .reply ≡ reply 0 at (one stuck)
+      → withSections (h .sections) g ≡ allocateIn N w h n r at → g .sections ≡ figures N (g .a)
+      → done .freed ≡ putRootBlocks N w (placed N w h at n) r (at + 1) → stuck ≡ birthSticks w → done .reply ≡ reply 0 at (one stuck)
       → Allocating N w n r h done g
   allocate-accepting at free stuck done g left listed counted told replied =
       let promise = allocate-promised N w h n r at free usable stuck (done .reply) g left listed told replied in

@@ -13,8 +13,7 @@ use Rattle.rules.specs.declared.Reply.{Reply}
 use Rattle.rules.proofs.Replies.{Passed}
 use Rattle.rules.proofs.Promised.{promised}
 use Rattle.rules.proofs.Unread.{store-root-beside, store-cell-beside}
-use Rattle.root_stores.specs.Blocks.{storeRootBlocks}
-use Rattle.cell_stores.specs.Blocks.{storeCellBlocks}
+use Rattle.stores.specs.Blocks.{storeRootBlocks, storeCellBlocks}
 use Rattle.theory.proofs.Memories.Fit.{Fit}
 use Rattle.theory.proofs.EachCall.Accepted.{fit-accepted}
 use Rattle.bridge.proofs.FreedBlocks.{store-root-freed, store-cell-freed}

@@ -13,7 +13,6 @@ use Rattle.sections.specs.Figures.{Coherent}
 use Rattle.counting.specs.Ready.{Ready}
 use Rattle.counting.proofs.Shapes.{planes-same, extents-written}
 use Rattle.stores.specs.Blocks.{putRootBlocks}
-use Rattle.placement.specs.Blocks.{allocateBlocks}
 
 module _ (N w : ℕ) (a b counts cells roots waiting sections : List ℕ) where
   module _ (i n : ℕ) (a₁ b₁ counts₁ cells₁ : List ℕ) (ea : a₁ ≡ fillBits a i n 1) (eb : b₁ ≡ setBit b (i + n - 1) 0)
@@ -41,6 +40,5 @@ module _ (N w : ℕ) (a b counts cells roots waiting sections : List ℕ) where
 
     pub place-blocks : (r m : ℕ)
         → m ≡ putRootBlocks N w (lentMemory a₁ b₁ counts₁ cells₁ roots waiting sections) r (i + 1)
-        → m ≡ allocateBlocks N w (lentMemory a b counts cells roots waiting sections) n r i
-    unfolding allocateBlocks
+        → m ≡ putRootBlocks N w (placed N w (lentMemory a b counts cells roots waiting sections) i n) r (i + 1)
     place-blocks r m e = e ∙ ap (λ (h : Memory). putRootBlocks N w h r (i + 1)) written

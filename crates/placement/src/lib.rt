@@ -4,10 +4,10 @@ ghost use Prim.Native.Nat.{_+_, _≤_, _<_};
 ghost use lib.ListN.{length};
 ghost use Rattle.rules.specs.Heap.{withSections};
 ghost use Rattle.rules.specs.Lent.{before, after, lent};
-ghost use Rattle.rules.specs.Store.{birthSticks, allocateIn};
+ghost use Rattle.rules.specs.Store.{placed, birthSticks, allocateIn};
 ghost use Rattle.sections.specs.Figures.{Coherent};
 ghost use Rattle.counting.specs.Ready.{Ready};
-ghost use Rattle.placement.specs.Blocks.{allocateBlocks};
+ghost use Rattle.stores.specs.Blocks.{putRootBlocks};
 use blocks::Ref;
 use stores::Stored;
 
@@ -30,7 +30,7 @@ pub fn place(
     ensures { λ done.
         ⌜ (withSections (now (sections .entry)) (after a b counts cells roots waiting sections)
         ≡ allocateIn blocks width (before a b counts cells roots waiting sections) n r i)
-        × (done .freed ≡ allocateBlocks blocks width (before a b counts cells roots waiting sections) n r i)
+        × (done .freed ≡ putRootBlocks blocks width (placed blocks width (before a b counts cells roots waiting sections) i n) r (i + 1))
         × (done .stuck ≡ birthSticks width)
         × Coherent blocks (now (a .exit)) (now (sections .exit)) ⌝ }
 {

@@ -1,19 +1,16 @@
 -- The number of blocks that a release frees, counted as it goes. That this is the growth of the A-map's zeros, as the rules have it, is
 -- shown on undamaged heaps in crate `bridge` (FreedBlocks).
-use Prim.Native.Nat.{ℕ, zero, suc, _+_, _*_}
+use Prim.Native.Nat.{ℕ, zero, suc, _+_}
 use mathlib.Core.List.{List, [], _∷_}
 use Rattle.rules.specs.Heap.{Memory, withCounts, sizeAt}
-use Rattle.rules.specs.Store.{work, countDown, countDownEach, freed}
+use Rattle.rules.specs.Store.{work, countDown, workAfter, memoryAfter}
 
 -- the blocks of the objects that `release` frees
 unfoldable pub releasedBlocks : (steps : ℕ) → ℕ → ℕ → Memory → List ℕ → ℕ
 releasedBlocks zero N w h stack = 0
 releasedBlocks (suc f) N w h [] = 0
 releasedBlocks (suc f) N w h (i ∷ rest) =
-    let n = sizeAt N h i in
-    let g = freed N w h i n in
-    let s = countDownEach N w (work (g .counts) rest) (h .cells) (4 * i) (4 * n) in
-    n + releasedBlocks f N w (withCounts (s .counts) g) (s .stack)
+    sizeAt N h i + releasedBlocks f N w (memoryAfter N w h i rest) ((workAfter N w h i rest) .stack)
 
 -- those that `letGo` frees
 unfoldable pub letGoBlocks : ℕ → ℕ → Memory → ℕ → ℕ

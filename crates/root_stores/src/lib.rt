@@ -7,7 +7,7 @@ ghost use Rattle.rules.specs.Lent.{before, after, lent};
 ghost use Rattle.rules.specs.Store.{storeRootIn, storeSticks};
 ghost use Rattle.sections.specs.Figures.{Upkeep};
 ghost use Rattle.counting.specs.Ready.{Ready};
-ghost use Rattle.root_stores.specs.Blocks.{storeRootBlocks};
+ghost use Rattle.stores.specs.Blocks.{storeRootBlocks};
 use blocks::Ref;
 use stores::Stored;
 

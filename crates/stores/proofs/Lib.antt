@@ -1,1 +1,1 @@
-pub mod Sticking
+pub mod Presence

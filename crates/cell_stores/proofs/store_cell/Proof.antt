@@ -5,7 +5,8 @@ use native.Mathlib.Omega.{arith}
 use lib.ListN.{length-set}
 use borrow.Author.Needs.{needs}
 use Rattle.counting.proofs.Shapes.{planes-same, extents-cell}
-use Rattle.cell_stores.proofs.CellSteps.{cell-present, cell-changed, store-cell-done, store-cell-blocks}
+use Rattle.stores.proofs.Presence.{sticks-present, sticks-changed}
+use Rattle.cell_stores.proofs.CellSteps.{cell-present, cell-present-blocks, cell-changed, cell-changed-blocks}
 use Rattle.cell_stores.proofs.store_cell.Statement.{statement}
 use Rattle.cell_stores.proofs.store_cell.Tie as tie
 
@@ -24,9 +25,13 @@ slice-read-old c = search needs
 
 returns : tie.Need-returns
 returns c =
-    let same = cell-present _ _ _ _ _ (c .if1 .taken) in
     let ready = c .before .before .before .before .before .before .before .before .before .pre .0 in
-    (same .0, same .1, same .2, record { coherent = ready .coherent; untouched = λ _. (refl, refl) })
+    let same = c .if1 .taken in (
+      cell-present _ _ _ _ _ _ _ _ _ _ _ same,
+      cell-present-blocks _ _ _ _ _ _ _ _ _ _ _ same,
+      sticks-present _ _ _ _ _ same,
+      record { coherent = ready .coherent; untouched = λ _. (refl, refl) },
+    )
 
 count-up-requires : tie.Need-count-up-requires
 count-up-requires c κs = search needs
@@ -55,10 +60,10 @@ same-length-4 c =
 returns-2 : tie.Need-returns-2
 returns-2 c =
     let counted = up (gone c) .count-up .ensures in
-    let changed = cell-changed _ _ _ _ _ (up (gone c) .before .before .if1 .left) in (
-      store-cell-done _ _ _ _ _ _ _ _ _ _ _ (counted .0) _ _ _ _ _ _ (gone c .let-go .ensures .0) ∙ changed .0,
-      store-cell-blocks _ _ _ _ _ _ _ _ _ _ _ (counted .0) _ _ (gone c .let-go .ensures .1) ∙ changed .1,
-      counted .1 ∙ changed .2,
+    let other = up (gone c) .before .before .if1 .left in (
+      cell-changed _ _ _ _ _ _ _ _ _ _ _ other _ (counted .0) _ _ _ _ _ (gone c .let-go .ensures .0),
+      cell-changed-blocks _ _ _ _ _ _ _ _ _ _ _ other _ (counted .0) _ (gone c .let-go .ensures .1),
+      counted .1 ∙ sticks-changed _ _ _ _ _ other,
       gone c .let-go .ensures .2,
     )
 

@@ -2,7 +2,8 @@
 use mathlib.Core.Path.{refl, _∙_}
 use native.Mathlib.Omega.{arith}
 use borrow.Author.Needs.{needs}
-use Rattle.root_stores.proofs.RootSteps.{ready-counts, root-present, root-changed, store-root-done, store-root-blocks}
+use Rattle.stores.proofs.Presence.{sticks-present, sticks-changed}
+use Rattle.root_stores.proofs.RootSteps.{ready-counts, root-present, root-present-blocks, root-changed, root-changed-blocks}
 use Rattle.root_stores.proofs.store_root.Statement.{statement}
 use Rattle.root_stores.proofs.store_root.Tie as tie
 
@@ -21,9 +22,13 @@ slice-read-if1 c = search needs
 
 returns : tie.Need-returns
 returns c =
-    let same = root-present _ _ _ _ _ (c .if1 .taken) in
     let ready = c .before .before .before .before .before .before .before .before .before .pre .0 in
-    (same .0, same .1, same .2, record { coherent = ready .coherent; untouched = λ _. (refl, refl) })
+    let same = c .if1 .taken in (
+      root-present _ _ _ _ _ _ _ _ _ _ _ same,
+      root-present-blocks _ _ _ _ _ _ _ _ _ _ _ same,
+      sticks-present _ _ _ _ _ same,
+      record { coherent = ready .coherent; untouched = λ _. (refl, refl) },
+    )
 
 count-up-requires : tie.Need-count-up-requires
 count-up-requires c κs = search needs
@@ -36,10 +41,10 @@ put-root-requires c κs =
 returns-2 : tie.Need-returns-2
 returns-2 c =
     let counted = up (put c) .count-up .ensures in
-    let changed = root-changed _ _ _ _ _ (up (put c) .before .before .if1 .left) in (
-      store-root-done _ _ _ _ _ _ _ _ _ _ _ (counted .0) _ _ (put c .put-root .ensures .0 _) ∙ changed .0,
-      store-root-blocks _ _ _ _ _ _ _ _ _ _ _ (counted .0) _ _ (put c .put-root .ensures .1 _) ∙ changed .1,
-      counted .1 ∙ changed .2,
+    let other = up (put c) .before .before .if1 .left in (
+      root-changed _ _ _ _ _ _ _ _ _ _ _ other _ (counted .0) _ (put c .put-root .ensures .0 _),
+      root-changed-blocks _ _ _ _ _ _ _ _ _ _ _ other _ (counted .0) _ (put c .put-root .ensures .1 _),
+      counted .1 ∙ sticks-changed _ _ _ _ _ other,
       put c .put-root .ensures .2,
     )
 
