@@ -12,7 +12,7 @@ use Rattle.rules.specs.Tools.{isSome, firstNumber}
 use Rattle.rules.specs.Heap.{Memory, exponent, lowestFree}
 use Rattle.rules.specs.Calls.{allocate, Answer, reply, ownRefusals, answer}
 use Rattle.rules.specs.Promise.{Promise}
-use Rattle.rules.specs.declared.Reply.{Reply}
+use Rattle.types.specs.declared.Reply.{Reply}
 use Rattle.rules.proofs.Tests.{and-true}
 use Rattle.rules.proofs.Promised.{promised}
 use Rattle.theory.proofs.Maps.LowestChunk.{room}

@@ -7,7 +7,7 @@ use mathlib.Core.Option.{Option, none, some}
 use lib.Dec.{leb, ltb}
 use Rattle.rules.specs.Heap.{exponent, lowestFree}
 use Rattle.rules.specs.Calls.{reply}
-use Rattle.rules.specs.declared.Reply.{Reply}
+use Rattle.types.specs.declared.Reply.{Reply}
 
 -- the reply to what the search found
 unfoldable pub found : Option ℕ → Reply

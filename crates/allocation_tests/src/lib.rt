@@ -7,11 +7,11 @@ ghost use Rattle.rules.specs.Heap.{isBlocks, exponent};
 ghost use Rattle.rules.specs.Sections.{figures};
 ghost use Rattle.section_search.specs.Search.{Found};
 ghost use Rattle.allocation_tests.specs.Replies.{allocateReply};
-use arguments::replies;
-use blocks::Ref;
 use chunks::Searched;
-use rules::Reply;
 use section_search::find_chunk;
+use types::Ref;
+use types::Reply;
+use types::replies;
 
 // The block that an object of n blocks would start at, or `blocks`, and how many blocks the search looked at.
 fn find_place(blocks: usize, a: &[u8], sections: &[Ref], n: usize) -> Searched

@@ -10,7 +10,7 @@ use lib.ListN.{length}
 use Rattle.rules.specs.Heap.{Memory, memory, countOf, isFirst, sizeAt, isRef}
 use Rattle.rules.specs.Calls.{Call, storeRoot, storeCell, look, returnRoots, Answer, reply, ownRefusals, outcome, answer}
 use Rattle.rules.specs.Promise.{Promise}
-use Rattle.rules.specs.declared.Reply.{Reply}
+use Rattle.types.specs.declared.Reply.{Reply}
 use Rattle.rules.proofs.Replies.{Passed, own-passed}
 use Rattle.rules.proofs.Tests.{test-cases, first-found}
 use Rattle.rules.proofs.Objects.{first-facts, size-le, ref-facts}

@@ -7,7 +7,7 @@ use Rattle.rules.specs.Tools.{firstNumber}
 use Rattle.rules.specs.Heap.{Memory, countOf, isFirst, sizeAt}
 use Rattle.rules.specs.Store.{chosenBelow}
 use Rattle.rules.specs.Calls.{Call, storeRoot, storeCell, reply, ownRefusals}
-use Rattle.rules.specs.declared.Reply.{Reply}
+use Rattle.types.specs.declared.Reply.{Reply}
 
 -- number 0 where a call goes on, or its own refusal
 unfoldable pub ownTest : ℕ → Memory → Call → Reply

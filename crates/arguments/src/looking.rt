@@ -5,9 +5,9 @@ ghost use Prim.Native.Nat.{_*_, _/_, _≤_};
 ghost use lib.ListN.{length};
 ghost use Rattle.rules.specs.Heap.{memory};
 ghost use Rattle.arguments.specs.Replies.{lookReply};
-use crate::replies;
 use blocks::objects;
-use rules::Reply;
+use types::Reply;
+use types::replies;
 
 // The reply of a look at block `at`.
 pub fn look_reply(

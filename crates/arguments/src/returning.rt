@@ -2,8 +2,8 @@
 ghost use mathlib.Core.Path.{_≡_};
 ghost use Prim.Native.Nat.{_≤_};
 ghost use Rattle.arguments.specs.Replies.{returnTest};
-use crate::replies;
-use rules::Reply;
+use types::Reply;
+use types::replies;
 
 // The test of a return: a set with a bit at or past the number of roots is refused.
 pub fn return_test(roots: usize, chosen: u64) -> Reply

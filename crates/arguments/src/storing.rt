@@ -5,10 +5,10 @@ ghost use Prim.Native.Nat.{_*_, _≤_};
 ghost use lib.ListN.{length};
 ghost use Rattle.rules.specs.Heap.{memory, maxBlocks};
 ghost use Rattle.arguments.specs.Replies.{storeRootTest, storeCellTest};
-use crate::replies;
-use blocks::Ref;
 use blocks::objects;
-use rules::Reply;
+use types::Ref;
+use types::Reply;
+use types::replies;
 
 // The tests of a store in root r.
 pub fn store_root_test(

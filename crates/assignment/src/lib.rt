@@ -3,10 +3,10 @@
 ghost use Rattle.rules.specs.Lent.{before, after};
 ghost use Rattle.rules.specs.Calls.{Call};
 ghost use Rattle.rules.specs.Promise.{Promise};
-use blocks::Ref;
 use blocks::lists;
 use inner::acts;
-use rules::Reply;
+use types::Ref;
+use types::Reply;
 
 // Stores v in root r. The value is the number of blocks freed.
 pub fn store_root(

@@ -1,5 +1,5 @@
 // Lists of references, all cleared.
-use crate::Ref;
+use types::Ref;
 ghost use mathlib.Core.Path.{_≡_};
 ghost use lib.ListN.{length, replicate};
 

@@ -3,8 +3,8 @@ ghost use mathlib.Core.Path.{_≡_};
 ghost use mathlib.Core.Bool.{false};
 ghost use Prim.Native.Nat.{_≤_};
 ghost use Rattle.calls.specs.Within.{Within};
-use blocks::MAX_BLOCKS;
 use entries::Entry;
+use types::MAX_BLOCKS;
 
 // The largest width and number of roots, one more than a heap may have; the longest section; the largest length of each buffer.
 const MAX_WIDTH: usize = 5;

@@ -2,10 +2,10 @@
 ghost use Rattle.calls.specs.Within.{Within};
 use crate::lent;
 use crate::reading;
-use blocks::MAX_BLOCKS;
-use blocks::Ref;
 use entries::Entry;
-use rules::Reply;
+use types::MAX_BLOCKS;
+use types::Ref;
+use types::Reply;
 
 // More entries than any input has: together they are longer than 2^64 bytes.
 const MOST: usize = 1152921504606846976;

@@ -4,8 +4,8 @@ ghost use Rattle.rules.specs.Lent.{before, after};
 ghost use Rattle.rules.specs.Calls.{Call};
 ghost use Rattle.rules.specs.Promise.{Promise};
 ghost use Rattle.replay.specs.Replay.{Replayed};
-use blocks::Ref;
-use rules::Reply;
+use types::Ref;
+use types::Reply;
 
 mod runs;
 

@@ -1,9 +1,9 @@
 // Runs of records for C, under the name of include/huwekapo.h. The run so far goes in and out by value.
 ghost use Rattle.rules.specs.Lent.{before, after};
 ghost use Rattle.history.specs.Promised.{Promised};
-use blocks::Ref;
 use figures::tally::Run;
 use history::Ran;
+use types::Ref;
 
 #[no_mangle]
 pub extern "C" fn huwekapo_run_records(

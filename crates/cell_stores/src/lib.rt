@@ -8,8 +8,8 @@ ghost use Rattle.rules.specs.Store.{storeCellIn, storeSticks};
 ghost use Rattle.sections.specs.Figures.{Upkeep};
 ghost use Rattle.counting.specs.Ready.{Ready};
 ghost use Rattle.stores.specs.Blocks.{storeCellBlocks};
-use blocks::Ref;
 use stores::Stored;
+use types::Ref;
 
 // Stores v in cell number c of all cells.
 pub fn store_cell(

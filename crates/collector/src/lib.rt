@@ -6,7 +6,7 @@ ghost use Rattle.rules.specs.Lent.{before, after, lent};
 ghost use Rattle.sections.specs.Figures.{Coherent};
 ghost use Rattle.counting.specs.Ready.{Ready};
 ghost use Rattle.collector.specs.Collection.{collectBy, collectBlocks};
-use blocks::Ref;
+use types::Ref;
 
 // Collects. The number of blocks freed. All lists but that of sections are the procedure's, which hands that list on unread.
 pub fn collect(

@@ -9,8 +9,8 @@ ghost use lib.ListN.{length, getD};
 ghost use Rattle.rules.specs.Tools.{holding, someBelow};
 ghost use Rattle.rules.specs.Heap.{memory, maxBlocks};
 ghost use Rattle.rules.specs.Damage.{badCount};
-use blocks::MAX_BLOCKS;
-use blocks::Ref;
+use types::MAX_BLOCKS;
+use types::Ref;
 
 // Adds the references of a list to the tally: at place b the number of those that name block b.
 fn tally(refs: &[Ref], at: &mut [Ref; MAX_BLOCKS])

@@ -1,18 +1,9 @@
-// The capacity of a count, and a count up. `specs` has besides what every crate that counts asks of the lent lists.
+// A count up. `specs` has besides what every crate that counts asks of the lent lists.
 ghost use mathlib.Core.Path.{_≡_};
-ghost use Prim.Native.Nat.{_≤_, _<_};
-ghost use Rattle.rules.specs.Heap.{capacity};
+ghost use Prim.Native.Nat.{_≤_};
 ghost use Rattle.rules.specs.Store.{countUp, sticks};
 ghost use Rattle.counting.specs.Ready.{Planes};
-use blocks::Ref;
-
-// The largest count.
-pub fn capacity_of(width: usize) -> u8
-    requires { ⌜ (1 ≤ width) × (width ≤ 4) ⌝ }
-    ensures { λ r. ⌜ (r ≡ capacity width) × (1 ≤ r) × (r < 16) ⌝ }
-{
-    (1u8 << width) - 1
-}
+use types::Ref;
 
 // Counts up the object that v names, if any. Whether this very step brought its count to the capacity.
 pub fn count_up(blocks: usize, width: usize, counts: &mut [u8], v: Ref) -> bool
@@ -26,7 +17,7 @@ pub fn count_up(blocks: usize, width: usize, counts: &mut [u8], v: Ref) -> bool
     }
     let block = v as usize - 1;
     let count = planes::get_count(counts, blocks / 8, width, block);
-    let most = capacity_of(width);
+    let most = types::capacity_of(width);
     if count == most {
         return false; // it is stuck already
     }

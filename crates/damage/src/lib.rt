@@ -4,7 +4,7 @@ ghost use mathlib.Core.Bool.{true};
 ghost use Rattle.rules.specs.Heap.{shaped};
 ghost use Rattle.rules.specs.Lent.{before, lent};
 ghost use Rattle.rules.specs.Damage.{damage};
-use blocks::Ref;
+use types::Ref;
 
 // The damage kind of a heap of right shape, or 0. Each kind is tested over the whole heap before the next.
 pub fn damage_kind(

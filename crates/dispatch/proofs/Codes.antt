@@ -8,7 +8,7 @@ use borrow.Author.Tests.{le-leb, leb-true}
 use Rattle.rules.specs.Heap.{Memory}
 use Rattle.rules.specs.Calls.{reply}
 use Rattle.rules.specs.Promise.{Promise}
-use Rattle.rules.specs.declared.Reply.{Reply}
+use Rattle.types.specs.declared.Reply.{Reply}
 use Rattle.encoding.specs.Encoding.{decoded, isCall}
 use Rattle.dispatch.specs.Dispatched.{Dispatched}
 

@@ -6,7 +6,7 @@ use Rattle.bitmap.specs.Bit.{zeros}
 use Rattle.rules.specs.Heap.{Memory, memory}
 use Rattle.rules.specs.Calls.{check, look, freeBlocks, reply, accepted, outcome}
 use Rattle.rules.specs.Promise.{Promise}
-use Rattle.rules.specs.declared.Reply.{Reply}
+use Rattle.types.specs.declared.Reply.{Reply}
 use Rattle.rules.proofs.Replies.{Passed}
 use Rattle.rules.proofs.Promised.{promised}
 use Rattle.theory.proofs.EachCall.Accepted.{fit-accepted}

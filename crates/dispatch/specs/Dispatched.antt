@@ -5,7 +5,7 @@ use mathlib.Core.Bool.{true, false}
 use Rattle.rules.specs.Heap.{Memory}
 use Rattle.rules.specs.Calls.{reply}
 use Rattle.rules.specs.Promise.{Promise}
-use Rattle.rules.specs.declared.Reply.{Reply}
+use Rattle.types.specs.declared.Reply.{Reply}
 use Rattle.encoding.specs.Encoding.{decoded, isCall}
 
 -- the call of a known code keeps its promise; every other code is answered 9, and nothing changes

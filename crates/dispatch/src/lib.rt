@@ -3,10 +3,10 @@ ghost use Rattle.rules.specs.Lent.{before, after, lent};
 ghost use Rattle.inner.specs.Usable.{Usable};
 ghost use Rattle.dispatch.specs.Dispatched.{Dispatched};
 use arguments::looking;
-use arguments::replies;
-use blocks::Ref;
 use inner::acts;
-use rules::Reply;
+use types::Ref;
+use types::Reply;
+use types::replies;
 
 // The call that the four words stand for. All other codes are answered 9.
 pub fn step(

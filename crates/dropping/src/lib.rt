@@ -5,7 +5,7 @@ ghost use lib.ListN.{length};
 ghost use Rattle.rules.specs.Store.{work, countDown, countDownEach, clearCells};
 ghost use Rattle.counting.specs.Ready.{Planes};
 ghost use Rattle.counting.specs.Stack.{topFirst, counted, remaining, Stack, Worked};
-use blocks::Ref;
+use types::Ref;
 
 // Counts down the object that v names, if any; where its count comes to 0 it goes onto the stack. The stack's new height.
 pub fn count_down(
@@ -36,7 +36,7 @@ pub fn count_down(
     if count == 0 {
         return top;
     }
-    if count == counting::capacity_of(width) {
+    if count == types::capacity_of(width) {
         return top;
     }
     planes::set_count(counts, blocks / 8, width, block, count - 1);

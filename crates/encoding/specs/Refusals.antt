@@ -6,7 +6,7 @@ use lib.ListN.{length}
 use lib.Dec.{leb, eqb}
 use Rattle.rules.specs.Tools.{firstNumber}
 use Rattle.rules.specs.Calls.{reply}
-use Rattle.rules.specs.declared.Reply.{Reply}
+use Rattle.types.specs.declared.Reply.{Reply}
 use Rattle.encoding.specs.Encoding.{areCalls}
 
 -- From whether the shape is right, the words and the room for replies: 1 for the shape, as in format; 10 for a list that ends inside a call;

@@ -5,9 +5,9 @@ ghost use lib.ListN.{length};
 ghost use Rattle.rules.specs.Heap.{shape};
 ghost use Rattle.encoding.specs.Encoding.{isCall, areCalls};
 ghost use Rattle.encoding.specs.Refusals.{replyOn};
-use arguments::replies::acceptance;
-use arguments::replies::refusal;
-use rules::Reply;
+use types::Reply;
+use types::replies::acceptance;
+use types::replies::refusal;
 
 // Whether a code is that of a call. All other codes are answered 9.
 fn is_call(code: u64) -> bool

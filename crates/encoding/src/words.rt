@@ -3,7 +3,7 @@ ghost use mathlib.Core.Path.{_≡_};
 ghost use Prim.Native.Nat.{_+_, _*_, _<_};
 ghost use lib.ListN.{length};
 ghost use Rattle.encoding.specs.Words.{wordsAt, withReply};
-use rules::Reply;
+use types::Reply;
 
 // The four words of a call.
 pub struct Words {

@@ -1,8 +1,8 @@
 // What is done with the lent buffers. Here alone they are all lent on.
 use crate::Entry;
-use arguments::replies;
-use blocks::Ref;
-use rules::Reply;
+use types::Ref;
+use types::Reply;
+use types::replies;
 
 // What came of an entry that is no call, as a reply: the number is 0 where it was done.
 fn outcome(done: bool) -> Reply {

@@ -4,10 +4,10 @@ ghost use Rattle.inner.specs.Usable.{Usable};
 ghost use Rattle.plans.specs.Meaning.{meaning};
 ghost use Rattle.turns.specs.Turns.{turnOf};
 ghost use Rattle.turns.specs.Steps.{Acted};
-use blocks::Ref;
 use inner::acts;
 use plans::Plan;
 use turns::outcome::Done;
+use types::Ref;
 
 // The calls that a plan asks for.
 pub(crate) fn act(

@@ -4,10 +4,10 @@ ghost use Rattle.inner.specs.Usable.{Usable};
 ghost use Rattle.plans.specs.Asked.{asked};
 ghost use Rattle.turns.specs.Turns.{turnOf};
 ghost use Rattle.turns.specs.Steps.{Going, Stepped};
-use blocks::Ref;
 use records::Fields;
-use turns::noting;
 use turns::noting::Running;
+use turns::noting;
+use types::Ref;
 
 mod acts;
 

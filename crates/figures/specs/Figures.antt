@@ -6,7 +6,7 @@ use lib.Dec.{eqb, leb}
 use Rattle.rules.specs.Tools.{all}
 use Rattle.rules.specs.Heap.{maxBlocks}
 use Rattle.rules.specs.Calls.{Call, format, check, collect, freeBlocks, allocate, storeRoot, storeCell, look, returnRoots}
-use Rattle.rules.specs.declared.Reply.{Reply}
+use Rattle.types.specs.declared.Reply.{Reply}
 use Rattle.theory.specs.Words.{Made}
 use Rattle.figures.specs.declared.tally.Tally.{Tally}
 use Rattle.figures.specs.declared.tally.Run.{Run}

@@ -2,7 +2,7 @@
 ghost use mathlib.Core.Path.{_≡_};
 ghost use Prim.Native.Nat.{_+_, _<_, _^_};
 ghost use Rattle.figures.specs.Figures.{newRun, inRange, becameStuck, allocated as Figures·allocated, collected as Figures·collected, used as Figures·used};
-use blocks::MAX_BLOCKS;
+use types::MAX_BLOCKS;
 
 // The most records of a history.
 pub const MAX_RECORDS: usize = 4294967295;

@@ -10,7 +10,7 @@ use Rattle.rules.specs.Sections.{figures}
 use Rattle.rules.specs.Store.{formatted}
 use Rattle.rules.specs.Calls.{format, reply, accepted, refusals, refusedWith, refused, outcome}
 use Rattle.rules.specs.Promise.{Promise}
-use Rattle.rules.specs.declared.Reply.{Reply}
+use Rattle.types.specs.declared.Reply.{Reply}
 use Rattle.rules.proofs.Tests.{first-found}
 use Rattle.rules.proofs.Replies.{refused-with, format-accepted}
 use Rattle.rules.proofs.Shape.{shape-facts}

@@ -5,10 +5,10 @@ ghost use Rattle.rules.specs.Heap.{shaped};
 ghost use Rattle.rules.specs.Lent.{before, after, lent};
 ghost use Rattle.rules.specs.Calls.{Call};
 ghost use Rattle.rules.specs.Promise.{Promise};
-use arguments::replies;
-use blocks::Ref;
 use blocks::lists;
-use rules::Reply;
+use types::Ref;
+use types::Reply;
+use types::replies;
 
 // Makes an empty heap of buffers of the right shape.
 pub fn format(

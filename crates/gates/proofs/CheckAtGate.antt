@@ -5,7 +5,7 @@ use Prim.Native.Nat.{ℕ}
 use Rattle.rules.specs.Heap.{Memory}
 use Rattle.rules.specs.Calls.{Call, check, testsHeap}
 use Rattle.rules.specs.Promise.{Promise}
-use Rattle.rules.specs.declared.Reply.{Reply}
+use Rattle.types.specs.declared.Reply.{Reply}
 use Rattle.theory.proofs.Memories.Fit.{Fit, undamaged-fit}
 use Rattle.inspect.proofs.CheckReply.{refused-alike, checked-fit}
 use Rattle.gates.specs.Gated.{Gated}

@@ -4,7 +4,7 @@ use mathlib.Core.Path.{_≡_}
 use Rattle.rules.specs.Heap.{Memory}
 use Rattle.rules.specs.Calls.{Call}
 use Rattle.rules.specs.Promise.{Promise}
-use Rattle.rules.specs.declared.Reply.{Reply}
+use Rattle.types.specs.declared.Reply.{Reply}
 use Rattle.theory.specs.Statements.{Undamaged}
 
 -- A refusal is the call's own, with nothing written. Else the heap is undamaged, and the call's test of its own arguments is passed: `test` is

@@ -10,8 +10,8 @@ ghost use Rattle.allocation_tests.specs.Replies.{allocateReply};
 ghost use Rattle.gates.specs.Gated.{Gated};
 use arguments::returning;
 use arguments::storing;
-use blocks::Ref;
-use rules::Reply;
+use types::Ref;
+use types::Reply;
 
 // The tests of an allocation of n blocks into root r. The value is the block where the object can start.
 pub fn allocate(

@@ -11,7 +11,7 @@ use borrow.Author.Tests.{eq-eqb, ne-eqb}
 use Rattle.rules.specs.Heap.{Memory, withWaiting}
 use Rattle.rules.specs.Calls.{check, reply, answer}
 use Rattle.rules.specs.Promise.{Promise}
-use Rattle.rules.specs.declared.Reply.{Reply}
+use Rattle.types.specs.declared.Reply.{Reply}
 use Rattle.rules.proofs.Shape.{shape-facts}
 use Rattle.rules.proofs.Tests.{test-cases}
 use Rattle.rules.proofs.Replies.{accepted-none, undamaged-passed}

@@ -7,7 +7,7 @@ use lib.ListN.{length, replicate, length-replicate}
 use Rattle.rules.specs.Heap.{Memory, withWaiting, shaped}
 use Rattle.rules.specs.Damage.{damage, endOnFree, openEnd, unaligned, badCell, badRoot, badCount}
 use Rattle.rules.specs.Calls.{reply}
-use Rattle.rules.specs.declared.Reply.{Reply}
+use Rattle.types.specs.declared.Reply.{Reply}
 use Rattle.rules.proofs.Shape.{shape-facts, shape-test}
 use Rattle.theory.specs.Statements.{Undamaged}
 use Rattle.theory.specs.Demand.{Finds}

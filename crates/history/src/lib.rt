@@ -3,12 +3,12 @@
 ghost use mathlib.Core.Path.{_≡_};
 ghost use Rattle.rules.specs.Lent.{before, after};
 ghost use Rattle.history.specs.Promised.{runReply, refusal, Promised};
-use arguments::replies;
-use blocks::Ref;
 use blocks::lists;
-use figures::tally;
 use figures::tally::Run;
-use rules::Reply;
+use figures::tally;
+use types::Ref;
+use types::Reply;
+use types::replies;
 
 mod run;
 

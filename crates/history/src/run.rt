@@ -9,10 +9,10 @@ ghost use Rattle.figures.specs.Figures.{mostRecords, inRange};
 ghost use Rattle.turns.specs.Steps.{Going};
 ghost use Rattle.history.specs.Runs.{ranFrom, ended, ran};
 ghost use Rattle.history.specs.RunBy.{RunBy};
-use blocks::Ref;
 use figures::tally::MAX_RECORDS;
 use figures::tally::Run;
 use turns::noting::Running;
+use types::Ref;
 
 // Runs n records, from the start of the bytes, until one is refused.
 fn run_whole(

@@ -10,7 +10,7 @@ use Rattle.rules.specs.Sections.{figures}
 use Rattle.rules.specs.Store.{birthSticks, allocateIn}
 use Rattle.rules.specs.Calls.{allocate, Answer, reply, settled, outcome, answer}
 use Rattle.rules.specs.Promise.{Promise}
-use Rattle.rules.specs.declared.Reply.{Reply}
+use Rattle.types.specs.declared.Reply.{Reply}
 use Rattle.rules.proofs.Replies.{Passed}
 use Rattle.rules.proofs.Promised.{promised}
 use Rattle.rules.proofs.Unread.{allocate-beside}

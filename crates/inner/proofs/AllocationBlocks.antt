@@ -11,7 +11,7 @@ use Rattle.rules.specs.Sections.{figures}
 use Rattle.rules.specs.Store.{placed, birthSticks, allocateIn}
 use Rattle.rules.specs.Calls.{allocate, reply}
 use Rattle.rules.specs.Promise.{Promise}
-use Rattle.rules.specs.declared.Reply.{Reply}
+use Rattle.types.specs.declared.Reply.{Reply}
 use Rattle.stores.specs.Blocks.{putRootBlocks}
 use Rattle.theory.specs.Balance.{freedBlocks, inUse, allocates, allocatedBy}
 use Rattle.theory.proofs.Maps.Totals.{free-and-sizes}

@@ -6,7 +6,7 @@ use Rattle.rules.specs.Sections.{figures}
 use Rattle.rules.specs.Collection.{collected}
 use Rattle.rules.specs.Calls.{collect, reply, freeing, outcome, answer}
 use Rattle.rules.specs.Promise.{Promise}
-use Rattle.rules.specs.declared.Reply.{Reply}
+use Rattle.types.specs.declared.Reply.{Reply}
 use Rattle.rules.proofs.Replies.{Passed}
 use Rattle.rules.proofs.Unread.{collect-beside}
 use Rattle.collector.specs.Collection.{collectBy, collectBlocks}

@@ -9,7 +9,7 @@ use Rattle.rules.specs.Sections.{figures}
 use Rattle.rules.specs.Store.{storeRootIn, storeCellIn, storeSticks}
 use Rattle.rules.specs.Calls.{Call, storeRoot, storeCell, reply, freeing, settled, outcome, answer}
 use Rattle.rules.specs.Promise.{Promise}
-use Rattle.rules.specs.declared.Reply.{Reply}
+use Rattle.types.specs.declared.Reply.{Reply}
 use Rattle.rules.proofs.Replies.{Passed}
 use Rattle.rules.proofs.Promised.{promised}
 use Rattle.rules.proofs.Unread.{store-root-beside, store-cell-beside}

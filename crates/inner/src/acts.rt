@@ -9,9 +9,9 @@ ghost use Rattle.inner.specs.Allocating.{Allocating};
 ghost use Rattle.inner.specs.Usable.{Usable};
 ghost use Rattle.arguments.specs.Replies.{storeRootTest, storeCellTest};
 ghost use Rattle.allocation_tests.specs.Replies.{allocateReply};
-use arguments::replies;
-use blocks::Ref;
-use rules::Reply;
+use types::Ref;
+use types::Reply;
+use types::replies;
 
 // The reply of an allocation, and the number of blocks that it freed.
 pub struct Allocated {

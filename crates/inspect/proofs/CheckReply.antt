@@ -12,7 +12,7 @@ use Rattle.rules.specs.Damage.{damage}
 use Rattle.rules.specs.Sections.{staleFigures}
 use Rattle.rules.specs.Calls.{Call, check, freeBlocks, look, reply, accepted, testsHeap, refusals, refusedWith, outcome, answer}
 use Rattle.rules.specs.Promise.{Promise}
-use Rattle.rules.specs.declared.Reply.{Reply}
+use Rattle.types.specs.declared.Reply.{Reply}
 use Rattle.rules.proofs.Tests.{first-past, first-found}
 use Rattle.rules.proofs.Replies.{refused-with, accepted-none, Passed, undamaged-passed, refused-as-check}
 use Rattle.theory.specs.Statements.{Undamaged}

@@ -3,9 +3,9 @@ ghost use Rattle.rules.specs.Lent.{before, after};
 ghost use Rattle.rules.specs.Calls.{Call};
 ghost use Rattle.rules.specs.Promise.{Promise};
 use arguments::looking;
-use arguments::replies;
-use blocks::Ref;
-use rules::Reply;
+use types::Ref;
+use types::Reply;
+use types::replies;
 
 // Whether the heap has the right shape, is undamaged and has a true list of sections: number 1, or 2 with the damage kind, or 11, or 0.
 pub fn check(

@@ -8,7 +8,7 @@ ghost use Rattle.rules.specs.Heap.{memory};
 ghost use Rattle.counting.specs.Ready.{Planes};
 ghost use Rattle.counting.specs.Stack.{topFirst, uncounted, Stack};
 ghost use Rattle.marking.specs.Mark.{scan, markCounts};
-use blocks::Ref;
+use types::Ref;
 
 // Visits what the cells of the objects on the stack name, until the stack is empty.
 fn scan_all(

@@ -1,5 +1,5 @@
 // The extent of one object, written and cleared: its A bits, its last B bit, its cells.
-use blocks::Ref;
+use types::Ref;
 ghost use mathlib.Core.Path.{_≡_};
 ghost use Prim.Native.Nat.{_+_, _-_, _*_, _^_, _<_, _≤_};
 ghost use lib.ListN.{length};

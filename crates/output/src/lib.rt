@@ -1,9 +1,9 @@
 // Standard output of the program `calls`. A failed write is said on standard error. A function says whether its last write was made.
 ghost use Prim.Native.Nat.{_<_};
-use blocks::Ref;
 use libc::STDERR_FILENO;
 use libc::STDOUT_FILENO;
-use rules::Reply;
+use types::Ref;
+use types::Reply;
 
 pub fn say(text: &[u8]) -> bool {
     if io::write_all(STDOUT_FILENO, text) {

@@ -8,8 +8,8 @@ ghost use Rattle.rules.specs.Store.{placed, birthSticks, allocateIn};
 ghost use Rattle.sections.specs.Figures.{Coherent};
 ghost use Rattle.counting.specs.Ready.{Ready};
 ghost use Rattle.stores.specs.Blocks.{putRootBlocks};
-use blocks::Ref;
 use stores::Stored;
+use types::Ref;
 
 // Makes an object of count 1 of the n blocks from block i on, and puts its reference into root r.
 pub fn place(
@@ -34,7 +34,7 @@ pub fn place(
         × (done .stuck ≡ birthSticks width)
         × Coherent blocks (now (a .exit)) (now (sections .exit)) ⌝ }
 {
-    let stuck = counting::capacity_of(width) == 1;
+    let stuck = types::capacity_of(width) == 1;
     section_extents::mark_extent(blocks, a, b, sections, i, n);
     planes::set_count(counts, blocks / 8, width, i, 1);
     object_extents::clear_cells(cells, 4 * i, 4 * n);

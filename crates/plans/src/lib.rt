@@ -5,9 +5,9 @@ ghost use Rattle.rules.specs.Heap.{memory};
 ghost use Rattle.plans.specs.Asked.{copying, writing, reading, clearing, asked};
 ghost use Rattle.plans.specs.Meaning.{meaning};
 ghost use Rattle.plans.specs.Readable.{Readable};
-use blocks::Ref;
 use blocks::objects;
 use records::Fields;
+use types::Ref;
 
 // What a record asks for: a call, or a number that stops the run.
 pub enum Plan {

@@ -6,7 +6,7 @@ ghost use lib.ListN.{length};
 ghost use Rattle.rules.specs.Heap.{memory, maxBlocks};
 ghost use Rattle.rules.specs.Tools.{someBelow};
 ghost use Rattle.rules.specs.Damage.{badCell, badRoot};
-use blocks::Ref;
+use types::Ref;
 
 // Kind 4 of the cells.
 pub fn has_bad_cell(blocks: usize, a: &[u8], b: &[u8], cells: &[Ref]) -> bool

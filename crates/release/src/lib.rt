@@ -9,7 +9,7 @@ ghost use Rattle.sections.specs.Figures.{Coherent, Upkeep};
 ghost use Rattle.counting.specs.Ready.{Planes, Extents};
 ghost use Rattle.counting.specs.Stack.{topFirst, counted, Stack};
 ghost use Rattle.release.specs.Blocks.{releasedBlocks, letGoBlocks};
-use blocks::Ref;
+use types::Ref;
 
 // Frees the objects on the stack, and those whose counts come to 0 by that. The number of blocks freed.
 fn release_all(

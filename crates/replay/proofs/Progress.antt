@@ -9,7 +9,7 @@ use lib.ListN.{length, take, drop, take-append-drop}
 use Rattle.rules.specs.Heap.{Memory}
 use Rattle.rules.specs.Calls.{Call, Answer, answer, run, lastMemory}
 use Rattle.rules.specs.Promise.{Promise}
-use Rattle.rules.specs.declared.Reply.{Reply}
+use Rattle.types.specs.declared.Reply.{Reply}
 use Rattle.inner.specs.Usable.{Usable}
 use Rattle.inner.proofs.UsableAfterCalls.{usable-kept}
 use Rattle.encoding.specs.Encoding.{callAt, callsFrom, callsIn, replyWords, isCallAt}

@@ -11,7 +11,7 @@ use Rattle.rules.specs.Promise.{Promise}
 use Rattle.theory.specs.Words.{Made, callsOf, answersOf}
 use Rattle.theory.specs.Demand.{Chain}
 use Rattle.theory.specs.Statements.{Undamaged}
-use Rattle.rules.specs.declared.Reply.{Reply}
+use Rattle.types.specs.declared.Reply.{Reply}
 use Rattle.rules.proofs.Replies.{format-accepted}
 use Rattle.rules.proofs.Shape.{shape-facts}
 use Rattle.theory.proofs.Theorems.{calls-keep-undamaged, format-makes-undamaged, demand-3}

@@ -8,7 +8,7 @@ use Rattle.rules.specs.Store.{formatted}
 use Rattle.rules.specs.Calls.{format, run, lastMemory}
 use Rattle.theory.specs.Words.{Made, callsOf, answersOf, leftBy}
 use Rattle.theory.specs.Demand.{Finds, Chain, Claim}
-use Rattle.rules.specs.declared.Reply.{Reply}
+use Rattle.types.specs.declared.Reply.{Reply}
 use Rattle.encoding.specs.Encoding.{callsIn, replyWords}
 use Rattle.encoding.specs.Refusals.{replyOn}
 

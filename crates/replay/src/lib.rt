@@ -2,9 +2,9 @@
 // here, so it is undamaged and its list of sections true, and calls keep it so: no call of the list tests it.
 ghost use Rattle.rules.specs.Lent.{before, after};
 ghost use Rattle.replay.specs.Replay.{Replayed};
-use blocks::Ref;
 use encoding::tests;
-use rules::Reply;
+use types::Ref;
+use types::Reply;
 
 mod run;
 

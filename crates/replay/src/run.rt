@@ -7,8 +7,8 @@ ghost use Rattle.rules.specs.Lent.{before, after, lent};
 ghost use Rattle.inner.specs.Usable.{Usable};
 ghost use Rattle.encoding.specs.Encoding.{areCalls};
 ghost use Rattle.replay.specs.Run.{AsRun};
-use blocks::Ref;
 use encoding::words;
+use types::Ref;
 
 // Makes every call, and writes every reply.
 pub(crate) fn run_all(

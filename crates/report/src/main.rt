@@ -12,8 +12,8 @@ use crate::heap::ROOTS;
 use crate::heap::SECTIONS;
 use crate::heap::WIDTH;
 use crate::run::Turn;
-use blocks::Ref;
 use figures::tally;
+use types::Ref;
 
 // Runs the pieces until the input ends or the run is stopped, which the limit of its records makes sure of.
 fn main() {

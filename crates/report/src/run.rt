@@ -7,10 +7,10 @@ use crate::heap::MAP_BYTES;
 use crate::heap::ROOTS;
 use crate::heap::SECTIONS;
 use crate::heap::WIDTH;
-use crate::input;
 use crate::input::PIECE;
-use blocks::Ref;
+use crate::input;
 use figures::tally::Run;
+use types::Ref;
 
 // What came of the input: the run at its end; a read that failed; a heap that was refused, which a formatted one never is.
 pub enum Outcome {

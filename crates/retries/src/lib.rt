@@ -6,10 +6,10 @@ ghost use Rattle.inner.specs.Usable.{Usable};
 ghost use Rattle.plans.specs.Asked.{makes};
 ghost use Rattle.turns.specs.Turns.{turnOf};
 ghost use Rattle.turns.specs.Steps.{Acted};
-use blocks::Ref;
 use inner::acts;
-use turns::outcome;
 use turns::outcome::Done;
+use turns::outcome;
+use types::Ref;
 
 // Allocates n blocks into root r; where no chunk is free, collects and tries once more.
 pub fn allocate(

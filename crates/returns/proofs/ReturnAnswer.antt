@@ -11,7 +11,7 @@ use Rattle.rules.specs.Heap.{Memory, withSections}
 use Rattle.rules.specs.Store.{storeRootIn, chosenBelow, clearChosen, returnIn}
 use Rattle.rules.specs.Calls.{returnRoots, storeRoot, reply, Answer, settled, freeing, outcome, answer}
 use Rattle.rules.specs.Promise.{Promise}
-use Rattle.rules.specs.declared.Reply.{Reply}
+use Rattle.types.specs.declared.Reply.{Reply}
 use Rattle.rules.proofs.Replies.{Passed, passed-own}
 use Rattle.rules.proofs.Tests.{first-not}
 use Rattle.rules.proofs.Unread.{store-root-beside}

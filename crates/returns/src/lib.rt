@@ -9,11 +9,11 @@ ghost use Rattle.rules.specs.Promise.{Promise};
 ghost use Rattle.arguments.specs.Replies.{returnTest};
 ghost use Rattle.inner.specs.Usable.{Usable};
 ghost use Rattle.returns.specs.Returns.{Turn};
-use arguments::replies;
 use arguments::returning;
-use blocks::Ref;
 use inner::acts;
-use rules::Reply;
+use types::Ref;
+use types::Reply;
+use types::replies;
 
 // Clears root r where it is one of the set. The number of blocks freed.
 fn clear_chosen(

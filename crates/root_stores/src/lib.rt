@@ -8,8 +8,8 @@ ghost use Rattle.rules.specs.Store.{storeRootIn, storeSticks};
 ghost use Rattle.sections.specs.Figures.{Upkeep};
 ghost use Rattle.counting.specs.Ready.{Ready};
 ghost use Rattle.stores.specs.Blocks.{storeRootBlocks};
-use blocks::Ref;
 use stores::Stored;
+use types::Ref;
 
 // Stores v in root r.
 pub fn store_root(

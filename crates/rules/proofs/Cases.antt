@@ -16,7 +16,7 @@ use Rattle.rules.specs.Collection.{recounted, collected}
 use Rattle.rules.specs.Calls.{ownRefusals, refusals, refusedWith, freeing, outcome as Calls·outcome, answer, run, lastMemory}
 use Rattle.rules.specs.Cases.{Case, fresh, freshBut, cases, readings, returns, moments, outcome, expected, figuresOfBytes, figuresOfSections, expectedOfSections}
 use Rattle.rules.specs.Distinctions.{lent, cellHolding, rootHolding, distinctions}
-use Rattle.rules.specs.declared.Reply.{Reply}
+use Rattle.types.specs.declared.Reply.{Reply}
 
 -- what the rules give for a case: to unfold this is to open every rule
 unfoldable pub computed : Case → List Reply × ℕ × ℕ

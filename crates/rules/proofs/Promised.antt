@@ -4,7 +4,7 @@ use Prim.Native.Nat.{ℕ}
 use Rattle.rules.specs.Heap.{Memory}
 use Rattle.rules.specs.Calls.{Call, Answer, answer}
 use Rattle.rules.specs.Promise.{Promise}
-use Rattle.rules.specs.declared.Reply.{Reply}
+use Rattle.types.specs.declared.Reply.{Reply}
 
 pub promised :
     (N w : ℕ) (h : Memory) (c : Call) (y : Answer) → answer N w h c ≡ y → (x : Reply) (g : Memory) → x ≡ y .0 → g ≡ y .1

@@ -14,7 +14,7 @@ use Rattle.rules.specs.Cases.{fresh, freshBut}
 use Rattle.rules.specs.Distinctions.{lent, cellHolding, rootHolding}
 use Rattle.rules.specs.WrongAnswers.{Question, Promised, used, listed, chained, stale, shared, stuck, alone, cyclic, collectedCyclic, unreached}
 use Rattle.rules.specs.WrongAnswers.{allocatedTwo, allocatedThree, allocatedOver, wrongAnswers}
-use Rattle.rules.specs.declared.Reply.{Reply}
+use Rattle.types.specs.declared.Reply.{Reply}
 use Rattle.rules.proofs.Cases.{computed}
 use Rattle.rules.proofs.Tests.{Each, done, also, and-true}
 

@@ -12,7 +12,7 @@ use Rattle.rules.specs.Damage.{damage}
 use Rattle.rules.specs.Sections.{figures, staleFigures}
 use Rattle.rules.specs.Store.{formatted, storeRootIn, storeCellIn, storeSticks, chosenBelow, returnIn, birthSticks, allocateIn}
 use Rattle.rules.specs.Collection.{collected}
-use Rattle.rules.specs.declared.Reply.{Reply}
+use Rattle.types.specs.declared.Reply.{Reply}
 
 -- the calls with their own arguments
 pub data Call : Type 0 where

@@ -7,7 +7,7 @@ use Rattle.rules.specs.Heap.{Memory, withA, withB}
 use Rattle.rules.specs.Sections.{figures}
 use Rattle.rules.specs.Store.{formatted}
 use Rattle.rules.specs.Calls.{Call, check, collect, freeBlocks, allocate, storeRoot, storeCell, look, returnRoots, reply, run, lastMemory}
-use Rattle.rules.specs.declared.Reply.{Reply}
+use Rattle.types.specs.declared.Reply.{Reply}
 
 -- calls on a heap of 8 blocks, each with the reply it is to get, and the bytes of the A-map and the B-map after the last
 pub record Case : Type 0 where

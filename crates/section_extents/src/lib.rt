@@ -8,9 +8,9 @@ ghost use Rattle.bitmap.specs.Bit.{setBit, fillBits};
 ghost use Rattle.rules.specs.Heap.{isBlocks, sectionLength, sectionCount};
 ghost use Rattle.sections.specs.Figures.{Coherent};
 ghost use Rattle.section_extents.specs.Forgotten.{Forgotten};
-use blocks::Ref;
 use sections::MAX_SECTION;
 use sections::UNKNOWN;
+use types::Ref;
 
 // The number of the section that block i lies in.
 fn section_of(blocks: usize, i: usize) -> usize

@@ -8,9 +8,9 @@ ghost use Rattle.rules.specs.Heap.{isBlocks};
 ghost use Rattle.rules.specs.Sections.{figures, sufficesFrom};
 ghost use Rattle.chunk_walk.specs.Search.{orElse};
 ghost use Rattle.section_search.specs.Search.{Found};
-use blocks::Ref;
 use chunks::Searched;
 use sections::section_length;
+use types::Ref;
 
 // The lowest section whose figure is `size` or more, or the number of sections.
 fn lowest_section(sections: &[Ref], size: usize) -> usize

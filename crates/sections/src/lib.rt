@@ -6,8 +6,8 @@ ghost use lib.ListN.{length, replicate};
 ghost use Rattle.rules.specs.Heap.{isBlocks, sectionLength, sectionCount};
 ghost use Rattle.rules.specs.Sections.{figure, figures, staleFigures};
 ghost use Rattle.sections.specs.Figures.{Coherent};
-use blocks::Ref;
 use chunk_figures::largest_free;
+use types::Ref;
 
 // The longest section, in blocks.
 pub const MAX_SECTION: usize = 256;

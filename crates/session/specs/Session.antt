@@ -5,7 +5,7 @@ use mathlib.Core.List.{List, [], _∷_}
 use Rattle.rules.specs.Heap.{Memory}
 use Rattle.rules.specs.Calls.{format, allocate, storeRoot, collect}
 use Rattle.rules.specs.Promise.{Promise}
-use Rattle.rules.specs.declared.Reply.{Reply}
+use Rattle.types.specs.declared.Reply.{Reply}
 use Rattle.theory.specs.Words.{Made, callsOf, leftBy}
 use Rattle.theory.specs.Demand.{Chain, Claim}
 

@@ -2,8 +2,8 @@
 // of single calls come to.
 ghost use Rattle.rules.specs.Lent.{before, after};
 ghost use Rattle.session.specs.Session.{Lived};
-use blocks::Ref;
-use rules::Reply;
+use types::Ref;
+use types::Reply;
 
 // Formats the heap, allocates one block into root 0, clears that root and collects. The reply is format's; where it refuses, no other call
 // is made.

@@ -1,9 +1,9 @@
 // Number 1: the number of blocks, the width, the number of roots and the lengths of the lent buffers.
 ghost use mathlib.Core.Path.{_≡_};
 ghost use Rattle.rules.specs.Heap.{isBlocks, shape};
-use blocks::MAX_BLOCKS;
-use blocks::MAX_ROOTS;
-use blocks::MAX_WIDTH;
+use types::MAX_BLOCKS;
+use types::MAX_ROOTS;
+use types::MAX_WIDTH;
 
 // Whether n is a power of two from 8 to the largest heap.
 fn is_blocks(n: usize) -> bool

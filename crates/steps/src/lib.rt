@@ -5,10 +5,10 @@ ghost use Rattle.rules.specs.Promise.{Promise};
 ghost use Rattle.inner.specs.Allocating.{Allocating};
 ghost use Rattle.inner.specs.Usable.{Usable};
 use arguments::storing;
-use blocks::Ref;
-use inner::acts;
 use inner::acts::Allocated;
-use rules::Reply;
+use inner::acts;
+use types::Ref;
+use types::Reply;
 
 // Allocates n blocks into root r; a refused allocation frees nothing.
 pub fn allocate(

@@ -11,7 +11,7 @@ ghost use Rattle.rules.specs.Store.{putRoot};
 ghost use Rattle.sections.specs.Figures.{Upkeep};
 ghost use Rattle.counting.specs.Ready.{Ready};
 ghost use Rattle.stores.specs.Blocks.{putRootBlocks};
-use blocks::Ref;
+use types::Ref;
 
 // The number of blocks that were freed, and whether the count of the object that the stored reference names came to the capacity.
 pub struct Stored {

@@ -7,7 +7,7 @@ ghost use Rattle.rules.specs.Heap.{memory};
 ghost use Rattle.sections.specs.Figures.{Coherent};
 ghost use Rattle.counting.specs.Ready.{Planes};
 ghost use Rattle.sweeping.specs.Sweep.{sweepOne, sweepOneBlocks, sweep, sweepBlocks};
-use blocks::Ref;
+use types::Ref;
 
 // Frees the object that starts at block i, if one does and its count is 0: so the count is not written. The number of blocks freed.
 fn sweep_one(

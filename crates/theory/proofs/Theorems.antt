@@ -13,7 +13,7 @@ use borrow.Author.Tests.{le-leb, lt-ltb}
 use Rattle.bitmap.specs.Bit.{bitAt}
 use Rattle.rules.specs.Heap.{Memory, shaped, exponent}
 use Rattle.rules.specs.Store.{formatted, letGo, putRoot, putCell, changeRoot, changeCell, placed, allocateIn}
-use Rattle.rules.specs.declared.Reply.{Reply}
+use Rattle.types.specs.declared.Reply.{Reply}
 use Rattle.rules.specs.Promise.{Promise}
 use Rattle.rules.specs.Calls.{Call, format, allocate, Answer, ownRefusals, outcome, answer}
 use Rattle.theory.specs.Demand.{Demand3}

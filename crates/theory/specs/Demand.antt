@@ -12,7 +12,7 @@ use Rattle.rules.specs.Store.{formatted}
 use Rattle.rules.specs.Collection.{referencesFrom}
 use Rattle.rules.specs.Calls.{Call, collect, run}
 use Rattle.rules.specs.Promise.{Promise}
-use Rattle.rules.specs.declared.Reply.{Reply}
+use Rattle.types.specs.declared.Reply.{Reply}
 use Rattle.theory.specs.Words.{Object, Names, Leads, numberOfReferences, InExtent, stored, heapOf, Made, callsOf, answersOf, compared}
 use Rattle.theory.specs.Stuck.{StuckByReferences}
 

@@ -9,7 +9,7 @@ use lib.Dec.{eqb}
 use Rattle.rules.specs.Heap.{Memory, withCounts, capacity, countOf, isFirst}
 use Rattle.rules.specs.Store.{countUp, placed}
 use Rattle.rules.specs.Calls.{Call, format, check, collect, freeBlocks, allocate, storeRoot, storeCell, look, returnRoots, answer}
-use Rattle.rules.specs.declared.Reply.{Reply}
+use Rattle.types.specs.declared.Reply.{Reply}
 use Rattle.theory.specs.Words.{Object}
 use Rattle.theory.specs.Stuck.{writes}
 use Rattle.theory.specs.Statements.{Undamaged}

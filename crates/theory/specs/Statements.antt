@@ -15,7 +15,7 @@ use Rattle.rules.specs.Store.{formatted, countUp, letGoIn, changeRoot, changeCe
 use Rattle.rules.specs.Calls.{Call, format, check, allocate, testsHeap, answer}
 use Rattle.rules.specs.Collection.{marked, reached}
 use Rattle.rules.specs.Promise.{Promise}
-use Rattle.rules.specs.declared.Reply.{Reply}
+use Rattle.types.specs.declared.Reply.{Reply}
 use Rattle.theory.specs.Words.{Object, Leads, heapOf, Made, leftBy}
 use Rattle.theory.specs.Demand.{Chain, Claim}
 

@@ -10,7 +10,7 @@ use Rattle.rules.specs.Store.{isChosen}
 use Rattle.rules.specs.Tools.{tabulate}
 use Rattle.rules.specs.Collection.{referencesFrom}
 use Rattle.rules.specs.Calls.{Call, format, check, collect, freeBlocks, allocate, storeRoot, storeCell, look, returnRoots, Answer, lastMemory}
-use Rattle.rules.specs.declared.Reply.{Reply}
+use Rattle.types.specs.declared.Reply.{Reply}
 
 -- an object of n blocks whose first block is b
 pub record Object (N : ℕ) (h : Memory) (b n : ℕ) : Type 0 where

@@ -6,7 +6,7 @@ use native.Mathlib.Omega.{arith}
 use Rattle.rules.specs.Heap.{Memory}
 use Rattle.rules.specs.Calls.{collect, Answer, freeing, answer}
 use Rattle.rules.specs.Promise.{Promise}
-use Rattle.rules.specs.declared.Reply.{Reply}
+use Rattle.types.specs.declared.Reply.{Reply}
 use Rattle.theory.specs.Balance.{freedBlocks, inUse, allocates}
 use Rattle.theory.proofs.EachCall.Balance.{blocks-add-up}
 use Rattle.inner.specs.Usable.{Usable}

@@ -8,7 +8,7 @@ use lib.Dec.{eqb}
 use borrow.Author.Tests.{eq-eqb, ne-eqb}
 use Rattle.rules.specs.Heap.{Memory}
 use Rattle.rules.specs.Calls.{allocate, answer}
-use Rattle.rules.specs.declared.Reply.{Reply}
+use Rattle.types.specs.declared.Reply.{Reply}
 use Rattle.rules.proofs.Replies.{accepted-none, Passed, passed}
 use Rattle.theory.specs.Balance.{inUse, allocates, allocatedBy}
 use Rattle.inner.specs.Usable.{Usable}

@@ -4,7 +4,7 @@ use Prim.Native.Nat.{ℕ}
 use Rattle.rules.specs.Heap.{Memory}
 use Rattle.rules.specs.Calls.{Call, Answer}
 use Rattle.rules.specs.Promise.{Promise}
-use Rattle.rules.specs.declared.Reply.{Reply}
+use Rattle.types.specs.declared.Reply.{Reply}
 use Rattle.rules.proofs.Replies.{outcome-accepts, answer-either}
 use Rattle.theory.proofs.Memories.Fit.{Fit}
 use Rattle.theory.proofs.EachCall.Accepted.{refused-plain}

@@ -10,7 +10,7 @@ use borrow.Author.Tests.{eq-eqb, ne-eqb}
 use Rattle.rules.specs.Heap.{Memory}
 use Rattle.rules.specs.Calls.{collect, allocate, answer}
 use Rattle.rules.specs.Promise.{Promise}
-use Rattle.rules.specs.declared.Reply.{Reply}
+use Rattle.types.specs.declared.Reply.{Reply}
 use Rattle.inner.specs.Usable.{Usable}
 use Rattle.inner.specs.Allocating.{Allocating}
 use Rattle.inner.specs.declared.acts.Allocated.{Allocated}

@@ -5,7 +5,7 @@ ghost use Rattle.rules.specs.Store.{work};
 ghost use Rattle.counting.specs.Ready.{Planes};
 ghost use Rattle.counting.specs.Stack.{topFirst, uncounted, remaining, Stack, Worked};
 ghost use Rattle.visiting.specs.Visit.{visit, visitEach};
-use blocks::Ref;
+use types::Ref;
 
 // Counts up the object that v names, if any; where its count was 0 it goes onto the stack. The stack's new height.
 fn visit_one(
@@ -35,7 +35,7 @@ fn visit_one(
         waiting[top] = v - 1;
         return top + 1;
     }
-    if count < counting::capacity_of(width) {
+    if count < types::capacity_of(width) {
         planes::set_count(counts, blocks / 8, width, block, count + 1);
     }
     top

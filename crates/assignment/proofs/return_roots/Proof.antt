@@ -2,7 +2,7 @@
 use mathlib.Core.Path.{refl, sym, ap, _∙_}
 use borrow.Author.Needs.{needs}
 use Rattle.rules.specs.Calls.{freeing, outcome}
-use Rattle.rules.specs.declared.Reply.{Reply}
+use Rattle.types.specs.declared.Reply.{Reply}
 use Rattle.arguments.proofs.ArgumentTests.{return-goes-on}
 use Rattle.inner.proofs.ClearedHeap.{cleared-usable, promised-back}
 use Rattle.assignment.proofs.return_roots.Statement.{statement}

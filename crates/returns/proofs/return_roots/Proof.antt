@@ -1,6 +1,6 @@
 -- `returns::return_roots` meets its contract.
 use mathlib.Core.Path.{sym, ap, _∙_}
-use Rattle.rules.specs.declared.Reply.{Reply}
+use Rattle.types.specs.declared.Reply.{Reply}
 use Rattle.arguments.proofs.ArgumentTests.{return-refused}
 use Rattle.inner.proofs.UsableHeap.{usable-fit, usable-healthy}
 use Rattle.returns.proofs.return_roots.Statement.{statement}

@@ -18,7 +18,7 @@ use Rattle.rules.specs.Store.{returnIn}
 use Rattle.rules.specs.Collection.{collected}
 use Rattle.rules.specs.Calls.{Call, format, check, collect, freeBlocks, allocate, storeRoot, storeCell, look, returnRoots, Answer, reply, accepted, refused}
 use Rattle.rules.specs.Calls.{testsHeap, freeing, settled, outcome, answer}
-use Rattle.rules.specs.declared.Reply.{Reply}
+use Rattle.types.specs.declared.Reply.{Reply}
 use Rattle.rules.proofs.Replies.{answer-either, accepted-outcome, Passed, passed}
 use Rattle.theory.proofs.Memories.Fit.{Fit}
 use Rattle.rules.proofs.Tests.{test-cases}

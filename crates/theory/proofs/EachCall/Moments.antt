@@ -19,7 +19,7 @@ use Rattle.rules.specs.Store.{placed, allocateIn}
 use Rattle.rules.specs.Collection.{collected}
 use Rattle.rules.specs.Calls.{Call, format, check, collect, freeBlocks, allocate, storeRoot, storeCell, look, returnRoots, Answer, reply}
 use Rattle.rules.specs.Calls.{testsHeap, settled, freeing, outcome, answer}
-use Rattle.rules.specs.declared.Reply.{Reply}
+use Rattle.types.specs.declared.Reply.{Reply}
 use Rattle.rules.proofs.Tests.{test-cases}
 use Rattle.rules.proofs.Replies.{accepted-none, accepted-outcome, Passed, passed}
 use Rattle.rules.proofs.Objects.{first-facts}

@@ -18,7 +18,7 @@ use Rattle.rules.specs.Store.{placed, putRoot, putCell, changeRoot, changeCell,
 use Rattle.rules.specs.Calls.{Call, allocate, storeRoot, storeCell, reply, settled, freeing}
 use Rattle.theory.specs.Words.{Object, numberOfReferences, written, stored}
 use Rattle.theory.specs.Stuck.{writes}
-use Rattle.rules.specs.declared.Reply.{Reply}
+use Rattle.types.specs.declared.Reply.{Reply}
 use Rattle.rules.proofs.Objects.{first-facts}
 use Rattle.theory.proofs.Maps.Extents.{Represents, sizesOf, length-sizes-of}
 use Rattle.theory.proofs.Maps.LowestChunk.{Room, room}

@@ -1,11 +1,11 @@
--- `counting::capacity_of` meets its contract: 2 ^ width fits a byte, so the shift loses nothing.
+-- `types::capacity_of` meets its contract: 2 ^ width fits a byte, so the shift loses nothing.
 use Prim.Native.Nat.{_^_, _≤_}
 use native.Mathlib.Omega.{arith}
 use borrow.Author.Needs.{needs}
 use lib.Dec.{lit<}
 use lib.Pow.{shl-exact, pow-pos, pow-mono}
-use Rattle.counting.proofs.capacity_of.Statement.{statement}
-use Rattle.counting.proofs.capacity_of.Tie as tie
+use Rattle.types.proofs.capacity_of.Statement.{statement}
+use Rattle.types.proofs.capacity_of.Tie as tie
 
 cast-result : tie.Need-cast-result
 cast-result c = search needs

@@ -1,12 +1,11 @@
 // The replies as they are built: a refusal, and acceptance with one value or two.
 ghost use mathlib.Core.Path.{_≡_};
 ghost use Rattle.bitmap.specs.Bit.{one};
-ghost use Rattle.rules.specs.Calls.{reply};
-use rules::Reply;
+use crate::Reply;
 
 // A refusal.
 pub fn refusal(number: usize) -> Reply
-    ensures { λ r. ⌜ r ≡ reply number 0 0 ⌝ }
+    ensures { λ r. ⌜ r ≡ record { number = number; value = 0; second = 0 } ⌝ }
 {
     Reply {
         number: number,
@@ -17,7 +16,7 @@ pub fn refusal(number: usize) -> Reply
 
 // Acceptance with one value.
 pub fn acceptance(value: usize) -> Reply
-    ensures { λ r. ⌜ r ≡ reply 0 value 0 ⌝ }
+    ensures { λ r. ⌜ r ≡ record { number = 0; value = value; second = 0 } ⌝ }
 {
     Reply {
         number: 0,
@@ -28,7 +27,7 @@ pub fn acceptance(value: usize) -> Reply
 
 // Acceptance of an allocation or a store: its value, and whether an object became stuck.
 pub fn telling(value: usize, stuck: bool) -> Reply
-    ensures { λ r. ⌜ r ≡ reply 0 value (one stuck) ⌝ }
+    ensures { λ r. ⌜ r ≡ record { number = 0; value = value; second = one stuck } ⌝ }
 {
     Reply {
         number: 0,

@@ -1,0 +1,35 @@
+// What rules and code share: references, the bounds of a heap, the capacity of a count, and the reply of a call.
+ghost use mathlib.Core.Path.{_≡_};
+ghost use Prim.Native.Nat.{_-_, _^_, _≤_, _<_};
+pub mod replies;
+
+// A cell or root: 0, or 1 + the first block of an object. To widen references, the first places to change are this type,
+// MAX_BLOCKS and `doublings` of the rules.
+pub type Ref = u16;
+
+// The largest heap, in blocks.
+pub const MAX_BLOCKS: usize = 8192;
+
+// The widest count, in bits.
+pub const MAX_WIDTH: usize = 4;
+
+// The most roots.
+pub const MAX_ROOTS: usize = 64;
+
+// The capacity of a count, `capacity` of the rules.
+pub fn capacity_of(width: usize) -> u8
+    requires { ⌜ (1 ≤ width) × (width ≤ 4) ⌝ }
+    ensures { λ r. ⌜ (r ≡ 2 ^ width - 1) × (1 ≤ r) × (r < 16) ⌝ }
+{
+    (1u8 << width) - 1
+}
+
+// "A reply is a number and a value (two values for the look)." An allocation and the two stores have two as well: `second` is 1 where the
+// call brought a count to the capacity (request U5), else 0. In every other reply it is 0. It is laid out as in C, so that the exported calls
+// hand it on as it is.
+#[repr(C)]
+pub struct Reply {
+    pub number: usize,
+    pub value: usize,
+    pub second: usize,
+}
