@@ -5,8 +5,8 @@ ghost use Rattle.plans.specs.Asked.{asked};
 ghost use Rattle.turns.specs.Turns.{turnOf};
 ghost use Rattle.turns.specs.Steps.{Going, Stepped};
 use records::Fields;
-use turns::noting::Running;
 use turns::noting;
+use turns::noting::Running;
 use types::Ref;
 
 mod acts;

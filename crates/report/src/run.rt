@@ -7,8 +7,8 @@ use crate::heap::MAP_BYTES;
 use crate::heap::ROOTS;
 use crate::heap::SECTIONS;
 use crate::heap::WIDTH;
-use crate::input::PIECE;
 use crate::input;
+use crate::input::PIECE;
 use figures::tally::Run;
 use types::Ref;
 

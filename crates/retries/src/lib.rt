@@ -7,8 +7,8 @@ ghost use Rattle.plans.specs.Asked.{makes};
 ghost use Rattle.turns.specs.Turns.{turnOf};
 ghost use Rattle.turns.specs.Steps.{Acted};
 use inner::acts;
-use turns::outcome::Done;
 use turns::outcome;
+use turns::outcome::Done;
 use types::Ref;
 
 // Allocates n blocks into root r; where no chunk is free, collects and tries once more.

@@ -5,8 +5,8 @@ ghost use Rattle.rules.specs.Promise.{Promise};
 ghost use Rattle.inner.specs.Allocating.{Allocating};
 ghost use Rattle.inner.specs.Usable.{Usable};
 use arguments::storing;
-use inner::acts::Allocated;
 use inner::acts;
+use inner::acts::Allocated;
 use types::Ref;
 use types::Reply;
 

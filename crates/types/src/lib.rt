@@ -1,6 +1,7 @@
 // What rules and code share: references, the bounds of a heap, the capacity of a count, and the reply of a call.
 ghost use mathlib.Core.Path.{_≡_};
 ghost use Prim.Native.Nat.{_-_, _^_, _≤_, _<_};
+
 pub mod replies;
 
 // A cell or root: 0, or 1 + the first block of an object. To widen references, the first places to change are this type,
