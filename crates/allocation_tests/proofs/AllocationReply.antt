@@ -58,7 +58,8 @@ tested-plain false p o fails = refl
 
 -- ---- the call
 
-pub record Found (N : ℕ) (a : List ℕ) (roots n r at : ℕ) : Type 0 where
+-- the tests of an allocation are passed: n and r are in range, and the lowest free chunk is at block `at`
+pub record AllocationPassed (N : ℕ) (a : List ℕ) (roots n r at : ℕ) : Type 0 where
   pub lowest : lowestFree N (exponent n) a ≡ some at
   pub some-blocks : 1 ≤ n
   pub not-more : n ≤ N
@@ -66,7 +67,7 @@ pub record Found (N : ℕ) (a : List ℕ) (roots n r at : ℕ) : Type 0 where
   pub inside : at + n ≤ N
 
 module _ (N : ℕ) (a : List ℕ) (roots n r : ℕ) where
-  pub allocate-passed : (at : ℕ) → allocateReply N a roots n r ≡ reply 0 at 0 → Found N a roots n r at
+  pub allocate-passed : (at : ℕ) → allocateReply N a roots n r ≡ reply 0 at 0 → AllocationPassed N a roots n r at
   unfolding allocateReply
   allocate-passed at e =
       let parts = tested-passed (leb 1 n && leb n N) (ltb r roots) (lowestFree N (exponent n) a) at e in

@@ -16,11 +16,11 @@ use Rattle.rules.proofs.Promised.{promised}
 use Rattle.rules.proofs.Unread.{allocate-beside}
 use Rattle.theory.proofs.Memories.Fit.{Fit}
 use Rattle.theory.proofs.EachCall.Accepted.{fit-accepted}
-use Rattle.allocation_tests.proofs.AllocationReply.{Found}
+use Rattle.allocation_tests.proofs.AllocationReply.{AllocationPassed}
 use Rattle.inner.specs.Usable.{Usable}
 use Rattle.inner.proofs.UsableHeap.{usable-fit, left-settled}
 
-module _ (N w : ℕ) (h : Memory) (n r at : ℕ) (free : Found N (h .a) (length (h .roots)) n r at) where
+module _ (N w : ℕ) (h : Memory) (n r at : ℕ) (free : AllocationPassed N (h .a) (length (h .roots)) n r at) where
   pub allocate-answered :
       Fit N w h → answer N w h (allocate n r) ≡ (reply 0 at (one (birthSticks w)), settled N (allocateIn N w h n r at))
   unfolding outcome Passed

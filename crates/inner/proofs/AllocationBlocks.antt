@@ -17,7 +17,7 @@ use Rattle.theory.specs.Balance.{freedBlocks, inUse, allocates, allocatedBy}
 use Rattle.theory.proofs.Maps.Totals.{free-and-sizes}
 use Rattle.theory.proofs.EachCall.Balance.{answer-even}
 use Rattle.bridge.proofs.PlacedBlocks.{allocate-freed}
-use Rattle.allocation_tests.proofs.AllocationReply.{Found}
+use Rattle.allocation_tests.proofs.AllocationReply.{AllocationPassed}
 use Rattle.inner.specs.Usable.{Usable}
 use Rattle.inner.specs.Allocating.{Allocating}
 use Rattle.inner.specs.declared.acts.Allocated.{Allocated}
@@ -60,7 +60,7 @@ module _ (N w : ℕ) (h : Memory) (usable : Usable N w h) (n r : ℕ) where
       }
 
   pub allocate-accepting :
-      (at : ℕ) → Found N (h .a) (length (h .roots)) n r at → (stuck : Bool) (done : Allocated) (g : Memory)
+      (at : ℕ) → AllocationPassed N (h .a) (length (h .roots)) n r at → (stuck : Bool) (done : Allocated) (g : Memory)
       → withSections (h .sections) g ≡ allocateIn N w h n r at → g .sections ≡ figures N (g .a)
       → done .freed ≡ putRootBlocks N w (placed N w h at n) r (at + 1) → stuck ≡ birthSticks w → done .reply ≡ reply 0 at (one stuck)
       → Allocating N w n r h done g

@@ -14,9 +14,9 @@ use Rattle.history.specs.declared.Ran.{Ran}
 use Rattle.turns.specs.Turns.{afterTurn}
 use Rattle.history.specs.Runs.{recordAt, ranFrom, wholeRecords, ended, ran}
 use Rattle.history.specs.Promised.{runReply, cleared, Promised}
-use Rattle.report.specs.declared.run.Turn.{Turn}
-use Rattle.report.specs.declared.run.Turn.the-variants.{GoesOn}
-use Rattle.report.specs.Turns.{Further}
+use Rattle.report.specs.declared.run.PieceOutcome.{PieceOutcome}
+use Rattle.report.specs.declared.run.PieceOutcome.the-variants.{GoesOn}
+use Rattle.report.specs.Further.{Further}
 
 -- n records that leave the run going are n records more
 all-counted :
@@ -77,7 +77,7 @@ module _ (N w : ℕ) (bytes : List ℕ) (h : Memory) (r : Run) (x : Ran) (g : Me
       let is = rw test at (promised .run-is) in
       rw is (piece-goes N w bytes (cleared N h) r some (rw is at going))
 
--- the same of a turn that goes on
+-- the same of a piece that leaves the run going
 pub goes-further :
-    {t : Turn} (r next : Run) → t ≡ GoesOn next → Further r t → (r .records < next .records) × (next .records ≤ mostRecords)
-goes-further r next e = subst (λ (t : Turn). Further r t) e
+    {t : PieceOutcome} (r next : Run) → t ≡ GoesOn next → Further r t → (r .records < next .records) × (next .records ≤ mostRecords)
+goes-further r next e = subst (λ (t : PieceOutcome). Further r t) e

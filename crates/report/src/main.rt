@@ -11,7 +11,7 @@ use crate::heap::MAP_BYTES;
 use crate::heap::ROOTS;
 use crate::heap::SECTIONS;
 use crate::heap::WIDTH;
-use crate::run::Turn;
+use crate::run::PieceOutcome;
 use figures::tally;
 use types::Ref;
 
@@ -37,7 +37,7 @@ fn main() {
     );
     let mut run = tally::new_run();
     loop {
-        let turn = run::run_piece(
+        let came = run::run_piece(
             run,
             &mut a,
             &mut b,
@@ -47,11 +47,11 @@ fn main() {
             &mut waiting,
             &mut sections,
         );
-        match turn {
-            Turn::GoesOn(next) => {
+        match came {
+            PieceOutcome::GoesOn(next) => {
                 run = next;
             }
-            Turn::Ends(outcome) => {
+            PieceOutcome::Ends(outcome) => {
                 output::tell(outcome);
                 return;
             }

@@ -1,5 +1,5 @@
 // A run over a piece of the input.
-ghost use Rattle.report.specs.Turns.{Further};
+ghost use Rattle.report.specs.Further.{Further};
 use crate::heap::BLOCKS;
 use crate::heap::CELLS;
 use crate::heap::COUNT_BYTES;
@@ -20,7 +20,7 @@ pub enum Outcome {
 }
 
 // What came of a piece: a run that goes on, or an outcome.
-pub enum Turn {
+pub enum PieceOutcome {
     GoesOn(Run),
     Ends(Outcome),
 }
@@ -35,13 +35,13 @@ pub fn run_piece(
     roots: &mut [Ref; ROOTS],
     waiting: &mut [Ref; BLOCKS],
     sections: &mut [Ref; SECTIONS],
-) -> Turn
-    ensures { λ turn. ⌜ Further run turn ⌝ }
+) -> PieceOutcome
+    ensures { λ came. ⌜ Further run came ⌝ }
 {
     let mut buffer = [0u8; PIECE];
     let piece = input::read_piece(&mut buffer);
     if piece.failed {
-        return Turn::Ends(Outcome::ReadFailed);
+        return PieceOutcome::Ends(Outcome::ReadFailed);
     }
     let n = piece.length;
     let ran = history::run_records(
@@ -58,14 +58,14 @@ pub fn run_piece(
         &buffer[..n],
     );
     if ran.reply.number != 0 {
-        return Turn::Ends(Outcome::HeapRefused);
+        return PieceOutcome::Ends(Outcome::HeapRefused);
     }
     let next = ran.run;
     if next.number != 0 {
-        return Turn::Ends(Outcome::Ran(next));
+        return PieceOutcome::Ends(Outcome::Ran(next));
     }
     if n < PIECE {
-        return Turn::Ends(Outcome::Ran(next));
+        return PieceOutcome::Ends(Outcome::Ran(next));
     }
-    Turn::GoesOn(next)
+    PieceOutcome::GoesOn(next)
 }

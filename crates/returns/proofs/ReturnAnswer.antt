@@ -24,7 +24,7 @@ use Rattle.inner.specs.Usable.{Usable}
 use Rattle.inner.proofs.UsableHeap.{cleared-same, usable-fit, left-settled}
 use Rattle.inner.proofs.StoreAnswer.{root-answered, freeing-promised}
 use Rattle.inner.proofs.UsableAfterCalls.{usable-kept}
-use Rattle.returns.specs.Returns.{Turn}
+use Rattle.returns.specs.Returns.{ClearedIfChosen}
 
 -- ---- the answer
 
@@ -45,16 +45,16 @@ zero-passes N h r inside = passed-own N h (storeRoot r 0) (inside, none-ref N h)
 
 module _ (N w : ℕ) (h : Memory) (usable : Usable N w h) (chosen r : ℕ) where
   -- it is not one of the set
-  pub turn-none : (bitOf chosen r ≡ 1 → ⊥) → Turn N w h chosen r h 0
+  pub not-chosen : (bitOf chosen r ≡ 1 → ⊥) → ClearedIfChosen N w h chosen r h 0
   unfolding clearChosen
-  turn-none n = record { after-is = λ x. rw (ne-eqb (bitOf chosen r) 1 n, clearChosen) refl; usable = usable; blocks = omega arith }
+  not-chosen n = record { after-is = λ x. rw (ne-eqb (bitOf chosen r) 1 n, clearChosen) refl; usable = usable; blocks = omega arith }
 
   -- it is, and was cleared; the waiting list was clear and is left so, and the store reads no list of sections
-  pub turn-one :
+  pub chosen-cleared :
       r < length (h .roots) → bitOf chosen r ≡ 1 → (x : Reply) (g : Memory) → Promise N w (storeRoot r 0) h x g
-      → Turn N w h chosen r g (x .value)
+      → ClearedIfChosen N w h chosen r g (x .value)
   unfolding freeing clearChosen
-  turn-one inside e x g promise =
+  chosen-cleared inside e x g promise =
       let fit = usable-fit N w h usable in
       let end : Memory = storeRootIn N w h r 0 in
       let stored = root-answered N w h r 0 (root-passed N h r 0 (zero-passes N h r inside)) fit in
@@ -87,18 +87,18 @@ module _ (N w : ℕ) (start : Memory) (chosen : ℕ) where
       record { usable = usable; roots-length = refl; made = omega arith; after-is = refl; blocks = omega arith }
 
   pub progress-next :
-      {r freed more : ℕ} {h g : Memory} → r < length (h .roots) → length (g .roots) ≡ length (h .roots) → Turn N w h chosen r g more
+      {r freed more : ℕ} {h g : Memory} → r < length (h .roots) → length (g .roots) ≡ length (h .roots) → ClearedIfChosen N w h chosen r g more
       → Progress N w start chosen r h freed → Progress N w start chosen (r + 1) g (freed + more)
   unfolding returnIn
-  progress-next {r} {freed} {more} {h} {g} l kept turn p =
+  progress-next {r} {freed} {more} {h} {g} l kept cleared p =
       record {
-        usable = turn .usable;
+        usable = cleared .usable;
         roots-length = kept ∙ p .roots-length;
         made = omega (arith, p .roots-length);
         after-is =
-            turn .after-is (start .sections) ∙ ap (λ (k : Memory). clearChosen N w k chosen r) (p .after-is)
+            cleared .after-is (start .sections) ∙ ap (λ (k : Memory). clearChosen N w k chosen r) (p .after-is)
             ∙ ap (returnIn N w start chosen) (sym (add-one r));
-        blocks = omega (arith, turn .blocks, p .blocks);
+        blocks = omega (arith, cleared .blocks, p .blocks);
       }
 
   pub progress-done :

@@ -9,7 +9,7 @@ use Rattle.inner.specs.Usable.{Usable}
 
 -- root r was cleared where it is one of the set, and `freed` blocks were freed: as the rule has it whatever list of sections stands beside,
 -- and the heap's own list is left true
-pub record Turn (N w : ℕ) (h : Memory) (chosen r : ℕ) (g : Memory) (freed : ℕ) : Type 0 where
+pub record ClearedIfChosen (N w : ℕ) (h : Memory) (chosen r : ℕ) (g : Memory) (freed : ℕ) : Type 0 where
   pub after-is : (x : List ℕ) → withSections x g ≡ clearChosen N w (withSections x h) chosen r
   pub usable : Usable N w g
   pub blocks : zeros (g .a) ≡ zeros (h .a) + freed

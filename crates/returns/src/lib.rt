@@ -8,7 +8,7 @@ ghost use Rattle.rules.specs.Calls.{Call};
 ghost use Rattle.rules.specs.Promise.{Promise};
 ghost use Rattle.arguments.specs.Replies.{returnTest};
 ghost use Rattle.inner.specs.Usable.{Usable};
-ghost use Rattle.returns.specs.Returns.{Turn};
+ghost use Rattle.returns.specs.Returns.{ClearedIfChosen};
 use arguments::returning;
 use inner::acts;
 use types::Ref;
@@ -32,7 +32,7 @@ fn clear_chosen(
     requires { ⌜ Usable blocks width (lent a b counts cells roots waiting sections)
         × (r < length (now roots)) ⌝ }
     ensures { λ freed.
-        ⌜ Turn blocks width
+        ⌜ ClearedIfChosen blocks width
         (before a b counts cells roots waiting sections)
         chosen r
         (after a b counts cells roots waiting sections)

@@ -3,7 +3,7 @@ use mathlib.Core.Path.{_≡_, refl, sym, ap, _∙_}
 use mathlib.Core.Logic.{_⊎_, inl, inr}
 use mathlib.Core.Bool.{true}
 use mathlib.Core.List.{List}
-use Prim.Native.Nat.{ℕ, _+_, _-_, _*_, _/_, _≤_, _<_}
+use Prim.Native.Nat.{ℕ, _+_, _-_, _*_, _/_, _^_, _≤_, _<_}
 use native.Mathlib.Nat.{div-eq-of-lt, div-mul-le-self, lt-div-mul-add, le-div-iff-mul-le, div-lt-iff-lt-mul, mul-le-mul-right, div-le-self}
 use native.Mathlib.Decide.{decLt, ℕ-discrete}
 use native.Mathlib.Omega.{arith}
@@ -13,7 +13,7 @@ use Rattle.bitmap.specs.Bit.{bitAt, fillBits}
 use Rattle.bitmap.proofs.Runs.{bit-fill-out}
 use Rattle.rules.specs.Heap.{isBlocks, sectionLength, sectionCount, exponent}
 use Rattle.rules.specs.Sections.{figure}
-use Rattle.rules.proofs.Shape.{blocks-le}
+use Rattle.rules.proofs.Shape.{blocks-facts, blocks-le}
 use Rattle.rules.proofs.Sections.{divided}
 use Rattle.chunk_figures.proofs.Figures.{same-figure}
 use Rattle.sections.specs.Figures.{Coherent}
@@ -131,3 +131,16 @@ coherent-filled N i n v a b sections after bit c f filled = record {
         (λ m l.
         sym (bit-fill-out a i n v (s * L + m) bit (outside s m (omega (arith, divided N (c .blocks) .exponent-is)) o))
         ∙ ap (λ (x : List ℕ). bitAt x (s * L + m)) (sym filled))
+
+-- what the writing of these bits asks for
+pub extent-inside :
+    (N i n : ℕ) (a b sections : List ℕ)
+    → Coherent N a sections × (length a ≡ N / 8) × (length b ≡ N / 8) × (1 ≤ n) × (i + n ≤ N)
+    → (1 ≤ n) × (i + n ≤ 8 * length a) × (i + n ≤ 8 * length b) × (8 * length a < 2 ^ 64)
+extent-inside N i n a b sections pre =
+    let eighths = blocks-facts N (pre .0 .blocks) .2 in (
+      pre .3,
+      omega (arith, eighths, pre .1, pre .4),
+      omega (arith, eighths, pre .2, pre .4),
+      omega (arith, pre .1, blocks-le N (pre .0 .blocks)),
+    )

@@ -20,11 +20,11 @@ loop-holds c = omega (arith, ap (λ (r : Run). r .records) (c .new-run .ensures)
 
 loop-less : tie.Need-loop-less Inv-loop μ-loop
 loop-less c =
-    let more = goes-further _ _ (c .before .turn .given .1) (c .before .before .before .run-piece .ensures) in
+    let more = goes-further _ _ (c .before .came .given .1) (c .before .before .before .run-piece .ensures) in
     omega (arith, more .0, more .1)
 
 loop-again : tie.Need-loop-again Inv-loop μ-loop
-loop-again c = goes-further _ _ (c .before .turn .given .1) (c .before .before .before .run-piece .ensures) .1
+loop-again c = goes-further _ _ (c .before .came .given .1) (c .before .before .before .run-piece .ensures) .1
 
 pub main-spec : {M : Type 1} → statement M
 main-spec =

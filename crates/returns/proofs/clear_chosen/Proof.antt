@@ -1,7 +1,7 @@
 -- `returns::clear_chosen` meets its contract.
 use native.Mathlib.Omega.{arith}
 use Rattle.inner.proofs.UsableHeap.{usable-healthy}
-use Rattle.returns.proofs.ReturnAnswer.{turn-none, zero-passes, turn-one}
+use Rattle.returns.proofs.ReturnAnswer.{not-chosen, zero-passes, chosen-cleared}
 use Rattle.returns.proofs.clear_chosen.Statement.{statement}
 use Rattle.returns.proofs.clear_chosen.Tie as tie
 
@@ -21,7 +21,7 @@ shr-if1 c =
     omega (arith, usable-healthy _ _ _ (start .pre .0) .shape .roots-max, start .pre .1)
 
 returns : tie.Need-returns
-returns c = turn-none _ _ _ (entry (c .before) .pre .0) _ _ (c .if1 .taken)
+returns c = not-chosen _ _ _ (entry (c .before) .pre .0) _ _ (c .if1 .taken)
 
 store-root-requires : tie.Need-store-root-requires
 store-root-requires c κs =
@@ -32,7 +32,7 @@ returns-2 : tie.Need-returns-2
 returns-2 c =
     let tested = chosen (cleared c .before) in
     let pre = entry (tested .before) .pre in
-    turn-one _ _ _ (pre .0) _ _ (pre .1) (omega (arith, tested .if1 .left)) _ _ (cleared c .store-root .ensures)
+    chosen-cleared _ _ _ (pre .0) _ _ (pre .1) (omega (arith, tested .if1 .left)) _ _ (cleared c .store-root .ensures)
 
 pub clear-chosen-spec : {M : Type 1} → statement M
 clear-chosen-spec =

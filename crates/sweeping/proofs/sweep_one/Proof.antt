@@ -33,8 +33,8 @@ same-length-4 c = search needs
 
 returns-2 : tie.Need-returns-2
 returns-2 c =
-    let f = c .before .before in
-    sweep-marked _ _ _ _ _ (start (f .before) .pre .5) (sym (f .before .is-first .ensures) ∙ not-false _ (f .if1 .left))
+    let first = c .before .before in
+    sweep-marked _ _ _ _ _ (start (first .before) .pre .5) (sym (first .before .is-first .ensures) ∙ not-false _ (first .if1 .left))
     (λ z. c .if2 .taken (c .before .get-count .ensures .0 ∙ z))
 
 object-size-requires : tie.Need-object-size-requires
@@ -66,15 +66,16 @@ same-length-8 c = search needs
 
 returns-3 : tie.Need-returns-3
 returns-3 c =
-    let k = c .before .before in
-    let x = k .before .before .before .before .before .before .before .before in
-    let o = x .before .before .before .before in
-    let g = o .before .before in
-    let f = g .before .before in
-    let size = o .object-size .ensures in
-    let cleared = x .clear-extent .ensures in
-    sweep-unmarked _ _ _ _ _ _ _ _ (size .0) (size .2) (sym (f .before .is-first .ensures) ∙ not-false _ (f .if1 .left))
-    (sym (g .before .get-count .ensures .0) ∙ g .if2 .left) _ _ _ (cleared .0) (cleared .1) (k .clear-cells .ensures) _ (cleared .2)
+    let cells = c .before .before in
+    let extent = cells .before .before .before .before .before .before .before .before in
+    let sized = extent .before .before .before .before in
+    let unmarked = sized .before .before in
+    let first = unmarked .before .before in
+    let size = sized .object-size .ensures in
+    let cleared = extent .clear-extent .ensures in
+    sweep-unmarked _ _ _ _ _ _ _ _ (size .0) (size .2) (sym (first .before .is-first .ensures) ∙ not-false _ (first .if1 .left))
+    (sym (unmarked .before .get-count .ensures .0) ∙ unmarked .if2 .left) _ _ _ (cleared .0) (cleared .1) (cells .clear-cells .ensures) _
+    (cleared .2)
 
 pub sweep-one-spec : {M : Type 1} → statement M
 sweep-one-spec =

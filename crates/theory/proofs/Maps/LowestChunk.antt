@@ -28,13 +28,13 @@ module _ (N k : ℕ) (a : List ℕ) where
   inside-chunk c l = omega (arith, le-div-iff-mul-le {k = 2 ^ k} {x = c + 1} {y = N} (pow-pos k) .1 l)
 
   -- what the search from chunk c on finds, where no lower one is free
-  abbrev Found : ℕ → ℕ → Type 0
-  Found n c = (i : ℕ) × Lowest N k a i × (lowestFrom n k a (c * 2 ^ k) ≡ some i)
+  abbrev LowestFound : ℕ → ℕ → Type 0
+  LowestFound n c = (i : ℕ) × Lowest N k a i × (lowestFrom n k a (c * 2 ^ k) ≡ some i)
 
-  abbrev Missed : ℕ → ℕ → Type 0
-  Missed n c = NoneFree N k a × (lowestFrom n k a (c * 2 ^ k) ≡ none)
+  abbrev NoneFound : ℕ → ℕ → Type 0
+  NoneFound n c = NoneFree N k a × (lowestFrom n k a (c * 2 ^ k) ≡ none)
 
-  search-from : (n c : ℕ) → c + n ≡ N / 2 ^ k → ((d : ℕ) → d < c → UsedChunk a k (d * 2 ^ k)) → Found n c ⊎ Missed n c
+  search-from : (n c : ℕ) → c + n ≡ N / 2 ^ k → ((d : ℕ) → d < c → UsedChunk a k (d * 2 ^ k)) → LowestFound n c ⊎ NoneFound n c
   unfolding lowestFrom
   search-from zero c e before = inr (λ d l. before d (omega (arith, inside-chunk d l)), refl)
   search-from (suc n) c e before = elim (test-cases (chunkFree k a (c * 2 ^ k))) [
