@@ -5,6 +5,16 @@ use Rattle.collector.proofs.Collects.{collected-memory, collected-block
 use Rattle.collector.proofs.collect.Statement.{statement}
 use Rattle.collector.proofs.collect.Tie as tie
 
+-- the places: the start, marked, and swept
+abbrev start : tie.After-mark → tie.Start
+start c = c .before .before .before .before .before .before .before .before .before .before .before .before
+
+abbrev marked : tie.After-sweep → tie.After-mark
+marked c = c .before .before .before .before .before .before .before .before .before .before
+
+abbrev swept : tie.After-slice-known12 → tie.After-sweep
+swept c = c .before .before .before .before .before .before .before .before
+
 mark-requires : tie.Need-mark-requires
 mark-requires c κs = search needs
 
@@ -20,33 +30,14 @@ sweep-requires c κs =
       ready .coherent,
     )
 
-same-length : tie.Need-same-length
-same-length c = search needs
-
-same-length-2 : tie.Need-same-length-2
-same-length-2 c = search needs
-
-same-length-3 : tie.Need-same-length-3
-same-length-3 c = search needs
-
-same-length-4 : tie.Need-same-length-4
-same-length-4 c = search needs
-
-same-length-5 : tie.Need-same-length-5
-same-length-5 c = search needs
-
-same-length-6 : tie.Need-same-length-6
-same-length-6 c = search needs
-
 returns : tie.Need-returns
 returns c =
-    let r = c .before .before .before .before .before .before .before .before in
-    let m = r .before .before .before .before .before .before .before .before .before .before in
-    let s = m .before .before .before .before .before .before .before .before .before .before .before .before in
-    let marked = m .mark .ensures in (
-      collected-memory _ _ _ _ _ _ _ _ _ (s .pre .idle) _ _ (marked .0) (marked .1) _ _ _ (r .sweep .ensures .0),
-      collected-blocks _ _ _ _ _ _ _ _ _ (s .pre .idle) _ _ (marked .0) (marked .1) _ (r .sweep .ensures .1),
-      r .sweep .ensures .2,
+    let idle = start (marked (swept c)) .pre .idle in
+    let counts = marked (swept c) .mark .ensures in
+    let sweeping = swept c .sweep .ensures in (
+      collected-memory _ _ _ _ _ _ _ _ _ idle _ _ (counts .0) (counts .1) _ _ _ (sweeping .0),
+      collected-blocks _ _ _ _ _ _ _ _ _ idle _ _ (counts .0) (counts .1) _ (sweeping .1),
+      sweeping .2,
     )
 
 pub collect-spec : {M : Type 1} → statement M
@@ -55,10 +46,10 @@ collect-spec =
     (tie.spec
     mark-requires
     sweep-requires
-    same-length
-    same-length-2
-    same-length-3
-    same-length-4
-    same-length-5
-    same-length-6
+    (λ c. swept c .sweep .kept .1 .1 .0)
+    (λ c. swept c .sweep .kept .1 .1 .1 .0)
+    (λ c. marked (swept c) .mark .kept .1 .1 .1 .0)
+    (λ c. swept c .sweep .kept .1 .1 .1 .1 .1 .0)
+    (λ c. marked (swept c) .mark .kept .1 .1 .1 .1 .1 .1 .0)
+    (λ c. swept c .sweep .kept .1 .1 .1 .1 .1 .1 .0)
     returns)

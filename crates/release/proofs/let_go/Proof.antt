@@ -1,4 +1,5 @@
 -- `release::let_go` meets its contract: v is counted down on an empty stack, and what waits is freed.
+use mathlib.Core.Path.{_∙_}
 use borrow.Author.Needs.{needs}
 use Rattle.counting.proofs.Stack.{stack-empty}
 use Rattle.release.proofs.OtherBuffers.{let-go-done, let-go-blocks-done}
@@ -9,6 +10,13 @@ use Rattle.release.proofs.let_go.Tie as tie
 abbrev start : tie.After-count-down-arg2 → tie.Start
 start c = c .before .before .before .before .before .before .before .before
 
+-- the places: v counted down, and what waits freed
+abbrev counted : tie.After-release-all → tie.After-count-down
+counted c = c .before .before .before .before .before .before .before .before .before .before .before
+
+abbrev freed : tie.After-slice-known14 → tie.After-release-all
+freed c = c .before .before .before .before .before .before .before .before .before .before .before .before
+
 count-down-requires : tie.Need-count-down-requires
 count-down-requires c κs =
     let pre = start c .pre in
@@ -17,31 +25,11 @@ count-down-requires c κs =
 release-all-requires : tie.Need-release-all-requires
 release-all-requires c κs = search needs
 
-same-length : tie.Need-same-length
-same-length c = search needs
-
-same-length-2 : tie.Need-same-length-2
-same-length-2 c = search needs
-
-same-length-3 : tie.Need-same-length-3
-same-length-3 c = search needs
-
-same-length-4 : tie.Need-same-length-4
-same-length-4 c = search needs
-
-same-length-5 : tie.Need-same-length-5
-same-length-5 c = search needs
-
-same-length-6 : tie.Need-same-length-6
-same-length-6 c = search needs
-
 returns : tie.Need-returns
 returns c =
-    let freed = c .before .before .before .before .before .before .before .before .before .before .before .before in
-    let counted = freed .before .before .before .before .before .before .before .before .before .before .before in
-    let down = counted .count-down .ensures .result in
-    let released = freed .release-all .ensures in (
-      let-go-done _ _ _ _ _ _ _ _ _ _ _ down _ _ _ _ _ (released .0) (start (counted .before) .pre .2) (released .2),
+    let down = counted (freed c) .count-down .ensures .result in
+    let released = freed c .release-all .ensures in (
+      let-go-done _ _ _ _ _ _ _ _ _ _ _ down _ _ _ _ _ (released .0) (start (counted (freed c) .before) .pre .2) (released .2),
       let-go-blocks-done _ _ _ _ _ _ _ _ _ _ _ down _ (released .1),
       released .3,
     )
@@ -52,10 +40,10 @@ let-go-spec =
     (tie.spec
     count-down-requires
     release-all-requires
-    same-length
-    same-length-2
-    same-length-3
-    same-length-4
-    same-length-5
-    same-length-6
+    (λ c. freed c .release-all .kept .1 .1 .0)
+    (λ c. freed c .release-all .kept .1 .1 .1 .0)
+    (λ c. freed c .release-all .kept .1 .1 .1 .1 .0 ∙ counted (freed c) .count-down .kept .1 .1 .0)
+    (λ c. freed c .release-all .kept .1 .1 .1 .1 .1 .0)
+    (λ c. freed c .release-all .kept .1 .1 .1 .1 .1 .1 .0 ∙ counted (freed c) .count-down .kept .1 .1 .1 .0)
+    (λ c. freed c .release-all .kept .1 .1 .1 .1 .1 .1 .1 .0)
     returns)

@@ -1,5 +1,5 @@
 -- `sweeping::sweep_one` meets its contract: each return is a law of `sweepOne`.
-use mathlib.Core.Path.{sym, _∙_}
+use mathlib.Core.Path.{refl, sym, _∙_}
 use borrow.Author.Needs.{needs}
 use borrow.Author.Tests.{not-true, not-false}
 use Rattle.sweeping.proofs.Sweeps.{sweep-not-first, sweep-marked, sweep-unmarked}
@@ -10,26 +10,21 @@ use Rattle.sweeping.proofs.sweep_one.Tie as tie
 abbrev start : tie.After-is-first → tie.Start
 start c = c .before .before .before .before .before .before .before .before
 
+-- the places of an object's end: its cells cleared, and its extent before them
+abbrev emptied : tie.After-slice-known8 → tie.After-clear-cells
+emptied c = c .before .before
+
+abbrev extent : tie.After-clear-cells → tie.After-clear-extent
+extent c = c .before .before .before .before .before .before .before .before
+
 is-first-requires : tie.Need-is-first-requires
 is-first-requires c κs = search needs
-
-same-length : tie.Need-same-length
-same-length c = search needs
-
-same-length-2 : tie.Need-same-length-2
-same-length-2 c = search needs
 
 returns : tie.Need-returns
 returns c = sweep-not-first _ _ _ _ _ (start (c .before) .pre .5) (sym (c .before .is-first .ensures) ∙ not-true _ (c .if1 .taken))
 
 get-count-requires : tie.Need-get-count-requires
 get-count-requires c κs = search needs
-
-same-length-3 : tie.Need-same-length-3
-same-length-3 c = search needs
-
-same-length-4 : tie.Need-same-length-4
-same-length-4 c = search needs
 
 returns-2 : tie.Need-returns-2
 returns-2 c =
@@ -52,18 +47,6 @@ mul-clear-cells-2 c = search needs
 clear-cells-requires : tie.Need-clear-cells-requires
 clear-cells-requires c κs = search needs
 
-same-length-5 : tie.Need-same-length-5
-same-length-5 c = search needs
-
-same-length-6 : tie.Need-same-length-6
-same-length-6 c = search needs
-
-same-length-7 : tie.Need-same-length-7
-same-length-7 c = search needs
-
-same-length-8 : tie.Need-same-length-8
-same-length-8 c = search needs
-
 returns-3 : tie.Need-returns-3
 returns-3 c =
     let cells = c .before .before in
@@ -82,20 +65,20 @@ sweep-one-spec =
     tie.close
     (tie.spec
     is-first-requires
-    same-length
-    same-length-2
+    (λ _. refl)
+    (λ _. refl)
     returns
     get-count-requires
-    same-length-3
-    same-length-4
+    (λ _. refl)
+    (λ _. refl)
     returns-2
     object-size-requires
     clear-extent-requires
     mul-clear-cells
     mul-clear-cells-2
     clear-cells-requires
-    same-length-5
-    same-length-6
-    same-length-7
-    same-length-8
+    (λ c. extent (emptied c) .clear-extent .kept .1 .0)
+    (λ c. extent (emptied c) .clear-extent .kept .1 .1 .0)
+    (λ c. emptied c .clear-cells .kept .0)
+    (λ c. extent (emptied c) .clear-extent .kept .1 .1 .1 .0)
     returns-3)
