@@ -10,12 +10,15 @@ use Rattle.sweeping.proofs.sweep_one.Tie as tie
 abbrev start : tie.After-is-first → tie.Start
 start c = c .before .before .before .before .before .before .before .before
 
--- the places of an object's end: its cells cleared, and its extent before them
+-- the places where an object is freed: its cells cleared, before them its extent, and before that its size read
 abbrev emptied : tie.After-slice-known8 → tie.After-clear-cells
 emptied c = c .before .before
 
 abbrev extent : tie.After-clear-cells → tie.After-clear-extent
 extent c = c .before .before .before .before .before .before .before .before
+
+abbrev sized : tie.After-clear-extent → tie.After-object-size
+sized c = c .before .before .before .before
 
 is-first-requires : tie.Need-is-first-requires
 is-first-requires c κs = search needs
@@ -49,15 +52,12 @@ clear-cells-requires c κs = search needs
 
 returns-3 : tie.Need-returns-3
 returns-3 c =
-    let cells = c .before .before in
-    let extent = cells .before .before .before .before .before .before .before .before in
-    let sized = extent .before .before .before .before in
-    let unmarked = sized .before .before in
+    let unmarked = sized (extent (emptied c)) .before .before in
     let first = unmarked .before .before in
-    let size = sized .object-size .ensures in
-    let cleared = extent .clear-extent .ensures in
+    let size = sized (extent (emptied c)) .object-size .ensures in
+    let cleared = extent (emptied c) .clear-extent .ensures in
     sweep-unmarked _ _ _ _ _ _ _ _ (size .0) (size .2) (sym (first .before .is-first .ensures) ∙ not-false _ (first .if1 .left))
-    (sym (unmarked .before .get-count .ensures .0) ∙ unmarked .if2 .left) _ _ _ (cleared .0) (cleared .1) (cells .clear-cells .ensures) _
+    (sym (unmarked .before .get-count .ensures .0) ∙ unmarked .if2 .left) _ _ _ (cleared .0) (cleared .1) (emptied c .clear-cells .ensures) _
     (cleared .2)
 
 pub sweep-one-spec : {M : Type 1} → statement M
