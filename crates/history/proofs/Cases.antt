@@ -9,8 +9,8 @@ use Rattle.figures.specs.Figures.{countedIn, toldStuck, momentIn, noted, notedA
 use Rattle.line.specs.Line.{figuresLine, refusalLine, line}
 use Rattle.turns.specs.Turns.{triedAgain, turnOf, afterTurn}
 use Rattle.history.specs.Runs.{ranFrom, ended, ran}
-use Rattle.history.specs.Cases.{cases, outcome, bytesOf, expected}
+use Rattle.history.specs.Cases.{cases, given, bytesOf, expected}
 
-pub cases-hold : map outcome cases ≡ map expected cases
-unfolding computed fieldsAt unnamed unless onRoots allocating copying writing reading clearing operation asked decimalIn decimal countedIn toldStuck momentIn noted notedAll figuresLine refusalLine line triedAgain turnOf afterTurn ranFrom ended ran outcome bytesOf expected cases
+pub cases-hold : map given cases ≡ map expected cases
+unfolding computed fieldsAt unnamed unless onRoots allocating copying writing reading clearing operation asked decimalIn decimal countedIn toldStuck momentIn noted notedAll figuresLine refusalLine line triedAgain turnOf afterTurn ranFrom ended ran given bytesOf expected cases
 cases-hold = refl

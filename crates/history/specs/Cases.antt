@@ -108,8 +108,8 @@ cases =
     ∷ []
 
 -- what the rules give for a case
-unfoldable pub outcome : Case → List ℕ × ℕ
-outcome c =
+unfoldable pub given : Case → List ℕ × ℕ
+given c =
     let x = ran 8 2 (c .bytes) (formatted 8 2 4) (run 0 (c .records) noFigures) in
     (line (x .run), getD (x .memory .a) 0 0)
 

@@ -13,38 +13,38 @@ use Rattle.rules.specs.Store.{formatted, countUp, sticks, countDown, cou
 use Rattle.rules.specs.Store.{changeRoot, changeCell, storeRootIn, storeCellIn, storeSticks, clearChosen, returnIn, placed, allocateIn}
 use Rattle.rules.specs.Collection.{isCellOf, cellOfChosen, referencesFrom, reachedNext, reachedIn, reached, swept}
 use Rattle.rules.specs.Collection.{recounted, collected}
-use Rattle.rules.specs.Calls.{ownRefusals, refusals, refusedWith, freeing, outcome as Calls·outcome, answer, run, lastMemory}
-use Rattle.rules.specs.Cases.{Case, fresh, freshBut, cases, readings, returns, moments, outcome, expected, figuresOfBytes, figuresOfSections, expectedOfSections}
-use Rattle.rules.specs.Distinctions.{lent, cellHolding, rootHolding, distinctions}
+use Rattle.rules.specs.Calls.{ownRefusals, refusals, refusedWith, freeing, outcome, answer, run, lastMemory}
+use Rattle.rules.specs.Cases.{Case, fresh, freshBut, cases, readings, returns, moments, given, expected, figuresOfBytes, figuresOfSections, expectedOfSections}
+use Rattle.rules.specs.Distinctions.{eightBlocks, cellHolding, rootHolding, distinctions}
 use Rattle.types.specs.declared.Reply.{Reply}
 
 -- what the rules give for a case: to unfold this is to open every rule
 unfoldable pub computed : Case → List Reply × ℕ × ℕ
-unfolding bitAt setBit fillBits countBelow zeros countAt setCount isPowerFrom all shape firstIn sizeFrom exponentFrom exponent chunkFree lowestFrom lowestFree refIn holding someBelow endOnFree openEnd unaligned badCell badRoot badCount firstNumber damage largestFree figure figures staleFigures formatted countUp sticks countDown countDownEach clearCells freed release letGo putRoot putCell changeRoot changeCell storeRootIn storeCellIn storeSticks clearChosen returnIn placed allocateIn isCellOf cellOfChosen referencesFrom tabulate reachedNext reachedIn reached swept recounted collected isSome ownRefusals refusals refusedWith freeing Calls·outcome answer run fresh freshBut lastMemory outcome expected
-computed c = outcome c
+unfolding bitAt setBit fillBits countBelow zeros countAt setCount isPowerFrom all shape firstIn sizeFrom exponentFrom exponent chunkFree lowestFrom lowestFree refIn holding someBelow endOnFree openEnd unaligned badCell badRoot badCount firstNumber damage largestFree figure figures staleFigures formatted countUp sticks countDown countDownEach clearCells freed release letGo putRoot putCell changeRoot changeCell storeRootIn storeCellIn storeSticks clearChosen returnIn placed allocateIn isCellOf cellOfChosen referencesFrom tabulate reachedNext reachedIn reached swept recounted collected isSome ownRefusals refusals refusedWith freeing outcome answer run fresh freshBut lastMemory given expected
+computed c = given c
 
-pub cases-hold : map outcome cases ≡ map expected cases
+pub cases-hold : map given cases ≡ map expected cases
 unfolding computed cases
 cases-hold = refl
 
 -- and so do those that tell the plausible readings that are wrong from the right ones
-pub readings-hold : map outcome readings ≡ map expected readings
+pub readings-hold : map given readings ≡ map expected readings
 unfolding computed readings
 readings-hold = refl
 
 -- and so do those of request U10
-pub returns-hold : map outcome returns ≡ map expected returns
+pub returns-hold : map given returns ≡ map expected returns
 unfolding computed returns
 returns-hold = refl
 
 -- and those of request U5
-pub moments-hold : map outcome moments ≡ map expected moments
+pub moments-hold : map given moments ≡ map expected moments
 unfolding computed moments
 moments-hold = refl
 
 -- and those that tell further wrong rules from the right ones
-pub distinctions-hold : map outcome distinctions ≡ map expected distinctions
-unfolding computed lent cellHolding rootHolding distinctions
+pub distinctions-hold : map given distinctions ≡ map expected distinctions
+unfolding computed eightBlocks cellHolding rootHolding distinctions
 distinctions-hold = refl
 
 -- and the figures of request U4

@@ -11,8 +11,8 @@ use Rattle.rules.specs.Heap.{Memory}
 use Rattle.rules.specs.Store.{formatted}
 use Rattle.rules.specs.Calls.{Answer, answer}
 use Rattle.rules.specs.Cases.{fresh, freshBut}
-use Rattle.rules.specs.Distinctions.{lent, cellHolding, rootHolding}
-use Rattle.rules.specs.WrongAnswers.{Question, Promised, used, listed, chained, stale, shared, stuck, alone, cyclic, collectedCyclic, unreached}
+use Rattle.rules.specs.Distinctions.{eightBlocks, cellHolding, rootHolding}
+use Rattle.rules.specs.WrongAnswers.{Question, PromisedTo, used, listed, chained, stale, shared, stuck, alone, cyclic, collectedCyclic, unreached}
 use Rattle.rules.specs.WrongAnswers.{allocatedTwo, allocatedThree, allocatedOver, wrongAnswers}
 use Rattle.types.specs.declared.Reply.{Reply}
 use Rattle.rules.proofs.Cases.{computed}
@@ -73,15 +73,15 @@ noneIs x [] = true
 noneIs x (y ∷ ys) = not (sameAnswer x y) && noneIs x ys
 
 -- what is promised is the rules' answer, and this is promised
-promised : (q : Question) (x : Answer) → Promised q x → x ≡ asked q
+promised : (q : Question) (x : Answer) → PromisedTo q x → x ≡ asked q
 unfolding asked
 promised q x p = λ i. (p .reply-is i, p .after-is i)
 
-answered : (q : Question) (x : Answer) → asked q ≡ x → Promised q x
+answered : (q : Question) (x : Answer) → asked q ≡ x → PromisedTo q x
 unfolding asked
-answered q x e = subst (λ (y : Answer). Promised q y) e (record { reply-is = refl; after-is = refl })
+answered q x e = subst (λ (y : Answer). PromisedTo q y) e (record { reply-is = refl; after-is = refl })
 
-none-promised : (q : Question) (xs : List Answer) → asked q ≡ q .right → noneIs (q .right) xs ≡ true → Each (λ x. ¬ Promised q x) xs
+none-promised : (q : Question) (xs : List Answer) → asked q ≡ q .right → noneIs (q .right) xs ≡ true → Each (λ x. ¬ PromisedTo q x) xs
 unfolding noneIs
 none-promised q [] right e = done
 none-promised q (x ∷ xs) right e =
@@ -92,7 +92,7 @@ none-promised q (x ∷ xs) right e =
 
 -- the right answer is promised and none of the wrong ones is
 abbrev pub Told : Question → Type 0
-Told q = Promised q (q .right) × Each (λ x. ¬ Promised q x) (q .wrong)
+Told q = PromisedTo q (q .right) × Each (λ x. ¬ PromisedTo q x) (q .wrong)
 
 wrongDiffer : List Question → Bool
 wrongDiffer [] = true
@@ -109,7 +109,7 @@ each-told (q ∷ qs) rights differs =
 
 -- to unfold this is to open the list and its heaps
 opened : List Question
-unfolding formatted fresh freshBut lent cellHolding rootHolding used listed chained stale unreached shared stuck alone cyclic collectedCyclic allocatedTwo allocatedThree allocatedOver wrongAnswers
+unfolding formatted fresh freshBut eightBlocks cellHolding rootHolding used listed chained stale unreached shared stuck alone cyclic collectedCyclic allocatedTwo allocatedThree allocatedOver wrongAnswers
 opened = wrongAnswers
 
 rights-hold : map asked wrongAnswers ≡ map (λ q. q .right) wrongAnswers

@@ -169,8 +169,8 @@ moments =
     ∷ []
 
 -- what the rules give for a case: the replies and the two bytes
-unfoldable pub outcome : Case → List Reply × ℕ × ℕ
-outcome c =
+unfoldable pub given : Case → List Reply × ℕ × ℕ
+given c =
     let answers = run 8 (c .width) (c .before) (map (λ s. s .0) (c .steps)) in
     let h = lastMemory (c .before) answers in
     (map (λ x. x .0) answers, getD (h .a) 0 0, getD (h .b) 0 0)

@@ -9,8 +9,8 @@ use Rattle.rules.specs.Calls.{format, check, collect, freeBlocks, alloca
 use Rattle.rules.specs.Cases.{Case, case, fresh, freshBut, gives, sticking, shows, refuses, damaged}
 
 -- a heap of 8 blocks and width 2, its list of sections true: the byte of each of the four maps, the cells and the roots
-unfoldable pub lent : (a b low high : ℕ) → (cells roots : List ℕ) → Memory
-lent a b low high cells roots =
+unfoldable pub eightBlocks : (a b low high : ℕ) → (cells roots : List ℕ) → Memory
+eightBlocks a b low high cells roots =
     lentMemory (a ∷ []) (b ∷ []) (low ∷ high ∷ []) cells roots (replicate 8 0) (figures 8 (a ∷ []))
 
 -- the 32 cells, all 0 but number j
@@ -54,18 +54,18 @@ distinctions =
     ((allocate 8 0, gives 0) ∷ (allocate 9 4, refuses 3) ∷ (allocate 8 4, refuses 4) ∷ (storeRoot 4 9, refuses 4) ∷ (storeRoot 3 9, refuses 8)
     ∷ (storeCell 1 32 9, refuses 6) ∷ (storeCell 0 32 9, refuses 7) ∷ (storeCell 0 31 9, refuses 8) ∷ [])
     -- Damage 2, ".. whose next block is free or past the end": the last block, held by a root
-    ∷ case 2 (lent 128 255 128 0 (replicate 32 0) (rootHolding 3 8)) 128 255 ((check, damaged 2) ∷ [])
+    ∷ case 2 (eightBlocks 128 255 128 0 (replicate 32 0) (rootHolding 3 8)) 128 255 ((check, damaged 2) ∷ [])
     -- Damage 4, "A cell of a free block that isn't 0", though it names an object, which has count 2 for the root and this cell
-    ∷ case 2 (lent 1 254 0 1 (cellHolding 31 1) (rootHolding 0 1)) 1 254 ((check, damaged 4) ∷ [])
+    ∷ case 2 (eightBlocks 1 254 0 1 (cellHolding 31 1) (rootHolding 0 1)) 1 254 ((check, damaged 4) ∷ [])
     -- ".. or a cell .. that is neither 0 nor 1 + a first block": of an object
-    ∷ case 2 (lent 1 254 1 0 (cellHolding 3 2) (rootHolding 0 1)) 1 254 ((check, damaged 4) ∷ [])
+    ∷ case 2 (eightBlocks 1 254 1 0 (cellHolding 3 2) (rootHolding 0 1)) 1 254 ((check, damaged 4) ∷ [])
     -- ".. or root": the last one; a free block, and past the end
     ∷ case 2 (withRoots (rootHolding 3 8) (fresh 2)) 0 255 ((check, damaged 4) ∷ [])
     ∷ case 2 (withRoots (rootHolding 3 9) (fresh 2)) 0 255 ((check, damaged 4) ∷ [])
     -- Damage 5, "A count other than 0 where no object starts"
-    ∷ case 2 (lent 0 255 0 128 (replicate 32 0) (replicate 4 0)) 0 255 ((check, damaged 5) ∷ [])
+    ∷ case 2 (eightBlocks 0 255 0 128 (replicate 32 0) (replicate 4 0)) 0 255 ((check, damaged 5) ∷ [])
     -- "an object with count 0", which no reference names
     ∷ case 2 (freshBut 1 254) 1 254 ((check, damaged 5) ∷ [])
     -- "a count below capacity that differs from the number of all cells and roots naming the object": 2 with one reference
-    ∷ case 2 (lent 1 254 0 1 (replicate 32 0) (rootHolding 0 1)) 1 254 ((check, damaged 5) ∷ [])
+    ∷ case 2 (eightBlocks 1 254 0 1 (replicate 32 0) (rootHolding 0 1)) 1 254 ((check, damaged 5) ∷ [])
     ∷ []

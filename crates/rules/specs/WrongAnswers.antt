@@ -8,7 +8,7 @@ use Rattle.rules.specs.Heap.{Memory, withA, withB, withCounts, withCells
 use Rattle.rules.specs.Calls.{Call, format, check, collect, freeBlocks, allocate, storeRoot, storeCell, look, returnRoots, Answer, reply}
 use Rattle.rules.specs.Promise.{Promise}
 use Rattle.rules.specs.Cases.{fresh, freshBut, gives, sticking, shows, refuses, damaged}
-use Rattle.rules.specs.Distinctions.{lent, cellHolding, rootHolding}
+use Rattle.rules.specs.Distinctions.{eightBlocks, cellHolding, rootHolding}
 
 -- a call with its right answer, that is the reply and the memory after it, and wrong ones
 pub record Question : Type 0 where
@@ -22,8 +22,8 @@ abbrev pub question : ℕ → Memory → Call → Answer → List Answer → Que
 question width before call right wrong = record { width = width; before = before; call = call; right = right; wrong = wrong }
 
 -- the answer keeps the promise of a public call
-abbrev pub Promised : Question → Answer → Type 0
-Promised q x = Promise 8 (q .width) (q .call) (q .before) (x .0) (x .1)
+abbrev pub PromisedTo : Question → Answer → Type 0
+PromisedTo q x = Promise 8 (q .width) (q .call) (q .before) (x .0) (x .1)
 
 -- ---- the heaps, of width 2
 
@@ -37,7 +37,7 @@ listed figure h = withSections (figure ∷ []) h
 
 -- P8's: X of 2 blocks at 0, in root 0; its cell 7 alone names Y of 1 block at 2
 unfoldable pub chained : Memory
-chained = lent 7 249 5 0 (cellHolding 7 3) (rootHolding 0 1)
+chained = eightBlocks 7 249 5 0 (cellHolding 7 3) (rootHolding 0 1)
 
 -- the same with a figure that is wrong by one: blocks 4 to 7 are the largest free chunk
 unfoldable pub stale : Memory
@@ -45,39 +45,39 @@ stale = listed 3 chained
 
 -- the same with Y in root 1 too
 unfoldable pub shared : Memory
-shared = lent 7 249 1 4 (cellHolding 7 3) (1 ∷ 3 ∷ 0 ∷ 0 ∷ [])
+shared = eightBlocks 7 249 1 4 (cellHolding 7 3) (1 ∷ 3 ∷ 0 ∷ 0 ∷ [])
 
 -- the same with Y in root 2 too: Y is stuck
 unfoldable pub stuck : Memory
-stuck = lent 7 249 5 4 (cellHolding 7 3) (1 ∷ 3 ∷ 3 ∷ 0 ∷ [])
+stuck = eightBlocks 7 249 5 4 (cellHolding 7 3) (1 ∷ 3 ∷ 3 ∷ 0 ∷ [])
 
 -- the same with Y let go by X: X alone
 unfoldable pub alone : Memory
-alone = lent 3 253 1 0 (replicate 32 0) (rootHolding 0 1)
+alone = eightBlocks 3 253 1 0 (replicate 32 0) (rootHolding 0 1)
 
 -- X of 2 blocks at 0 and Y at 2 name each other, and no root names them; Z at 3, in root 0, is named by X too
 unfoldable pub cyclic : Memory
-cyclic = lent 15 241 5 8 (set (set (cellHolding 0 3) 7 4) 8 1) (rootHolding 0 4)
+cyclic = eightBlocks 15 241 5 8 (set (set (cellHolding 0 3) 7 4) 8 1) (rootHolding 0 4)
 
 -- Z alone
 unfoldable pub collectedCyclic : Memory
-collectedCyclic = lent 8 247 8 0 (replicate 32 0) (rootHolding 0 4)
+collectedCyclic = eightBlocks 8 247 8 0 (replicate 32 0) (rootHolding 0 4)
 
 -- chained, with 2 blocks more at 4 in root 1
 unfoldable pub allocatedTwo : Memory
-allocatedTwo = lent 55 217 21 0 (cellHolding 7 3) (1 ∷ 5 ∷ 0 ∷ 0 ∷ [])
+allocatedTwo = eightBlocks 55 217 21 0 (cellHolding 7 3) (1 ∷ 5 ∷ 0 ∷ 0 ∷ [])
 
 -- chained, with 3 blocks more at 4 in root 1
 unfoldable pub allocatedThree : Memory
-allocatedThree = lent 119 185 21 0 (cellHolding 7 3) (1 ∷ 5 ∷ 0 ∷ 0 ∷ [])
+allocatedThree = eightBlocks 119 185 21 0 (cellHolding 7 3) (1 ∷ 5 ∷ 0 ∷ 0 ∷ [])
 
 -- what is left of chained when 2 blocks are allocated into root 0
 unfoldable pub allocatedOver : Memory
-allocatedOver = lent 48 223 16 0 (replicate 32 0) (rootHolding 0 5)
+allocatedOver = eightBlocks 48 223 16 0 (replicate 32 0) (rootHolding 0 5)
 
 -- an object of 5 blocks at 0 that is stuck, and no root names it
 unfoldable pub unreached : Memory
-unreached = lent 31 239 1 1 (replicate 32 0) (replicate 4 0)
+unreached = eightBlocks 31 239 1 1 (replicate 32 0) (replicate 4 0)
 
 -- ---- the questions, call by call
 
@@ -113,12 +113,12 @@ wrongAnswers =
     -- replies 0 always; never writes; the size for the value
     ∷ (gives 0, allocatedTwo) ∷ (gives 4, used chained) ∷ (gives 2, allocatedTwo)
     -- two free blocks wherever they start; a chunk that is not the lowest
-    ∷ (gives 3, lent 31 233 13 0 (cellHolding 7 3) (1 ∷ 4 ∷ 0 ∷ 0 ∷ []))
-    ∷ (gives 6, lent 199 121 69 0 (cellHolding 7 3) (1 ∷ 7 ∷ 0 ∷ 0 ∷ []))
+    ∷ (gives 3, eightBlocks 31 233 13 0 (cellHolding 7 3) (1 ∷ 4 ∷ 0 ∷ 0 ∷ []))
+    ∷ (gives 6, eightBlocks 199 121 69 0 (cellHolding 7 3) (1 ∷ 7 ∷ 0 ∷ 0 ∷ []))
     -- size and root exchanged; into root 0
-    ∷ (gives 3, lent 15 241 13 0 (cellHolding 7 3) (1 ∷ 0 ∷ 4 ∷ 0 ∷ [])) ∷ (gives 4, allocatedOver)
+    ∷ (gives 3, eightBlocks 15 241 13 0 (cellHolding 7 3) (1 ∷ 0 ∷ 4 ∷ 0 ∷ [])) ∷ (gives 4, allocatedOver)
     -- counted up again; the root not written, or another; the block without 1 added; the waiting list left
-    ∷ (gives 4, lent 55 217 5 16 (cellHolding 7 3) (1 ∷ 5 ∷ 0 ∷ 0 ∷ []))
+    ∷ (gives 4, eightBlocks 55 217 5 16 (cellHolding 7 3) (1 ∷ 5 ∷ 0 ∷ 0 ∷ []))
     ∷ (gives 4, withRoots (rootHolding 0 1) allocatedTwo) ∷ (gives 4, withRoots (1 ∷ 0 ∷ 5 ∷ 0 ∷ []) allocatedTwo)
     ∷ (gives 4, withRoots (1 ∷ 4 ∷ 0 ∷ 0 ∷ []) allocatedTwo) ∷ (gives 4, used allocatedTwo)
     -- a birth at width 2 told as one that sticks
@@ -126,24 +126,24 @@ wrongAnswers =
     -- the list of sections left as it was, or a figure one too large, or unknown
     ∷ (gives 4, listed 4 allocatedTwo) ∷ (gives 4, listed 3 allocatedTwo) ∷ (gives 4, listed 65535 allocatedTwo) ∷ [])
     -- a birth at width 1
-    ∷ question 1 (fresh 1) (allocate 1 0) (sticking 0, withCounts (1 ∷ []) (lent 1 254 0 0 (replicate 32 0) (rootHolding 0 1)))
+    ∷ question 1 (fresh 1) (allocate 1 0) (sticking 0, withCounts (1 ∷ []) (eightBlocks 1 254 0 0 (replicate 32 0) (rootHolding 0 1)))
     -- not told; told in the value
-    ((gives 0, withCounts (1 ∷ []) (lent 1 254 0 0 (replicate 32 0) (rootHolding 0 1)))
-    ∷ (gives 1, withCounts (1 ∷ []) (lent 1 254 0 0 (replicate 32 0) (rootHolding 0 1))) ∷ [])
+    ((gives 0, withCounts (1 ∷ []) (eightBlocks 1 254 0 0 (replicate 32 0) (rootHolding 0 1)))
+    ∷ (gives 1, withCounts (1 ∷ []) (eightBlocks 1 254 0 0 (replicate 32 0) (rootHolding 0 1))) ∷ [])
     ∷ question 2 (used chained) (allocate 3 1) (gives 4, allocatedThree)
     -- the whole chunk flipped, with the object's end at its last block or at the chunk's
-    ((gives 4, withA (247 ∷ []) allocatedThree) ∷ (gives 4, lent 247 121 21 0 (cellHolding 7 3) (1 ∷ 5 ∷ 0 ∷ 0 ∷ []))
+    ((gives 4, withA (247 ∷ []) allocatedThree) ∷ (gives 4, eightBlocks 247 121 21 0 (cellHolding 7 3) (1 ∷ 5 ∷ 0 ∷ 0 ∷ []))
     -- the last block's B bit not cleared
     ∷ (gives 4, withB (249 ∷ []) allocatedThree) ∷ [])
     -- a root that is in use
     ∷ question 2 (used chained) (allocate 2 0) (gives 4, allocatedOver)
     -- the search after the old object is let go; the old object not let go; the blocks freed for the value
-    ((gives 0, lent 3 253 1 0 (replicate 32 0) (rootHolding 0 1))
-    ∷ (gives 4, lent 55 217 21 0 (cellHolding 7 3) (rootHolding 0 5)) ∷ (gives 3, allocatedOver) ∷ [])
+    ((gives 0, eightBlocks 3 253 1 0 (replicate 32 0) (rootHolding 0 1))
+    ∷ (gives 4, eightBlocks 55 217 21 0 (cellHolding 7 3) (rootHolding 0 5)) ∷ (gives 3, allocatedOver) ∷ [])
     -- the whole heap
-    ∷ question 2 (fresh 2) (allocate 8 0) (gives 0, lent 255 127 1 0 (replicate 32 0) (rootHolding 0 1))
+    ∷ question 2 (fresh 2) (allocate 8 0) (gives 0, eightBlocks 255 127 1 0 (replicate 32 0) (rootHolding 0 1))
     -- taken for too much; no chunk without a search; half of it
-    ((refuses 3, fresh 2) ∷ (refuses 5, fresh 2) ∷ (gives 0, lent 15 247 1 0 (replicate 32 0) (rootHolding 0 1)) ∷ [])
+    ((refuses 3, fresh 2) ∷ (refuses 5, fresh 2) ∷ (gives 0, eightBlocks 15 247 1 0 (replicate 32 0) (rootHolding 0 1)) ∷ [])
     -- no chunk is free
     ∷ question 2 (used chained) (allocate 8 1) (refuses 5, used chained)
     -- replies 0 always; another number; the number of blocks for "none"; writes in a refusal
@@ -159,19 +159,19 @@ wrongAnswers =
     -- only reports: the root is cleared and nothing freed
     ∷ (gives 3, withRoots (replicate 4 0) chained)
     -- what the freed object named is not let go
-    ∷ (gives 2, lent 4 251 4 0 (replicate 32 0) (replicate 4 0))
+    ∷ (gives 2, eightBlocks 4 251 4 0 (replicate 32 0) (replicate 4 0))
     -- last B bits, counts or cells left; the root not written; the waiting list left
-    ∷ (gives 3, withB (249 ∷ []) (fresh 2)) ∷ (gives 3, lent 0 255 5 0 (replicate 32 0) (replicate 4 0))
+    ∷ (gives 3, withB (249 ∷ []) (fresh 2)) ∷ (gives 3, eightBlocks 0 255 5 0 (replicate 32 0) (replicate 4 0))
     ∷ (gives 3, withCells (cellHolding 7 3) (fresh 2)) ∷ (gives 3, withRoots (rootHolding 0 1) (fresh 2)) ∷ (gives 3, used (fresh 2)) ∷ [])
     -- nothing is let go but one of two references
     ∷ question 2 (used shared) (storeRoot 1 0) (gives 0, chained)
     -- frees everything at a drop; frees the object though a cell names it; doesn't count down
-    ((gives 3, fresh 2) ∷ (gives 0, fresh 2) ∷ (gives 1, alone) ∷ (gives 1, lent 3 253 1 0 (cellHolding 7 3) (rootHolding 0 1))
+    ((gives 3, fresh 2) ∷ (gives 0, fresh 2) ∷ (gives 1, alone) ∷ (gives 1, eightBlocks 3 253 1 0 (cellHolding 7 3) (rootHolding 0 1))
     ∷ (gives 0, withRoots (rootHolding 0 1) shared) ∷ [])
     -- a reference more
     ∷ question 2 (used chained) (storeRoot 1 3) (gives 0, shared)
     -- clears the root; stores in root 0, and lets X go
-    ((gives 0, chained) ∷ (gives 2, lent 4 251 4 0 (replicate 32 0) (rootHolding 0 3))
+    ((gives 0, chained) ∷ (gives 2, eightBlocks 4 251 4 0 (replicate 32 0) (rootHolding 0 3))
     -- doesn't count up; stores in another root; stores the block without 1 added
     ∷ (gives 0, withRoots (1 ∷ 3 ∷ 0 ∷ 0 ∷ []) chained) ∷ (gives 0, withRoots (1 ∷ 0 ∷ 3 ∷ 0 ∷ []) shared)
     ∷ (gives 0, withRoots (1 ∷ 2 ∷ 0 ∷ 0 ∷ []) shared)
@@ -181,15 +181,15 @@ wrongAnswers =
     ∷ question 2 (used shared) (storeRoot 2 3) (sticking 0, stuck)
     -- not told; told in the value; the count, or the room below it, for the fact; counted past the capacity
     ((gives 0, stuck) ∷ (gives 1, stuck) ∷ (reply 0 0 3, stuck) ∷ (reply 0 0 2, stuck)
-    ∷ (sticking 0, lent 7 249 1 0 (cellHolding 7 3) (1 ∷ 3 ∷ 3 ∷ 0 ∷ [])) ∷ [])
+    ∷ (sticking 0, eightBlocks 7 249 1 0 (cellHolding 7 3) (1 ∷ 3 ∷ 3 ∷ 0 ∷ [])) ∷ [])
     -- one more: Y is stuck already
     ∷ question 2 (used stuck) (storeRoot 3 3) (gives 0, withRoots (1 ∷ 3 ∷ 3 ∷ 3 ∷ []) stuck)
     -- told once more
     ((sticking 0, withRoots (1 ∷ 3 ∷ 3 ∷ 3 ∷ []) stuck) ∷ [])
     -- X over Y: Y, one below the capacity, is let go
-    ∷ question 2 (used shared) (storeRoot 1 1) (gives 0, lent 7 249 4 1 (cellHolding 7 3) (1 ∷ 1 ∷ 0 ∷ 0 ∷ []))
+    ∷ question 2 (used shared) (storeRoot 1 1) (gives 0, eightBlocks 7 249 4 1 (cellHolding 7 3) (1 ∷ 1 ∷ 0 ∷ 0 ∷ []))
     -- told of the old object
-    ((sticking 0, lent 7 249 4 1 (cellHolding 7 3) (1 ∷ 1 ∷ 0 ∷ 0 ∷ [])) ∷ [])
+    ((sticking 0, eightBlocks 7 249 4 1 (cellHolding 7 3) (1 ∷ 1 ∷ 0 ∷ 0 ∷ [])) ∷ [])
     -- the value present, one below the capacity
     ∷ question 2 (used shared) (storeRoot 1 3) (gives 0, shared)
     -- told though nothing is counted up; counted up
@@ -197,16 +197,16 @@ wrongAnswers =
     -- the value present
     ∷ question 2 (used chained) (storeRoot 0 1) (gives 0, chained)
     -- counts up and not down; counts down first; leaves the waiting list
-    ((gives 0, lent 7 249 4 1 (cellHolding 7 3) (rootHolding 0 1)) ∷ (gives 3, withRoots (rootHolding 0 1) (fresh 2)) ∷ (gives 0, used chained) ∷ [])
+    ((gives 0, eightBlocks 7 249 4 1 (cellHolding 7 3) (rootHolding 0 1)) ∷ (gives 3, withRoots (rootHolding 0 1) (fresh 2)) ∷ (gives 0, used chained) ∷ [])
     -- block 1 is no first block
     ∷ question 2 (used chained) (storeRoot 1 2) (refuses 8, used chained)
     -- replies 0 always; stores, and counts block 1 up or not; another number; writes in a refusal
-    ((gives 0, used chained) ∷ (gives 0, lent 7 249 7 0 (cellHolding 7 3) (1 ∷ 2 ∷ 0 ∷ 0 ∷ []))
+    ((gives 0, used chained) ∷ (gives 0, eightBlocks 7 249 7 0 (cellHolding 7 3) (1 ∷ 2 ∷ 0 ∷ 0 ∷ []))
     ∷ (gives 0, withRoots (1 ∷ 2 ∷ 0 ∷ 0 ∷ []) chained) ∷ (refuses 4, used chained) ∷ (refuses 8, chained) ∷ [])
     -- there are 4 roots
     ∷ question 2 (used chained) (storeRoot 4 3) (refuses 4, used chained)
     -- replies 0 always; counts up; another number; writes in a refusal
-    ((gives 0, used chained) ∷ (gives 0, lent 7 249 1 4 (cellHolding 7 3) (rootHolding 0 1)) ∷ (refuses 8, used chained)
+    ((gives 0, used chained) ∷ (gives 0, eightBlocks 7 249 1 4 (cellHolding 7 3) (rootHolding 0 1)) ∷ (refuses 8, used chained)
     ∷ (refuses 4, chained) ∷ [])
     ∷ question 2 (used shared) (storeRoot 4 3) (refuses 4, used shared)
     -- a refusal that tells of what the store would stick
@@ -222,15 +222,15 @@ wrongAnswers =
     -- the last B bit left; the cell not written; the waiting list left
     ∷ (gives 1, withB (249 ∷ []) alone) ∷ (gives 1, withCells (cellHolding 7 3) alone) ∷ (gives 1, used alone) ∷ [])
     -- X names Y twice
-    ∷ question 2 (used chained) (storeCell 0 0 3) (gives 0, lent 7 249 1 4 (set (cellHolding 7 3) 0 3) (rootHolding 0 1))
+    ∷ question 2 (used chained) (storeCell 0 0 3) (gives 0, eightBlocks 7 249 1 4 (set (cellHolding 7 3) 0 3) (rootHolding 0 1))
     -- clears the cell; doesn't count up; doesn't write; stores in the next cell
-    ((gives 0, chained) ∷ (gives 0, lent 7 249 5 0 (set (cellHolding 7 3) 0 3) (rootHolding 0 1))
-    ∷ (gives 0, lent 7 249 1 4 (cellHolding 7 3) (rootHolding 0 1)) ∷ (gives 0, lent 7 249 1 4 (set (cellHolding 7 3) 1 3) (rootHolding 0 1)) ∷ [])
+    ((gives 0, chained) ∷ (gives 0, eightBlocks 7 249 5 0 (set (cellHolding 7 3) 0 3) (rootHolding 0 1))
+    ∷ (gives 0, eightBlocks 7 249 1 4 (cellHolding 7 3) (rootHolding 0 1)) ∷ (gives 0, eightBlocks 7 249 1 4 (set (cellHolding 7 3) 1 3) (rootHolding 0 1)) ∷ [])
     -- the reference that sticks Y, in a cell
-    ∷ question 2 (used shared) (storeCell 0 0 3) (sticking 0, lent 7 249 5 4 (set (cellHolding 7 3) 0 3) (1 ∷ 3 ∷ 0 ∷ 0 ∷ []))
+    ∷ question 2 (used shared) (storeCell 0 0 3) (sticking 0, eightBlocks 7 249 5 4 (set (cellHolding 7 3) 0 3) (1 ∷ 3 ∷ 0 ∷ 0 ∷ []))
     -- not told; told in the value
-    ((gives 0, lent 7 249 5 4 (set (cellHolding 7 3) 0 3) (1 ∷ 3 ∷ 0 ∷ 0 ∷ []))
-    ∷ (gives 1, lent 7 249 5 4 (set (cellHolding 7 3) 0 3) (1 ∷ 3 ∷ 0 ∷ 0 ∷ [])) ∷ [])
+    ((gives 0, eightBlocks 7 249 5 4 (set (cellHolding 7 3) 0 3) (1 ∷ 3 ∷ 0 ∷ 0 ∷ []))
+    ∷ (gives 1, eightBlocks 7 249 5 4 (set (cellHolding 7 3) 0 3) (1 ∷ 3 ∷ 0 ∷ 0 ∷ [])) ∷ [])
     -- the value present, one below the capacity
     ∷ question 2 (used shared) (storeCell 0 7 3) (gives 0, shared)
     -- told though nothing is counted up
@@ -238,19 +238,19 @@ wrongAnswers =
     -- a cell past the object
     ∷ question 2 (used chained) (storeCell 0 8 1) (refuses 7, used chained)
     -- replies 0 always; stores in the next object; another number; writes in a refusal
-    ((gives 0, used chained) ∷ (gives 0, lent 7 249 4 1 (set (cellHolding 7 3) 8 1) (rootHolding 0 1)) ∷ (refuses 8, used chained)
+    ((gives 0, used chained) ∷ (gives 0, eightBlocks 7 249 4 1 (set (cellHolding 7 3) 8 1) (rootHolding 0 1)) ∷ (refuses 8, used chained)
     ∷ (refuses 6, used chained) ∷ (refuses 7, chained) ∷ [])
     -- a return lets go of X alone
-    ∷ question 2 (used shared) (returnRoots 1) (gives 2, lent 4 251 4 0 (replicate 32 0) (rootHolding 1 3))
+    ∷ question 2 (used shared) (returnRoots 1) (gives 2, eightBlocks 4 251 4 0 (replicate 32 0) (rootHolding 1 3))
     -- refuses everything; never writes; the figure not read off the A-map: 0 always, objects
-    ((refuses 1, used shared) ∷ (gives 2, used shared) ∷ (gives 0, lent 4 251 4 0 (replicate 32 0) (rootHolding 1 3))
-    ∷ (gives 1, lent 4 251 4 0 (replicate 32 0) (rootHolding 1 3))
+    ((refuses 1, used shared) ∷ (gives 2, used shared) ∷ (gives 0, eightBlocks 4 251 4 0 (replicate 32 0) (rootHolding 1 3))
+    ∷ (gives 1, eightBlocks 4 251 4 0 (replicate 32 0) (rootHolding 1 3))
     -- root 1 for bit 0; the roots that are not in the set; all roots; the waiting list left
-    ∷ (gives 0, chained) ∷ (gives 3, fresh 2) ∷ (gives 2, used (lent 4 251 4 0 (replicate 32 0) (rootHolding 1 3))) ∷ [])
+    ∷ (gives 0, chained) ∷ (gives 3, fresh 2) ∷ (gives 2, used (eightBlocks 4 251 4 0 (replicate 32 0) (rootHolding 1 3))) ∷ [])
     -- .. of X and Y
     ∷ question 2 (used shared) (returnRoots 3) (gives 3, fresh 2)
     -- the value of the first clearing, or of the last; the last root forgotten
-    ((gives 2, fresh 2) ∷ (gives 1, fresh 2) ∷ (gives 2, lent 4 251 4 0 (replicate 32 0) (rootHolding 1 3)) ∷ [])
+    ((gives 2, fresh 2) ∷ (gives 1, fresh 2) ∷ (gives 2, eightBlocks 4 251 4 0 (replicate 32 0) (rootHolding 1 3)) ∷ [])
     -- of a stuck object
     ∷ question 2 (used stuck) (returnRoots 6) (gives 0, withRoots (rootHolding 0 1) stuck)
     -- tells that it is stuck
@@ -258,14 +258,14 @@ wrongAnswers =
     -- there is no root 4
     ∷ question 2 (used shared) (returnRoots 17) (refuses 4, used shared)
     -- replies 0 always; clears those there are; writes in a refusal
-    ((gives 0, used shared) ∷ (gives 2, lent 4 251 4 0 (replicate 32 0) (rootHolding 1 3)) ∷ (refuses 4, shared) ∷ [])
+    ((gives 0, used shared) ∷ (gives 2, eightBlocks 4 251 4 0 (replicate 32 0) (rootHolding 1 3)) ∷ (refuses 4, shared) ∷ [])
     ∷ question 2 (used cyclic) collect (gives 3, collectedCyclic)
     -- refuses everything, or for the maps exchanged; never writes; never collects
     ((refuses 1, used cyclic) ∷ (damaged 2, used cyclic) ∷ (gives 3, used cyclic) ∷ (gives 0, used cyclic) ∷ (gives 0, cyclic)
     -- the figure not read off the A-map: 0 always, objects, all free blocks, N
     ∷ (gives 0, collectedCyclic) ∷ (gives 2, collectedCyclic) ∷ (gives 7, collectedCyclic) ∷ (gives 8, collectedCyclic)
     -- the reference from an unreached object counted; counts left at 0; frees everything
-    ∷ (gives 3, lent 8 247 0 8 (replicate 32 0) (rootHolding 0 4)) ∷ (gives 3, lent 8 247 0 0 (replicate 32 0) (rootHolding 0 4)) ∷ (gives 4, fresh 2)
+    ∷ (gives 3, eightBlocks 8 247 0 8 (replicate 32 0) (rootHolding 0 4)) ∷ (gives 3, eightBlocks 8 247 0 0 (replicate 32 0) (rootHolding 0 4)) ∷ (gives 4, fresh 2)
     -- last B bits left; cells left; the waiting list left
     ∷ (gives 3, withB (241 ∷ []) collectedCyclic) ∷ (gives 3, withCells (set (set (cellHolding 0 3) 7 4) 8 1) collectedCyclic)
     ∷ (gives 3, used collectedCyclic) ∷ [])
@@ -273,7 +273,7 @@ wrongAnswers =
     ∷ question 2 (used chained) collect (gives 0, chained)
     -- formats; reached by roots alone; a count lost, or one too many; the waiting list left
     ((gives 0, fresh 2) ∷ (gives 1, alone)
-    ∷ (gives 0, lent 7 249 1 0 (cellHolding 7 3) (rootHolding 0 1)) ∷ (gives 0, lent 7 249 1 4 (cellHolding 7 3) (rootHolding 0 1))
+    ∷ (gives 0, eightBlocks 7 249 1 0 (cellHolding 7 3) (rootHolding 0 1)) ∷ (gives 0, eightBlocks 7 249 1 4 (cellHolding 7 3) (rootHolding 0 1))
     ∷ (gives 0, used chained) ∷ [])
     -- a stuck object stays so while three references name it
     ∷ question 2 (used stuck) collect (gives 0, stuck)

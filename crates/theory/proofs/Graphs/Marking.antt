@@ -61,8 +61,8 @@ abbrev pub Counted : ℕ → List ℕ → List ℕ → Type 0
 Counted cap counts ghost = (b : ℕ) → getD counts b 0 ≡ min cap (occurrences (suc b) ghost)
 
 -- each object with a count is once among those taken and those on the stack, and no other is
-abbrev pub Listed : List ℕ → List ℕ → List ℕ → Type 0
-Listed counts taken stack = (b : ℕ) → occurrences b taken + occurrences b stack ≡ min 1 (getD counts b 0)
+abbrev pub MetOnce : List ℕ → List ℕ → List ℕ → Type 0
+MetOnce counts taken stack = (b : ℕ) → occurrences b taken + occurrences b stack ≡ min 1 (getD counts b 0)
 
 -- a list that has each object at most once, and only those with a count, has at most as many as there are counts that are not 0
 once-bound :
@@ -82,7 +82,7 @@ once-bound (x ∷ l) counts f =
         ]
 
 -- so a stack of N places is enough
-pub listed-bound : (counts taken stack : List ℕ) → Listed counts taken stack → length taken + length stack ≤ length counts
+pub listed-bound : (counts taken stack : List ℕ) → MetOnce counts taken stack → length taken + length stack ≤ length counts
 listed-bound counts taken stack listed =
     omega
     (arith, once-bound (taken ++ stack) counts (λ b. omega (arith, listed b, occurrences-append b taken stack)), length-append taken stack)
@@ -113,7 +113,7 @@ meet-again counts b stack n = rw (ne-eqb (getD counts b 0) 0 n, meetStack)
 -- what it names is listed now, if it was not
 look-listed :
     (cap : ℕ) (pos : 0 < cap) (counts : List ℕ) (v : ℕ) → ((b : ℕ) → v ≡ suc b → b < length counts) → (taken stack : List ℕ)
-    → Listed counts taken stack → Listed (countUp cap counts v) taken (meetStack counts v stack)
+    → MetOnce counts taken stack → MetOnce (countUp cap counts v) taken (meetStack counts v stack)
 unfolding meetStack
 look-listed cap pos counts zero named taken stack listed b = rw (count-up-other cap counts 0 b (omega arith)) (listed b)
 look-listed cap pos counts (suc a) named taken stack listed b =
@@ -179,8 +179,8 @@ module _ (cap : ℕ) (pos : 0 < cap) (slots counts : List ℕ) (i : ℕ) where
         b
 
     pub each-listed :
-        (n : ℕ) (taken stack : List ℕ) → Listed counts taken stack
-        → Listed (countUpEach cap counts slots i n) taken (countUpEachStack cap counts slots i n stack)
+        (n : ℕ) (taken stack : List ℕ) → MetOnce counts taken stack
+        → MetOnce (countUpEach cap counts slots i n) taken (countUpEachStack cap counts slots i n stack)
     unfolding countUpEach countUpEachStack
     each-listed zero taken stack listed b = listed b
     each-listed (suc n) taken stack listed b =
@@ -199,7 +199,7 @@ pub record Marking (cap r : ℕ) (sizes slots counts taken stack ghost : List �
   pub counts-length : length counts ≡ length sizes
   pub ghost-length : length ghost ≡ length slots
   pub counted : Counted cap counts ghost
-  pub listed : Listed counts taken stack
+  pub listed : MetOnce counts taken stack
   pub sound : (b : ℕ) → getD counts b 0 ≢ 0 → Reach r sizes slots b
   pub looked : (s : ℕ) → getD ghost s 0 ≢ 0 → Looked r sizes taken s
   pub agrees : (s : ℕ) → Looked r sizes taken s → getD ghost s 0 ≡ getD slots s 0

@@ -46,7 +46,7 @@ unfolding sweepOne
 sweep-kept r h x n = rw (ne-eqb (count h x) 0 n, sweepOne)
 
 -- what a sweep of the blocks below n leaves
-record Swept (r : ℕ) (h k : Graph) (n : ℕ) : Type 0 where
+record SweptBelow (r : ℕ) (h k : Graph) (n : ℕ) : Type 0 where
   pub same-counts : k .counts ≡ h .counts
   pub kept : (y : ℕ) → (count h y ≢ 0) ⊎ (n ≤ y) → size k y ≡ size h y
   pub gone : (y : ℕ) → count h y ≡ 0 → y < n → size k y ≡ 0
@@ -56,11 +56,11 @@ record Swept (r : ℕ) (h k : Graph) (n : ℕ) : Type 0 where
   pub sizes-length : length (k .sizes) ≡ length (h .sizes)
   pub slots-length : length (k .slots) ≡ length (h .slots)
 
-module _ (r : ℕ) (h k : Graph) (n : ℕ) (p : Swept r h k n) where
+module _ (r : ℕ) (h k : Graph) (n : ℕ) (p : SweptBelow r h k n) where
   untouched : size k n ≡ size h n
   untouched = p .kept n (inr (omega arith))
 
-  swept-gone : count h n ≡ 0 → Swept r h (erase r k n) (suc n)
+  swept-gone : count h n ≡ 0 → SweptBelow r h (erase r k n) (suc n)
   swept-gone z =
       record {
         same-counts = p .same-counts;
@@ -104,7 +104,7 @@ module _ (r : ℕ) (h k : Graph) (n : ℕ) (p : Swept r h k n) where
       still-zero : (s : ℕ) → slot k s ≡ 0 → getD (clear (firstSlot r n) (slotsOf k n) (k .slots)) s 0 ≡ 0
       still-zero s e = elim (clear-or (firstSlot r n) (slotsOf k n) (k .slots) s) [ inl f ↦ f ∙ e | inr f ↦ f ]
 
-  swept-kept : count h n ≢ 0 → Swept r h k (suc n)
+  swept-kept : count h n ≢ 0 → SweptBelow r h k (suc n)
   swept-kept c =
       record {
         same-counts = p .same-counts;
@@ -120,7 +120,7 @@ module _ (r : ℕ) (h k : Graph) (n : ℕ) (p : Swept r h k n) where
       below : (y : ℕ) → count h y ≡ 0 → y < suc n → y < n
       below y z l = elim (ℕ-discrete y n) [ yes e ↦ absurd (c (rw e at z)) | no d ↦ omega arith ]
 
-  swept-one : Swept r h (sweepOne r k n) (suc n)
+  swept-one : SweptBelow r h (sweepOne r k n) (suc n)
   swept-one =
       elim (ℕ-discrete (count k n) 0) [
         | yes z ↦ rw (sweep-gone r k n z) (swept-gone (sym same ∙ z))
@@ -130,7 +130,7 @@ module _ (r : ℕ) (h k : Graph) (n : ℕ) (p : Swept r h k n) where
       same : count k n ≡ count h n
       same = ap (λ (l : List ℕ). getD l n 0) (p .same-counts)
 
-swept : (r : ℕ) (h : Graph) (n : ℕ) → Swept r h (sweep r h n) n
+swept : (r : ℕ) (h : Graph) (n : ℕ) → SweptBelow r h (sweep r h n) n
 unfolding sweep
 swept r h zero =
     record {
@@ -151,7 +151,7 @@ Owned r sizes slots = (s : ℕ) → getD slots s 0 ≢ 0 → (s < r) ⊎ ((x : �
 
 module _ (cap : ℕ) (pos : 0 < cap) (r : ℕ) (h : Graph) (markable : Markable r (h .sizes) (h .slots)) (owned : Owned r (h .sizes) (h .slots)) where
   module _ (counts taken ghost : List ℕ) (m : Marking cap r (h .sizes) (h .slots) counts taken [] ghost) (k : Graph)
-      (p : Swept r (record { sizes = h .sizes; counts = counts; slots = h .slots }) k (length (h .sizes))) where
+      (p : SweptBelow r (record { sizes = h .sizes; counts = counts; slots = h .slots }) k (length (h .sizes))) where
     counted-taken : (x : ℕ) → getD counts x 0 ≢ 0 → 1 ≤ occurrences x taken
     counted-taken x n = omega (arith, m .listed x, occurrences-nil x)
 
