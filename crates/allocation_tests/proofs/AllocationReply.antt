@@ -66,50 +66,60 @@ pub record AllocationPassed (N : ℕ) (a : List ℕ) (roots n r at : ℕ) : Type
   pub place : r < roots
   pub inside : at + n ≤ N
 
-module _ (N : ℕ) (a : List ℕ) (roots n r : ℕ) where
-  pub allocate-passed : (at : ℕ) → allocateReply N a roots n r ≡ reply 0 at 0 → AllocationPassed N a roots n r at
-  unfolding allocateReply
-  allocate-passed at e =
-      let parts = tested-passed (leb 1 n && leb n N) (ltb r roots) (lowestFree N (exponent n) a) at e in
-      let sizes = and-true (leb 1 n) (leb n N) (parts .0) in
-      record {
-        lowest = parts .2;
-        some-blocks = leb-true 1 n (sizes .0);
-        not-more = leb-true n N (sizes .1);
-        place = ltb-true r roots (parts .1);
-        inside = room N a n at (parts .2) .inside;
-      }
+pub allocate-passed :
+    {N : ℕ} {a : List ℕ} {roots n r at : ℕ} → allocateReply N a roots n r ≡ reply 0 at 0 → AllocationPassed N a roots n r at
+unfolding allocateReply
+allocate-passed {N} {a} {roots} {n} {r} {at} e =
+    let parts = tested-passed (leb 1 n && leb n N) (ltb r roots) (lowestFree N (exponent n) a) at e in
+    let sizes = and-true (leb 1 n) (leb n N) (parts .0) in
+    record {
+      lowest = parts .2;
+      some-blocks = leb-true 1 n (sizes .0);
+      not-more = leb-true n N (sizes .1);
+      place = ltb-true r roots (parts .1);
+      inside = room N a n at (parts .2) .inside;
+    }
 
-  pub allocate-accepts : (x : Reply) → x ≡ allocateReply N a roots n r → x .number ≡ 0 → allocateReply N a roots n r ≡ reply 0 (x .value) 0
-  unfolding allocateReply
-  allocate-accepts x e accepts =
-      tested-accepts (leb 1 n && leb n N) (ltb r roots) (lowestFree N (exponent n) a) (ap (λ (y : Reply). y .number) (sym e) ∙ accepts)
-      ∙ ap (λ (y : Reply). reply 0 (y .value) 0) (sym e)
+-- x is the reply of an allocation before it writes
+pub record Replied (N : ℕ) (a : List ℕ) (roots n r : ℕ) (x : Reply) : Type 0 where
+  pub is-reply : x ≡ allocateReply N a roots n r
+
+pub replied : {N : ℕ} {a : List ℕ} {roots n r : ℕ} {x : Reply} → x ≡ allocateReply N a roots n r → Replied N a roots n r x
+replied e = record { is-reply = e }
+
+pub allocate-accepts :
+    {N : ℕ} {a : List ℕ} {roots n r : ℕ} {x : Reply} → Replied N a roots n r x → x .number ≡ 0
+    → allocateReply N a roots n r ≡ reply 0 (x .value) 0
+unfolding allocateReply
+allocate-accepts {N} {a} {roots} {n} {r} tested accepts =
+    let e = tested .is-reply in
+    tested-accepts (leb 1 n && leb n N) (ltb r roots) (lowestFree N (exponent n) a) (ap (λ (y : Reply). y .number) (sym e) ∙ accepts)
+    ∙ ap (λ (y : Reply). reply 0 (y .value) 0) (sym e)
 
 pub allocate-goes-on :
-    (N : ℕ) (h : Memory) (n r : ℕ) (x : Reply) → x ≡ allocateReply N (h .a) (length (h .roots)) n r → x .number ≡ 0
+    (h : Memory) {N n r : ℕ} {x : Reply} → Replied N (h .a) (length (h .roots)) n r x → x .number ≡ 0
     → ownTest N h (allocate n r) .number ≡ 0
 unfolding ownTest ownRefusals allocateReply
-allocate-goes-on N h n r x tested accepts =
+allocate-goes-on h {N} {n} {r} tested accepts =
     tested-number (leb 1 n && leb n N) (ltb r (length (h .roots))) (lowestFree N (exponent n) (h .a))
-    ∙ ap (λ (y : Reply). y .number) (sym tested) ∙ accepts
+    ∙ ap (λ (y : Reply). y .number) (sym (tested .is-reply)) ∙ accepts
 
-module _ (N w : ℕ) (h : Memory) (n r : ℕ) where
-  allocate-stopped :
-      Fit N w h → (allocateReply N (h .a) (length (h .roots)) n r .number ≡ 0 → ⊥)
-      → answer N w h (allocate n r) ≡ (allocateReply N (h .a) (length (h .roots)) n r, h)
-  unfolding ownRefusals allocateReply
-  allocate-stopped fit fails =
-      let size : Bool = leb 1 n && leb n N in
-      let place : Bool = ltb r (length (h .roots)) in
-      let search : Option ℕ = lowestFree N (exponent n) (h .a) in
-      let number = tested-number size place search in
-      fit-refused N w h fit (allocate n r) (λ e. fails (sym number ∙ e))
-      ∙ ap {B = Answer} (λ k. (reply k 0 0, h)) number ∙ ap {B = Answer} (λ x. (x, h)) (tested-plain size place search fails)
+allocate-stopped :
+    (N w : ℕ) (h : Memory) (n r : ℕ) → Fit N w h → (allocateReply N (h .a) (length (h .roots)) n r .number ≡ 0 → ⊥)
+    → answer N w h (allocate n r) ≡ (allocateReply N (h .a) (length (h .roots)) n r, h)
+unfolding ownRefusals allocateReply
+allocate-stopped N w h n r fit fails =
+    let size : Bool = leb 1 n && leb n N in
+    let place : Bool = ltb r (length (h .roots)) in
+    let search : Option ℕ = lowestFree N (exponent n) (h .a) in
+    let number = tested-number size place search in
+    fit-refused N w h fit (allocate n r) (λ e. fails (sym number ∙ e))
+    ∙ ap {B = Answer} (λ k. (reply k 0 0, h)) number ∙ ap {B = Answer} (λ x. (x, h)) (tested-plain size place search fails)
 
-  pub allocate-refused :
-      Fit N w h → (x : Reply) → x ≡ allocateReply N (h .a) (length (h .roots)) n r → (x .number ≡ 0 → ⊥) → Promise N w (allocate n r) h x h
-  allocate-refused fit x tested fails =
-      promised N w h (allocate n r) (allocateReply N (h .a) (length (h .roots)) n r, h)
-      (allocate-stopped fit (λ e. fails (ap (λ (y : Reply). y .number) tested ∙ e)))
-      x h tested refl
+pub allocate-refused :
+    {N w : ℕ} {h : Memory} {n r : ℕ} {x : Reply} → x ≡ allocateReply N (h .a) (length (h .roots)) n r → Fit N w h → (x .number ≡ 0 → ⊥)
+    → Promise N w (allocate n r) h x h
+allocate-refused {N} {w} {h} {n} {r} {x} tested fit fails =
+    promised N w h (allocate n r) (allocateReply N (h .a) (length (h .roots)) n r, h)
+    (allocate-stopped N w h n r fit (λ e. fails (ap (λ (y : Reply). y .number) tested ∙ e)))
+    x h tested refl

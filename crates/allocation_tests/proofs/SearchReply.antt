@@ -24,7 +24,7 @@ found-some N none e = absurd (e refl)
 found-some N (some i) e = refl
 
 -- `at` is what the search returned, for an allocation with nothing else wrong
-module _ (N : ℕ) (a : List ℕ) (roots n r at : ℕ) (some-blocks : 1 ≤ n) (not-too-many : n ≤ N) (root : r < roots)
+module _ (a : List ℕ) {N roots n r at : ℕ} (some-blocks : 1 ≤ n) (not-too-many : n ≤ N) (root : r < roots)
     (searched : at ≡ orElse N (lowestFree N (exponent n) a)) where
   searches : allocateReply N a roots n r ≡ found (lowestFree N (exponent n) a)
   unfolding allocateReply

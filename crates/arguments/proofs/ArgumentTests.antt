@@ -21,19 +21,23 @@ use Rattle.arguments.specs.Replies.{ownTest, storeRootTest, storeCellTes
 
 -- ---- any call
 
-module _ (N : ℕ) (h : Memory) (c : Call) where
-  test-passed : ownTest N h c .number ≡ 0 → Passed N h c
+-- x is what the call's own test answers
+pub record Tested (N : ℕ) (h : Memory) (c : Call) (x : Reply) : Type 0 where
+  pub is-test : x ≡ ownTest N h c
+
+test-passed : (N : ℕ) (h : Memory) (c : Call) → ownTest N h c .number ≡ 0 → Passed N h c
+unfolding ownTest
+test-passed = own-passed
+
+module _ {N : ℕ} {h : Memory} {c : Call} {x : Reply} (tested : Tested N h c x) where
+  pub goes-on : x .number ≡ 0 → ownTest N h c .number ≡ 0
+  goes-on accepts = ap (λ (y : Reply). y .number) (sym (tested .is-test)) ∙ accepts
+
+  pub own-refused : {w : ℕ} → Fit N w h → (x .number ≡ 0 → ⊥) → Promise N w c h x h
   unfolding ownTest
-  test-passed = own-passed N h c
-
-  module _ (x : Reply) (tested : x ≡ ownTest N h c) where
-    goes-on : x .number ≡ 0 → ownTest N h c .number ≡ 0
-    goes-on accepts = ap (λ (y : Reply). y .number) (sym tested) ∙ accepts
-
-    pub own-refused : (w : ℕ) → Fit N w h → (x .number ≡ 0 → ⊥) → Promise N w c h x h
-    unfolding ownTest
-    own-refused w fit fails =
-        promised N w h c (ownTest N h c, h) (fit-refused N w h fit c (λ e. fails (ap (λ (y : Reply). y .number) tested ∙ e))) x h tested refl
+  own-refused {w} fit fails =
+      promised N w h c (ownTest N h c, h) (fit-refused N w h fit c (λ e. fails (ap (λ (y : Reply). y .number) (tested .is-test) ∙ e)))
+      x h (tested .is-test) refl
 
 -- a reference points to a block
 ref-inside : (N : ℕ) (h : Memory) (v : ℕ) → isRef N h v ≡ true → v ≤ N
@@ -46,24 +50,18 @@ pub record RootPassed (N : ℕ) (h : Memory) (r v : ℕ) : Type 0 where
   pub ref : isRef N h v ≡ true
   pub inside : v ≤ N
 
-module _ (N : ℕ) (h : Memory) (r v : ℕ) where
-  pub root-passed : storeRootTest N h r v .number ≡ 0 → RootPassed N h r v
-  unfolding Passed
-  root-passed e =
-      let passed = test-passed N h (storeRoot r v) e in
-      record { place = passed .0; ref = passed .1; inside = ref-inside N h v (passed .1) }
+pub root-passed : {N : ℕ} {h : Memory} {r v : ℕ} → storeRootTest N h r v .number ≡ 0 → RootPassed N h r v
+unfolding Passed
+root-passed {N} {h} {r} {v} e =
+    let passed = test-passed N h (storeRoot r v) e in
+    record { place = passed .0; ref = passed .1; inside = ref-inside N h v (passed .1) }
 
-  -- the test reads the maps and the roots alone
-  module _ (x : Reply) (tested : x ≡ storeRootTest N (memory (h .a) (h .b) [] [] (h .roots) []) r v) where
-    same-root-test : x ≡ storeRootTest N h r v
-    unfolding ownTest ownRefusals
-    same-root-test = tested
-
-    pub root-goes-on : x .number ≡ 0 → storeRootTest N h r v .number ≡ 0
-    root-goes-on = goes-on N h (storeRoot r v) x same-root-test
-
-    pub root-refused : (w : ℕ) → Fit N w h → (x .number ≡ 0 → ⊥) → Promise N w (storeRoot r v) h x h
-    root-refused = own-refused N h (storeRoot r v) x same-root-test
+-- the test reads the maps and the roots alone
+pub root-tested :
+    {N : ℕ} {h : Memory} {r v : ℕ} {x : Reply} → x ≡ storeRootTest N (memory (h .a) (h .b) [] [] (h .roots) []) r v
+    → Tested N h (storeRoot r v) x
+unfolding ownTest ownRefusals
+root-tested tested = record { is-test = tested }
 
 -- ---- a store in a cell
 
@@ -74,43 +72,31 @@ pub record CellPassed (N : ℕ) (h : Memory) (a j v : ℕ) : Type 0 where
   pub cell-inside : 4 * a + j < 4 * N
   pub inside : v ≤ N
 
-module _ (N : ℕ) (h : Memory) (a j v : ℕ) where
-  pub cell-passed : storeCellTest N h a j v .number ≡ 0 → CellPassed N h a j v
-  unfolding Passed
-  cell-passed e =
-      let passed = test-passed N h (storeCell a j v) e in
-      record {
-        first = passed .0;
-        place = passed .1;
-        ref = passed .2;
-        cell-inside = omega (arith, passed .1, first-facts N (h .a) (h .b) a (passed .0) .inside, size-le (N - a) (h .b) a);
-        inside = ref-inside N h v (passed .2);
-      }
+pub cell-passed : {N : ℕ} {h : Memory} {a j v : ℕ} → storeCellTest N h a j v .number ≡ 0 → CellPassed N h a j v
+unfolding Passed
+cell-passed {N} {h} {a} {j} {v} e =
+    let passed = test-passed N h (storeCell a j v) e in
+    record {
+      first = passed .0;
+      place = passed .1;
+      ref = passed .2;
+      cell-inside = omega (arith, passed .1, first-facts N (h .a) (h .b) a (passed .0) .inside, size-le (N - a) (h .b) a);
+      inside = ref-inside N h v (passed .2);
+    }
 
-  -- the test reads the maps alone
-  module _ (x : Reply) (tested : x ≡ storeCellTest N (memory (h .a) (h .b) [] [] [] []) a j v) where
-    same-cell-test : x ≡ storeCellTest N h a j v
-    unfolding ownTest ownRefusals
-    same-cell-test = tested
-
-    pub cell-goes-on : x .number ≡ 0 → storeCellTest N h a j v .number ≡ 0
-    cell-goes-on = goes-on N h (storeCell a j v) x same-cell-test
-
-    pub cell-refused : (w : ℕ) → Fit N w h → (x .number ≡ 0 → ⊥) → Promise N w (storeCell a j v) h x h
-    cell-refused = own-refused N h (storeCell a j v) x same-cell-test
+-- the test reads the maps alone
+pub cell-tested :
+    {N : ℕ} {h : Memory} {a j v : ℕ} {x : Reply} → x ≡ storeCellTest N (memory (h .a) (h .b) [] [] [] []) a j v
+    → Tested N h (storeCell a j v) x
+unfolding ownTest ownRefusals
+cell-tested tested = record { is-test = tested }
 
 -- ---- a return
 
-module _ (N : ℕ) (h : Memory) (chosen : ℕ) (x : Reply) (tested : x ≡ returnTest (length (h .roots)) chosen) where
-  same-return-test : x ≡ ownTest N h (returnRoots chosen)
-  unfolding ownTest ownRefusals returnTest
-  same-return-test = tested
-
-  pub return-goes-on : x .number ≡ 0 → ownTest N h (returnRoots chosen) .number ≡ 0
-  return-goes-on = goes-on N h (returnRoots chosen) x same-return-test
-
-  pub return-refused : (w : ℕ) → Fit N w h → (x .number ≡ 0 → ⊥) → Promise N w (returnRoots chosen) h x h
-  return-refused = own-refused N h (returnRoots chosen) x same-return-test
+pub return-tested :
+    {N : ℕ} {h : Memory} {chosen : ℕ} {x : Reply} → x ≡ returnTest (length (h .roots)) chosen → Tested N h (returnRoots chosen) x
+unfolding ownTest ownRefusals returnTest
+return-tested tested = record { is-test = tested }
 
 -- ---- a look
 

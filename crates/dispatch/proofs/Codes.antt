@@ -14,19 +14,19 @@ use Rattle.dispatch.specs.Dispatched.{Dispatched}
 
 -- the call of a known code, as it was made
 pub stepped-as :
-    (N w : ℕ) {code : ℕ} (k x y z : ℕ) {h : Memory} {r : Reply} {g : Memory} → k ≤ 8 → code ≡ k → Promise N w (decoded k x y z) h r g
+    (k : ℕ) {N w code x y z : ℕ} {h : Memory} {r : Reply} {g : Memory} → k ≤ 8 → code ≡ k → Promise N w (decoded k x y z) h r g
     → Dispatched N w code x y z h r g
 unfolding isCall
-stepped-as N w {code} k x y z {h} {r} {g} known e promise =
+stepped-as k {N} {w} {code} {x} {y} {z} {h} {r} {g} known e promise =
     record {
       known = λ _. subst (λ (k : ℕ). Promise N w (decoded k x y z) h r g) (sym e) promise;
       unknown = λ f. absurd (true≢false (sym (le-leb code 8 (omega arith)) ∙ f));
     }
 
 -- .. and any other code
-pub stepped-none : (N w code x y z : ℕ) {h : Memory} {r : Reply} → 9 ≤ code → r ≡ reply 9 0 0 → Dispatched N w code x y z h r h
+pub stepped-none : {N w code x y z : ℕ} {h : Memory} {r : Reply} → 9 ≤ code → r ≡ reply 9 0 0 → Dispatched N w code x y z h r h
 unfolding isCall
-stepped-none N w code x y z past e =
+stepped-none {code = code} past e =
     record { known = λ t. absurd (omega (arith, leb-true code 8 t)); unknown = λ _. (e, refl) }
 
 -- a code that is none of the nine is past them; step by step, since there are too many cases for one

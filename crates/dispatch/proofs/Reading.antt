@@ -15,17 +15,17 @@ use Rattle.arguments.proofs.ArgumentTests.{look-answered}
 use Rattle.inner.specs.Usable.{Usable}
 use Rattle.inner.proofs.UsableHeap.{usable-fit}
 
-module _ (N w : ℕ) (h : Memory) (usable : Usable N w h) where
-  pub check-promise : (r : Reply) → r ≡ reply 0 0 0 → Promise N w check h r h
+module _ {N w : ℕ} {h : Memory} (usable : Usable N w h) where
+  pub check-promise : {r : Reply} → r ≡ reply 0 0 0 → Promise N w check h r h
   unfolding outcome Passed
-  check-promise r e = promised N w h check (accepted h 0) (fit-accepted N w h (usable-fit N w h usable) check tt) r h e refl
+  check-promise {r} e = promised N w h check (accepted h 0) (fit-accepted N w h (usable-fit usable) check tt) r h e refl
 
-  pub free-promise : (r : Reply) → r ≡ reply 0 (zeros (h .a)) 0 → Promise N w freeBlocks h r h
+  pub free-promise : {r : Reply} → r ≡ reply 0 (zeros (h .a)) 0 → Promise N w freeBlocks h r h
   unfolding outcome Passed
-  free-promise r e =
-      promised N w h freeBlocks (accepted h (zeros (h .a))) (fit-accepted N w h (usable-fit N w h usable) freeBlocks tt) r h e refl
+  free-promise {r} e =
+      promised N w h freeBlocks (accepted h (zeros (h .a))) (fit-accepted N w h (usable-fit usable) freeBlocks tt) r h e refl
 
   -- a look reads three buffers alone
   pub look-promise :
-      (x : ℕ) (r : Reply) → r ≡ lookReply N w (memory (h .a) (h .b) (h .counts) [] [] []) x → Promise N w (look x) h r h
-  look-promise x r e = promised N w h (look x) _ (look-answered N w h (usable-fit N w h usable) x) r h e refl
+      {x : ℕ} {r : Reply} → r ≡ lookReply N w (memory (h .a) (h .b) (h .counts) [] [] []) x → Promise N w (look x) h r h
+  look-promise {x} {r} e = promised N w h (look x) _ (look-answered N w h (usable-fit usable) x) r h e refl

@@ -16,20 +16,20 @@ use Rattle.turns.specs.declared.outcome.Done.{Done}
 use Rattle.turns.specs.Turns.{turnOf}
 use Rattle.turns.specs.Steps.{Acted}
 
-pub usable-readable : (N w : ℕ) (h : Memory) → Usable N w h → Readable N (h .b) (h .cells) (h .roots)
-usable-readable N w h usable =
-    let shape = usable-healthy N w h usable .shape in
+pub usable-readable : {N w : ℕ} {h : Memory} → Usable N w h → Readable N (h .b) (h .cells) (h .roots)
+usable-readable {N} {w} {h} usable =
+    let shape = usable-healthy usable .shape in
     record {
       most = shape .blocks-max;
       b-length = omega (arith, shape .length-b, shape .whole-bytes);
       cells-length = shape .length-cells;
-      named = roots-named N w h (usable-healthy N w h usable);
+      named = roots-named N w h (usable-healthy usable);
     }
 
 -- what is asked for on the three buffers is what is asked for on the heap
 pub planned :
-    (N w : ℕ) (h : Memory) (f : Fields) (plan : Plan) {d : Done} {g : Memory}
+    (w : ℕ) (f : Fields) (plan : Plan) {N : ℕ} {h : Memory} {d : Done} {g : Memory}
     → meaning plan ≡ asked N (memory [] (h .b) [] (h .cells) (h .roots) []) f → Acted N h (turnOf N w h (meaning plan)) d g
     → Acted N h (turnOf N w h (asked N h f)) d g
 unfolding asked operation copying writing reading clearing onRoots
-planned N w h f plan {d} {g} e acted = subst (λ (x : Asked). Acted N h (turnOf N w h x) d g) e acted
+planned w f plan {N} {h} {d} {g} e acted = subst (λ (x : Asked). Acted N h (turnOf N w h x) d g) e acted

@@ -16,19 +16,19 @@ use Rattle.rules.proofs.Replies.{refused-with, format-accepted}
 use Rattle.rules.proofs.Shape.{shape-facts}
 use Rattle.rules.proofs.Promised.{promised}
 
-module _ (N w : ℕ) (h : Memory) where
-  pub format-refused : (x : Reply) → shaped N w h ≡ false → x ≡ reply 1 0 0 → Promise N w format h x h
+module _ {N w : ℕ} {h : Memory} where
+  pub format-refused : {x : Reply} → shaped N w h ≡ false → x ≡ reply 1 0 0 → Promise N w format h x h
   unfolding refusedWith refusals
-  format-refused x fails x-is =
+  format-refused {x} fails x-is =
       promised N w h format (refused N w h 1) (refused-with N w h format 1 (omega arith) (first-found 1 (not (shaped N w h)) _ (ap not fails))) x h x-is refl
 
   pub format-done :
-      shaped N w h ≡ true → (x : Reply) → x ≡ reply 0 0 0 → (a b counts cells roots waiting sections : List ℕ)
+      shaped N w h ≡ true → {x : Reply} → x ≡ reply 0 0 0 → {a b counts cells roots waiting sections : List ℕ}
       → a ≡ replicate (length (h .a)) 0 → b ≡ replicate (length (h .b)) 255 → counts ≡ replicate (length (h .counts)) 0
       → cells ≡ replicate (length (h .cells)) 0 → roots ≡ replicate (length (h .roots)) 0 → waiting ≡ replicate (length (h .waiting)) 0
       → sections ≡ figures N (replicate (N / 8) 0) → Promise N w format h x (lentMemory a b counts cells roots waiting sections)
   unfolding outcome formatted
-  format-done fits x x-is a b counts cells roots waiting sections a-is b-is counts-are cells-are roots-are waiting-is sections-are =
+  format-done fits {x} x-is a-is b-is counts-are cells-are roots-are waiting-is sections-are =
       let lengths = shape-facts N w h fits in
       promised N w h format (accepted (formatted N w (length (h .roots))) 0) (format-accepted N w h fits) x _ x-is
       (λ i.

@@ -52,10 +52,10 @@ pub record Progress (n N w : ℕ) (bytes : List ℕ) (start : Memory) (r : Run) 
   pub run-left : ranFrom n N w bytes 0 start r .run ≡ ranFrom (n - i) N w bytes i h (state .run) .run
   pub memory-left : ranFrom n N w bytes 0 start r .memory ≡ ranFrom (n - i) N w bytes i h (state .run) .memory
 
-module _ (n N w : ℕ) (bytes : List ℕ) (start : Memory) (r : Run) where
+module _ {n N w : ℕ} {bytes : List ℕ} {start : Memory} {r : Run} where
   pub progress-start :
-      (state : Running) → state .run ≡ r → Usable N w start → Going N start n state → Progress n N w bytes start r 0 start state
-  progress-start state same usable going =
+      {state : Running} → state .run ≡ r → Usable N w start → Going N start n state → Progress n N w bytes start r 0 start state
+  progress-start same usable going =
       let all : n - 0 ≡ n = omega arith in
       record {
         usable = usable;
@@ -66,7 +66,7 @@ module _ (n N w : ℕ) (bytes : List ℕ) (start : Memory) (r : Run) where
         memory-left = rw (all, same);
       }
 
-  module _ (i : ℕ) (h : Memory) (state : Running) (l : i < n) (p : Progress n N w bytes start r i h state) where
+  module _ {i : ℕ} {h : Memory} {state : Running} (l : i < n) (p : Progress n N w bytes start r i h state) where
     abbrev left : ℕ
     left = n - (i + 1)
 
@@ -79,7 +79,7 @@ module _ (n N w : ℕ) (bytes : List ℕ) (start : Memory) (r : Run) where
         let going = p .going in
         record { goes-on = going .goes-on; in-range = going .in-range; more = omega (arith, going .more); used-is = going .used-is }
 
-    module _ (f : Fields) (read : f ≡ fieldsAt bytes (recordLength * i)) (next : Running) (g : Memory)
+    module _ {f : Fields} (read : f ≡ fieldsAt bytes (recordLength * i)) {next : Running} {g : Memory}
         (stepped : Stepped N (turnOf N w h (asked N h f)) state next g) where
       turned : Stepped N (recordAt N w bytes i h) state next g
       turned = subst (λ (y : Fields). Stepped N (turnOf N w h (asked N h y)) state next g) read stepped
@@ -148,10 +148,10 @@ module _ (n N w : ℕ) (bytes : List ℕ) (start : Memory) (r : Run) where
 
   -- all records are run
   pub progress-done :
-      (i : ℕ) (h : Memory) (state : Running) → n ≤ i → Progress n N w bytes start r i h state
+      {i : ℕ} {h : Memory} {state : Running} → n ≤ i → Progress n N w bytes start r i h state
       → RunBy N w (ranFrom n N w bytes 0 start r) (state .run) h
   unfolding ranFrom
-  progress-done i h state past p =
+  progress-done {i} {h} {state} past p =
       let none : n - i ≡ 0 = omega arith in
       record {
         run-is = sym (p .run-left ∙ ap (λ (k : ℕ). ranFrom k N w bytes i h (state .run) .run) none);

@@ -22,7 +22,7 @@ use Rattle.history.specs.declared.Ran.{Ran}
 use Rattle.history.specs.Runs.{Came, came, ran}
 use Rattle.history.specs.Promised.{runReply, cleared, Promised, CallsAreOne}
 use Rattle.history.proofs.CallsMade.{run-undamaged, runs-are-calls}
-use Rattle.history.proofs.Pieces.{check-accepted, Accepted, accepted, reply-passed}
+use Rattle.history.proofs.Pieces.{Accepted, accepted, reply-passed}
 use Rattle.history.proofs.WholeRecords.{pieces-are-whole}
 
 -- ---- an accepted call
@@ -30,11 +30,11 @@ use Rattle.history.proofs.WholeRecords.{pieces-are-whole}
 module _ (N w : ℕ) (bytes : List ℕ) (h : Memory) (r : Run) (x : Ran) (g : Memory) (promised : Promised N w bytes h r x g)
     (accepts : x .reply .number ≡ 0) where
   from : Accepted N w h r
-  from = accepted N w h r (ap (λ (v : Reply). v .number) (sym (promised .reply-is)) ∙ accepts)
+  from = accepted (promised .reply-is) accepts
 
   -- the heap that it starts from
   start : Undamaged N w (cleared N h)
-  start = cleared-usable N w h (from .undamaged) .undamaged
+  start = cleared-usable (from .undamaged) .undamaged
 
   answered : x .run ≡ ran N w bytes (cleared N h) r .run
   answered = rw (from .reply-is) at (promised .run-is)
@@ -52,7 +52,7 @@ module _ (N w : ℕ) (bytes : List ℕ) (h : Memory) (r : Run) (x : Ran) (g : Me
 
 module _ (N w : ℕ) (g found : Memory) (usable : Usable N w g) (finds : Finds N g found) where
   cleared-found : cleared N found ≡ g
-  cleared-found = ap (withWaiting (replicate N 0)) (finds .same-heap) ∙ cleared-same N w g usable
+  cleared-found = ap (withWaiting (replicate N 0)) (finds .same-heap) ∙ cleared-same usable
 
   found-cleared : Undamaged N w (cleared N found)
   found-cleared = subst (λ (m : Memory). Undamaged N w m) (sym cleared-found) (usable .undamaged)
@@ -70,12 +70,7 @@ module _ (N w : ℕ) (g found : Memory) (usable : Usable N w g) (finds : Finds N
 
   found-accepted : (r : Run) → inRange r ≡ true → runReply N w found r ≡ reply 0 0 0
   found-accepted r range =
-      sym
-      (reply-passed N w found r
-      (check-accepted N w found (reply 0 0 0) (check-passed N w found (reply 0 0 0) found-undamaged refl) refl)
-      range
-      (reply 0 0 0)
-      refl)
+      sym (reply-passed (check-passed {x = reply 0 0 0} found-undamaged refl) r refl range refl)
 
 -- ---- both
 

@@ -20,7 +20,7 @@ use Rattle.allocation_tests.proofs.AllocationReply.{AllocationPassed}
 use Rattle.inner.specs.Usable.{Usable}
 use Rattle.inner.proofs.UsableHeap.{usable-fit, left-settled}
 
-module _ (N w : ℕ) (h : Memory) (n r at : ℕ) (free : AllocationPassed N (h .a) (length (h .roots)) n r at) where
+module _ {N w : ℕ} {h : Memory} {n r at : ℕ} (free : AllocationPassed N (h .a) (length (h .roots)) n r at) where
   pub allocate-answered :
       Fit N w h → answer N w h (allocate n r) ≡ (reply 0 at (one (birthSticks w)), settled N (allocateIn N w h n r at))
   unfolding outcome Passed
@@ -30,10 +30,10 @@ module _ (N w : ℕ) (h : Memory) (n r at : ℕ) (free : AllocationPassed N (h .
       ∙ ap {B = Answer} (λ o. let i = Option·getD o 0 in (reply 0 i (one (birthSticks w)), settled N (allocateIn N w h n r i))) is
 
   pub allocate-promised :
-      Usable N w h → (stuck : Bool) (x : Reply) (g : Memory) → withSections (h .sections) g ≡ allocateIn N w h n r at
+      Usable N w h → {stuck : Bool} {x : Reply} {g : Memory} → withSections (h .sections) g ≡ allocateIn N w h n r at
       → g .sections ≡ figures N (g .a) → stuck ≡ birthSticks w → x ≡ reply 0 at (one stuck) → Promise N w (allocate n r) h x g
-  allocate-promised usable stuck x g left listed told replied =
+  allocate-promised usable {stuck} {x} {g} left listed told replied =
       promised N w h (allocate n r) (reply 0 at (one (birthSticks w)), settled N (allocateIn N w h n r at))
-      (allocate-answered (usable-fit N w h usable)) x g
+      (allocate-answered (usable-fit usable)) x g
       (replied ∙ ap (λ (t : Bool). reply 0 at (one t)) told)
-      (left-settled N w h usable (h .sections) g (allocateIn N w h n r at) left (allocate-beside N w (λ _. h .waiting) (λ l. l) h n r at) listed)
+      (left-settled usable left (allocate-beside N w (λ _. h .waiting) (λ l. l) h n r at) listed)

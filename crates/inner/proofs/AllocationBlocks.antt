@@ -25,13 +25,13 @@ use Rattle.inner.proofs.UsableHeap.{usable-fit, usable-healthy}
 use Rattle.inner.proofs.UsableAfterCalls.{usable-kept}
 use Rattle.inner.proofs.AllocationAnswer.{allocate-promised}
 
-module _ (N w : ℕ) (h : Memory) (usable : Usable N w h) (n r : ℕ) {x : Reply} {g : Memory} (promise : Promise N w (allocate n r) h x g) where
+module _ {N w : ℕ} {h : Memory} (usable : Usable N w h) {n r : ℕ} {x : Reply} {g : Memory} (promise : Promise N w (allocate n r) h x g) where
   balance : inUse N h + allocatedBy (allocate n r) x ≡ freedBlocks N h g + inUse N g
   balance =
-      rw (promise .reply-is, promise .after-is) (answer-even N w h (usable-fit N w h usable) (allocate n r) .kept)
+      rw (promise .reply-is, promise .after-is) (answer-even N w h (usable-fit usable) (allocate n r) .kept)
 
   zeros-most : zeros (h .a) + (N - zeros (h .a)) ≡ N
-  zeros-most = omega (arith, free-and-sizes N (h .a) (h .b) _ (usable-healthy N w h usable .represents))
+  zeros-most = omega (arith, free-and-sizes N (h .a) (h .b) _ (usable-healthy usable .represents))
 
   -- a refused one
   pub refused-freed : (x .number ≡ 0 → ⊥) → g ≡ h → freedBlocks N h g ≡ 0
@@ -41,40 +41,40 @@ module _ (N w : ℕ) (h : Memory) (usable : Usable N w h) (n r : ℕ) {x : Reply
       omega (arith, balance, none, ap (λ (k : Memory). zeros (k .a)) same)
 
   -- an accepted one
-  pub accepted-freed : x .number ≡ 0 → (freed : ℕ) → zeros (g .a) + n ≡ zeros (h .a) + freed → freed ≡ freedBlocks N h g
+  pub accepted-freed : x .number ≡ 0 → {freed : ℕ} → zeros (g .a) + n ≡ zeros (h .a) + freed → freed ≡ freedBlocks N h g
   unfolding allocatedBy allocates
-  accepted-freed accepted freed counted =
+  accepted-freed accepted counted =
       let all : allocatedBy (allocate n r) x ≡ n = rw (eq-eqb (x .number) 0 accepted, allocatedBy) in
-      let after = usable-healthy N w g (usable-kept N w h usable (allocate n r) x g promise) .represents in
+      let after = usable-healthy (usable-kept usable promise) .represents in
       omega (arith, balance, all, zeros-most, free-and-sizes N (g .a) (g .b) _ after)
 
-module _ (N w : ℕ) (h : Memory) (usable : Usable N w h) (n r : ℕ) where
+module _ {N w : ℕ} {h : Memory} (usable : Usable N w h) {n r : ℕ} where
   pub allocate-refusing :
-      (done : Allocated) → (done .reply .number ≡ 0 → ⊥) → done .freed ≡ 0 → Promise N w (allocate n r) h (done .reply) h
+      {done : Allocated} → (done .reply .number ≡ 0 → ⊥) → done .freed ≡ 0 → Promise N w (allocate n r) h (done .reply) h
       → Allocating N w n r h done h
-  allocate-refusing done refused none promise =
+  allocate-refusing refused none promise =
       record {
         promise = promise;
-        freed-is = none ∙ sym (refused-freed N w h usable n r promise refused refl);
+        freed-is = none ∙ sym (refused-freed usable promise refused refl);
         refused-same = λ _. refl;
       }
 
   pub allocate-accepting :
-      (at : ℕ) → AllocationPassed N (h .a) (length (h .roots)) n r at → (stuck : Bool) (done : Allocated) (g : Memory)
+      {at : ℕ} → AllocationPassed N (h .a) (length (h .roots)) n r at → {stuck : Bool} {done : Allocated} {g : Memory}
       → withSections (h .sections) g ≡ allocateIn N w h n r at → g .sections ≡ figures N (g .a)
       → done .freed ≡ putRootBlocks N w (placed N w h at n) r (at + 1) → stuck ≡ birthSticks w → done .reply ≡ reply 0 at (one stuck)
       → Allocating N w n r h done g
-  allocate-accepting at free stuck done g left listed counted told replied =
-      let promise = allocate-promised N w h n r at free usable stuck (done .reply) g left listed told replied in
+  allocate-accepting {at} free {stuck} {done} {g} left listed counted told replied =
+      let promise = allocate-promised free usable left listed told replied in
       let zeros-are : zeros (g .a) + n ≡ zeros (h .a) + done .freed =
       omega (
         arith,
-        allocate-freed N w h (usable-fit N w h usable) n r at (free .some-blocks) (free .place) (free .lowest),
+        allocate-freed N w h (usable-fit usable) n r at (free .some-blocks) (free .place) (free .lowest),
         ap (λ (k : Memory). zeros (k .a)) left,
       ) in
       record {
         promise = promise;
         freed-is =
-            accepted-freed N w h usable n r promise (ap (λ (y : Reply). y .number) replied) (done .freed) zeros-are;
+            accepted-freed usable promise (ap (λ (y : Reply). y .number) replied) zeros-are;
         refused-same = λ refused. absurd (refused (ap (λ (y : Reply). y .number) replied));
       }

@@ -18,18 +18,18 @@ use Rattle.inner.specs.Usable.{Usable}
 use Rattle.inner.proofs.UsableHeap.{usable-fit, usable-healthy, left-settled}
 use Rattle.inner.proofs.StoreAnswer.{freeing-promised}
 
-module _ (N w : ℕ) (h : Memory) where
+module _ {N w : ℕ} {h : Memory} where
   pub collect-answered : Fit N w h → answer N w h collect ≡ freeing N h (collected N w h) 0
   unfolding outcome Passed
   collect-answered fit = fit-accepted N w h fit collect tt
 
   pub collect-promised :
-      Usable N w h → Bytewise h → (freed : ℕ) (x : Reply) (g : Memory) → withSections (h .sections) g ≡ collectBy N w h
+      Usable N w h → Bytewise h → {freed : ℕ} {x : Reply} {g : Memory} → withSections (h .sections) g ≡ collectBy N w h
       → g .sections ≡ figures N (g .a) → freed ≡ collectBlocks N w h → x ≡ reply 0 freed 0 → Promise N w collect h x g
-  collect-promised usable bytes freed x g left listed counted replied =
-      let healthy = usable-healthy N w h usable in
-      freeing-promised N w h (collected N w h) 0 collect (collect-answered (usable-fit N w h usable)) freed x g
+  collect-promised usable bytes {freed} {x} {g} left listed counted replied =
+      let healthy = usable-healthy usable in
+      freeing-promised N w h (collected N w h) 0 collect (collect-answered (usable-fit usable)) freed x g
       (counted ∙ collect-blocks-is N w h healthy)
       replied
-      (left-settled N w h usable (h .sections) g (collected N w h) (left ∙ collect-by-is N w h healthy bytes)
+      (left-settled usable (left ∙ collect-by-is N w h healthy bytes)
       (collect-beside N w (λ _. h .waiting) (λ l. l) h) listed)

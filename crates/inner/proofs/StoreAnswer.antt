@@ -36,36 +36,36 @@ unfolding freeing
 freeing-promised N w h k second c e freed x g counted replied left =
     promised N w h c (freeing N h k second) e x g (replied ∙ ap (λ (n : ℕ). reply 0 n second) counted) left
 
-module _ (N w : ℕ) (h : Memory) (r v : ℕ) (passed : RootPassed N h r v) where
+module _ {N w : ℕ} {h : Memory} {r v : ℕ} (passed : RootPassed N h r v) where
   pub root-answered : Fit N w h → answer N w h (storeRoot r v) ≡ freeing N h (storeRootIn N w h r v) (one (rootSticks N w h r v))
   unfolding outcome Passed
   root-answered fit = fit-accepted N w h fit (storeRoot r v) (passed .place, passed .ref)
 
   pub root-promised :
-      Usable N w h → (freed : ℕ) (stuck : Bool) (x : Reply) (g : Memory) → withSections (h .sections) g ≡ storeRootIn N w h r v
+      Usable N w h → {freed : ℕ} {stuck : Bool} {x : Reply} {g : Memory} → withSections (h .sections) g ≡ storeRootIn N w h r v
       → g .sections ≡ figures N (g .a) → freed ≡ storeRootBlocks N w h r v → stuck ≡ rootSticks N w h r v → x ≡ reply 0 freed (one stuck) → Promise N w (storeRoot r v) h x g
-  root-promised usable freed stuck x g left listed counted told replied =
-      let healthy = usable-healthy N w h usable in
-      freeing-promised N w h (storeRootIn N w h r v) (one (rootSticks N w h r v)) (storeRoot r v) (root-answered (usable-fit N w h usable)) freed x g
+  root-promised usable {freed} {stuck} {x} {g} left listed counted told replied =
+      let healthy = usable-healthy usable in
+      freeing-promised N w h (storeRootIn N w h r v) (one (rootSticks N w h r v)) (storeRoot r v) (root-answered (usable-fit usable)) freed x g
       (counted ∙ sym (store-root-freed N w h healthy r v (passed .place) (passed .ref)))
       (replied ∙ ap (λ (t : Bool). reply 0 freed (one t)) told)
-      (left-settled N w h usable (h .sections) g (storeRootIn N w h r v) left (store-root-beside N w (λ _. h .waiting) (λ l. l) h r v) listed)
+      (left-settled usable left (store-root-beside N w (λ _. h .waiting) (λ l. l) h r v) listed)
 
-module _ (N w : ℕ) (h : Memory) (a j v : ℕ) (passed : CellPassed N h a j v) where
+module _ {N w : ℕ} {h : Memory} {a j v : ℕ} (passed : CellPassed N h a j v) where
   pub cell-answered :
       Fit N w h → answer N w h (storeCell a j v) ≡ freeing N h (storeCellIn N w h (4 * a + j) v) (one (cellSticks N w h a j v))
   unfolding outcome Passed
   cell-answered fit = fit-accepted N w h fit (storeCell a j v) (passed .first, passed .place, passed .ref)
 
   pub cell-promised :
-      Usable N w h → (freed : ℕ) (stuck : Bool) (x : Reply) (g : Memory) → withSections (h .sections) g ≡ storeCellIn N w h (4 * a + j) v
+      Usable N w h → {freed : ℕ} {stuck : Bool} {x : Reply} {g : Memory} → withSections (h .sections) g ≡ storeCellIn N w h (4 * a + j) v
       → g .sections ≡ figures N (g .a) → freed ≡ storeCellBlocks N w h (4 * a + j) v → stuck ≡ cellSticks N w h a j v → x ≡ reply 0 freed (one stuck)
       → Promise N w (storeCell a j v) h x g
-  cell-promised usable freed stuck x g left listed counted told replied =
-      let healthy = usable-healthy N w h usable in
-      freeing-promised N w h (storeCellIn N w h (4 * a + j) v) (one (cellSticks N w h a j v)) (storeCell a j v) (cell-answered (usable-fit N w h usable))
+  cell-promised usable {freed} {stuck} {x} {g} left listed counted told replied =
+      let healthy = usable-healthy usable in
+      freeing-promised N w h (storeCellIn N w h (4 * a + j) v) (one (cellSticks N w h a j v)) (storeCell a j v) (cell-answered (usable-fit usable))
       freed x g
       (counted ∙ sym (store-cell-freed N w h healthy a j v (passed .first) (passed .place) (passed .ref)))
       (replied ∙ ap (λ (t : Bool). reply 0 freed (one t)) told)
-      (left-settled N w h usable (h .sections) g (storeCellIn N w h (4 * a + j) v) left
+      (left-settled usable left
       (store-cell-beside N w (λ _. h .waiting) (λ l. l) h (4 * a + j) v) listed)

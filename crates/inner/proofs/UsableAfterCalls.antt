@@ -11,7 +11,7 @@ use Rattle.rules.proofs.Replies.{answer-either}
 use Rattle.theory.proofs.Theorems.{calls-keep-undamaged}
 use Rattle.inner.specs.Usable.{Usable}
 
-module _ (N w : ℕ) (h : Memory) (usable : Usable N w h) where
+module _ {N w : ℕ} {h : Memory} (usable : Usable N w h) where
   abbrev Idle : Answer → Type 0
   Idle x = x .1 .waiting ≡ replicate N 0
 
@@ -30,7 +30,7 @@ module _ (N w : ℕ) (h : Memory) (usable : Usable N w h) where
   answer-idle : (c : Call) → Idle (answer N w h c)
   answer-idle c = answer-either N w h c Idle (λ number nonzero. usable .idle) (λ _. outcome-idle c)
 
-  pub usable-kept : (c : Call) (x : Reply) (g : Memory) → Promise N w c h x g → Usable N w g
-  usable-kept c x g promise =
+  pub usable-kept : {c : Call} {x : Reply} {g : Memory} → Promise N w c h x g → Usable N w g
+  usable-kept {c} promise =
       subst (λ (k : Memory). Usable N w k) (sym (promise .after-is))
       (record { undamaged = calls-keep-undamaged N w h (usable .undamaged) c; idle = answer-idle c })

@@ -18,7 +18,7 @@ use Rattle.theory.proofs.Memories.ViewRelease.{reshaped}
 use Rattle.bridge.proofs.ReadyHeap.{fit-ready}
 use Rattle.inner.specs.Usable.{Usable}
 
-module _ (N w : ℕ) (h : Memory) where
+module _ {N w : ℕ} {h : Memory} where
   pub cleared-usable : Undamaged N w h → Usable N w (withWaiting (replicate N 0) h)
   unfolding damage endOnFree openEnd unaligned badCell badRoot badCount
   cleared-usable fit =
@@ -51,15 +51,15 @@ module _ (N w : ℕ) (h : Memory) where
     usable-ready = subst (λ (g : Memory). Ready N w g) cleared-same (fit-ready N w h usable-fit)
 
     -- where nothing was freed, the list is the true one still
-    pub list-untouched : (freed : ℕ) (a sections : List ℕ) → Upkeep N freed (h .a) (h .sections) a sections → freed ≡ 0 → sections ≡ figures N a
-    list-untouched freed a sections upkeep none =
+    pub list-untouched : {freed : ℕ} {a sections : List ℕ} → Upkeep N freed (h .a) (h .sections) a sections → freed ≡ 0 → sections ≡ figures N a
+    list-untouched upkeep none =
         let same = upkeep .untouched none in
         same .1 ∙ usable-fit .listed ∙ ap (figures N) (sym (same .0))
 
     -- what a call leaves, from what it left beside its list of sections: it handed the waiting list on, and the list is true
     pub left-settled :
-        (sections : List ℕ) (g k : Memory) → withSections sections g ≡ k → k ≡ withWaiting (h .waiting) k
+        {sections : List ℕ} {g k : Memory} → withSections sections g ≡ k → k ≡ withWaiting (h .waiting) k
         → g .sections ≡ figures N (g .a) → g ≡ settled N k
-    left-settled sections g k left unread listed =
+    left-settled {sections} {g} {k} left unread listed =
         ap (λ (x : List ℕ). withSections x g) listed
         ∙ ap (λ (m : Memory). withSections (figures N (m .a)) m) (left ∙ unread ∙ ap (λ (x : List ℕ). withWaiting x k) (usable .idle))

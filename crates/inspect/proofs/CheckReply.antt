@@ -22,26 +22,26 @@ use Rattle.rules.proofs.Promised.{promised}
 use Rattle.arguments.specs.Replies.{lookReply}
 use Rattle.arguments.proofs.ArgumentTests.{look-answered}
 
-module _ (N w : ℕ) (h : Memory) where
+module _ {N w : ℕ} {h : Memory} where
   -- ---- the check itself
 
-  pub check-unshaped : (x : Reply) → shaped N w h ≡ false → x ≡ reply 1 0 0 → Promise N w check h x h
+  pub check-unshaped : {x : Reply} → shaped N w h ≡ false → x ≡ reply 1 0 0 → Promise N w check h x h
   unfolding refusedWith refusals
-  check-unshaped x e x-is =
+  check-unshaped {x} e x-is =
       promised N w h check _ (refused-with N w h check 1 (omega arith) (first-found 1 (not (shaped N w h)) _ (ap not e))) x h x-is refl
 
-  pub check-damaged : (kind : ℕ) → shaped N w h ≡ true → kind ≡ damage N w h → (kind ≡ 0 → ⊥) → Promise N w check h (reply 2 kind 0) h
+  pub check-damaged : {kind : ℕ} → shaped N w h ≡ true → kind ≡ damage N w h → (kind ≡ 0 → ⊥) → Promise N w check h (reply 2 kind 0) h
   unfolding refusedWith refusals
-  check-damaged kind e is-kind some =
+  check-damaged {kind} e is-kind some =
       let damaged = ne-eqb (damage N w h) 0 (λ none. some (is-kind ∙ none)) in
       let two =
       first-past 1 (not (shaped N w h)) _ (ap not e) ∙ first-found 2 (not (eqb (damage N w h) 0)) _ (ap not damaged) in
       promised N w h check _ (refused-with N w h check 2 (omega arith) two) (reply 2 kind 0) h (ap (λ (k : ℕ). reply 2 k 0) is-kind) refl
 
   pub check-stale :
-      (x : Reply) → shaped N w h ≡ true → damage N w h ≡ 0 → staleFigures N (h .a) (h .sections) ≡ true → x ≡ reply 11 0 0 → Promise N w check h x h
+      {x : Reply} → shaped N w h ≡ true → damage N w h ≡ 0 → staleFigures N (h .a) (h .sections) ≡ true → x ≡ reply 11 0 0 → Promise N w check h x h
   unfolding refusedWith refusals
-  check-stale x e undamaged stale x-is =
+  check-stale {x} e undamaged stale x-is =
       let eleven =
       first-past 1 (not (shaped N w h)) _ (ap not e)
       ∙ first-past 2 (not (eqb (damage N w h) 0)) _ (ap not (eq-eqb (damage N w h) 0 undamaged))
@@ -51,35 +51,35 @@ module _ (N w : ℕ) (h : Memory) where
   -- ---- where it refuses, every call that tests the heap is refused alike
 
   pub refused-alike :
-      (call : Call) → testsHeap call ≡ true → (x : Reply) → Promise N w check h x h → (x .number ≡ 0 → ⊥) → Promise N w call h x h
-  refused-alike call tests x checked fails =
+      {call : Call} → testsHeap call ≡ true → {x : Reply} → Promise N w check h x h → (x .number ≡ 0 → ⊥) → Promise N w call h x h
+  refused-alike {call} tests {x} checked fails =
       promised N w h call (answer N w h check)
       (refused-as-check N w h call tests (λ e. fails (ap (λ (y : Reply). y .number) (checked .reply-is) ∙ e)))
       x h (checked .reply-is) (checked .after-is)
 
   -- ---- what passes the check
 
-  pub checked-fit : (x : Reply) → Promise N w check h x h → x .number ≡ 0 → Undamaged N w h
-  checked-fit x checked accepts =
+  pub checked-fit : {x : Reply} → Promise N w check h x h → x .number ≡ 0 → Undamaged N w h
+  checked-fit checked accepts =
       let none = accepted-none N w h check (ap (λ (y : Reply). y .number) (sym (checked .reply-is)) ∙ accepts) in
       let all = undamaged-passed N w h check refl none in
       record { intact = record { right-shape = all .0; no-damage = all .1 }; true-list = all .2 }
 
   -- ---- the calls that read
 
-  pub check-passed : (x : Reply) → Undamaged N w h → x ≡ reply 0 0 0 → Promise N w check h x h
+  pub check-passed : {x : Reply} → Undamaged N w h → x ≡ reply 0 0 0 → Promise N w check h x h
   unfolding outcome Passed
-  check-passed x fit x-is = promised N w h check (accepted h 0) (fit-accepted N w h (undamaged-fit N w h fit) check tt) x h x-is refl
+  check-passed {x} fit x-is = promised N w h check (accepted h 0) (fit-accepted N w h (undamaged-fit N w h fit) check tt) x h x-is refl
 
-  module _ (y : Reply) (checked : Promise N w check h y h) (accepts : y .number ≡ 0) where
-    pub free-blocks-passed : (x : Reply) (n : ℕ) → x ≡ reply 0 n 0 → n ≡ zeros (h .a) → Promise N w freeBlocks h x h
+  module _ {y : Reply} (checked : Promise N w check h y h) (accepts : y .number ≡ 0) where
+    pub free-blocks-passed : {x : Reply} {n : ℕ} → x ≡ reply 0 n 0 → n ≡ zeros (h .a) → Promise N w freeBlocks h x h
     unfolding outcome Passed
-    free-blocks-passed x n x-is counted =
+    free-blocks-passed {x} x-is counted =
         promised N w h freeBlocks (accepted h (zeros (h .a)))
-        (fit-accepted N w h (undamaged-fit N w h (checked-fit y checked accepts)) freeBlocks tt)
+        (fit-accepted N w h (undamaged-fit N w h (checked-fit checked accepts)) freeBlocks tt)
         x h (x-is ∙ ap (λ (v : ℕ). reply 0 v 0) counted) refl
 
     -- the maps and the counts alone are read
-    pub look-passed : (at : ℕ) (x : Reply) → x ≡ lookReply N w (memory (h .a) (h .b) (h .counts) [] [] []) at → Promise N w (look at) h x h
-    look-passed at x x-is =
-        promised N w h (look at) _ (look-answered N w h (undamaged-fit N w h (checked-fit y checked accepts)) at) x h x-is refl
+    pub look-passed : {at : ℕ} {x : Reply} → x ≡ lookReply N w (memory (h .a) (h .b) (h .counts) [] [] []) at → Promise N w (look at) h x h
+    look-passed {at} {x} x-is =
+        promised N w h (look at) _ (look-answered N w h (undamaged-fit N w h (checked-fit checked accepts)) at) x h x-is refl

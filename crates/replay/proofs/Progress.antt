@@ -50,7 +50,7 @@ pub record Progress (N w : ℕ) (start : Memory) (words before : List ℕ) (i : 
       replyWords (run N w start (callsIn words)) ++ drop (3 * (length words / 4)) before
       ≡ take (3 * i) replies ++ (replyWords (run N w h (callsFrom words i (length words / 4 - i))) ++ drop (3 * (length words / 4)) replies)
 
-module _ (N w : ℕ) (start : Memory) (words before : List ℕ) where
+module _ {N w : ℕ} {start : Memory} {words before : List ℕ} where
   pub progress-start : Usable N w start → 3 * (length words / 4) ≤ length before → Progress N w start words before 0 start before
   progress-start u room =
       let whole : length words / 4 ≡ length words / 4 - 0 = omega arith in
@@ -83,7 +83,7 @@ module _ (N w : ℕ) (start : Memory) (words before : List ℕ) where
       ap (λ (l : List ℕ). take (3 * (i + 1)) l) answered
       ∙ taken-with-reply replies i (x .0) (omega (arith, p .room, p .replies-length)) in
       record {
-        usable = usable-kept N w h (p .usable) (callAt words i) made g promise;
+        usable = usable-kept (p .usable) promise;
         made = omega arith;
         room = p .room;
         roots-length = roots-kept ∙ p .roots-length;

@@ -65,10 +65,10 @@ made-chain N w h fine (c ∷ calls) =
 
 -- an accepted replay, from what its format and its run promise
 pub replayed :
-    (N w : ℕ) (lent : Memory) (words replies : List ℕ) {x : Reply} {start after : Memory} {replies′ : List ℕ} → shaped N w lent ≡ true
+    {N w : ℕ} {lent : Memory} {words replies : List ℕ} {x : Reply} {start after : Memory} {replies′ : List ℕ} → shaped N w lent ≡ true
     → Promise N w format lent x start → AsRun N w start words replies after replies′
     → Ran N w (formatted N w (length (lent .roots))) words replies after replies′
-replayed N w lent words replies {x} {start} {after} {replies′} fits promise done =
+replayed {N} {w} {lent} {words} {replies} {x} {start} {after} {replies′} fits promise done =
     let from : Memory = formatted N w (length (lent .roots)) in
     let as-run : AsRun N w from words replies after replies′ =
     subst (λ (g : Memory). AsRun N w g words replies after replies′) (format-leaves N w lent fits promise) done in

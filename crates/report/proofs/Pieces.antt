@@ -69,7 +69,7 @@ piece-goes N w bytes h r some e =
       | no stopped ↦ absurd (stopped (rw (ne-eqb (r .number) 0 stopped, ran) at e))
     ]
 
-module _ (N w : ℕ) (bytes : List ℕ) (h : Memory) (r : Run) (x : Ran) (g : Memory) (promised : Promised N w bytes h r x g) where
+module _ {N w : ℕ} {bytes : List ℕ} {h : Memory} {r : Run} {x : Ran} {g : Memory} (promised : Promised N w bytes h r x g) where
   pub further :
       0 < length bytes → x .reply .number ≡ 0 → x .run .number ≡ 0 → (r .records < x .run .records) × (x .run .records ≤ mostRecords)
   further some accepted going =

@@ -43,7 +43,7 @@ pub zero-passes : (N : ℕ) (h : Memory) (r : ℕ) → r < length (h .roots) →
 unfolding ownTest Passed
 zero-passes N h r inside = passed-own N h (storeRoot r 0) (inside, none-ref N h)
 
-module _ (N w : ℕ) (h : Memory) (usable : Usable N w h) (chosen r : ℕ) where
+module _ {N w : ℕ} {h : Memory} (usable : Usable N w h) {chosen r : ℕ} where
   -- it is not one of the set
   pub not-chosen : (bitOf chosen r ≡ 1 → ⊥) → ClearedIfChosen N w h chosen r h 0
   unfolding clearChosen
@@ -51,13 +51,13 @@ module _ (N w : ℕ) (h : Memory) (usable : Usable N w h) (chosen r : ℕ) where
 
   -- it is, and was cleared; the waiting list was clear and is left so, and the store reads no list of sections
   pub chosen-cleared :
-      r < length (h .roots) → bitOf chosen r ≡ 1 → (x : Reply) (g : Memory) → Promise N w (storeRoot r 0) h x g
+      r < length (h .roots) → bitOf chosen r ≡ 1 → {x : Reply} {g : Memory} → Promise N w (storeRoot r 0) h x g
       → ClearedIfChosen N w h chosen r g (x .value)
   unfolding freeing clearChosen
-  chosen-cleared inside e x g promise =
-      let fit = usable-fit N w h usable in
+  chosen-cleared inside e {x} {g} promise =
+      let fit = usable-fit usable in
       let end : Memory = storeRootIn N w h r 0 in
-      let stored = root-answered N w h r 0 (root-passed N h r 0 (zero-passes N h r inside)) fit in
+      let stored = root-answered (root-passed (zero-passes N h r inside)) fit in
       let is : g ≡ settled N end = promise .after-is ∙ ap (λ (y : Answer). y .1) stored in
       let value : x .value ≡ zeros (end .a) - zeros (h .a) =
       ap (λ (y : Reply). y .value) (promise .reply-is) ∙ ap (λ (y : Answer). y .0 .value) stored in
@@ -65,9 +65,9 @@ module _ (N w : ℕ) (h : Memory) (usable : Usable N w h) (chosen r : ℕ) where
       record {
         after-is = λ l.
             ap (withSections l) is ∙ sym (store-root-beside N w (λ _. replicate N 0) (λ _. l) h r 0)
-            ∙ ap (λ (k : Memory). storeRootIn N w (withSections l k) r 0) (cleared-same N w h usable)
+            ∙ ap (λ (k : Memory). storeRootIn N w (withSections l k) r 0) (cleared-same usable)
             ∙ rw (eq-eqb (bitOf chosen r) 1 e, clearChosen) refl;
-        usable = usable-kept N w h usable (storeRoot r 0) x g promise;
+        usable = usable-kept usable promise;
         blocks = omega (arith, value, grows, ap (λ (k : Memory). zeros (k .a)) is);
       }
 
@@ -80,7 +80,7 @@ pub record Progress (N w : ℕ) (start : Memory) (chosen r : ℕ) (h : Memory) (
   pub after-is : withSections (start .sections) h ≡ returnIn N w start chosen r
   pub blocks : zeros (h .a) ≡ zeros (start .a) + freed
 
-module _ (N w : ℕ) (start : Memory) (chosen : ℕ) where
+module _ {N w : ℕ} {start : Memory} {chosen : ℕ} where
   pub progress-start : Usable N w start → Progress N w start chosen 0 start 0
   unfolding returnIn
   progress-start usable =
@@ -102,13 +102,13 @@ module _ (N w : ℕ) (start : Memory) (chosen : ℕ) where
       }
 
   pub progress-done :
-      {r freed : ℕ} {h : Memory} (x : Reply) → Usable N w start → returnTest (length (start .roots)) chosen .number ≡ 0
+      {r freed : ℕ} {h : Memory} {x : Reply} → Usable N w start → returnTest (length (start .roots)) chosen .number ≡ 0
       → length (h .roots) ≤ r → Progress N w start chosen r h freed → x ≡ reply 0 freed 0 → Promise N w (returnRoots chosen) start x h
-  progress-done {r} {freed} {h} x usable passes l p replied =
+  progress-done {r} {freed} {h} {x} usable passes l p replied =
       let end : Memory = returnIn N w start chosen (length (start .roots)) in
       let all : r ≡ length (start .roots) = omega (arith, p .made, p .roots-length) in
       let is : withSections (start .sections) h ≡ end = p .after-is ∙ ap (returnIn N w start chosen) all in
-      freeing-promised N w start end 0 (returnRoots chosen) (return-answered N w start (usable-fit N w start usable) chosen passes)
+      freeing-promised N w start end 0 (returnRoots chosen) (return-answered N w start (usable-fit usable) chosen passes)
       freed x h
       (omega (arith, p .blocks, ap (λ (k : Memory). zeros (k .a)) is)) replied
-      (left-settled N w h (p .usable) (h .sections) h h refl refl (usable-fit N w h (p .usable) .listed) ∙ ap (settled N) is)
+      (left-settled (p .usable) {k = h} refl refl (usable-fit (p .usable) .listed) ∙ ap (settled N) is)

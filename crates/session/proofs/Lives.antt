@@ -22,11 +22,11 @@ call-first N w c h x g rest fine promise chain =
     Chain.next (record { same-heap = refl; space = shape-facts N w h (fine .intact .right-shape) .length-waiting }) promise chain
 
 pub life :
-    (N w : ℕ) (h : Memory) (x : Reply) (start : Memory) → Promise N w format h x start → x .number ≡ 0
-    → (y : Reply) (one : Memory) → Promise N w (allocate 1 0) start y one → (z : Reply) (two : Memory) → Promise N w (storeRoot 0 0) one z two
-    → (u : Reply) (g : Memory) → Promise N w collect two u g → Life N w h x g
+    {N w : ℕ} {h : Memory} {x : Reply} {start : Memory} → Promise N w format h x start → x .number ≡ 0
+    → {y : Reply} {one : Memory} → Promise N w (allocate 1 0) start y one → {z : Reply} {two : Memory} → Promise N w (storeRoot 0 0) one z two
+    → {u : Reply} {g : Memory} → Promise N w collect two u g → Life N w h x g
 unfolding lastMemory
-life N w h x start formatting taken y one first z two second u g third =
+life {N} {w} {h} {x} {start} formatting taken {y} {one} first {z} {two} second {u} {g} third =
     let fine = accepted-format-undamaged N w h x start formatting taken in
     let next = promise-keeps-undamaged N w (allocate 1 0) start y one fine first in
     let last = promise-keeps-undamaged N w (storeRoot 0 0) one z two next second in

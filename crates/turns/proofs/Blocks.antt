@@ -19,6 +19,6 @@ pub refused-allocates : (c : Call) (x : Reply) → (x .number ≡ 0 → ⊥) →
 unfolding allocatedBy
 refused-allocates c x refused = rw (ne-eqb (x .number) 0 refused, allocatedBy)
 
-module _ (N w : ℕ) (h : Memory) (usable : Usable N w h) (c : Call) {x : Reply} {g : Memory} (promise : Promise N w c h x g) where
+module _ {N w : ℕ} {h : Memory} (usable : Usable N w h) {c : Call} {x : Reply} {g : Memory} (promise : Promise N w c h x g) where
   pub call-balance : inUse N h + allocatedBy c x ≡ freedBlocks N h g + inUse N g
-  call-balance = rw (promise .reply-is, promise .after-is) (answer-even N w h (usable-fit N w h usable) c .kept)
+  call-balance = rw (promise .reply-is, promise .after-is) (answer-even N w h (usable-fit usable) c .kept)

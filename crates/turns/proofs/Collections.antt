@@ -22,10 +22,10 @@ use Rattle.turns.proofs.Blocks.{accepted-allocates, call-balance}
 use Rattle.turns.proofs.Figures.{noted-accepted}
 use Rattle.turns.proofs.Turns.{acted-as, turn-once}
 
-module _ (N w : ℕ) (h : Memory) (usable : Usable N w h) where
+module _ {N w : ℕ} {h : Memory} (usable : Usable N w h) where
   collect-accepted : answer N w h collect .0 .number ≡ 0
   unfolding freeing
-  collect-accepted = ap (λ (y : Answer). y .0 .number) (collect-answered N w h (usable-fit N w h usable))
+  collect-accepted = ap (λ (y : Answer). y .0 .number) (collect-answered (usable-fit usable))
 
   pub collect-noted : (t : Tally) → noted (madeOn N w h collect) t ≡ collected t
   unfolding countedIn toldStuck momentIn
@@ -37,7 +37,7 @@ module _ (N w : ℕ) (h : Memory) (usable : Usable N w h) where
       let freed : y .value ≡ freedBlocks N h k =
       rw (promise .reply-is, promise .after-is) (blocks-add-up N w h .collection collect-accepted .by-objects) in
       let number : y .number ≡ 0 = ap (λ (v : Reply). v .number) (promise .reply-is) ∙ collect-accepted in
-      omega (arith, call-balance N w h usable collect promise, accepted-allocates collect y number)
+      omega (arith, call-balance usable promise, accepted-allocates collect y number)
 
   pub acted-collect :
       {x : Reply} {g : Memory} → Promise N w collect h x g → Acted N h (turnOf N w h (makes collect)) (done 0 0 true (x .value) false) g

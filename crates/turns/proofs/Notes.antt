@@ -74,7 +74,7 @@ figures-grow d t =
 
 -- ---- one record
 
-module _ (N : ℕ) (small : N ≤ maxBlocks) (h : Memory) (state : Running) (going : Going N h 1 state) (x : Turn) (d : Done) (g : Memory)
+module _ {N : ℕ} (small : N ≤ maxBlocks) {h : Memory} {state : Running} (going : Going N h 1 state) {x : Turn} {d : Done} {g : Memory}
     (acted : Acted N h x d g) where
   within : Within (state .run)
   within = in-range-within (state .run) (going .in-range)
@@ -173,5 +173,5 @@ module _ (N : ℕ) (small : N ≤ maxBlocks) (h : Memory) (state : Running) (goi
         }
   ]
 
-  pub noted-stepped : (is : Running) → is ≡ notedBy d state → Stepped N x state is g
-  noted-stepped is e = subst (λ (s : Running). Stepped N x state s g) (sym e) noted-step
+  pub noted-stepped : {is : Running} → is ≡ notedBy d state → Stepped N x state is g
+  noted-stepped e = subst (λ (s : Running). Stepped N x state s g) (sym e) noted-step

@@ -27,10 +27,10 @@ use Rattle.turns.proofs.Turns.{acted-as}
 use Rattle.turns.proofs.Collections.{collect-noted, collect-balance}
 use Rattle.turns.proofs.FirstTry.{reply-number, refused-noted, refused-balance, size-fits, accepted-noted, accepted-balance, acted-again}
 
-module _ (N w : ℕ) (h : Memory) (usable : Usable N w h) (n r : ℕ) (y : Reply) (k : Memory) (forced : Promise N w collect h y k)
-    (second : Allocated) (g : Memory) (tried : Allocating N w n r k second g) where
+module _ {N w : ℕ} {h : Memory} (usable : Usable N w h) {n r : ℕ} {y : Reply} {k : Memory} (forced : Promise N w collect h y k)
+    {second : Allocated} {g : Memory} (tried : Allocating N w n r k second g) where
   forced-usable : Usable N w k
-  forced-usable = usable-kept N w h usable collect y k forced
+  forced-usable = usable-kept usable forced
 
   abbrev again : Turn
   again =
@@ -49,7 +49,7 @@ module _ (N w : ℕ) (h : Memory) (usable : Usable N w h) (n r : ℕ) (y : Reply
   -- the two calls noted, one after the other
   both-noted : (t : Tally) → notedAll (again .made) t ≡ noted (madeOn N w k (allocate n r)) (collected t)
   unfolding notedAll
-  both-noted t = ap (noted (madeOn N w k (allocate n r))) (collect-noted N w h usable t)
+  both-noted t = ap (noted (madeOn N w k (allocate n r))) (collect-noted usable t)
 
   -- together they free no more blocks than two heaps have
   freed-few : y .value + second .freed ≤ N + N
@@ -57,11 +57,11 @@ module _ (N w : ℕ) (h : Memory) (usable : Usable N w h) (n r : ℕ) (y : Reply
     | yes e ↦
         omega (
           arith,
-          collect-balance N w h usable forced,
-          accepted-balance N w k forced-usable n r second g tried e,
-          size-fits N w k forced-usable n r second g tried e .1,
+          collect-balance usable forced,
+          accepted-balance forced-usable tried e,
+          size-fits forced-usable tried e .1,
         )
-    | no e ↦ omega (arith, collect-balance N w h usable forced, refused-balance N w k forced-usable n r second g tried e)
+    | no e ↦ omega (arith, collect-balance usable forced, refused-balance forced-usable tried e)
   ]
 
   again-refused :
@@ -71,11 +71,11 @@ module _ (N w : ℕ) (h : Memory) (usable : Usable N w h) (n r : ℕ) (y : Reply
   again-refused refused =
       acted-as tried-again
       record {
-        number-is = sym (reply-number N w k forced-usable n r second g tried);
+        number-is = sym (reply-number forced-usable tried);
         after-is = tried .promise .after-is;
-        figures-are = λ t. sym (both-noted t ∙ refused-noted N w k forced-usable n r second g tried refused (collected t));
+        figures-are = λ t. sym (both-noted t ∙ refused-noted forced-usable tried refused (collected t));
         balance =
-            omega (arith, collect-balance N w h usable forced, refused-balance N w k forced-usable n r second g tried refused);
+            omega (arith, collect-balance usable forced, refused-balance forced-usable tried refused);
         allocated-few = omega arith;
         refused-none = λ _. (refl, refl);
       }
@@ -84,17 +84,17 @@ module _ (N w : ℕ) (h : Memory) (usable : Usable N w h) (n r : ℕ) (y : Reply
       second .reply .number ≡ 0 → Acted N h (triedAgain N w h (allocate n r)) (done 0 n true (y .value + second .freed) (eqb (second .reply .second) 1)) g
   unfolding withCollection
   again-allocated accepted =
-      let size = size-fits N w k forced-usable n r second g tried accepted in
+      let size = size-fits forced-usable tried accepted in
       acted-as tried-again
       record {
-        number-is = sym (reply-number N w k forced-usable n r second g tried ∙ accepted);
+        number-is = sym (reply-number forced-usable tried ∙ accepted);
         after-is = tried .promise .after-is;
         figures-are = λ t.
             ap (momentIn (eqb (second .reply .second) 1))
             (with-allocated n true 0 (y .value + second .freed) (eqb (second .reply .second) 1) (collected t) (size .0))
-            ∙ sym (both-noted t ∙ accepted-noted N w k forced-usable n r second g tried accepted (collected t));
+            ∙ sym (both-noted t ∙ accepted-noted forced-usable tried accepted (collected t));
         balance =
-            omega (arith, collect-balance N w h usable forced, accepted-balance N w k forced-usable n r second g tried accepted);
+            omega (arith, collect-balance usable forced, accepted-balance forced-usable tried accepted);
         allocated-few = size .1;
         refused-none = λ some. absurd (some refl);
       }
@@ -108,16 +108,16 @@ module _ (N w : ℕ) (h : Memory) (usable : Usable N w h) (n r : ℕ) (y : Reply
 
 -- ---- an allocation that was tried twice: the first try left k, the collection l
 
-module _ (N w : ℕ) (h : Memory) (usable : Usable N w h) (n r : ℕ) (first : Allocated) (k : Memory) (tried : Allocating N w n r h first k)
-    (y : Reply) (l : Memory) (forced : Promise N w collect k y l) (second : Allocated) (g : Memory)
+module _ {N w : ℕ} {h : Memory} (usable : Usable N w h) {n r : ℕ} {first : Allocated} {k : Memory} (tried : Allocating N w n r h first k)
+    {y : Reply} {l : Memory} (forced : Promise N w collect k y l) {second : Allocated} {g : Memory}
     (retried : Allocating N w n r l second g) where
   tried-usable : Usable N w k
-  tried-usable = usable-kept N w h usable (allocate n r) (first .reply) k (tried .promise)
+  tried-usable = usable-kept usable (tried .promise)
 
   pub freed-fits : y .value + second .freed < 2 ^ 64
   freed-fits =
-      omega (arith, freed-few N w k tried-usable n r y l forced second g retried, usable-healthy N w h usable .shape .blocks-max)
+      omega (arith, freed-few tried-usable forced retried, usable-healthy usable .shape .blocks-max)
 
   pub acted-twice : first .reply .number ≡ 5 → Acted N h (turnOf N w h (makes (allocate n r))) (doneAfter second n true (y .value)) g
   acted-twice none-free =
-      acted-again N w h usable n r first k tried none-free (again-acted N w k tried-usable n r y l forced second g retried)
+      acted-again usable tried none-free (again-acted tried-usable forced retried)

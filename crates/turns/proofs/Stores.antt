@@ -26,9 +26,9 @@ use Rattle.turns.proofs.Blocks.{accepted-allocates, call-balance}
 use Rattle.turns.proofs.Figures.{noted-refused, noted-accepted}
 use Rattle.turns.proofs.Turns.{acted-as, turn-once}
 
-pub acted-stop : (N w : ℕ) (h : Memory) (number : ℕ) → Acted N h (turnOf N w h (stops number)) (done number 0 false 0 false) h
+pub acted-stop : (w : ℕ) {N : ℕ} {h : Memory} {number : ℕ} → Acted N h (turnOf N w h (stops number)) (done number 0 false 0 false) h
 unfolding turnOf notedAll withCollection withAllocation momentIn
-acted-stop N w h number =
+acted-stop w =
     record {
       number-is = refl;
       after-is = refl;
@@ -68,7 +68,7 @@ store-cell-plain a j v =
       not-five = λ N w h. store-cell-not-five N w h a j v;
     }
 
-module _ (N w : ℕ) (h : Memory) (usable : Usable N w h) where
+module _ {N w : ℕ} {h : Memory} (usable : Usable N w h) where
   acted-plain :
       (c : Call) → Plain c → {x : Reply} {g : Memory} → Promise N w c h x g
       → Acted N h (turnOf N w h (makes c)) (done (x .number) 0 false (x .value) (eqb (x .second) 1)) g
@@ -89,10 +89,10 @@ module _ (N w : ℕ) (h : Memory) (usable : Usable N w h) where
           let freed : x .value ≡ freedBlocks N h g =
           rw (promise .reply-is, promise .after-is) (plain .frees N w h (ap (λ (y : Reply). y .number) (sym (promise .reply-is)) ∙ e)) in
           let none : allocatedBy c x ≡ 0 = accepted-allocates c x e ∙ plain .none-new in
-          omega (arith, call-balance N w h usable c promise)
+          omega (arith, call-balance usable promise)
 
       kept : (x .number ≡ 0 → ⊥) → (g ≡ h) × (x .value ≡ 0) × (x .second ≡ 0)
-      kept = refused-keeps N w h (usable-fit N w h usable) c promise
+      kept = refused-keeps N w h (usable-fit usable) c promise
 
       balance : inUse N h + 0 ≡ x .value + inUse N g
       balance = elim (ℕ-discrete (x .number) 0) [
@@ -118,11 +118,11 @@ module _ (N w : ℕ) (h : Memory) (usable : Usable N w h) where
       ]
 
   pub acted-root :
-      (r v : ℕ) {x : Reply} {g : Memory} → Promise N w (storeRoot r v) h x g
+      {r v : ℕ} {x : Reply} {g : Memory} → Promise N w (storeRoot r v) h x g
       → Acted N h (turnOf N w h (makes (storeRoot r v))) (done (x .number) 0 false (x .value) (eqb (x .second) 1)) g
-  acted-root r v = acted-plain (storeRoot r v) (store-root-plain r v)
+  acted-root {r} {v} = acted-plain (storeRoot r v) (store-root-plain r v)
 
   pub acted-cell :
-      (a j v : ℕ) {x : Reply} {g : Memory} → Promise N w (storeCell a j v) h x g
+      {a j v : ℕ} {x : Reply} {g : Memory} → Promise N w (storeCell a j v) h x g
       → Acted N h (turnOf N w h (makes (storeCell a j v))) (done (x .number) 0 false (x .value) (eqb (x .second) 1)) g
-  acted-cell a j v = acted-plain (storeCell a j v) (store-cell-plain a j v)
+  acted-cell {a} {j} {v} = acted-plain (storeCell a j v) (store-cell-plain a j v)

@@ -14,7 +14,7 @@ use Rattle.turns.proofs.Turns.{turn-once, turn-again}
 
 call-usable : (N w : ℕ) (h : Memory) → Usable N w h → (c : Call) → Usable N w (answer N w h c .1)
 call-usable N w h usable c =
-    usable-kept N w h usable c (answer N w h c .0) (answer N w h c .1) (record { reply-is = refl; after-is = refl })
+    usable-kept usable {c = c} (record { reply-is = refl; after-is = refl })
 
 pub turn-usable : (N w : ℕ) (h : Memory) → Usable N w h → (x : Asked) → Usable N w (turnOf N w h x .after)
 unfolding turnOf triedAgain

@@ -46,7 +46,7 @@ refusal-requires-4 c κs = search needs
 returns-4 : tie.Need-returns-4
 returns-4 c =
     c .refusal4 .ensures
-    ∙ nothing-found _ _ _ _ _ _ (omega arith) (omega arith) (omega arith) (c .before .before .find-place .ensures .at-is) (c .before .if4 .taken)
+    ∙ nothing-found _ (omega arith) (omega arith) (omega arith) (c .before .before .find-place .ensures .at-is) (c .before .if4 .taken)
 
 acceptance-requires : tie.Need-acceptance-requires
 acceptance-requires c κs = search needs
@@ -54,7 +54,7 @@ acceptance-requires c κs = search needs
 returns-5 : tie.Need-returns-5
 returns-5 c =
     c .acceptance .ensures
-    ∙ place-found _ _ _ _ _ _ (omega arith) (omega arith) (omega arith) (c .before .before .find-place .ensures .at-is) (c .before .if4 .left)
+    ∙ place-found _ (omega arith) (omega arith) (omega arith) (c .before .before .find-place .ensures .at-is) (c .before .if4 .left)
 
 pub allocate-reply-spec : {M : Type 1} → statement M
 allocate-reply-spec =

@@ -3,7 +3,7 @@ use mathlib.Core.Path.{refl, sym, ap, _∙_}
 use borrow.Author.Needs.{needs}
 use Rattle.rules.specs.Calls.{freeing, outcome}
 use Rattle.types.specs.declared.Reply.{Reply}
-use Rattle.arguments.proofs.ArgumentTests.{return-goes-on}
+use Rattle.arguments.proofs.ArgumentTests.{goes-on, return-tested}
 use Rattle.inner.proofs.ClearedHeap.{cleared-usable, promised-back}
 use Rattle.assignment.proofs.return_roots.Statement.{statement}
 use Rattle.assignment.proofs.return_roots.Tie as tie
@@ -31,7 +31,7 @@ clear-roots-requires : tie.Need-clear-roots-requires
 clear-roots-requires c κs =
     let gate = passed (cleared c) in
     let facts = gate .before .return-roots .ensures in (
-      cleared-usable _ _ _ (facts .fit (gate .if1 .left)) _ (cleared c .clear-all .ensures),
+      cleared-usable (facts .fit (gate .if1 .left)) (cleared c .clear-all .ensures),
       ap (λ (y : Reply). y .number) (sym (facts .tested (gate .if1 .left))) ∙ gate .if1 .left,
     )
 
@@ -41,8 +41,8 @@ returns-2 c =
     let clear = cleared (done c .before) in
     let gate = passed clear in
     let facts = gate .before .return-roots .ensures in
-    promised-back _ _ _ (facts .fit (gate .if1 .left)) _ (clear .clear-all .ensures) _
-    (return-goes-on _ _ _ _ (facts .tested (gate .if1 .left)) (gate .if1 .left)) refl _ _ (done c .clear-roots .ensures)
+    promised-back (facts .fit (gate .if1 .left)) (clear .clear-all .ensures)
+    (goes-on (return-tested (facts .tested (gate .if1 .left))) (gate .if1 .left)) refl (done c .clear-roots .ensures)
 
 pub return-roots-spec : {M : Type 1} → statement M
 return-roots-spec =

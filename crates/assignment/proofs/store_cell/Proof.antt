@@ -2,7 +2,7 @@
 use mathlib.Core.Path.{refl, _∙_}
 use borrow.Author.Needs.{needs}
 use Rattle.rules.specs.Calls.{freeing, outcome}
-use Rattle.arguments.proofs.ArgumentTests.{cell-goes-on}
+use Rattle.arguments.proofs.ArgumentTests.{goes-on, cell-tested}
 use Rattle.inner.proofs.ClearedHeap.{cleared-usable, promised-back}
 use Rattle.assignment.proofs.store_cell.Statement.{statement}
 use Rattle.assignment.proofs.store_cell.Tie as tie
@@ -30,8 +30,8 @@ store-cell-requires-2 : tie.Need-store-cell-requires-2
 store-cell-requires-2 c κs =
     let gate = passed (cleared c) in
     let facts = gate .before .store-cell .ensures in (
-      cleared-usable _ _ _ (facts .fit (gate .if1 .left)) _ (cleared c .clear-all .ensures),
-      cell-goes-on _ _ _ _ _ _ (facts .tested (gate .if1 .left)) (gate .if1 .left),
+      cleared-usable (facts .fit (gate .if1 .left)) (cleared c .clear-all .ensures),
+      goes-on (cell-tested (facts .tested (gate .if1 .left))) (gate .if1 .left),
     )
 
 returns-2 : tie.Need-returns-2
@@ -40,8 +40,8 @@ returns-2 c =
     let clear = cleared (done c .before) in
     let gate = passed clear in
     let facts = gate .before .store-cell .ensures in
-    promised-back _ _ _ (facts .fit (gate .if1 .left)) _ (clear .clear-all .ensures) _
-    (cell-goes-on _ _ _ _ _ _ (facts .tested (gate .if1 .left)) (gate .if1 .left)) refl _ _ (done c .store-cell2 .ensures)
+    promised-back (facts .fit (gate .if1 .left)) (clear .clear-all .ensures)
+    (goes-on (cell-tested (facts .tested (gate .if1 .left))) (gate .if1 .left)) refl (done c .store-cell2 .ensures)
 
 pub store-cell-spec : {M : Type 1} → statement M
 store-cell-spec =

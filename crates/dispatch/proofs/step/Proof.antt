@@ -56,7 +56,7 @@ collect-requires c κs = search needs
 
 look-reply-requires : tie.Need-look-reply-requires
 look-reply-requires c κs =
-    let shape = usable-healthy _ _ _ (entry (c .before .before .before .before) .pre) .shape in (
+    let shape = usable-healthy (entry (c .before .before .before .before) .pre) .shape in (
       sym (shape .whole-bytes),
       omega (arith, shape .length-a, shape .whole-bytes),
       omega (arith, shape .length-b, shape .whole-bytes),
@@ -66,7 +66,7 @@ look-reply-requires c κs =
 
 count-zeros-requires : tie.Need-count-zeros-requires
 count-zeros-requires c κs =
-    let shape = usable-healthy _ _ _ (entry (c .before .before) .pre) .shape in
+    let shape = usable-healthy (entry (c .before .before) .pre) .shape in
     omega (arith, shape .length-a, shape .whole-bytes, shape .blocks-max)
 
 acceptance-requires-2 : tie.Need-acceptance-requires-2
@@ -82,13 +82,13 @@ returns : tie.Need-returns
 unfolding decoded
 returns c =
     let called = formatted c in
-    stepped-as _ _ 0 _ _ _ (omega arith) (format-chosen (called .before) .match .keys1) (called .format .ensures)
+    stepped-as 0 (omega arith) (format-chosen (called .before) .match .keys1) (called .format .ensures)
 
 returns-2 : tie.Need-returns-2
 unfolding decoded
 returns-2 c =
     let chosen = c .before in
-    stepped-as _ _ 1 _ _ _ (omega arith) (chosen .match .keys2) (check-promise _ _ _ (entry (chosen .before) .pre) _
+    stepped-as 1 (omega arith) (chosen .match .keys2) (check-promise (entry (chosen .before) .pre)
     (c .acceptance .ensures))
 
 returns-3 : tie.Need-returns-3
@@ -96,34 +96,34 @@ unfolding decoded
 returns-3 c =
     let called = allocated c in
     let chosen = called .before .before .before .before .before .before .before .before in
-    stepped-as _ _ 2 _ _ _ (omega arith) (chosen .match .keys3) (called .allocate .ensures .promise)
+    stepped-as 2 (omega arith) (chosen .match .keys3) (called .allocate .ensures .promise)
 
 returns-4 : tie.Need-returns-4
 unfolding decoded
 returns-4 c =
     let called = root-stored c in
     let chosen = called .before .before .before .before .before .before .before .before in
-    stepped-as _ _ 3 _ _ _ (omega arith) (chosen .match .keys4) (called .store-root .ensures)
+    stepped-as 3 (omega arith) (chosen .match .keys4) (called .store-root .ensures)
 
 returns-5 : tie.Need-returns-5
 unfolding decoded
 returns-5 c =
     let called = cell-stored c in
     let chosen = called .before .before .before .before .before .before .before .before in
-    stepped-as _ _ 4 _ _ _ (omega arith) (chosen .match .keys5) (called .store-cell .ensures)
+    stepped-as 4 (omega arith) (chosen .match .keys5) (called .store-cell .ensures)
 
 returns-6 : tie.Need-returns-6
 unfolding decoded
 returns-6 c =
     let called = collected c in
     let chosen = called .before .before .before .before .before .before .before .before in
-    stepped-as _ _ 5 _ _ _ (omega arith) (chosen .match .keys6) (called .collect .ensures)
+    stepped-as 5 (omega arith) (chosen .match .keys6) (called .collect .ensures)
 
 returns-7 : tie.Need-returns-7
 unfolding decoded
 returns-7 c =
     let chosen = c .before .before .before .before in
-    stepped-as _ _ 6 _ _ _ (omega arith) (chosen .match .keys7) (look-promise _ _ _ (entry (chosen .before) .pre) _ _
+    stepped-as 6 (omega arith) (chosen .match .keys7) (look-promise (entry (chosen .before) .pre)
     (c .look-reply .ensures))
 
 returns-8 : tie.Need-returns-8
@@ -131,14 +131,14 @@ unfolding decoded
 returns-8 c =
     let chosen = c .before .before .before in
     let counted = c .acceptance2 .ensures ∙ ap (λ (n : ℕ). reply 0 n 0) (c .before .count-zeros .ensures .0) in
-    stepped-as _ _ 7 _ _ _ (omega arith) (chosen .match .keys8) (free-promise _ _ _ (entry (chosen .before) .pre) _ counted)
+    stepped-as 7 (omega arith) (chosen .match .keys8) (free-promise (entry (chosen .before) .pre) counted)
 
 returns-9 : tie.Need-returns-9
 unfolding decoded
 returns-9 c =
     let called = returned c in
     let chosen = called .before .before .before .before .before .before .before .before in
-    stepped-as _ _ 8 _ _ _ (omega arith) (chosen .match .keys9) (called .return-roots .ensures)
+    stepped-as 8 (omega arith) (chosen .match .keys9) (called .return-roots .ensures)
 
 returns-10 : tie.Need-returns-10
 returns-10 c =
@@ -146,7 +146,7 @@ returns-10 c =
     let past =
     past-codes _ (rest .0 .0 .0 .0 .0 .0 .0 .0 .1) (rest .0 .0 .0 .0 .0 .0 .0 .1) (rest .0 .0 .0 .0 .0 .0 .1) (rest .0 .0 .0 .0 .0 .1)
     (rest .0 .0 .0 .0 .1) (rest .0 .0 .0 .1) (rest .0 .0 .1) (rest .0 .1) (rest .1) in
-    stepped-none _ _ _ _ _ _ past (c .refusal .ensures)
+    stepped-none past (c .refusal .ensures)
 
 pub step-spec : {M : Type 1} → statement M
 step-spec =

@@ -16,7 +16,7 @@ abbrev start : tie.After-plan-of-arg3 → tie.Start
 start c = c .before .before .before .before .before .before .before .before .before .before
 
 plan-of-requires : tie.Need-plan-of-requires
-plan-of-requires c κs = usable-readable _ _ _ (start c .pre .0)
+plan-of-requires c κs = usable-readable (start c .pre .0)
 
 act-requires : tie.Need-act-requires
 act-requires c κs = start (planned-at c .before) .pre .0
@@ -24,15 +24,15 @@ act-requires c κs = start (planned-at c .before) .pre .0
 noted-requires : tie.Need-noted-requires
 noted-requires c κs =
     let pre = start (planned-at (acted c .before) .before) .pre in
-    can-note _ (usable-healthy _ _ _ (pre .0) .shape .blocks-max) _ _ (pre .1) _ _ _ (acted c .act .ensures)
+    can-note (usable-healthy (pre .0) .shape .blocks-max) (pre .1) (acted c .act .ensures)
 
 returns : tie.Need-returns
 returns c =
     let act = acted (c .before) in
     let plan = planned-at (act .before) in
     let pre = start (plan .before) .pre in
-    noted-stepped _ (usable-healthy _ _ _ (pre .0) .shape .blocks-max) _ _ (pre .1) _ _ _
-    (planned _ _ _ _ (plan .plan-of .result) (plan .plan-of .ensures) (act .act .ensures)) _ (c .noted .ensures)
+    noted-stepped (usable-healthy (pre .0) .shape .blocks-max) (pre .1)
+    (planned _ _ (plan .plan-of .result) (plan .plan-of .ensures) (act .act .ensures)) (c .noted .ensures)
 
 pub step-spec : {M : Type 1} → statement M
 step-spec =

@@ -64,7 +64,7 @@ acceptance-requires c κs = search needs
 returns : tie.Need-returns
 returns c =
     let w = waiting c in
-    format-done _ _ _ (start w .pre) _ (c .acceptance .ensures) _ _ _ _ _ _ _
+    format-done (start w .pre) (c .acceptance .ensures)
     (a w .fill-bytes .ensures)
     (b w .fill-bytes2 .ensures)
     (counts w .fill-bytes3 .ensures)

@@ -2,7 +2,6 @@
 use mathlib.Core.Path.{refl}
 use native.Mathlib.Omega.{arith}
 use borrow.Author.Needs.{needs}
-use Rattle.rules.specs.Calls.{allocate}
 use Rattle.rules.proofs.Shape.{shaped-blocks}
 use Rattle.allocation_tests.proofs.AllocationReply.{allocate-refused}
 use Rattle.gates.proofs.CheckAtGate.{checked-passed, gate-shut, gate-open}
@@ -13,18 +12,18 @@ check-requires : tie.Need-check-requires
 check-requires c κs = search needs
 
 returns : tie.Need-returns
-returns c = gate-shut _ _ _ _ (c .before .check .ensures) (c .if1 .taken) (allocate _ _) refl _
+returns c = gate-shut (c .before .check .ensures) (c .if1 .taken) refl
 
 allocate-reply-requires : tie.Need-allocate-reply-requires
 allocate-reply-requires c κs =
-    let fit = checked-passed _ _ _ _ (c .before .check .ensures) (c .if1 .left) in
+    let fit = checked-passed (c .before .check .ensures) (c .if1 .left) in
     (shaped-blocks _ _ _ (fit .healthy .shape), omega (arith, fit .healthy .shape .length-a, fit .healthy .shape .whole-bytes), fit .listed)
 
 returns-2 : tie.Need-returns-2
 returns-2 c =
     let passed = c .before in
-    gate-open _ _ _ _ (passed .before .check .ensures) (passed .if1 .left) _ _ _ (c .allocate-reply .ensures)
-    (λ fit. allocate-refused _ _ _ _ _ fit _ (c .allocate-reply .ensures))
+    gate-open (passed .before .check .ensures) (passed .if1 .left) (c .allocate-reply .ensures)
+    (allocate-refused (c .allocate-reply .ensures))
 
 pub allocate-spec : {M : Type 1} → statement M
 allocate-spec = tie.close (tie.spec check-requires returns allocate-reply-requires returns-2)

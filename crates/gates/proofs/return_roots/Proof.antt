@@ -1,8 +1,7 @@
 -- `gates::return_roots` meets its contract: the check, and then the call's own test.
 use mathlib.Core.Path.{refl}
 use borrow.Author.Needs.{needs}
-use Rattle.rules.specs.Calls.{returnRoots}
-use Rattle.arguments.proofs.ArgumentTests.{return-refused}
+use Rattle.arguments.proofs.ArgumentTests.{own-refused, return-tested}
 use Rattle.gates.proofs.CheckAtGate.{checked-passed, gate-shut, gate-open}
 use Rattle.gates.proofs.return_roots.Statement.{statement}
 use Rattle.gates.proofs.return_roots.Tie as tie
@@ -11,17 +10,17 @@ check-requires : tie.Need-check-requires
 check-requires c κs = search needs
 
 returns : tie.Need-returns
-returns c = gate-shut _ _ _ _ (c .before .check .ensures) (c .if1 .taken) (returnRoots _) refl _
+returns c = gate-shut (c .before .check .ensures) (c .if1 .taken) refl
 
 return-test-requires : tie.Need-return-test-requires
 return-test-requires c κs =
-    checked-passed _ _ _ _ (c .before .check .ensures) (c .if1 .left) .healthy .shape .roots-max
+    checked-passed (c .before .check .ensures) (c .if1 .left) .healthy .shape .roots-max
 
 returns-2 : tie.Need-returns-2
 returns-2 c =
     let passed = c .before in
-    gate-open _ _ _ _ (passed .before .check .ensures) (passed .if1 .left) _ _ _ (c .return-test .ensures)
-    (return-refused _ _ _ _ (c .return-test .ensures) _)
+    gate-open (passed .before .check .ensures) (passed .if1 .left) (c .return-test .ensures)
+    (own-refused (return-tested (c .return-test .ensures)))
 
 pub return-roots-spec : {M : Type 1} → statement M
 return-roots-spec = tie.close (tie.spec check-requires returns return-test-requires returns-2)

@@ -1,7 +1,7 @@
 -- `run_records` meets its contract: all tests first, and then the run on the cleared heap.
 use mathlib.Core.Path.{refl, _∙_}
 use borrow.Author.Needs.{needs}
-use Rattle.history.proofs.Pieces.{refused-promised, run-range, cleared-usable, run-promised}
+use Rattle.history.proofs.Pieces.{refused-promised, accepted, cleared-usable, run-promised}
 use Rattle.history.proofs.run_records.Statement.{statement}
 use Rattle.history.proofs.run_records.Tie as tie
 
@@ -22,7 +22,7 @@ refused-requires : tie.Need-refused-requires
 refused-requires c κs = search needs
 
 returns : tie.Need-returns
-returns c = refused-promised _ _ _ _ _ _ (c .before .before .run-reply .ensures) (c .before .if1 .taken) _ (c .refused .ensures)
+returns c = refused-promised (c .before .before .run-reply .ensures) (c .before .if1 .taken) (c .refused .ensures)
 
 clear-all-requires : tie.Need-clear-all-requires
 clear-all-requires c κs = search needs
@@ -30,17 +30,15 @@ clear-all-requires c κs = search needs
 run-piece-requires : tie.Need-run-piece-requires
 run-piece-requires c κs =
     let gate = passed (cleared c) in
-    let replied = gate .before .run-reply .ensures in (
-      cleared-usable _ _ _ _ _ replied (gate .if1 .left) _ (cleared c .clear-all .ensures),
-      run-range _ _ _ _ _ replied (gate .if1 .left),
-    )
+    let from = accepted (gate .before .run-reply .ensures) (gate .if1 .left) in
+    (cleared-usable from (cleared c .clear-all .ensures), from .range)
 
 returns-2 : tie.Need-returns-2
 returns-2 c =
     let clear = cleared (ran c .before) in
     let gate = passed clear in
-    run-promised _ _ _ _ _ _ (gate .before .run-reply .ensures) (gate .if1 .left) _ (clear .clear-all .ensures)
-    _ _ (ran c .run-piece .ensures)
+    run-promised (gate .before .run-reply .ensures) (gate .if1 .left) (clear .clear-all .ensures)
+    (ran c .run-piece .ensures)
 
 pub run-records-spec : {M : Type 1} → statement M
 run-records-spec =

@@ -33,7 +33,7 @@ refusal-requires c κs = search needs
 returns : tie.Need-returns
 returns c =
     let tested = c .before in
-    check-unshaped _ _ (lent (start (tested .before))) _ (sym (tested .before .is-shaped .ensures) ∙ not-true _ (tested .if1 .taken))
+    check-unshaped {h = lent (start (tested .before))} (sym (tested .before .is-shaped .ensures) ∙ not-true _ (tested .if1 .taken))
     (c .refusal .ensures)
 
 damage-kind-requires : tie.Need-damage-kind-requires
@@ -42,7 +42,7 @@ damage-kind-requires c κs = shape-is c
 returns-2 : tie.Need-returns-2
 returns-2 c =
     let shaped-here = c .before .before in
-    check-damaged _ _ (lent (start (shaped-here .before))) _ (shape-is shaped-here) (c .before .damage-kind .ensures) (c .if2 .taken)
+    check-damaged {h = lent (start (shaped-here .before))} (shape-is shaped-here) (c .before .damage-kind .ensures) (c .if2 .taken)
 
 -- past the second test it is undamaged
 undamaged : (c : tie.Else2) → let s = start (c .before .before .before) in damage (s .args .blocks) (s .args .width) (lent s) ≡ 0
@@ -61,7 +61,7 @@ returns-3 : tie.Need-returns-3
 returns-3 c =
     let tested = c .before in
     let none = tested .before .before in
-    check-stale _ _ (lent (start (none .before .before .before))) _ (shape-is (none .before .before)) (undamaged none)
+    check-stale {h = lent (start (none .before .before .before))} (shape-is (none .before .before)) (undamaged none)
     (sym (tested .before .is-stale .ensures) ∙ tested .if3 .taken) (c .refusal2 .ensures)
 
 acceptance-requires : tie.Need-acceptance-requires
@@ -71,7 +71,7 @@ returns-4 : tie.Need-returns-4
 returns-4 c =
     let tested = c .before in
     let none = tested .before .before in
-    check-passed _ _ (lent (start (none .before .before .before))) _
+    check-passed {h = lent (start (none .before .before .before))}
     (record {
       intact = record { right-shape = shape-is (none .before .before); no-damage = undamaged none };
       true-list = sym (tested .before .is-stale .ensures) ∙ tested .if3 .left;

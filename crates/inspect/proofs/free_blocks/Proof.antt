@@ -3,7 +3,6 @@ use mathlib.Core.Path.{refl}
 use native.Mathlib.Omega.{arith}
 use borrow.Author.Needs.{needs}
 use Rattle.rules.specs.Heap.{Memory, lentMemory}
-use Rattle.rules.specs.Calls.{freeBlocks}
 use Rattle.rules.proofs.Shape.{Shaped, shape-facts}
 use Rattle.inspect.proofs.CheckReply.{refused-alike, checked-fit, free-blocks-passed}
 use Rattle.inspect.proofs.free_blocks.Statement.{statement}
@@ -22,13 +21,13 @@ start c = c .before .before .before .before .before .before .before .before
 right : (c : tie.Else1) → let s = start (c .before) in Shaped (s .args .blocks) (s .args .width) (lent s)
 right c =
     let s = start (c .before) in
-    shape-facts _ _ (lent s) (checked-fit _ _ (lent s) _ (c .before .check .ensures) (c .if1 .left) .intact .right-shape)
+    shape-facts _ _ (lent s) (checked-fit {h = lent s} (c .before .check .ensures) (c .if1 .left) .intact .right-shape)
 
 check-requires : tie.Need-check-requires
 check-requires c κs = search needs
 
 returns : tie.Need-returns
-returns c = refused-alike _ _ (lent (start (c .before))) freeBlocks refl _ (c .before .check .ensures) (c .if1 .taken)
+returns c = refused-alike {h = lent (start (c .before))} refl (c .before .check .ensures) (c .if1 .taken)
 
 count-zeros-requires : tie.Need-count-zeros-requires
 count-zeros-requires c κs =
@@ -41,8 +40,8 @@ acceptance-requires c κs = search needs
 returns-2 : tie.Need-returns-2
 returns-2 c =
     let checked = c .before .before in
-    free-blocks-passed _ _ (lent (start (checked .before))) _ (checked .before .check .ensures) (checked .if1 .left)
-    _ _ (c .acceptance .ensures) (c .before .count-zeros .ensures .0)
+    free-blocks-passed {h = lent (start (checked .before))} (checked .before .check .ensures) (checked .if1 .left)
+    (c .acceptance .ensures) (c .before .count-zeros .ensures .0)
 
 pub free-blocks-spec : {M : Type 1} → statement M
 free-blocks-spec =

@@ -3,7 +3,6 @@ use mathlib.Core.Path.{refl, sym}
 use native.Mathlib.Omega.{arith}
 use borrow.Author.Needs.{needs}
 use Rattle.rules.specs.Heap.{Memory, lentMemory}
-use Rattle.rules.specs.Calls.{look}
 use Rattle.rules.proofs.Shape.{Shaped, shape-facts}
 use Rattle.inspect.proofs.CheckReply.{refused-alike, checked-fit, look-passed}
 use Rattle.inspect.proofs.look.Statement.{statement}
@@ -22,13 +21,13 @@ start c = c .before .before .before .before .before .before .before .before
 right : (c : tie.Else1) → let s = start (c .before) in Shaped (s .args .blocks) (s .args .width) (lent s)
 right c =
     let s = start (c .before) in
-    shape-facts _ _ (lent s) (checked-fit _ _ (lent s) _ (c .before .check .ensures) (c .if1 .left) .intact .right-shape)
+    shape-facts _ _ (lent s) (checked-fit {h = lent s} (c .before .check .ensures) (c .if1 .left) .intact .right-shape)
 
 check-requires : tie.Need-check-requires
 check-requires c κs = search needs
 
 returns : tie.Need-returns
-returns c = refused-alike _ _ (lent (start (c .before))) (look _) refl _ (c .before .check .ensures) (c .if1 .taken)
+returns c = refused-alike {h = lent (start (c .before))} refl (c .before .check .ensures) (c .if1 .taken)
 
 look-reply-requires : tie.Need-look-reply-requires
 look-reply-requires c κs =
@@ -38,7 +37,7 @@ look-reply-requires c κs =
 returns-2 : tie.Need-returns-2
 returns-2 c =
     let checked = c .before in
-    look-passed _ _ (lent (start (checked .before))) _ (checked .before .check .ensures) (checked .if1 .left) _ _ (c .look-reply .ensures)
+    look-passed {h = lent (start (checked .before))} (checked .before .check .ensures) (checked .if1 .left) (c .look-reply .ensures)
 
 pub look-spec : {M : Type 1} → statement M
 look-spec = tie.close (tie.spec check-requires returns look-reply-requires returns-2)

@@ -2,7 +2,7 @@
 use mathlib.Core.Path.{refl, _∙_}
 use borrow.Author.Needs.{needs}
 use Rattle.rules.specs.Calls.{outcome}
-use Rattle.allocation_tests.proofs.AllocationReply.{allocate-accepts, allocate-goes-on}
+use Rattle.allocation_tests.proofs.AllocationReply.{replied, allocate-accepts, allocate-goes-on}
 use Rattle.inner.proofs.ClearedHeap.{cleared-usable, promised-back}
 use Rattle.mutate.proofs.allocate.Statement.{statement}
 use Rattle.mutate.proofs.allocate.Tie as tie
@@ -30,8 +30,8 @@ allocate-requires-2 : tie.Need-allocate-requires-2
 allocate-requires-2 c κs =
     let gate = passed (cleared c) in
     let facts = gate .before .allocate .ensures in (
-      cleared-usable _ _ _ (facts .fit (gate .if1 .left)) _ (cleared c .clear-all .ensures),
-      allocate-accepts _ _ _ _ _ _ (facts .tested (gate .if1 .left)) (gate .if1 .left),
+      cleared-usable (facts .fit (gate .if1 .left)) (cleared c .clear-all .ensures),
+      allocate-accepts (replied (facts .tested (gate .if1 .left))) (gate .if1 .left),
     )
 
 returns-2 : tie.Need-returns-2
@@ -40,8 +40,8 @@ returns-2 c =
     let clear = cleared (done c .before) in
     let gate = passed clear in
     let facts = gate .before .allocate .ensures in
-    promised-back _ _ _ (facts .fit (gate .if1 .left)) _ (clear .clear-all .ensures) _
-    (allocate-goes-on _ _ _ _ _ (facts .tested (gate .if1 .left)) (gate .if1 .left)) refl _ _ (done c .allocate2 .ensures .promise)
+    promised-back (facts .fit (gate .if1 .left)) (clear .clear-all .ensures)
+    (allocate-goes-on _ (replied (facts .tested (gate .if1 .left))) (gate .if1 .left)) refl (done c .allocate2 .ensures .promise)
 
 pub allocate-spec : {M : Type 1} → statement M
 allocate-spec =

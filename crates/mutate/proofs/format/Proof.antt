@@ -19,7 +19,7 @@ refusal-requires c κs = search needs
 returns : tie.Need-returns
 returns c =
     let tested = c .before in
-    format-refused _ _ _ _ (sym (tested .before .is-shaped .ensures) ∙ not-true _ (tested .if1 .taken)) (c .refusal .ensures)
+    format-refused (sym (tested .before .is-shaped .ensures) ∙ not-true _ (tested .if1 .taken)) (c .refusal .ensures)
 
 format-requires : tie.Need-format-requires
 format-requires c κs =

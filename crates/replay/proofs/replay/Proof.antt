@@ -55,7 +55,7 @@ returns-2 c =
     record {
       reply-is = test .before .replay-reply .ensures;
       refused = λ n. absurd (n (test .if1 .left));
-      ran = λ _. replayed _ _ _ _ _ (passed test .right-shape) (format .format .ensures) (done c .run-all .ensures);
+      ran = λ _. replayed (passed test .right-shape) (format .format .ensures) (done c .run-all .ensures);
     }
 
 pub replay-spec : {M : Type 1} → statement M

@@ -45,29 +45,29 @@ done-after-requires c κs = search needs
 returns : tie.Need-returns
 returns c =
     let try = only (c .before) in
-    rw (c .done-after .ensures) (acted-once _ _ _ (start (try .before) .pre) _ _ _ _ (try .allocate .ensures) (c .before .if1 .taken))
+    rw (c .done-after .ensures) (acted-once (start (try .before) .pre) (try .allocate .ensures) (c .before .if1 .taken))
 
 collect-requires : tie.Need-collect-requires
 collect-requires c κs =
     let try = first (none-free c) in
-    usable-kept _ _ _ (start (try .before) .pre) _ _ _ (try .allocate .ensures .promise)
+    usable-kept (start (try .before) .pre) (try .allocate .ensures .promise)
 
 allocate-requires-2 : tie.Need-allocate-requires-2
 allocate-requires-2 c κs =
     let try = first (none-free (forced c .before)) in
-    usable-kept _ _ _ (usable-kept _ _ _ (start (try .before) .pre) _ _ _ (try .allocate .ensures .promise)) _ _ _ (forced c .collect .ensures)
+    usable-kept (usable-kept (start (try .before) .pre) (try .allocate .ensures .promise)) (forced c .collect .ensures)
 
 done-after-requires-2 : tie.Need-done-after-requires-2
 done-after-requires-2 c κs =
     let again = forced (second c .before) in
     let try = first (none-free (again .before)) in
-    freed-fits _ _ _ (start (try .before) .pre) _ _ _ _ (try .allocate .ensures) _ _ (again .collect .ensures) _ _ (second c .allocate2 .ensures)
+    freed-fits (start (try .before) .pre) (try .allocate .ensures) (again .collect .ensures) (second c .allocate2 .ensures)
 
 returns-2 : tie.Need-returns-2
 returns-2 c =
     rw (c .done-after2 .ensures)
-    (acted-twice _ _ _ (start (first-try c .before) .pre) _ _ _ _ (first-try c .allocate .ensures) _ _ (collection c .collect .ensures)
-    _ _ (last-try c .allocate2 .ensures) (none-free (collection c .before) .if1 .left))
+    (acted-twice (start (first-try c .before) .pre) (first-try c .allocate .ensures) (collection c .collect .ensures)
+    (last-try c .allocate2 .ensures) (none-free (collection c .before) .if1 .left))
 
 pub allocate-spec : {M : Type 1} → statement M
 allocate-spec =

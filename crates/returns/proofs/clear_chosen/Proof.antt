@@ -18,10 +18,10 @@ cleared c = c .before .before .before .before .before .before .before .before .b
 shr-if1 : tie.Need-shr-if1
 shr-if1 c =
     let start = entry c in
-    omega (arith, usable-healthy _ _ _ (start .pre .0) .shape .roots-max, start .pre .1)
+    omega (arith, usable-healthy (start .pre .0) .shape .roots-max, start .pre .1)
 
 returns : tie.Need-returns
-returns c = not-chosen _ _ _ (entry (c .before) .pre .0) _ _ (c .if1 .taken)
+returns c = not-chosen (entry (c .before) .pre .0) (c .if1 .taken)
 
 store-root-requires : tie.Need-store-root-requires
 store-root-requires c κs =
@@ -32,7 +32,7 @@ returns-2 : tie.Need-returns-2
 returns-2 c =
     let tested = chosen (cleared c .before) in
     let pre = entry (tested .before) .pre in
-    chosen-cleared _ _ _ (pre .0) _ _ (pre .1) (omega (arith, tested .if1 .left)) _ _ (cleared c .store-root .ensures)
+    chosen-cleared (pre .0) (pre .1) (omega (arith, tested .if1 .left)) (cleared c .store-root .ensures)
 
 pub clear-chosen-spec : {M : Type 1} → statement M
 clear-chosen-spec =

@@ -32,7 +32,7 @@ abbrev seen : tie.After-slice-known14 Inv-loop μ-loop → tie.After-clear-chose
 seen c = c .before .before .before .before .before .before .before .before .before .before .before .before .before .before
 
 loop-holds : tie.Need-loop-holds Inv-loop μ-loop
-loop-holds c = progress-start _ _ _ _ (entry c .pre .0)
+loop-holds c = progress-start (entry c .pre .0)
 
 clear-chosen-requires : tie.Need-clear-chosen-requires Inv-loop μ-loop
 clear-chosen-requires c κs = (turn c .before .loop .inv .usable, omega arith)
@@ -41,7 +41,7 @@ clear-chosen-requires c κs = (turn c .before .loop .inv .usable, omega arith)
 add-freed : tie.Need-add-freed Inv-loop μ-loop
 add-freed c =
     let made = seen c .clear-chosen in
-    let shape = usable-healthy _ _ _ (made .ensures .usable) .shape in
+    let shape = usable-healthy (made .ensures .usable) .shape in
     omega (
       arith,
       made .ensures .blocks,
@@ -55,7 +55,7 @@ add-freed c =
 add-r : tie.Need-add-r Inv-loop μ-loop
 add-r c =
     let test = turn (seen c .before) in
-    omega (arith, test .loop-test .taken, usable-healthy _ _ _ (test .before .loop .inv .usable) .shape .roots-max)
+    omega (arith, test .loop-test .taken, usable-healthy (test .before .loop .inv .usable) .shape .roots-max)
 
 loop-less : tie.Need-loop-less Inv-loop μ-loop
 loop-less c =
@@ -66,7 +66,7 @@ loop-again : tie.Need-loop-again Inv-loop μ-loop
 loop-again c =
     let made = seen c .clear-chosen in
     let test = turn (seen c .before) in
-    progress-next _ _ _ _ (test .loop-test .taken) (made .kept .1 .1 .1 .1 .1 .1 .0) (made .ensures) (test .before .loop .inv)
+    progress-next (test .loop-test .taken) (made .kept .1 .1 .1 .1 .1 .1 .0) (made .ensures) (test .before .loop .inv)
 
 acceptance-requires : tie.Need-acceptance-requires Inv-loop μ-loop
 acceptance-requires c κs = search needs
@@ -77,7 +77,7 @@ shaped-now :
     → let l = c .before .before .loop in
     let args = entry (c .before .before .before) .args in
     Shaped (args .blocks) (args .width) (lentMemory (l .a) (l .b) (l .counts) (l .cells) (l .roots) (l .waiting) (l .sections))
-shaped-now c = usable-healthy _ _ _ (c .before .before .loop .inv .usable) .shape
+shaped-now c = usable-healthy (c .before .before .loop .inv .usable) .shape
 
 shaped-before :
     (c : tie.After-acceptance Inv-loop μ-loop)
@@ -85,12 +85,12 @@ shaped-before :
     Shaped (args .blocks) (args .width)
     (lentMemory (args .a .now) (args .b .now) (args .counts .now) (args .cells .now) (args .roots .now) (args .waiting .now)
     (args .sections .now))
-shaped-before c = usable-healthy _ _ _ (entry (c .before .before .before) .pre .0) .shape
+shaped-before c = usable-healthy (entry (c .before .before .before) .pre .0) .shape
 
 returns : tie.Need-returns Inv-loop μ-loop
 returns c =
     let pre = entry (c .before .before .before) .pre in
-    progress-done _ _ _ _ _ (pre .0) (pre .1) (omega arith) (c .before .before .loop .inv) (c .acceptance .ensures)
+    progress-done (pre .0) (pre .1) (omega arith) (c .before .before .loop .inv) (c .acceptance .ensures)
 
 pub clear-roots-spec : {M : Type 1} → statement M
 clear-roots-spec =

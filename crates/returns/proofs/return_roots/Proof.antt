@@ -1,7 +1,7 @@
 -- `returns::return_roots` meets its contract.
 use mathlib.Core.Path.{sym, ap, _∙_}
 use Rattle.types.specs.declared.Reply.{Reply}
-use Rattle.arguments.proofs.ArgumentTests.{return-refused}
+use Rattle.arguments.proofs.ArgumentTests.{own-refused, return-tested}
 use Rattle.inner.proofs.UsableHeap.{usable-fit, usable-healthy}
 use Rattle.returns.proofs.return_roots.Statement.{statement}
 use Rattle.returns.proofs.return_roots.Tie as tie
@@ -14,11 +14,11 @@ abbrev cleared : tie.After-slice-known14 → tie.After-clear-roots
 cleared c = c .before .before .before .before .before .before .before .before .before .before .before .before .before .before
 
 return-test-requires : tie.Need-return-test-requires
-return-test-requires c κs = usable-healthy _ _ _ (entry c .pre) .shape .roots-max
+return-test-requires c κs = usable-healthy (entry c .pre) .shape .roots-max
 
 returns : tie.Need-returns
 returns c =
-    return-refused _ _ _ _ (c .before .return-test .ensures) _ (usable-fit _ _ _ (entry (c .before .before) .pre)) (c .if1 .taken)
+    own-refused (return-tested (c .before .return-test .ensures)) (usable-fit (entry (c .before .before) .pre)) (c .if1 .taken)
 
 clear-roots-requires : tie.Need-clear-roots-requires
 clear-roots-requires c κs =

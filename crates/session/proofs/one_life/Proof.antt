@@ -45,7 +45,7 @@ returns-2 c =
     record {
       refused = λ n. absurd (n (accepted c .if1 .left));
       lived = λ e.
-          life _ _ _ _ _ (formatted c .format .ensures) e _ _ (allocated c .allocate .ensures) _ _ (stored c .store-root .ensures) _ _
+          life (formatted c .format .ensures) e (allocated c .allocate .ensures) (stored c .store-root .ensures)
           (collected c .collect .ensures);
     }
 

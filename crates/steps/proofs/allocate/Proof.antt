@@ -2,7 +2,7 @@
 use mathlib.Core.Path.{refl}
 use native.Mathlib.Omega.{arith}
 use Rattle.rules.proofs.Shape.{shaped-blocks}
-use Rattle.allocation_tests.proofs.AllocationReply.{allocate-accepts, allocate-refused}
+use Rattle.allocation_tests.proofs.AllocationReply.{replied, allocate-accepts, allocate-refused}
 use Rattle.inner.proofs.UsableHeap.{usable-fit}
 use Rattle.inner.proofs.AllocationBlocks.{allocate-refusing}
 use borrow.Author.Needs.{needs}
@@ -18,20 +18,20 @@ done c = c .before .before .before .before .before .before .before .before .befo
 
 allocate-reply-requires : tie.Need-allocate-reply-requires
 allocate-reply-requires c κs =
-    let fit = usable-fit _ _ _ (start c .pre) in
+    let fit = usable-fit (start c .pre) in
     let shape = fit .healthy .shape in
     (shaped-blocks _ _ _ shape, omega (arith, shape .length-a, shape .whole-bytes), fit .listed)
 
 returns : tie.Need-returns
 returns c =
     let usable = start (c .before .before) .pre in
-    allocate-refusing _ _ _ usable _ _ _ (c .if1 .taken) refl
-    (allocate-refused _ _ _ _ _ (usable-fit _ _ _ usable) _ (c .before .allocate-reply .ensures) (c .if1 .taken))
+    allocate-refusing usable (c .if1 .taken) refl
+    (allocate-refused (c .before .allocate-reply .ensures) (usable-fit usable) (c .if1 .taken))
 
 allocate-requires : tie.Need-allocate-requires
 allocate-requires c κs =
     let tested = c .before .before .before .before .before .before .before in
-    (start (tested .before .before) .pre, allocate-accepts _ _ _ _ _ _ (tested .before .allocate-reply .ensures) (tested .if1 .left))
+    (start (tested .before .before) .pre, allocate-accepts (replied (tested .before .allocate-reply .ensures)) (tested .if1 .left))
 
 returns-2 : tie.Need-returns-2
 returns-2 c = search needs

@@ -1,7 +1,7 @@
 -- `inner::steps::store_cell` meets its contract.
 use mathlib.Core.Path.{refl}
 use native.Mathlib.Omega.{arith}
-use Rattle.arguments.proofs.ArgumentTests.{cell-goes-on, cell-refused}
+use Rattle.arguments.proofs.ArgumentTests.{goes-on, own-refused, cell-tested}
 use Rattle.inner.proofs.UsableHeap.{usable-fit, usable-healthy}
 use borrow.Author.Needs.{needs}
 use Rattle.steps.proofs.store_cell.Statement.{statement}
@@ -16,17 +16,17 @@ done c = c .before .before .before .before .before .before .before .before .befo
 
 store-cell-test-requires : tie.Need-store-cell-test-requires
 store-cell-test-requires c κs =
-    let shape = usable-healthy _ _ _ (start c .pre) .shape in
+    let shape = usable-healthy (start c .pre) .shape in
     (omega (arith, shape .length-a, shape .whole-bytes), omega (arith, shape .length-b, shape .whole-bytes), shape .blocks-max)
 
 returns : tie.Need-returns
 returns c =
-    cell-refused _ _ _ _ _ _ (c .before .store-cell-test .ensures) _ (usable-fit _ _ _ (start (c .before .before) .pre)) (c .if1 .taken)
+    own-refused (cell-tested (c .before .store-cell-test .ensures)) (usable-fit (start (c .before .before) .pre)) (c .if1 .taken)
 
 store-cell-requires : tie.Need-store-cell-requires
 store-cell-requires c κs =
     let tested = c .before .before .before .before .before .before in
-    (start (tested .before .before) .pre, cell-goes-on _ _ _ _ _ _ (tested .before .store-cell-test .ensures) (tested .if1 .left))
+    (start (tested .before .before) .pre, goes-on (cell-tested (tested .before .store-cell-test .ensures)) (tested .if1 .left))
 
 returns-2 : tie.Need-returns-2
 returns-2 c = search needs

@@ -1,7 +1,7 @@
 -- `inner::steps::store_root` meets its contract.
 use mathlib.Core.Path.{refl}
 use native.Mathlib.Omega.{arith}
-use Rattle.arguments.proofs.ArgumentTests.{root-goes-on, root-refused}
+use Rattle.arguments.proofs.ArgumentTests.{goes-on, own-refused, root-tested}
 use Rattle.inner.proofs.UsableHeap.{usable-fit, usable-healthy}
 use borrow.Author.Needs.{needs}
 use Rattle.steps.proofs.store_root.Statement.{statement}
@@ -16,17 +16,17 @@ done c = c .before .before .before .before .before .before .before .before .befo
 
 store-root-test-requires : tie.Need-store-root-test-requires
 store-root-test-requires c κs =
-    let shape = usable-healthy _ _ _ (start c .pre) .shape in
+    let shape = usable-healthy (start c .pre) .shape in
     (omega (arith, shape .length-a, shape .whole-bytes), omega (arith, shape .length-b, shape .whole-bytes))
 
 returns : tie.Need-returns
 returns c =
-    root-refused _ _ _ _ _ (c .before .store-root-test .ensures) _ (usable-fit _ _ _ (start (c .before .before) .pre)) (c .if1 .taken)
+    own-refused (root-tested (c .before .store-root-test .ensures)) (usable-fit (start (c .before .before) .pre)) (c .if1 .taken)
 
 store-root-requires : tie.Need-store-root-requires
 store-root-requires c κs =
     let tested = c .before .before .before .before .before .before .before in
-    (start (tested .before .before) .pre, root-goes-on _ _ _ _ _ (tested .before .store-root-test .ensures) (tested .if1 .left))
+    (start (tested .before .before) .pre, goes-on (root-tested (tested .before .store-root-test .ensures)) (tested .if1 .left))
 
 returns-2 : tie.Need-returns-2
 returns-2 c = search needs

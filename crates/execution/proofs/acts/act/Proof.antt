@@ -63,7 +63,7 @@ collect-requires : tie.Need-collect-requires
 collect-requires c κs = entry (collecting c .before .before) .pre
 
 returns : tie.Need-returns
-returns c = acted-plan _ (c .before .plan .given .1) (acted-stop _ _ _ _)
+returns c = acted-plan _ (c .before .plan .given .1) (acted-stop _)
 
 returns-2 : tie.Need-returns-2
 returns-2 c =
@@ -73,17 +73,17 @@ returns-2 c =
 returns-3 : tie.Need-returns-3
 returns-3 c =
     let arm = root-storing (root-stored c .before) in
-    acted-plan _ (arm .plan3 .given .1) (acted-root _ _ _ (entry (arm .before .before) .pre) _ _ (root-stored c .store-root .ensures))
+    acted-plan _ (arm .plan3 .given .1) (acted-root (entry (arm .before .before) .pre) (root-stored c .store-root .ensures))
 
 returns-4 : tie.Need-returns-4
 returns-4 c =
     let arm = cell-storing (cell-stored c .before) in
-    acted-plan _ (arm .plan4 .given .1) (acted-cell _ _ _ (entry (arm .before .before) .pre) _ _ _ (cell-stored c .store-cell .ensures))
+    acted-plan _ (arm .plan4 .given .1) (acted-cell (entry (arm .before .before) .pre) (cell-stored c .store-cell .ensures))
 
 returns-5 : tie.Need-returns-5
 returns-5 c =
     let arm = collecting (collected c .before) in
-    acted-plan _ (arm .enum-told .given .1) (acted-collect _ _ _ (entry (arm .before .before) .pre) (collected c .collect .ensures))
+    acted-plan _ (arm .enum-told .given .1) (acted-collect (entry (arm .before .before) .pre) (collected c .collect .ensures))
 
 pub act-spec : {M : Type 1} → statement M
 act-spec =

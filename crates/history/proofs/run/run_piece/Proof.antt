@@ -25,19 +25,19 @@ start c = c .before .before .before .before .before .before .before .before .bef
 returns : tie.Need-returns
 returns c =
     let pre = c .before .before .before .before .before .before .before .before .before .pre in
-    piece-stopped _ _ _ _ _ (pre .0) (pre .1) (c .if1 .taken)
+    piece-stopped _ (pre .0) (pre .1) (c .if1 .taken)
 
 whole-records-requires : tie.Need-whole-records-requires
 whole-records-requires c κs = in-range-within _ (start c .pre .1) .few
 
 count-zeros-requires : tie.Need-count-zeros-requires
 count-zeros-requires c κs =
-    let shape = usable-healthy _ _ _ (start (c .before .before) .pre .0) .shape in
+    let shape = usable-healthy (start (c .before .before) .pre .0) .shape in
     omega (arith, shape .length-a, shape .whole-bytes, shape .blocks-max)
 
 sub-used : tie.Need-sub-used
 sub-used c =
-    let shape = usable-healthy _ _ _ (start (measured c .before) .pre .0) .shape in
+    let shape = usable-healthy (start (measured c .before) .pre .0) .shape in
     omega (arith, c .count-zeros .ensures .1, shape .length-a, shape .whole-bytes)
 
 run-whole-requires : tie.Need-run-whole-requires
@@ -59,7 +59,7 @@ returns-2 : tie.Need-returns-2
 returns-2 c =
     let all = ran (c .before) in
     let known = measured (counted (all .before)) in
-    piece-ran _ _ _ _ _ (known .before .if1 .left) _ (known .whole-records .ensures) (all .run-whole .ensures) (c .end-piece .ensures)
+    piece-ran _ _ _ (known .before .if1 .left) (known .whole-records .ensures) (all .run-whole .ensures) (c .end-piece .ensures)
 
 pub run-piece-spec : {M : Type 1} → statement M
 run-piece-spec =

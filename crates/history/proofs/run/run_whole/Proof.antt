@@ -37,7 +37,7 @@ shaped-at : (c : tie.At-loop Inv-loop μ-loop) →
     Shaped (args .blocks) (args .width)
     (lentMemory (args .a .now) (args .b .now) (args .counts .now) (args .cells .now) (args .roots .now) (args .waiting .now)
     (args .sections .now))
-shaped-at c = usable-healthy _ _ _ (start c .pre .0) .shape
+shaped-at c = usable-healthy (start c .pre .0) .shape
 
 shaped-stop : (c : tie.After-step Inv-loop μ-loop) →
     let args = start (record-read (c .before) .before .before) .args in
@@ -48,20 +48,20 @@ shaped-stop : (c : tie.After-step Inv-loop μ-loop) →
 shaped-stop c =
     let read = record-read (c .before) in
     let test = read .before in
-    usable-healthy _ _ _
-    (next-usable _ _ _ _ _ _ _ _ _ (test .loop-test .taken) (test .before .loop .inv) _ (read .fields-at .ensures) _ _ (c .step .ensures))
+    usable-healthy
+    (next-usable (test .loop-test .taken) (test .before .loop .inv) (read .fields-at .ensures) (c .step .ensures))
     .shape
 
 shaped-done : (c : tie.At-loop Inv-loop μ-loop) →
     let args = start c .args in
     let l = c .loop in
     Shaped (args .blocks) (args .width) (lentMemory (l .a) (l .b) (l .counts) (l .cells) (l .roots) (l .waiting) (l .sections))
-shaped-done c = usable-healthy _ _ _ (c .loop .inv .usable) .shape
+shaped-done c = usable-healthy (c .loop .inv .usable) .shape
 
 loop-holds : tie.Need-loop-holds Inv-loop μ-loop
 loop-holds c =
     let pre = c .before .before .before .before .before .before .before .before .pre in
-    progress-start _ _ _ _ _ _ _ refl (pre .0) (pre .1)
+    progress-start refl (pre .0) (pre .1)
 
 mul-fields-at : tie.Need-mul-fields-at Inv-loop μ-loop
 mul-fields-at c = omega (arith, start (c .before) .pre .2)
@@ -72,15 +72,15 @@ fields-at-requires c κs = omega (arith, start (c .before) .pre .2)
 step-requires : tie.Need-step-requires Inv-loop μ-loop
 step-requires c κs =
     let inv = record-read c .before .before .loop .inv in
-    (inv .usable, step-going _ _ _ _ _ _ _ _ _ (omega arith) inv)
+    (inv .usable, step-going (omega arith) inv)
 
 returns : tie.Need-returns Inv-loop μ-loop
 returns c =
     let step = stopped c in
     let read = record-read (step .before) in
     let test = read .before in
-    progress-stop _ _ _ _ _ _ _ _ _ (test .loop-test .taken) (test .before .loop .inv) _ (read .fields-at .ensures)
-    _ _ (step .step .ensures) (c .before .if1 .taken)
+    progress-stop (test .loop-test .taken) (test .before .loop .inv) (read .fields-at .ensures)
+    (step .step .ensures) (c .before .if1 .taken)
 
 add-i : tie.Need-add-i Inv-loop μ-loop
 add-i c =
@@ -95,11 +95,11 @@ loop-again c =
     let step = went-on c in
     let read = record-read (step .before) in
     let test = read .before in
-    progress-next _ _ _ _ _ _ _ _ _ (test .loop-test .taken) (test .before .loop .inv) _ (read .fields-at .ensures)
-    _ _ (step .step .ensures) (step .step .kept .1 .1 .1 .1 .1 .1 .0) (c .if1 .left)
+    progress-next (test .loop-test .taken) (test .before .loop .inv) (read .fields-at .ensures)
+    (step .step .ensures) (step .step .kept .1 .1 .1 .1 .1 .1 .0) (c .if1 .left)
 
 returns-2 : tie.Need-returns-2 Inv-loop μ-loop
-returns-2 c = progress-done _ _ _ _ _ _ _ _ _ (omega arith) (c .before .before .loop .inv)
+returns-2 c = progress-done (omega arith) (c .before .before .loop .inv)
 
 pub run-whole-spec : {M : Type 1} → statement M
 run-whole-spec =

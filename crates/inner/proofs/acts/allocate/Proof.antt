@@ -21,8 +21,8 @@ start c = c .before .before .before .before .before .before .before .before .bef
 place-requires : tie.Need-place-requires
 place-requires c κs =
     let pre = start c .pre in
-    let free = allocate-passed _ _ _ _ _ _ (pre .1) in
-    (usable-ready _ _ _ (pre .0), free .some-blocks, free .inside, free .place)
+    let free = allocate-passed (pre .1) in
+    (usable-ready (pre .0), free .some-blocks, free .inside, free .place)
 
 telling-requires : tie.Need-telling-requires
 telling-requires c κs = search needs
@@ -30,7 +30,7 @@ telling-requires c κs = search needs
 renew-requires : tie.Need-renew-requires
 renew-requires c κs =
     let work = done c in
-    let shape = usable-healthy _ _ _ (start (work .before) .pre .0) .shape in
+    let shape = usable-healthy (start (work .before) .pre .0) .shape in
     (work .place .ensures .3, omega (arith, work .place .kept .1 .1 .0, shape .length-a, shape .whole-bytes))
 
 returns : tie.Need-returns
@@ -38,7 +38,7 @@ returns c =
     let work = done (renewed c .before) in
     let pre = start (work .before) .pre in
     let placed = work .place .ensures in
-    allocate-accepting _ _ _ (pre .0) _ _ _ (allocate-passed _ _ _ _ _ _ (pre .1)) _ _ _ (placed .0) (renewed c .renew .ensures) (placed .1)
+    allocate-accepting (pre .0) (allocate-passed (pre .1)) (placed .0) (renewed c .renew .ensures) (placed .1)
     (placed .2) (c .telling .ensures)
 
 pub allocate-spec : {M : Type 1} → statement M

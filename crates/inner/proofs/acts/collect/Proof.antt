@@ -19,7 +19,7 @@ abbrev start : tie.After-collect-arg6 → tie.Start
 start c = c .before .before .before .before .before .before .before .before .before .before .before .before .before
 
 collect-requires : tie.Need-collect-requires
-collect-requires c κs = usable-ready _ _ _ (start c .pre)
+collect-requires c κs = usable-ready (start c .pre)
 
 acceptance-requires : tie.Need-acceptance-requires
 acceptance-requires c κs = search needs
@@ -27,7 +27,7 @@ acceptance-requires c κs = search needs
 renew-requires : tie.Need-renew-requires
 renew-requires c κs =
     let work = done c in
-    let shape = usable-healthy _ _ _ (start (work .before) .pre) .shape in
+    let shape = usable-healthy (start (work .before) .pre) .shape in
     (work .collect .ensures .2, omega (arith, work .collect .kept .1 .1 .0, shape .length-a, shape .whole-bytes))
 
 returns : tie.Need-returns
@@ -35,13 +35,12 @@ returns c =
     let work = done (renewed c .before) in
     let counts-lent = work .before .before .before .before .before .before .before .before .before .before .before in
     let freed = work .collect .ensures in
-    collect-promised _ _ _ (start (work .before) .pre)
+    collect-promised (start (work .before) .pre)
     (record {
       a = bytes-given _ (counts-lent .before .before .slice-known .given);
       b = bytes-given _ (counts-lent .before .slice-known2 .given);
       counts = bytes-given _ (counts-lent .slice-known3 .given);
     })
-    _ _ _
     (freed .0)
     (renewed c .renew .ensures)
     (freed .1)

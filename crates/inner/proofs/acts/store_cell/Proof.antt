@@ -21,24 +21,24 @@ start c = c .before .before .before .before .before .before .before .before .bef
 mul-store-cell : tie.Need-mul-store-cell
 mul-store-cell c =
     let pre = start c .pre in
-    record { fits = omega (arith, cell-passed _ _ _ _ _ (pre .1) .cell-inside, usable-healthy _ _ _ (pre .0) .shape .blocks-max) }
+    record { fits = omega (arith, cell-passed (pre .1) .cell-inside, usable-healthy (pre .0) .shape .blocks-max) }
 
 add-store-cell : tie.Need-add-store-cell
 add-store-cell c =
     let pre = start c .pre in
-    record { fits = omega (arith, cell-passed _ _ _ _ _ (pre .1) .cell-inside, usable-healthy _ _ _ (pre .0) .shape .blocks-max) }
+    record { fits = omega (arith, cell-passed (pre .1) .cell-inside, usable-healthy (pre .0) .shape .blocks-max) }
 
 -- a reference is at most the number of blocks, so it fits a cell
 cast-store-cell : tie.Need-cast-store-cell
 cast-store-cell c =
     let pre = start c .pre in
-    omega (arith, cell-passed _ _ _ _ _ (pre .1) .inside, usable-healthy _ _ _ (pre .0) .shape .blocks-max)
+    omega (arith, cell-passed (pre .1) .inside, usable-healthy (pre .0) .shape .blocks-max)
 
 store-cell-requires : tie.Need-store-cell-requires
 store-cell-requires c κs =
     let pre = start c .pre in
-    let passed = cell-passed _ _ _ _ _ (pre .1) in
-    (usable-ready _ _ _ (pre .0), passed .cell-inside, passed .inside)
+    let passed = cell-passed (pre .1) in
+    (usable-ready (pre .0), passed .cell-inside, passed .inside)
 
 telling-requires : tie.Need-telling-requires
 telling-requires c κs = search needs
@@ -47,16 +47,16 @@ renew-after-requires : tie.Need-renew-after-requires
 renew-after-requires c κs =
     let work = done c in
     let usable = start (work .before) .pre .0 in
-    let shape = usable-healthy _ _ _ usable .shape in
+    let shape = usable-healthy usable .shape in
     let upkeep = work .store-cell .ensures .3 in
-    (upkeep .coherent, omega (arith, work .store-cell .kept .1 .1 .0, shape .length-a, shape .whole-bytes), list-untouched _ _ _ usable _ _ _ upkeep)
+    (upkeep .coherent, omega (arith, work .store-cell .kept .1 .1 .0, shape .length-a, shape .whole-bytes), list-untouched usable upkeep)
 
 returns : tie.Need-returns
 returns c =
     let work = done (renewed c .before) in
     let pre = start (work .before) .pre in
     let stored = work .store-cell .ensures in
-    cell-promised _ _ _ _ _ _ (cell-passed _ _ _ _ _ (pre .1)) (pre .0) _ _ _ _ (stored .0) (renewed c .renew-after .ensures) (stored .1) (stored .2)
+    cell-promised (cell-passed (pre .1)) (pre .0) (stored .0) (renewed c .renew-after .ensures) (stored .1) (stored .2)
     (c .telling .ensures)
 
 pub store-cell-spec : {M : Type 1} → statement M

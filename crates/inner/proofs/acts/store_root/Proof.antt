@@ -22,13 +22,13 @@ start c = c .before .before .before .before .before .before .before .before .bef
 cast-store-root : tie.Need-cast-store-root
 cast-store-root c =
     let pre = start c .pre in
-    omega (arith, root-passed _ _ _ _ (pre .1) .inside, usable-healthy _ _ _ (pre .0) .shape .blocks-max)
+    omega (arith, root-passed (pre .1) .inside, usable-healthy (pre .0) .shape .blocks-max)
 
 store-root-requires : tie.Need-store-root-requires
 store-root-requires c κs =
     let pre = start c .pre in
-    let passed = root-passed _ _ _ _ (pre .1) in
-    (usable-ready _ _ _ (pre .0), passed .place, passed .inside)
+    let passed = root-passed (pre .1) in
+    (usable-ready (pre .0), passed .place, passed .inside)
 
 telling-requires : tie.Need-telling-requires
 telling-requires c κs = search needs
@@ -37,16 +37,16 @@ renew-after-requires : tie.Need-renew-after-requires
 renew-after-requires c κs =
     let work = done c in
     let usable = start (work .before) .pre .0 in
-    let shape = usable-healthy _ _ _ usable .shape in
+    let shape = usable-healthy usable .shape in
     let upkeep = work .store-root .ensures .3 in
-    (upkeep .coherent, omega (arith, work .store-root .kept .1 .1 .0, shape .length-a, shape .whole-bytes), list-untouched _ _ _ usable _ _ _ upkeep)
+    (upkeep .coherent, omega (arith, work .store-root .kept .1 .1 .0, shape .length-a, shape .whole-bytes), list-untouched usable upkeep)
 
 returns : tie.Need-returns
 returns c =
     let work = done (renewed c .before) in
     let pre = start (work .before) .pre in
     let stored = work .store-root .ensures in
-    root-promised _ _ _ _ _ (root-passed _ _ _ _ (pre .1)) (pre .0) _ _ _ _ (stored .0) (renewed c .renew-after .ensures) (stored .1) (stored .2)
+    root-promised (root-passed (pre .1)) (pre .0) (stored .0) (renewed c .renew-after .ensures) (stored .1) (stored .2)
     (c .telling .ensures)
 
 pub store-root-spec : {M : Type 1} → statement M

@@ -40,7 +40,7 @@ left c = omega arith
 loop-holds : tie.Need-loop-holds Inv-loop μ-loop
 loop-holds c =
     let pre = c .before .before .before .before .before .before .before .before .before .pre in
-    progress-start _ _ _ _ _ (pre .0) (pre .2)
+    progress-start (pre .0) (pre .2)
 
 call-at-requires : tie.Need-call-at-requires Inv-loop μ-loop
 call-at-requires c κs = omega (arith, left c)
@@ -68,7 +68,7 @@ loop-again c =
     let t = turn (m .before) in
     let s = entry (t .before) in
     let read = m .before .before .before .before .before .before .before .before .call-at .ensures in
-    progress-next _ _ _ _ _ (left t) (m .step .kept .1 .1 .1 .1 .1 .1 .0)
+    progress-next (left t) (m .step .kept .1 .1 .1 .1 .1 .1 .0)
     (call-made _ _ (s .args .calls .now) (t .before .loop .i) read (call-at _ _ (s .pre .1) _ (left t)) (m .step .ensures))
     (put c .put-reply .ensures)
     (t .before .loop .inv)
@@ -79,17 +79,17 @@ shaped-now : (c : tie.After-loop Inv-loop μ-loop) →
     let args = entry (c .before) .args in
     Shaped (args .blocks) (args .width)
     (lentMemory (l .a) (l .b) (l .counts) (l .cells) (l .roots) (l .waiting) (l .sections))
-shaped-now c = usable-healthy _ _ _ (c .before .loop .inv .usable) .shape
+shaped-now c = usable-healthy (c .before .loop .inv .usable) .shape
 
 shaped-before : (c : tie.After-loop Inv-loop μ-loop) →
     let args = entry (c .before) .args in
     Shaped (args .blocks) (args .width)
     (lentMemory (args .a .now) (args .b .now) (args .counts .now) (args .cells .now) (args .roots .now) (args .waiting .now)
     (args .sections .now))
-shaped-before c = usable-healthy _ _ _ (entry (c .before) .pre .0) .shape
+shaped-before c = usable-healthy (entry (c .before) .pre .0) .shape
 
 returns : tie.Need-returns Inv-loop μ-loop
-returns c = progress-done _ _ _ _ _ (omega arith) (c .before .loop .inv)
+returns c = progress-done (omega arith) (c .before .loop .inv)
 
 pub run-all-spec : {M : Type 1} → statement M
 run-all-spec =

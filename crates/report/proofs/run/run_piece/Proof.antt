@@ -37,7 +37,7 @@ returns-5 c =
     let accepted = c .before .before .before .before in
     let ran = accepted .before .before in
     let read = ran .before .before .before .before .before .before .before .before .before .before .before in
-    further _ _ _ _ _ _ _ (ran .run-records .ensures) (omega (arith, read .read-piece .ensures .1)) (accepted .if2 .left) (c .before .if3 .left)
+    further (ran .run-records .ensures) (omega (arith, read .read-piece .ensures .1)) (accepted .if2 .left) (c .before .if3 .left)
 
 pub run-piece-spec : {M : Type 1} → statement M
 run-piece-spec =
