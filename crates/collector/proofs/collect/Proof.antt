@@ -1,6 +1,6 @@
 -- `collector::collect` meets its contract: a marking of some buffers and a sweep of others are the collection of all.
 use borrow.Author.Needs.{needs}
-use Rattle.counting.proofs.Shapes.{planes-same}
+use Rattle.counting.proofs.Shapes.{memoryOf, planes-same}
 use Rattle.collector.proofs.Collects.{collected-memory, collected-blocks}
 use Rattle.collector.proofs.collect.Statement.{statement}
 use Rattle.collector.proofs.collect.Tie as tie
@@ -13,7 +13,7 @@ sweep-requires c κs =
     let m = c .before .before .before .before .before .before .before .before .before in
     let s = m .before .before .before .before .before .before .before .before .before .before .before .before in
     let ready = s .pre in (
-      planes-same _ _ _ _ (ready .planes) (search needs),
+      planes-same (ready .planes) (search needs),
       ready .extents .a-length,
       ready .extents .b-length,
       ready .extents .cells-length,
@@ -42,10 +42,10 @@ returns : tie.Need-returns
 returns c =
     let r = c .before .before .before .before .before .before .before .before in
     let m = r .before .before .before .before .before .before .before .before .before .before in
-    let s = m .before .before .before .before .before .before .before .before .before .before .before .before in
+    let ready = m .before .before .before .before .before .before .before .before .before .before .before .before .pre in
     let marked = m .mark .ensures in (
-      collected-memory _ _ _ _ _ _ _ _ _ (s .pre .idle) _ _ (marked .0) (marked .1) _ _ _ (r .sweep .ensures .0),
-      collected-blocks _ _ _ _ _ _ _ _ _ (s .pre .idle) _ _ (marked .0) (marked .1) _ (r .sweep .ensures .1),
+      collected-memory _ _ (memoryOf ready) (ready .idle) (marked .0) (marked .1) (r .sweep .ensures .0),
+      collected-blocks _ _ (memoryOf ready) (ready .idle) (marked .0) (marked .1) (r .sweep .ensures .1),
       r .sweep .ensures .2,
     )
 

@@ -12,7 +12,7 @@ start c = c .before .before .before .before .before .before .before .before
 count-down-requires : tie.Need-count-down-requires
 count-down-requires c κs =
     let pre = start c .pre in
-    (pre .0, stack-empty _ _ _ _ _ (pre .2))
+    (pre .0, stack-empty (pre .2))
 
 release-all-requires : tie.Need-release-all-requires
 release-all-requires c κs = search needs
@@ -41,8 +41,8 @@ returns c =
     let counted = freed .before .before .before .before .before .before .before .before .before .before .before in
     let down = counted .count-down .ensures .result in
     let released = freed .release-all .ensures in (
-      let-go-done _ _ _ _ _ _ _ _ _ _ _ down _ _ _ _ _ (released .0) (start (counted .before) .pre .2) (released .2),
-      let-go-blocks-done _ _ _ _ _ _ _ _ _ _ _ down _ (released .1),
+      let-go-done _ _ _ _ down (released .0) (start (counted .before) .pre .2) (released .2),
+      let-go-blocks-done _ _ _ _ down (released .1),
       released .3,
     )
 

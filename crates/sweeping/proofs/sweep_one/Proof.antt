@@ -20,7 +20,7 @@ same-length-2 : tie.Need-same-length-2
 same-length-2 c = search needs
 
 returns : tie.Need-returns
-returns c = sweep-not-first _ _ _ _ _ (start (c .before) .pre .5) (sym (c .before .is-first .ensures) ∙ not-true _ (c .if1 .taken))
+returns c = sweep-not-first _ _ _ _ (start (c .before) .pre .5) (sym (c .before .is-first .ensures) ∙ not-true _ (c .if1 .taken))
 
 get-count-requires : tie.Need-get-count-requires
 get-count-requires c κs = search needs
@@ -34,7 +34,7 @@ same-length-4 c = search needs
 returns-2 : tie.Need-returns-2
 returns-2 c =
     let first = c .before .before in
-    sweep-marked _ _ _ _ _ (start (first .before) .pre .5) (sym (first .before .is-first .ensures) ∙ not-false _ (first .if1 .left))
+    sweep-marked _ _ _ _ (start (first .before) .pre .5) (sym (first .before .is-first .ensures) ∙ not-false _ (first .if1 .left))
     (λ z. c .if2 .taken (c .before .get-count .ensures .0 ∙ z))
 
 object-size-requires : tie.Need-object-size-requires
@@ -73,8 +73,8 @@ returns-3 c =
     let first = unmarked .before .before in
     let size = sized .object-size .ensures in
     let cleared = extent .clear-extent .ensures in
-    sweep-unmarked _ _ _ _ _ _ _ _ (size .0) (size .2) (sym (first .before .is-first .ensures) ∙ not-false _ (first .if1 .left))
-    (sym (unmarked .before .get-count .ensures .0) ∙ unmarked .if2 .left) _ _ _ (cleared .0) (cleared .1) (cells .clear-cells .ensures) _
+    sweep-unmarked _ _ _ _ (size .0) (size .2) (sym (first .before .is-first .ensures) ∙ not-false _ (first .if1 .left))
+    (sym (unmarked .before .get-count .ensures .0) ∙ unmarked .if2 .left) (cleared .0) (cleared .1) (cells .clear-cells .ensures)
     (cleared .2)
 
 pub sweep-one-spec : {M : Type 1} → statement M
