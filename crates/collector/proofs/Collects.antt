@@ -3,7 +3,7 @@ use mathlib.Core.Path.{_≡_, refl, sym, ap, ap₂, _∙_}
 use mathlib.Core.List.{List, []}
 use Prim.Native.Nat.{ℕ, zero, suc, _+_}
 use lib.ListN.{replicate}
-use Rattle.rules.specs.Heap.{Memory, lentMemory, memory, sizeAt}
+use Rattle.rules.specs.Heap.{Memory, memory, withCounts, withWaiting, sizeAt}
 use Rattle.rules.specs.Store.{freed}
 use Rattle.rules.proofs.Tests.{choose-both}
 use Rattle.rules.proofs.Unread.{beside}
@@ -28,26 +28,30 @@ module _ (N w : ℕ) (roots waiting sections : List ℕ → List ℕ) where
   blocks-beside h (suc n) = ap₂ (λ (k : ℕ) (g : Memory). k + sweepOneBlocks N w g n) (blocks-beside h n) (sweep-beside h n)
 
 -- what the two parts give is the collection, beside whatever the list of sections holds
-module _ (N w : ℕ) (a b counts cells roots waiting sections : List ℕ) (idle : waiting ≡ replicate N 0)
-    (counts′ waiting′ : List ℕ) (marked : counts′ ≡ markCounts N w (memory [] b [] cells roots [])) (cleared : waiting′ ≡ replicate N 0) where
-  marked-memory : lentMemory a b counts′ cells roots waiting′ sections
-      ≡ lentMemory a b (markCounts N w (lentMemory a b counts cells roots waiting sections)) cells roots waiting sections
+module _ (N w : ℕ) (h : Memory) (idle : h .waiting ≡ replicate N 0) {counts waiting : List ℕ}
+    (marked : counts ≡ markCounts N w (memory [] (h .b) [] (h .cells) (h .roots) [])) (cleared : waiting ≡ replicate N 0) where
+  -- what is handed on to the sweep
+  abbrev handed : Memory
+  handed = memory (h .a) (h .b) counts (h .cells) [] []
+
+  -- what it leaves, with the other lists
+  abbrev whole : Memory → Memory
+  whole g = beside (λ _. h .roots) (λ _. waiting) (λ _. h .sections) g
+
+  marked-memory : whole handed ≡ withCounts (markCounts N w h) h
   marked-memory t =
-      lentMemory a b ((marked ∙ mark-reads N w (memory [] b [] cells roots []) a counts waiting sections) t) cells roots
-      ((cleared ∙ sym idle) t) sections
+      withCounts ((marked ∙ mark-reads N w (memory [] (h .b) [] (h .cells) (h .roots) []) h) t) (withWaiting ((cleared ∙ sym idle) t) h)
 
-  pub collected-memory : (a′ b′ cells′ : List ℕ) → memory a′ b′ counts′ cells′ [] [] ≡ sweep N w (memory a b counts′ cells [] []) N
-      → lentMemory a′ b′ counts′ cells′ roots waiting′ sections ≡ collectBy N w (lentMemory a b counts cells roots waiting sections)
+  pub collected-memory : {g : Memory} → g ≡ sweep N w handed N → whole g ≡ collectBy N w h
   unfolding collectBy
-  collected-memory a′ b′ cells′ swept =
-      ap (beside (λ _. roots) (λ _. waiting′) (λ _. sections)) swept
-      ∙ sym (sweep-beside N w (λ _. roots) (λ _. waiting′) (λ _. sections) (memory a b counts′ cells [] []) N)
-      ∙ ap (λ (h : Memory). sweep N w h N) marked-memory
+  collected-memory swept =
+      ap whole swept
+      ∙ sym (sweep-beside N w (λ _. h .roots) (λ _. waiting) (λ _. h .sections) handed N)
+      ∙ ap (λ (g : Memory). sweep N w g N) marked-memory
 
-  pub collected-blocks : (freed : ℕ) → freed ≡ sweepBlocks N w (memory a b counts′ cells [] []) N
-      → freed ≡ collectBlocks N w (lentMemory a b counts cells roots waiting sections)
+  pub collected-blocks : {freed : ℕ} → freed ≡ sweepBlocks N w handed N → freed ≡ collectBlocks N w h
   unfolding collectBlocks
-  collected-blocks freed swept =
+  collected-blocks swept =
       swept
-      ∙ sym (blocks-beside N w (λ _. roots) (λ _. waiting′) (λ _. sections) (memory a b counts′ cells [] []) N)
-      ∙ ap (λ (h : Memory). sweepBlocks N w h N) marked-memory
+      ∙ sym (blocks-beside N w (λ _. h .roots) (λ _. waiting) (λ _. h .sections) handed N)
+      ∙ ap (λ (g : Memory). sweepBlocks N w g N) marked-memory

@@ -15,13 +15,13 @@ use Rattle.rules.specs.Store.{countUp, sticks}
 abbrev pub Up : (N w : ℕ) → (counts : List ℕ) → (v : ℕ) → (counts′ : List ℕ) → Bool → Type 0
 Up N w counts v counts′ stuck = (counts′ ≡ countUp N w counts v) × (stuck ≡ sticks N w counts v)
 
-module _ (N w : ℕ) (counts : List ℕ) (v : ℕ) where
+module _ (N w : ℕ) (counts : List ℕ) {v : ℕ} where
   pub up-none : v ≡ 0 → Up N w counts v counts false
   unfolding countUp sticks
   up-none e = (rw (eq-eqb v 0 e, countUp), rw (eq-eqb v 0 e))
 
   -- v names a block; its count was read as x, and y is the capacity
-  module _ (x y : ℕ) (nv : v ≢ 0) (ex : x ≡ countAt (N / 8) w counts (v - 1)) (ey : y ≡ capacity w) where
+  module _ {x y : ℕ} (nv : v ≢ 0) (ex : x ≡ countAt (N / 8) w counts (v - 1)) (ey : y ≡ capacity w) where
     pub up-stuck : x ≡ y → Up N w counts v counts false
     unfolding countUp sticks
     up-stuck e =
@@ -29,8 +29,8 @@ module _ (N w : ℕ) (counts : List ℕ) (v : ℕ) where
         (rw (ne-eqb v 0 nv, eq-eqb _ _ (sym ex ∙ e ∙ ey), countUp), rw (ne-eqb v 0 nv, ne-eqb _ _ past))
 
     -- the count was written one higher
-    pub up-more : x ≢ y → (counts′ : List ℕ) → counts′ ≡ setCount (N / 8) w counts (v - 1) (x + 1) → Up N w counts v counts′ (eqb (x + 1) y)
+    pub up-more : x ≢ y → {counts′ : List ℕ} → counts′ ≡ setCount (N / 8) w counts (v - 1) (x + 1) → Up N w counts v counts′ (eqb (x + 1) y)
     unfolding countUp sticks
-    up-more d counts′ written =
+    up-more d written =
         let below = ne-eqb _ _ (λ e. d (ex ∙ e ∙ sym ey)) in
         (rw (ne-eqb v 0 nv, below, ← ex, countUp) written, rw (ne-eqb v 0 nv, ← ex, ← ey))

@@ -16,7 +16,7 @@ pub passing-le : (test : ℕ → Bool) (N w : ℕ) (counts : List ℕ) → passi
 unfolding passing
 passing-le test N w counts = count-le (λ i. test (countAt (N / 8) w counts i)) N
 
-module _ (N w : ℕ) (counts : List ℕ) (p : Planes N w counts) (i v : ℕ) (inside : i < N) where
+module _ {N w : ℕ} {counts : List ℕ} (p : Planes N w counts) (i v : ℕ) (inside : i < N) where
   pub count-written : v < 2 ^ w → countAt (N / 8) w (setCount (N / 8) w counts i v) i ≡ v
   count-written fits = count-set-same (N / 8) w counts i v (omega (arith, p .eighths)) (omega (arith, p .length-is)) fits
 

@@ -7,12 +7,17 @@ use Rattle.bitmap.specs.Bit.{setBit, fillBits}
 use Rattle.bitmap.proofs.Maps.{length-set-bit}
 use Rattle.bitmap.proofs.Runs.{length-fill}
 use Rattle.blocks.proofs.Cells.{length-clear}
+use Rattle.rules.specs.Heap.{Memory}
 use Rattle.rules.specs.Store.{clearCells}
-use Rattle.counting.specs.Ready.{Planes, Extents}
+use Rattle.counting.specs.Ready.{Planes, Extents, Ready}
+
+-- the memory that is known to be ready, for a lemma that asks for one: a `_` would be filled in with a far longer term
+abbrev pub memoryOf : {N w : ℕ} {h : Memory} → Ready N w h → Memory
+memoryOf {h = h} ready = h
 
 -- count maps of the same length
-pub planes-same : (N w : ℕ) (counts counts′ : List ℕ) → Planes N w counts → length counts′ ≡ length counts → Planes N w counts′
-planes-same N w counts counts′ p e = record {
+pub planes-same : {N w : ℕ} {counts counts′ : List ℕ} → Planes N w counts → length counts′ ≡ length counts → Planes N w counts′
+planes-same p e = record {
   eighths = p .eighths;
   most = p .most;
   some = p .some;
@@ -22,18 +27,18 @@ planes-same N w counts counts′ p e = record {
 
 -- an extent written or cleared: a run of A bits, one B bit, a run of cells made 0
 pub extents-written :
-    (N : ℕ) (a b cells a′ b′ cells′ : List ℕ) (i n x last y j m : ℕ)
+    {N : ℕ} {a b cells a′ b′ cells′ : List ℕ} (i n x last y j m : ℕ)
     → a′ ≡ fillBits a i n x → b′ ≡ setBit b last y → cells′ ≡ clearCells cells j m
     → Extents N a b cells → Extents N a′ b′ cells′
-extents-written N a b cells a′ b′ cells′ i n x last y j m ea eb ee e = record {
+extents-written {a = a} {b} {cells} i n x last y j m ea eb ee e = record {
   a-length = ap length ea ∙ length-fill a i n x ∙ e .a-length;
   b-length = ap length eb ∙ length-set-bit b last y ∙ e .b-length;
   cells-length = ap length ee ∙ length-clear cells j m ∙ e .cells-length;
 }
 
 -- a cell written
-pub extents-cell : (N : ℕ) (a b cells : List ℕ) (c v : ℕ) → Extents N a b cells → Extents N a b (set cells c v)
-extents-cell N a b cells c v e = record {
+pub extents-cell : {N : ℕ} {a b cells : List ℕ} (c v : ℕ) → Extents N a b cells → Extents N a b (set cells c v)
+extents-cell {cells = cells} c v e = record {
   a-length = e .a-length;
   b-length = e .b-length;
   cells-length = length-set cells c v ∙ e .cells-length;

@@ -33,7 +33,7 @@ zero-replicate zero k = refl
 zero-replicate (suc n) zero = refl
 zero-replicate (suc n) (suc k) = zero-replicate n k
 
-module _ (test : ℕ → Bool) (N w : ℕ) (counts waiting : List ℕ) where
+module _ {test : ℕ → Bool} {N w : ℕ} {counts waiting : List ℕ} where
   -- a cleared waiting list is an empty stack, and back
   pub stack-empty : waiting ≡ replicate N 0 → Stack test N w counts waiting 0
   stack-empty e = record {
@@ -50,8 +50,8 @@ module _ (test : ℕ → Bool) (N w : ℕ) (counts waiting : List ℕ) where
       (λ k l. s .clear k (omega arith) ∙ sym (zero-replicate N k))
 
   -- the top place taken and made 0
-  pub stack-pop : (top : ℕ) → 0 < top → Stack test N w counts waiting top → Stack test N w counts (set waiting (top - 1) 0) (top - 1)
-  stack-pop top h s = record {
+  pub stack-pop : {top : ℕ} → 0 < top → Stack test N w counts waiting top → Stack test N w counts (set waiting (top - 1) 0) (top - 1)
+  stack-pop {top} h s = record {
     length-is = length-set waiting (top - 1) 0 ∙ s .length-is;
     blocks = λ k l. rw (getD-set-other waiting (top - 1) k 0 0 (λ e. omega arith)) (s .blocks k (omega arith));
     come = λ k l. rw (getD-set-other waiting (top - 1) k 0 0 (λ e. omega arith)) (s .come k (omega arith));

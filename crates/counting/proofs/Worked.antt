@@ -17,19 +17,19 @@ use Rattle.counting.proofs.Shapes.{planes-same}
 use Rattle.counting.proofs.Counts.{count-written, count-kept, passing-set}
 use Rattle.counting.proofs.Stack.{top-first-push}
 
-module _ (test : ℕ → Bool) (N w : ℕ) (counts waiting : List ℕ) (top : ℕ) (p : Planes N w counts)
+module _ {test : ℕ → Bool} {N w : ℕ} {counts waiting : List ℕ} {top : ℕ} (p : Planes N w counts)
     (stack : Stack test N w counts waiting top) where
   -- nothing is written
-  pub unchanged : (s : Work) → work counts (topFirst waiting top) ≡ s → Worked test N w s (remaining test N w counts top) counts waiting top
-  unchanged s e = record { result = e; planes = p; stack = stack; left-is = refl }
+  pub unchanged : {s : Work} → work counts (topFirst waiting top) ≡ s → Worked test N w s (remaining test N w counts top) counts waiting top
+  unchanged e = record { result = e; planes = p; stack = stack; left-is = refl }
 
   -- the count v is written at block i
-  module _ (i v : ℕ) (inside : i < N) (fits : v < 2 ^ w) (counts′ : List ℕ) (written : counts′ ≡ setCount (N / 8) w counts i v) where
+  module _ (i v : ℕ) (inside : i < N) (fits : v < 2 ^ w) {counts′ : List ℕ} (written : counts′ ≡ setCount (N / 8) w counts i v) where
     planes-left : Planes N w counts′
-    planes-left = planes-same N w counts counts′ p (ap length written ∙ length-set-count (N / 8) w counts i v)
+    planes-left = planes-same p (ap length written ∙ length-set-count (N / 8) w counts i v)
 
     change : passing test N w counts′ + one (test (countAt (N / 8) w counts i)) ≡ passing test N w counts + one (test v)
-    change = rw written (passing-set N w counts p i v inside test fits)
+    change = rw written (passing-set p i v inside test fits)
 
     -- what had come, has come still
     still : (test (countAt (N / 8) w counts i) ≡ false → test v ≡ false) → (b : ℕ) → b < N
@@ -37,13 +37,13 @@ module _ (test : ℕ → Bool) (N w : ℕ) (counts waiting : List ℕ) (top : �
     still h b l e = rw written (by-block (ℕ-discrete b i))
       where
         by-block : Dec (b ≡ i) → test (countAt (N / 8) w (setCount (N / 8) w counts i v) b) ≡ false
-        by-block (yes d) = rw d (ap test (count-written N w counts p i v inside fits) ∙ h (rw d at e))
-        by-block (no d) = ap test (count-kept N w counts p i v inside b l d) ∙ e
+        by-block (yes d) = rw d (ap test (count-written p i v inside fits) ∙ h (rw d at e))
+        by-block (no d) = ap test (count-kept p i v inside b l d) ∙ e
 
     -- whether the block can still come is as before
-    pub kept : test v ≡ test (countAt (N / 8) w counts i) → (s : Work) → work counts′ (topFirst waiting top) ≡ s
+    pub kept : test v ≡ test (countAt (N / 8) w counts i) → {s : Work} → work counts′ (topFirst waiting top) ≡ s
         → Worked test N w s (remaining test N w counts top) counts′ waiting top
-    kept same s e = record {
+    kept same e = record {
       result = e;
       planes = planes-left;
       stack = record {
@@ -64,9 +64,9 @@ module _ (test : ℕ → Bool) (N w : ℕ) (counts waiting : List ℕ) (top : �
       pub push-room : top < length waiting
       push-room = omega (arith, one-fewer, stack .length-is, stack .room)
 
-      pub pushed : (s : Work) → work counts′ (i ∷ topFirst waiting top) ≡ s
+      pub pushed : {s : Work} → work counts′ (i ∷ topFirst waiting top) ≡ s
           → Worked test N w s (remaining test N w counts top) counts′ (set waiting top i) (top + 1)
-      pushed s e = record {
+      pushed e = record {
         result = ap (λ (l : List ℕ). work counts′ l) (top-first-push waiting top i push-room) ∙ e;
         planes = planes-left;
         stack = record {
@@ -87,20 +87,19 @@ module _ (test : ℕ → Bool) (N w : ℕ) (counts waiting : List ℕ) (top : �
           at-block k l (no d) = rw (getD-set-other waiting top k i 0 d) (stack .blocks k (omega arith))
 
           at-count : (k : ℕ) → k < top + 1 → Dec (k ≡ top) → test (countAt (N / 8) w counts′ (getD (set waiting top i) k 0)) ≡ false
-          at-count k l (yes d) = rw (d, at-top, written) (ap test (count-written N w counts p i v inside fits) ∙ came)
+          at-count k l (yes d) = rw (d, at-top, written) (ap test (count-written p i v inside fits) ∙ came)
           at-count k l (no d) =
               rw (getD-set-other waiting top k i 0 d)
               (still (λ _. came) (getD waiting k 0) (stack .blocks k (omega arith)) (stack .come k (omega arith)))
 
 -- one step more
 pub worked-next :
-    (test : ℕ → Bool) (N w : ℕ) (counts waiting : List ℕ) (top : ℕ) (s s′ : Work) (step : Work → Work) (left : ℕ)
-    (counts′ waiting′ : List ℕ) (top′ : ℕ)
+    {test : ℕ → Bool} {N w left top top′ : ℕ} {counts waiting counts′ waiting′ : List ℕ} {s s′ : Work} (step : Work → Work)
     → step s ≡ s′
     → Worked test N w s left counts waiting top
     → Worked test N w (step (work counts (topFirst waiting top))) (remaining test N w counts top) counts′ waiting′ top′
     → Worked test N w s′ left counts′ waiting′ top′
-worked-next test N w counts waiting top s s′ step left counts′ waiting′ top′ e before next = record {
+worked-next step e before next = record {
   result = next .result ∙ ap step (before .result) ∙ e;
   planes = next .planes;
   stack = next .stack;

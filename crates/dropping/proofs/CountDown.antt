@@ -29,18 +29,15 @@ pub record Lowered (N w : ℕ) (counts waiting : List ℕ) (top v x : ℕ) (coun
   pub last : x ≡ 1 → Down N w counts waiting top v counts′ (set waiting top (v - 1)) (top + 1)
   pub more : x ≢ 1 → Down N w counts waiting top v counts′ waiting top
 
-module _ (N w : ℕ) (counts waiting : List ℕ) (top v : ℕ) (p : Planes N w counts) (s : Stack counted N w counts waiting top) where
-  same : work counts (topFirst waiting top) ≡ countDown N w (work counts (topFirst waiting top)) v → Down N w counts waiting top v counts waiting top
-  same e = unchanged counted N w counts waiting top p s _ e
-
+module _ {N w : ℕ} {counts waiting : List ℕ} {top : ℕ} (p : Planes N w counts) (s : Stack counted N w counts waiting top) {v : ℕ} where
   pub down-none : v ≡ 0 → Down N w counts waiting top v counts waiting top
   unfolding countDown
-  down-none e = same (rw (eq-eqb v 0 e, countDown))
+  down-none e = unchanged p s (rw (eq-eqb v 0 e, countDown))
 
   -- no block is named by v
   pub down-past : v ≢ 0 → N < v → Down N w counts waiting top v counts waiting top
   unfolding countDown
-  down-past nv past = same (rw (ne-eqb v 0 nv, lt-ltb N v past, countDown))
+  down-past nv past = unchanged p s (rw (ne-eqb v 0 nv, lt-ltb N v past, countDown))
 
   -- a block that v names has count 0 already, which is below the capacity: writing 0 once more changes nothing
   pub down-zero : v ≢ 0 → v ≤ N → countAt (N / 8) w counts (v - 1) ≡ 0 → Down N w counts waiting top v counts waiting top
@@ -48,18 +45,18 @@ module _ (N w : ℕ) (counts waiting : List ℕ) (top v : ℕ) (p : Planes N w c
   down-zero nv inside zero-there =
       let least : 2 ^ 1 ≤ 2 ^ w = pow-mono {i = 1} (p .some) in
       let below : countAt (N / 8) w counts (v - 1) ≢ capacity w = λ d. omega arith in
-      same
+      unchanged p s
       (rw (ne-eqb v 0 nv, le-ltb N v inside, ne-eqb _ _ below, zero-there, countDown)
       (ap (λ (l : List ℕ). work l (topFirst waiting top)) (sym (set-count-there (N / 8) w counts (v - 1) 0 zero-there))))
 
   -- v names a block; its count was read as x, and y is the capacity
-  module _ (x y : ℕ) (inside : v ≤ N) (nv : v ≢ 0) (ex : x ≡ countAt (N / 8) w counts (v - 1)) (ey : y ≡ capacity w) where
+  module _ {x y : ℕ} (inside : v ≤ N) (nv : v ≢ 0) (ex : x ≡ countAt (N / 8) w counts (v - 1)) (ey : y ≡ capacity w) where
     pub down-stuck : x ≡ y → Down N w counts waiting top v counts waiting top
     unfolding countDown
-    down-stuck e = same (rw (ne-eqb v 0 nv, le-ltb N v inside, eq-eqb _ _ (sym ex ∙ e ∙ ey), countDown))
+    down-stuck e = unchanged p s (rw (ne-eqb v 0 nv, le-ltb N v inside, eq-eqb _ _ (sym ex ∙ e ∙ ey), countDown))
 
     -- the count was written: it is x - 1 now, and x was neither 0 nor the capacity
-    module _ (counts′ : List ℕ) (written : counts′ ≡ setCount (N / 8) w counts (v - 1) (x - 1)) (nx : x ≢ 0) (ny : x ≢ y) where
+    module _ {counts′ : List ℕ} (written : counts′ ≡ setCount (N / 8) w counts (v - 1) (x - 1)) (nx : x ≢ 0) (ny : x ≢ y) where
       block : v - 1 < N
       block = omega arith
 
@@ -76,12 +73,12 @@ module _ (N w : ℕ) (counts waiting : List ℕ) (top v : ℕ) (p : Planes N w c
       none e = rw e
 
       place : x ≡ 1 → top < length waiting
-      place e = push-room counted N w counts waiting top p s (v - 1) (x - 1) block fits counts′ written had (none e)
+      place e = push-room p s (v - 1) (x - 1) block fits written had (none e)
 
       down-last : x ≡ 1 → Down N w counts waiting top v counts′ (set waiting top (v - 1)) (top + 1)
       unfolding countDown
       down-last e =
-          pushed counted N w counts waiting top p s (v - 1) (x - 1) block fits counts′ written had (none e) _
+          pushed p s (v - 1) (x - 1) block fits written had (none e)
           (rw (ne-eqb v 0 nv, le-ltb N v inside, ne-eqb _ _ below, eq-eqb _ 1 (sym ex ∙ e), ← ex, countDown)
           (ap (λ (c : List ℕ). work c ((v - 1) ∷ topFirst waiting top)) written))
 
@@ -89,7 +86,7 @@ module _ (N w : ℕ) (counts waiting : List ℕ) (top v : ℕ) (p : Planes N w c
       unfolding countDown
       down-more d =
           let some : counted (x - 1) ≡ true = rw (ne-eqb (x - 1) 0 (λ e. omega arith)) in
-          kept counted N w counts waiting top p s (v - 1) (x - 1) block fits counts′ written (some ∙ sym had) _
+          kept p s (v - 1) (x - 1) block fits written (some ∙ sym had)
           (rw (ne-eqb v 0 nv, le-ltb N v inside, ne-eqb _ _ below, ne-eqb _ 1 (λ e. d (ex ∙ e)), ← ex, countDown)
           (ap (λ (c : List ℕ). work c (topFirst waiting top)) written))
 
@@ -100,13 +97,12 @@ module _ (N w : ℕ) (counts waiting : List ℕ) (top v : ℕ) (p : Planes N w c
 
 -- one cell more: the cells before it are 0 already, and it still holds what it held
 pub each-more :
-    (N w : ℕ) (s : Work) (cells : List ℕ) (j i left : ℕ) (counts waiting : List ℕ) (top : ℕ) (cells′ counts′ waiting′ : List ℕ) (top′ : ℕ)
+    {N w left top top′ : ℕ} {counts waiting cells′ counts′ waiting′ : List ℕ} (s : Work) (cells : List ℕ) (j i : ℕ)
     → cells′ ≡ clearCells cells j i
     → Worked counted N w (countDownEach N w s cells j i) left counts waiting top
     → Down N w counts waiting top (getD cells′ (j + i) 0) counts′ waiting′ top′
     → Worked counted N w (countDownEach N w s cells j (i + 1)) left counts′ waiting′ top′
 unfolding countDownEach
-each-more N w s cells j i left counts waiting top cells′ counts′ waiting′ top′ cleared =
+each-more {N} {w} {cells′ = cells′} s cells j i cleared =
     let held = ap (λ (x : List ℕ). getD x (j + i) 0) cleared ∙ clear-out cells j i (j + i) (inr (omega arith)) in
-    worked-next counted N w counts waiting top _ _ (λ x. countDown N w x (getD cells′ (j + i) 0)) left counts′ waiting′ top′
-    (rw (add-one, held))
+    worked-next (λ x. countDown N w x (getD cells′ (j + i) 0)) (rw (add-one, held))

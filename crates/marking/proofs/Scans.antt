@@ -4,7 +4,7 @@ use mathlib.Core.List.{List, [], _∷_}
 use Prim.Native.Nat.{ℕ, zero, suc, _-_, _*_, _/_, _≤_, _<_}
 use native.Mathlib.Omega.{arith}
 use lib.ListN.{length, getD, set, replicate}
-use Rattle.rules.specs.Heap.{Memory, lentMemory, memory, sizeAt}
+use Rattle.rules.specs.Heap.{Memory, withB, withCells, withRoots, sizeAt}
 use Rattle.rules.specs.Store.{Work, work}
 use Rattle.counting.specs.Stack.{topFirst, uncounted, remaining, Stack, Worked}
 use Rattle.counting.proofs.Stack.{top-first-kept, top-first-pop}
@@ -31,18 +31,18 @@ pub record Leading (N w : ℕ) (h : Memory) (result counts waiting : List ℕ) (
   pub enough : remaining uncounted N w counts top ≤ steps
   pub leads : scan steps N w h counts (topFirst waiting top) ≡ result
 
-module _ (N w : ℕ) (h : Memory) (counts waiting : List ℕ) (top : ℕ) where
+module _ {N w : ℕ} {h : Memory} {counts waiting : List ℕ} {top : ℕ} where
   pub leading-start : Stack uncounted N w counts waiting top → Leading N w h (scan N N w h counts (topFirst waiting top)) counts waiting top
   leading-start s = record { steps = N; enough = s .room; leads = refl }
 
-  module _ (result : List ℕ) (before : Leading N w h result counts waiting top) where
+  module _ {result : List ℕ} (before : Leading N w h result counts waiting top) where
     -- the object on top of the stack is scanned
-    pub leading-next : 0 < top → (n : ℕ) → n ≡ sizeAt N h (getD waiting (top - 1) 0) → (counts′ waiting′ : List ℕ) (top′ : ℕ)
+    pub leading-next : 0 < top → {n : ℕ} → n ≡ sizeAt N h (getD waiting (top - 1) 0) → {counts′ waiting′ : List ℕ} {top′ : ℕ}
         → Worked uncounted N w
         (visitEach N w (work counts (topFirst (set waiting (top - 1) 0) (top - 1))) (h .cells) (4 * getD waiting (top - 1) 0) (4 * n))
         (remaining uncounted N w counts (top - 1)) counts′ waiting′ top′
         → Leading N w h result counts′ waiting′ top′
-    leading-next some n size counts′ waiting′ top′ next =
+    leading-next some size next =
         let i : ℕ = getD waiting (top - 1) 0 in
         let after : List ℕ → ℕ → Work = λ rest k. visitEach N w (work counts rest) (h .cells) (4 * i) (4 * k) in
         let popped = top-first-kept waiting (top - 1) (top - 1) 0 (omega arith) in
@@ -63,26 +63,25 @@ module _ (N w : ℕ) (h : Memory) (counts waiting : List ℕ) (top : ℕ) where
         ∙ ap (λ (k : ℕ). scan (before .steps) N w h counts (topFirst waiting k)) (sym e)
         ∙ before .leads
 
--- a scan reads the B-map and the cells alone
-scan-reads : (steps N w : ℕ) (h : Memory) (a c roots waiting sections counts stack : List ℕ)
-    → scan steps N w h counts stack ≡ scan steps N w (lentMemory a (h .b) c (h .cells) roots waiting sections) counts stack
+-- a scan reads the B-map and the cells alone: all other lists may be those of g
+scan-reads : (steps N w : ℕ) (h g : Memory) (counts stack : List ℕ)
+    → scan steps N w h counts stack ≡ scan steps N w (withB (h .b) (withCells (h .cells) g)) counts stack
 unfolding scan
-scan-reads zero N w h a c roots waiting sections counts stack = refl
-scan-reads (suc f) N w h a c roots waiting sections counts [] = refl
-scan-reads (suc f) N w h a c roots waiting sections counts (i ∷ rest) = scan-reads f N w h a c roots waiting sections _ _
+scan-reads zero N w h g counts stack = refl
+scan-reads (suc f) N w h g counts [] = refl
+scan-reads (suc f) N w h g counts (i ∷ rest) = scan-reads f N w h g _ _
 
 -- and the marking reads the roots besides
-pub mark-reads : (N w : ℕ) (h : Memory) (a c waiting sections : List ℕ)
-    → markCounts N w h ≡ markCounts N w (lentMemory a (h .b) c (h .cells) (h .roots) waiting sections)
+pub mark-reads : (N w : ℕ) (h g : Memory) → markCounts N w h ≡ markCounts N w (withB (h .b) (withCells (h .cells) (withRoots (h .roots) g)))
 unfolding markCounts
-mark-reads N w h a c waiting sections = scan-reads N N w h a c (h .roots) waiting sections _ _
+mark-reads N w h g = scan-reads N N w h (withRoots (h .roots) g) _ _
 
 -- the marking in two parts, with counts and stack in between
-pub mark-parts : (N w : ℕ) (b cells roots cleared counts stack : List ℕ) → cleared ≡ replicate (w * (N / 8)) 0
-    → work counts stack ≡ visitEach N w (work cleared []) roots 0 (length roots)
-    → scan N N w (memory [] b [] cells [] []) counts stack ≡ markCounts N w (memory [] b [] cells roots [])
+pub mark-parts : (N w : ℕ) (h : Memory) {cleared counts stack : List ℕ} → cleared ≡ replicate (w * (N / 8)) 0
+    → work counts stack ≡ visitEach N w (work cleared []) (h .roots) 0 (length (h .roots))
+    → scan N N w (withRoots [] h) counts stack ≡ markCounts N w h
 unfolding markCounts
-mark-parts N w b cells roots cleared counts stack e visited =
-    scan-reads N N w (memory [] b [] cells [] []) [] [] roots [] [] counts stack
-    ∙ ap (λ (s : Work). scan N N w (memory [] b [] cells roots []) (s .counts) (s .stack))
-    (visited ∙ ap (λ (c : List ℕ). visitEach N w (work c []) roots 0 (length roots)) e)
+mark-parts N w h e visited =
+    scan-reads N N w (withRoots [] h) h _ _
+    ∙ ap (λ (s : Work). scan N N w h (s .counts) (s .stack))
+    (visited ∙ ap (λ (c : List ℕ). visitEach N w (work c []) (h .roots) 0 (length (h .roots))) e)

@@ -4,7 +4,7 @@ use mathlib.Core.Path.{_≡_, refl, sym, ap, _∙_}
 use mathlib.Core.List.{List, [], _∷_}
 use Prim.Native.Nat.{ℕ, zero, suc, _+_}
 use lib.ListN.{replicate}
-use Rattle.rules.specs.Heap.{Memory, lentMemory, memory, withWaiting, sizeAt}
+use Rattle.rules.specs.Heap.{Memory, withCounts, withRoots, withWaiting, withSections, sizeAt}
 use Rattle.rules.specs.Store.{Work, work, countDown, freed, workAfter, memoryAfter, release, letGo}
 use Rattle.rules.proofs.Unread as unread
 use Rattle.rules.proofs.Unread.{beside, release-beside}
@@ -22,40 +22,44 @@ released-beside N w roots waiting sections (suc f) h (i ∷ rest) =
 
 -- ---- letting go, in the code's two steps: v counted down on an empty stack, then what waits is freed
 
-module _ (N w : ℕ) (a b counts cells waiting : List ℕ) (v : ℕ) (counts₁ waiting₁ : List ℕ) (top : ℕ)
-    (down : work counts₁ (topFirst waiting₁ top) ≡ countDown N w (work counts (topFirst waiting 0)) v) where
-  pub let-go-done : (a′ b′ counts′ cells′ waiting′ : List ℕ)
-      → memory a′ b′ counts′ cells′ [] [] ≡ release N N w (memory a b counts₁ cells [] []) (topFirst waiting₁ top)
-      → waiting ≡ replicate N 0 → waiting′ ≡ replicate N 0
-      → memory a′ b′ counts′ cells′ [] waiting′ ≡ letGo N w (memory a b counts cells [] waiting) v
+module _ (N w : ℕ) (h : Memory) (v : ℕ) {counts stack : List ℕ}
+    (down : work counts stack ≡ countDown N w (work (h .counts) (topFirst (h .waiting) 0)) v) where
+  -- what the second step starts from; the waiting list is stated apart
+  abbrev handed : Memory
+  handed = withWaiting [] (withCounts counts h)
+
+  pub let-go-done : {g : Memory} {waiting : List ℕ} → g ≡ release N N w handed stack → h .waiting ≡ replicate N 0 → waiting ≡ replicate N 0
+      → withWaiting waiting g ≡ letGo N w h v
   unfolding letGo topFirst
-  let-go-done a′ b′ counts′ cells′ waiting′ released idle idle′ =
-      ap (withWaiting waiting′) released
-      ∙ sym (release-beside N w (λ l. l) (λ _. waiting′) (λ l. l) N (memory a b counts₁ cells [] []) (topFirst waiting₁ top))
-      ∙ ap (λ (x : List ℕ). release N N w (memory a b counts₁ cells [] x) (topFirst waiting₁ top)) (idle′ ∙ sym idle)
-      ∙ ap (λ (s : Work). release N N w (memory a b (s .counts) cells [] waiting) (s .stack)) down
+  let-go-done {waiting = waiting} released idle idle′ =
+      ap (withWaiting waiting) released
+      ∙ sym (release-beside N w (λ l. l) (λ _. waiting) (λ l. l) N handed stack)
+      ∙ ap (λ (x : List ℕ). release N N w (withWaiting x handed) stack) (idle′ ∙ sym idle)
+      ∙ ap (λ (s : Work). release N N w (withCounts (s .counts) h) (s .stack)) down
 
-  pub let-go-blocks-done : (n : ℕ)
-      → n ≡ releasedBlocks N N w (memory a b counts₁ cells [] []) (topFirst waiting₁ top)
-      → n ≡ letGoBlocks N w (memory a b counts cells [] waiting) v
+  pub let-go-blocks-done : {n : ℕ} → n ≡ releasedBlocks N N w handed stack → n ≡ letGoBlocks N w h v
   unfolding letGoBlocks topFirst
-  let-go-blocks-done n released =
+  let-go-blocks-done released =
       released
-      ∙ sym (released-beside N w (λ l. l) (λ _. waiting) (λ l. l) N (memory a b counts₁ cells [] []) (topFirst waiting₁ top))
-      ∙ ap (λ (s : Work). releasedBlocks N N w (memory a b (s .counts) cells [] waiting) (s .stack)) down
+      ∙ sym (released-beside N w (λ l. l) (λ _. h .waiting) (λ l. l) N handed stack)
+      ∙ ap (λ (s : Work). releasedBlocks N N w (withCounts (s .counts) h) (s .stack)) down
 
--- the same beside roots and a list of sections
-pub let-go-beside : (N w : ℕ) (a b counts cells roots waiting sections : List ℕ) (v : ℕ) (a′ b′ counts′ cells′ waiting′ : List ℕ)
-    → memory a′ b′ counts′ cells′ [] waiting′ ≡ letGo N w (memory a b counts cells [] waiting) v
-    → lentMemory a′ b′ counts′ cells′ roots waiting′ sections ≡ letGo N w (lentMemory a b counts cells roots waiting sections) v
-let-go-beside N w a b counts cells roots waiting sections v a′ b′ counts′ cells′ waiting′ e =
-    ap (beside (λ _. roots) (λ l. l) (λ _. sections)) e
-    ∙ sym (unread.let-go-beside N w (λ _. roots) (λ l. l) (λ _. sections) (memory a b counts cells [] waiting) v)
+-- ---- the same beside roots and a list of sections
 
-pub let-go-blocks-beside : (N w : ℕ) (a b counts cells roots waiting sections : List ℕ) (v n : ℕ)
-    → n ≡ letGoBlocks N w (memory a b counts cells [] waiting) v
-    → n ≡ letGoBlocks N w (lentMemory a b counts cells roots waiting sections) v
+-- the memory as it is known where neither is lent
+abbrev pub unlent : Memory → Memory
+unlent h = withRoots [] (withSections [] h)
+
+-- what is left of it, with both as in h
+abbrev pub lentAgain : Memory → Memory → Memory
+lentAgain h g = withRoots (h .roots) (withSections (h .sections) g)
+
+pub let-go-beside : (N w : ℕ) (h : Memory) (v : ℕ) {g : Memory} → g ≡ letGo N w (unlent h) v → lentAgain h g ≡ letGo N w h v
+let-go-beside N w h v e =
+    ap (lentAgain h) e ∙ sym (unread.let-go-beside N w (λ _. h .roots) (λ l. l) (λ _. h .sections) (unlent h) v)
+
+pub let-go-blocks-beside : (N w : ℕ) (h : Memory) (v : ℕ) {n : ℕ} → n ≡ letGoBlocks N w (unlent h) v → n ≡ letGoBlocks N w h v
 unfolding letGoBlocks
-let-go-blocks-beside N w a b counts cells roots waiting sections v n e =
-    let s = countDown N w (work counts []) v in
-    e ∙ sym (released-beside N w (λ _. roots) (λ l. l) (λ _. sections) N (memory a b (s .counts) cells [] waiting) (s .stack))
+let-go-blocks-beside N w h v e =
+    let s = countDown N w (work (h .counts) []) v in
+    e ∙ sym (released-beside N w (λ _. h .roots) (λ l. l) (λ _. h .sections) N (withCounts (s .counts) (unlent h)) (s .stack))

@@ -58,11 +58,11 @@ pub record ReleaseUnderWay (N w : ℕ) (goal : Memory) (total : ℕ) (a b counts
   pub bound : done + maxBlocks * remaining counted N w counts top ≤ maxBlocks * maxBlocks
 
 pub releasing-start :
-    (N w : ℕ) (a b counts cells waiting : List ℕ) (top : ℕ)
+    {N w : ℕ} {a b counts cells waiting : List ℕ} {top : ℕ}
     → Planes N w counts → Extents N a b cells → Stack counted N w counts waiting top
     → ReleaseUnderWay N w (release N N w (memory a b counts cells [] []) (topFirst waiting top))
     (releasedBlocks N N w (memory a b counts cells [] []) (topFirst waiting top)) a b counts cells waiting top 0
-releasing-start N w a b counts cells waiting top p x s = record {
+releasing-start {N} p x s = record {
   planes = p;
   extents = x;
   stack = s;
@@ -74,8 +74,8 @@ releasing-start N w a b counts cells waiting top p x s = record {
 }
 
 -- an object of n blocks at i is taken off the stack and freed
-module _ (N w : ℕ) (goal : Memory) (total : ℕ) (a b counts cells waiting : List ℕ) (top done i n : ℕ)
-    (a′ b′ counts′ cells′ waiting′ : List ℕ) (top′ : ℕ)
+module _ {N w : ℕ} {goal : Memory} {total : ℕ} {a b counts cells waiting : List ℕ} {top done i n : ℕ}
+    {a′ b′ counts′ cells′ waiting′ : List ℕ} {top′ : ℕ}
     (taken : 0 < top) (ei : i ≡ getD waiting (top - 1) 0) (size : n ≡ sizeFrom (N - i) b i) (inside : i + n ≤ N)
     (ea : a′ ≡ fillBits a i n 0) (eb : b′ ≡ setBit b (i + n - 1) 1) (ee : cells′ ≡ clearCells cells (4 * i) (4 * n))
     (down :
@@ -126,7 +126,7 @@ module _ (N w : ℕ) (goal : Memory) (total : ℕ) (a b counts cells waiting : L
   pub releasing-step : ReleaseUnderWay N w goal total a′ b′ counts′ cells′ waiting′ top′ (done + n)
   releasing-step = record {
     planes = down .planes;
-    extents = extents-written N a b cells a′ b′ cells′ i n 0 (i + n - 1) 1 (4 * i) (4 * n) ea eb ee (r .extents);
+    extents = extents-written i n 0 (i + n - 1) 1 (4 * i) (4 * n) ea eb ee (r .extents);
     stack = down .stack;
     steps = r .steps - 1;
     enough = omega (arith, down .left-is, r .enough);
@@ -136,7 +136,7 @@ module _ (N w : ℕ) (goal : Memory) (total : ℕ) (a b counts cells waiting : L
   }
 
 -- nothing waits any more
-module _ (N w : ℕ) (goal : Memory) (total : ℕ) (a b counts cells waiting : List ℕ) (top done : ℕ)
+module _ {N w : ℕ} {goal : Memory} {total : ℕ} {a b counts cells waiting : List ℕ} {top done : ℕ}
     (r : ReleaseUnderWay N w goal total a b counts cells waiting top done) (none : top ≡ 0) where
   pub releasing-done : memory a b counts cells [] [] ≡ goal
   unfolding release topFirst
@@ -161,4 +161,4 @@ module _ (N w : ℕ) (goal : Memory) (total : ℕ) (a b counts cells waiting : L
           ap (λ (k : ℕ). releasedBlocks (r .steps) N w (memory a b counts cells [] []) (topFirst waiting k)) none ∙ end (r .steps)
 
   pub waiting-done : waiting ≡ replicate N 0
-  waiting-done = stack-emptied counted N w counts waiting (rw none at (r .stack))
+  waiting-done = stack-emptied (rw none at (r .stack))

@@ -4,45 +4,39 @@ use mathlib.Core.Logic.{_≢_}
 use mathlib.Core.List.{List}
 use Prim.Native.Nat.{ℕ}
 use lib.ListN.{length, getD}
-use Rattle.rules.specs.Heap.{Memory, lentMemory}
+use Rattle.rules.specs.Heap.{Memory, withCounts}
 use Rattle.rules.specs.Store.{countUp, putRoot, changeRoot, storeRootIn}
 use Rattle.counting.specs.Ready.{Ready}
 use Rattle.counting.proofs.Shapes.{planes-same}
 use Rattle.stores.specs.Blocks.{putRootBlocks, storeRootBlocks}
 use Rattle.stores.proofs.Presence.{present, changed}
 
-module _ (N w : ℕ) (a b counts cells roots waiting sections : List ℕ) where
-  abbrev h : Memory
-  h = lentMemory a b counts cells roots waiting sections
+-- the counts are counted up first
+pub ready-counts : {N w : ℕ} {h : Memory} {counts : List ℕ} → length counts ≡ length (h .counts) → Ready N w h → Ready N w (withCounts counts h)
+ready-counts e ready = record {
+  planes = planes-same (ready .planes) e;
+  extents = ready .extents;
+  idle = ready .idle;
+  coherent = ready .coherent;
+}
 
-  module _ (r v : ℕ) (same : getD roots r 0 ≡ v) where
+module _ (N w : ℕ) (h : Memory) (r : ℕ) {v : ℕ} where
+  module _ (same : getD (h .roots) r 0 ≡ v) where
     pub root-present : h ≡ storeRootIn N w h r v
     unfolding storeRootIn
-    root-present = present (getD roots r 0) v _ _ same
+    root-present = present (getD (h .roots) r 0) v _ _ same
 
     pub root-present-blocks : _≡_ {A = ℕ} 0 (storeRootBlocks N w h r v)
     unfolding storeRootBlocks
-    root-present-blocks = present (getD roots r 0) v _ _ same
+    root-present-blocks = present (getD (h .roots) r 0) v _ _ same
 
-  -- ---- the counts are counted up first
-
-  pub ready-counts : (counts₁ : List ℕ) → length counts₁ ≡ length counts
-      → Ready N w h → Ready N w (lentMemory a b counts₁ cells roots waiting sections)
-  ready-counts counts₁ e ready = record {
-    planes = planes-same N w counts counts₁ (ready .planes) e;
-    extents = ready .extents;
-    idle = ready .idle;
-    coherent = ready .coherent;
-  }
-
-  module _ (r v : ℕ) (other : getD roots r 0 ≢ v) (counts₁ : List ℕ) (up : counts₁ ≡ countUp N w counts v) where
-    pub root-changed : (g : Memory) → g ≡ putRoot N w (lentMemory a b counts₁ cells roots waiting sections) r v → g ≡ storeRootIn N w h r v
+  module _ (other : getD (h .roots) r 0 ≢ v) {counts : List ℕ} (up : counts ≡ countUp N w (h .counts) v) where
+    pub root-changed : {g : Memory} → g ≡ putRoot N w (withCounts counts h) r v → g ≡ storeRootIn N w h r v
     unfolding storeRootIn changeRoot
-    root-changed g e =
-        e ∙ ap (λ (x : List ℕ). putRoot N w (lentMemory a b x cells roots waiting sections) r v) up ∙ changed (getD roots r 0) v _ _ other
+    root-changed e =
+        e ∙ ap (λ (x : List ℕ). putRoot N w (withCounts x h) r v) up ∙ changed (getD (h .roots) r 0) v _ _ other
 
-    pub root-changed-blocks : (n : ℕ)
-        → n ≡ putRootBlocks N w (lentMemory a b counts₁ cells roots waiting sections) r v → n ≡ storeRootBlocks N w h r v
+    pub root-changed-blocks : {n : ℕ} → n ≡ putRootBlocks N w (withCounts counts h) r v → n ≡ storeRootBlocks N w h r v
     unfolding storeRootBlocks
-    root-changed-blocks n e =
-        e ∙ ap (λ (x : List ℕ). putRootBlocks N w (lentMemory a b x cells roots waiting sections) r v) up ∙ changed (getD roots r 0) v _ _ other
+    root-changed-blocks e =
+        e ∙ ap (λ (x : List ℕ). putRootBlocks N w (withCounts x h) r v) up ∙ changed (getD (h .roots) r 0) v _ _ other

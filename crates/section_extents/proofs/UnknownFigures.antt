@@ -39,9 +39,9 @@ pub record Sections (N i n first last : ℕ) : Type 0 where
   pub ends : i + n ≤ (last + 1) * sectionLength N
 
 pub sections-of :
-    (N i n first last : ℕ) → isBlocks N ≡ true → 1 ≤ n → i + n ≤ N → first ≡ i / sectionLength N → last ≡ (i + n - 1) / sectionLength N
+    {N i n first last : ℕ} → isBlocks N ≡ true → 1 ≤ n → i + n ≤ N → first ≡ i / sectionLength N → last ≡ (i + n - 1) / sectionLength N
     → Sections N i n first last
-sections-of N i n first last blocks some inside f l =
+sections-of {N} {i} {n} {first} {last} blocks some inside f l =
     let size = section-size N blocks in
     let L : ℕ = sectionLength N in
     let positive : 0 < L = omega (arith, size .large) in
@@ -67,13 +67,13 @@ pub record Forgetting (first s : ℕ) (sections after : List ℕ) : Type 0 where
   pub gone : (j : ℕ) → first ≤ j → j < s → getD after j 0 ≡ 65535
   pub rest : (j : ℕ) → (j < first) ⊎ (s ≤ j) → getD after j 0 ≡ getD sections j 0
 
-pub forgetting-start : (first : ℕ) (sections : List ℕ) → Forgetting first first sections sections
-forgetting-start first sections = record { same-length = refl; gone = λ j l u. absurd (omega arith); rest = λ j o. refl }
+pub forgetting-start : {first : ℕ} {sections : List ℕ} → Forgetting first first sections sections
+forgetting-start = record { same-length = refl; gone = λ j l u. absurd (omega arith); rest = λ j o. refl }
 
 pub forgetting-next :
-    (first s : ℕ) (sections after : List ℕ) → Forgetting first s sections after → first ≤ s → s < length after
+    {first s : ℕ} {sections after : List ℕ} → Forgetting first s sections after → first ≤ s → s < length after
     → Forgetting first (s + 1) sections (set after s 65535)
-forgetting-next first s sections after f low inside = record {
+forgetting-next {s = s} {after = after} f low inside = record {
   same-length = length-set after s 65535 ∙ f .same-length;
   gone = λ j l u. elim (ℕ-discrete j s) [
     | yes e ↦ ap (λ (x : ℕ). getD (set after s 65535) x 0) e ∙ getD-set-same after s 65535 0 inside
@@ -86,9 +86,9 @@ forgetting-next first s sections after f low inside = record {
 }
 
 pub forgotten :
-    (N i n first last s : ℕ) (sections after : List ℕ) → Sections N i n first last → Forgetting first s sections after → s ≡ last + 1
+    {N i n first last s : ℕ} {sections after : List ℕ} → Sections N i n first last → Forgetting first s sections after → s ≡ last + 1
     → Forgotten N i n sections after
-forgotten N i n first last s sections after at f e = record {
+forgotten {N} {first = first} {last = last} {s = s} at f e = record {
   same-length = f .same-length;
   each = λ t l. elim (decLt t first) [
     | yes u ↦ inr (f .rest t (inl u), inl (omega (arith, less (t + 1) first (omega arith), at .starts)))
@@ -106,10 +106,10 @@ forgotten N i n first last s sections after at f e = record {
 -- ---- bits of these blocks change
 
 pub coherent-filled :
-    (N i n v : ℕ) (a b sections after : List ℕ) → v < 2 → Coherent N a sections → Forgotten N i n sections after → b ≡ fillBits a i n v
+    {N i n v : ℕ} {a b sections after : List ℕ} → v < 2 → Coherent N a sections → Forgotten N i n sections after → b ≡ fillBits a i n v
     → Coherent N b after
 unfolding figure
-coherent-filled N i n v a b sections after bit c f filled = record {
+coherent-filled {N} {i} {n} {v} {a} {b} bit c f filled = record {
   blocks = c .blocks;
   length-is = f .same-length ∙ c .length-is;
   each = λ s l. elim (f .each s l) [
@@ -134,10 +134,10 @@ coherent-filled N i n v a b sections after bit c f filled = record {
 
 -- what the writing of these bits asks for
 pub extent-inside :
-    (N i n : ℕ) (a b sections : List ℕ)
+    {N n : ℕ} {a sections : List ℕ} (i : ℕ) (b : List ℕ)
     → Coherent N a sections × (length a ≡ N / 8) × (length b ≡ N / 8) × (1 ≤ n) × (i + n ≤ N)
     → (1 ≤ n) × (i + n ≤ 8 * length a) × (i + n ≤ 8 * length b) × (8 * length a < 2 ^ 64)
-extent-inside N i n a b sections pre =
+extent-inside {N} i b pre =
     let eighths = blocks-facts N (pre .0 .blocks) .2 in (
       pre .3,
       omega (arith, eighths, pre .1, pre .4),

@@ -18,10 +18,10 @@ module _ (old v : ℕ) {A : Type 0} (same other : A) where
 
 -- ---- whether it tells of an object that became stuck
 
-pub sticks-present : (N w : ℕ) (counts : List ℕ) (old v : ℕ) → old ≡ v → false ≡ storeSticks N w counts old v
+pub sticks-present : (N w : ℕ) (counts : List ℕ) {old v : ℕ} → old ≡ v → false ≡ storeSticks N w counts old v
 unfolding storeSticks
-sticks-present N w counts old v e = rw (eq-eqb old v e)
+sticks-present N w counts {old} {v} e = rw (eq-eqb old v e)
 
-pub sticks-changed : (N w : ℕ) (counts : List ℕ) (old v : ℕ) → old ≢ v → sticks N w counts v ≡ storeSticks N w counts old v
+pub sticks-changed : (N w : ℕ) (counts : List ℕ) {old v : ℕ} → old ≢ v → sticks N w counts v ≡ storeSticks N w counts old v
 unfolding storeSticks
-sticks-changed N w counts old v n = rw (ne-eqb old v n)
+sticks-changed N w counts {old} {v} n = rw (ne-eqb old v n)

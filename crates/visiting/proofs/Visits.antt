@@ -17,21 +17,21 @@ use Rattle.counting.specs.Stack.{topFirst, uncounted, remaining, Stack, Worked}
 use Rattle.counting.proofs.Worked.{unchanged, kept, push-room, pushed, worked-next}
 use Rattle.visiting.specs.Visit.{visit, visitEach}
 
-module _ (N w : ℕ) (counts waiting : List ℕ) (v top : ℕ) (p : Planes N w counts) (s : Stack uncounted N w counts waiting top) where
-  -- what a visit has to leave
-  abbrev Visited : List ℕ → List ℕ → ℕ → Type 0
-  Visited counts′ waiting′ top′ =
-      Worked uncounted N w (visit N w (work counts (topFirst waiting top)) v) (remaining uncounted N w counts top) counts′ waiting′ top′
+-- what a visit of v has to leave
+abbrev Visited : (N w : ℕ) → (counts waiting : List ℕ) → (top v : ℕ) → (counts′ waiting′ : List ℕ) → (top′ : ℕ) → Type 0
+Visited N w counts waiting top v counts′ waiting′ top′ =
+    Worked uncounted N w (visit N w (work counts (topFirst waiting top)) v) (remaining uncounted N w counts top) counts′ waiting′ top′
 
-  pub visit-none : v ≡ 0 → Visited counts waiting top
+module _ {N w : ℕ} {counts waiting : List ℕ} {top v : ℕ} (p : Planes N w counts) (s : Stack uncounted N w counts waiting top) where
+  pub visit-none : v ≡ 0 → Visited N w counts waiting top v counts waiting top
   unfolding visit
-  visit-none e = unchanged _ N w counts waiting top p s _ (rw (eq-eqb v 0 e, visit))
+  visit-none e = unchanged p s (rw (eq-eqb v 0 e, visit))
 
-  pub visit-past : v ≢ 0 → N < v → Visited counts waiting top
+  pub visit-past : v ≢ 0 → N < v → Visited N w counts waiting top v counts waiting top
   unfolding visit
-  visit-past named past = unchanged _ N w counts waiting top p s _ (rw (ne-eqb v 0 named, lt-ltb N v past, visit))
+  visit-past named past = unchanged p s (rw (ne-eqb v 0 named, lt-ltb N v past, visit))
 
-  module _ (within : v ≤ N) (named : v ≢ 0) (count : ℕ) (reads : count ≡ countAt (N / 8) w counts (v - 1)) where
+  module _ (within : v ≤ N) (named : v ≢ 0) {count : ℕ} (reads : count ≡ countAt (N / 8) w counts (v - 1)) where
     count-goes-up : count ≢ capacity w → countUp N w counts v ≡ setCount (N / 8) w counts (v - 1) (count + 1)
     unfolding countUp
     count-goes-up d = rw (ne-eqb v 0 named, ← reads, ne-eqb count (capacity w) d, countUp, ← reads)
@@ -57,32 +57,34 @@ module _ (N w : ℕ) (counts waiting : List ℕ) (v top : ℕ) (p : Planes N w c
       fits = omega (arith, pow-mono {i = 1} {j = w} (p .some))
 
       pub room-to-push : top < N
-      room-to-push = omega (arith, push-room _ N w counts waiting top p s (v - 1) 1 (omega arith) fits _ refl none refl, s .length-is)
+      room-to-push = omega (arith, push-room p s (v - 1) 1 (omega arith) fits refl none refl, s .length-is)
 
-      pub visit-first : (counts′ : List ℕ) → counts′ ≡ setCount (N / 8) w counts (v - 1) 1 → Visited counts′ (set waiting top (v - 1)) (top + 1)
-      visit-first counts′ e =
+      pub visit-first : {counts′ : List ℕ} → counts′ ≡ setCount (N / 8) w counts (v - 1) 1
+          → Visited N w counts waiting top v counts′ (set waiting top (v - 1)) (top + 1)
+      visit-first e =
           let up = count-goes-up (λ full. omega (arith, fits)) in
           let one-is : count + 1 ≡ 1 = omega arith in
-          pushed _ N w counts waiting top p s (v - 1) 1 (omega arith) fits counts′ e none refl _ (cc (pushes (topFirst waiting top) z))
+          pushed p s (v - 1) 1 (omega arith) fits e none refl (cc (pushes (topFirst waiting top) z))
 
-    pub visit-again : count ≢ 0 → (most : ℕ) → most ≡ capacity w → count < most → (counts′ : List ℕ) → counts′ ≡ setCount (N / 8) w counts (v - 1) (count + 1)
-        → Visited counts′ waiting top
-    visit-again n most most-is below counts′ e =
+    pub visit-again : count ≢ 0 → {most : ℕ} → most ≡ capacity w → count < most → {counts′ : List ℕ} → counts′ ≡ setCount (N / 8) w counts (v - 1) (count + 1)
+        → Visited N w counts waiting top v counts′ waiting top
+    visit-again n most-is below e =
         let up = count-goes-up (λ full. omega arith) in
         let some = ne-eqb (count + 1) 0 (λ d. omega arith) ∙ sym (ne-eqb (countAt (N / 8) w counts (v - 1)) 0 (λ d. n (reads ∙ d))) in
-        kept _ N w counts waiting top p s (v - 1) (count + 1) (omega arith) (omega arith) counts′ e some _ (cc (keeps (topFirst waiting top) n))
+        kept p s (v - 1) (count + 1) (omega arith) (omega arith) e some (cc (keeps (topFirst waiting top) n))
 
-    pub visit-stuck : count ≢ 0 → (most : ℕ) → most ≡ capacity w → most ≤ count → count < 2 ^ w → Visited counts waiting top
-    visit-stuck n most most-is full fits =
+    pub visit-stuck : count ≢ 0 → {most : ℕ} → most ≡ capacity w → most ≤ count → count < 2 ^ w
+        → Visited N w counts waiting top v counts waiting top
+    visit-stuck n most-is full fits =
         let stays = count-stays (omega arith) in
-        unchanged _ N w counts waiting top p s _ (cc (keeps (topFirst waiting top) n))
+        unchanged p s (cc (keeps (topFirst waiting top) n))
 
 -- one visit more
-pub marking-more : (N w : ℕ) (s : Work) (refs : List ℕ) (j n left : ℕ) (counts waiting : List ℕ) (top : ℕ) (counts′ waiting′ : List ℕ) (top′ : ℕ)
+pub marking-more : {N w left top top′ : ℕ} {counts waiting counts′ waiting′ : List ℕ} (s : Work) (refs : List ℕ) (j n : ℕ)
     → Worked uncounted N w (visitEach N w s refs j n) left counts waiting top
-    → Worked uncounted N w (visit N w (work counts (topFirst waiting top)) (getD refs (j + n) 0)) (remaining uncounted N w counts top) counts′ waiting′ top′
+    → Visited N w counts waiting top (getD refs (j + n) 0) counts′ waiting′ top′
     → Worked uncounted N w (visitEach N w s refs j (n + 1)) left counts′ waiting′ top′
 unfolding visitEach
-marking-more N w s refs j n left counts waiting top counts′ waiting′ top′ =
-    worked-next uncounted N w counts waiting top _ _ (λ x. visit N w x (getD refs (j + n) 0)) left counts′ waiting′ top′
+marking-more {N} {w} s refs j n =
+    worked-next (λ x. visit N w x (getD refs (j + n) 0))
     (sym (ap (λ (k : ℕ). visitEach N w s refs j k) (add-one n)))

@@ -4,13 +4,16 @@ use mathlib.Core.Path.{refl, _∙_}
 use native.Mathlib.Omega.{arith}
 use lib.ListN.{length-set}
 use borrow.Author.Needs.{needs}
-use Rattle.counting.proofs.Shapes.{planes-same, extents-cell}
+use Rattle.counting.proofs.Shapes.{memoryOf, planes-same, extents-cell}
 use Rattle.stores.proofs.Presence.{sticks-present, sticks-changed}
 use Rattle.cell_stores.proofs.CellSteps.{cell-present, cell-present-blocks, cell-changed, cell-changed-blocks}
 use Rattle.cell_stores.proofs.store_cell.Statement.{statement}
 use Rattle.cell_stores.proofs.store_cell.Tie as tie
 
--- the places: counted up, and the old object let go
+-- the places: the entry, counted up, and the old object let go
+abbrev start : tie.After-count-up → tie.Start
+start c = c .before .before .before .before .before .before .before .before .before .before .before
+
 abbrev up : tie.After-let-go → tie.After-count-up
 up c = c .before .before .before .before .before .before .before .before .before
 
@@ -27,9 +30,9 @@ returns : tie.Need-returns
 returns c =
     let ready = c .before .before .before .before .before .before .before .before .before .pre .0 in
     let same = c .if1 .taken in (
-      cell-present _ _ _ _ _ _ _ _ _ _ _ same,
-      cell-present-blocks _ _ _ _ _ _ _ _ _ _ _ same,
-      sticks-present _ _ _ _ _ same,
+      cell-present _ _ (memoryOf ready) _ same,
+      cell-present-blocks _ _ (memoryOf ready) _ same,
+      sticks-present _ _ _ same,
       record { coherent = ready .coherent; untouched = λ _. (refl, refl) },
     )
 
@@ -46,8 +49,8 @@ let-go-requires : tie.Need-let-go-requires
 let-go-requires c κs =
     let start = c .before .before .before .before .before .before .before .before .before .before .before .before .before .before .before .before .before .before .before in
     let ready = start .pre .0 in (
-      planes-same _ _ _ _ (ready .planes) (omega arith),
-      extents-cell _ _ _ _ (start .args .c) _ (ready .extents),
+      planes-same (ready .planes) (omega arith),
+      extents-cell (start .args .c) _ (ready .extents),
       ready .idle,
       ready .coherent,
     )
@@ -60,10 +63,11 @@ same-length-4 c =
 returns-2 : tie.Need-returns-2
 returns-2 c =
     let counted = up (gone c) .count-up .ensures in
-    let other = up (gone c) .before .before .if1 .left in (
-      cell-changed _ _ _ _ _ _ _ _ _ _ _ other _ (counted .0) _ _ _ _ _ (gone c .let-go .ensures .0),
-      cell-changed-blocks _ _ _ _ _ _ _ _ _ _ _ other _ (counted .0) _ (gone c .let-go .ensures .1),
-      counted .1 ∙ sticks-changed _ _ _ _ _ other,
+    let other = up (gone c) .before .before .if1 .left in
+    let h = memoryOf (start (up (gone c)) .pre .0) in (
+      cell-changed _ _ h _ other (counted .0) (gone c .let-go .ensures .0),
+      cell-changed-blocks _ _ h _ other (counted .0) (gone c .let-go .ensures .1),
+      counted .1 ∙ sticks-changed _ _ _ other,
       gone c .let-go .ensures .2,
     )
 

@@ -1,6 +1,6 @@
 -- `collector::collect` meets its contract: a marking of some buffers and a sweep of others are the collection of all.
 use borrow.Author.Needs.{needs}
-use Rattle.counting.proofs.Shapes.{planes-same}
+use Rattle.counting.proofs.Shapes.{memoryOf, planes-same}
 use Rattle.collector.proofs.Collects.{collected-memory, collected-blocks}
 use Rattle.collector.proofs.collect.Statement.{statement}
 use Rattle.collector.proofs.collect.Tie as tie
@@ -20,10 +20,8 @@ mark-requires c κs = search needs
 
 sweep-requires : tie.Need-sweep-requires
 sweep-requires c κs =
-    let m = c .before .before .before .before .before .before .before .before .before in
-    let s = m .before .before .before .before .before .before .before .before .before .before .before .before in
-    let ready = s .pre in (
-      planes-same _ _ _ _ (ready .planes) (search needs),
+    let ready = start (c .before .before .before .before .before .before .before .before .before) .pre in (
+      planes-same (ready .planes) (search needs),
       ready .extents .a-length,
       ready .extents .b-length,
       ready .extents .cells-length,
@@ -32,11 +30,11 @@ sweep-requires c κs =
 
 returns : tie.Need-returns
 returns c =
-    let idle = start (marked (swept c)) .pre .idle in
+    let ready = start (marked (swept c)) .pre in
     let counts = marked (swept c) .mark .ensures in
     let sweeping = swept c .sweep .ensures in (
-      collected-memory _ _ _ _ _ _ _ _ _ idle _ _ (counts .0) (counts .1) _ _ _ (sweeping .0),
-      collected-blocks _ _ _ _ _ _ _ _ _ idle _ _ (counts .0) (counts .1) _ (sweeping .1),
+      collected-memory _ _ (memoryOf ready) (ready .idle) (counts .0) (counts .1) (sweeping .0),
+      collected-blocks _ _ (memoryOf ready) (ready .idle) (counts .0) (counts .1) (sweeping .1),
       sweeping .2,
     )
 

@@ -5,7 +5,7 @@ use Rattle.counting.proofs.count_up.Statement.{statement}
 use Rattle.counting.proofs.count_up.Tie as tie
 
 returns : tie.Need-returns
-returns c = up-none _ _ _ _ (c .if1 .taken)
+returns c = up-none _ _ _ (c .if1 .taken)
 
 sub-block : tie.Need-sub-block
 sub-block c = search needs
@@ -21,7 +21,7 @@ same-length c = search needs
 
 returns-2 : tie.Need-returns-2
 returns-2 c =
-    up-stuck _ _ _ _ _ _ (c .before .before .before .before .if1 .left) (c .before .before .get-count .ensures .0)
+    up-stuck _ _ _ (c .before .before .before .before .if1 .left) (c .before .before .get-count .ensures .0)
     (c .before .capacity-of .ensures .0) (c .if2 .taken)
 
 add-set-count : tie.Need-add-set-count
@@ -39,8 +39,8 @@ same-length-2 c = search needs
 returns-3 : tie.Need-returns-3
 returns-3 c =
     let at-test = c .before .before .before .before in
-    up-more _ _ _ _ _ _ (at-test .before .before .before .before .if1 .left) (at-test .before .before .get-count .ensures .0)
-    (at-test .before .capacity-of .ensures .0) (at-test .if2 .left) _ (c .before .before .set-count .ensures)
+    up-more _ _ _ (at-test .before .before .before .before .if1 .left) (at-test .before .before .get-count .ensures .0)
+    (at-test .before .capacity-of .ensures .0) (at-test .if2 .left) (c .before .before .set-count .ensures)
 
 pub count-up-spec : {M : Type 1} → statement M
 count-up-spec =

@@ -19,12 +19,12 @@ at-count c = c .before .before .before
 returns : tie.Need-returns
 returns c =
     let pre = c .before .before .before .pre in
-    down-none _ _ _ _ _ _ (pre .0) (pre .1) (c .if1 .taken)
+    down-none (pre .0) (pre .1) (c .if1 .taken)
 
 returns-2 : tie.Need-returns-2
 returns-2 c =
     let pre = start (c .before) .pre in
-    down-past _ _ _ _ _ _ (pre .0) (pre .1) (c .before .if1 .left) (c .if2 .taken)
+    down-past (pre .0) (pre .1) (c .before .if1 .left) (c .if2 .taken)
 
 sub-block : tie.Need-sub-block
 sub-block c = search needs
@@ -40,7 +40,7 @@ returns-3 c =
     let named = some (c .before) in
     let pre = start named .pre in
     let zero-there = sym (c .before .get-count .ensures .0) ∙ c .if3 .taken in
-    down-zero _ _ _ _ _ _ (pre .0) (pre .1) (named .if1 .left) (omega arith) zero-there
+    down-zero (pre .0) (pre .1) (named .if1 .left) (omega arith) zero-there
 
 capacity-of-requires : tie.Need-capacity-of-requires
 capacity-of-requires c κs = search needs
@@ -52,7 +52,7 @@ returns-4 : tie.Need-returns-4
 returns-4 c =
     let count = c .before .before .before in
     let pre = start (some count) .pre in
-    down-stuck _ _ _ _ _ _ (pre .0) (pre .1) _ _ (omega arith)
+    down-stuck (pre .0) (pre .1) (omega arith)
     (some count .if1 .left) (count .get-count .ensures .0) (c .before .capacity-of .ensures .0) (c .if4 .taken)
 
 sub-set-count : tie.Need-sub-set-count
@@ -71,8 +71,8 @@ lowered-here c =
     let at-test = c .before .before .before .before in
     let count = at-count at-test in
     let pre = start (some count) .pre in
-    lowered _ _ _ _ _ _ (pre .0) (pre .1) _ _ (omega arith) (some count .if1 .left)
-    (count .get-count .ensures .0) (at-test .before .capacity-of .ensures .0) _ (c .before .before .set-count .ensures)
+    lowered (pre .0) (pre .1) (omega arith) (some count .if1 .left)
+    (count .get-count .ensures .0) (at-test .before .capacity-of .ensures .0) (c .before .before .set-count .ensures)
     (at-test .before .before .if3 .left) (at-test .if4 .left)
 
 sub-waiting : tie.Need-sub-waiting

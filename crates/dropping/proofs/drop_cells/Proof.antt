@@ -77,7 +77,7 @@ loop-again c =
     let args = start (l .before) .args in (
       omega arith,
       ap (λ (x : List ℕ). set x (args .j + l .loop .i) 0) (inv .1) ∙ clear-more (args .cells .now) (args .j) (l .loop .i),
-      each-more _ _ _ _ _ (l .loop .i) _ _ _ _ _ _ _ _ (inv .1) (inv .2) (called .count-down .ensures),
+      each-more _ _ _ (l .loop .i) (inv .1) (inv .2) (called .count-down .ensures),
     )
 
 same-length : tie.Need-same-length Inv-loop μ-loop

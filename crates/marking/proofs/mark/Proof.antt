@@ -18,7 +18,7 @@ visit-each-requires : tie.Need-visit-each-requires
 visit-each-requires c κs =
     let f = c .before .before .before .before in
     let s = f .before .before .before .before .before .before .before in
-    (planes-same _ _ _ _ (s .pre .0) (omega arith), stack-empty _ _ _ _ _ (s .pre .3), omega arith)
+    (planes-same (s .pre .0) (omega arith), stack-empty (s .pre .3), omega arith)
 
 scan-all-requires : tie.Need-scan-all-requires
 scan-all-requires c κs = search needs
@@ -37,7 +37,7 @@ returns c =
     let f = v .before .before .before .before .before in
     let s = f .before .before .before .before .before .before .before in
     let cleared = f .fill-bytes .ensures ∙ ap (λ (k : ℕ). replicate k 0) (s .pre .0 .length-is) in
-    (a .scan-all .ensures .0 ∙ mark-parts _ _ _ _ _ _ _ _ cleared (v .visit-each .ensures .result), a .scan-all .ensures .1)
+    (a .scan-all .ensures .0 ∙ mark-parts _ _ _ cleared (v .visit-each .ensures .result), a .scan-all .ensures .1)
 
 pub mark-spec : {M : Type 1} → statement M
 mark-spec =

@@ -25,7 +25,7 @@ abbrev μ-loop : tie.MeasureT-loop
 loop-holds : tie.Need-loop-holds Inv-loop μ-loop
 loop-holds c =
     let s = c .before .before .before .before in
-    (s .pre .0, s .pre .1, leading-start _ _ _ _ _ _ (s .pre .1))
+    (s .pre .0, s .pre .1, leading-start (s .pre .1))
 
 sub-t : tie.Need-sub-t Inv-loop μ-loop
 sub-t c = omega arith
@@ -59,7 +59,7 @@ mul-visit-each-2 c = omega arith
 visit-each-requires : tie.Need-visit-each-requires Inv-loop μ-loop
 visit-each-requires c κs =
     let l = c .before .before .before .before .before in
-    (l .loop .inv .0, stack-pop _ _ _ _ _ _ (omega arith) (l .loop .inv .1), omega arith)
+    (l .loop .inv .0, stack-pop (omega arith) (l .loop .inv .1), omega arith)
 
 loop-less : tie.Need-loop-less Inv-loop μ-loop
 loop-less c =
@@ -71,7 +71,7 @@ loop-again c =
     let l = r .before .before .before .before .before .before in
     let m = r .visit-each .ensures in
     let size = r .before .before .before .object-size .ensures .0 in
-    (m .planes, m .stack, leading-next _ _ _ _ _ _ _ (l .loop .inv .2) (omega arith) _ size _ _ _ m)
+    (m .planes, m .stack, leading-next (l .loop .inv .2) (omega arith) size m)
 
 same-length : tie.Need-same-length Inv-loop μ-loop
 same-length c = omega arith
@@ -83,7 +83,7 @@ returns : tie.Need-returns Inv-loop μ-loop
 returns c =
     let l = c .before in
     let empty : l .loop .t ≡ 0 = omega arith in
-    (leading-done _ _ _ _ _ _ _ (l .loop .inv .2) empty, stack-emptied _ _ _ _ _ (rw empty at (l .loop .inv .1)))
+    (leading-done (l .loop .inv .2) empty, stack-emptied (rw empty at (l .loop .inv .1)))
 
 pub scan-all-spec : {M : Type 1} → statement M
 scan-all-spec =

@@ -4,6 +4,7 @@ use Prim.Native.Nat.{ℕ}
 use native.Mathlib.Omega.{arith}
 use lib.Dec.{eqb}
 use borrow.Author.Needs.{needs}
+use Rattle.counting.proofs.Shapes.{memoryOf}
 use Rattle.placement.proofs.PlacingSteps.{ready-placed, place-done, place-blocks}
 use Rattle.placement.proofs.place.Statement.{statement}
 use Rattle.placement.proofs.place.Tie as tie
@@ -56,7 +57,7 @@ put-root-requires c κs =
     let count = counted clear in
     let extent = marked count .mark-extent .ensures in
     let pre = start (marked count) .pre in (
-      ready-placed _ _ _ _ _ _ _ _ _ _ _ _ _ _ _ (extent .0) (extent .1) (count .set-count .ensures) (clear .clear-cells .ensures) _ (extent .2) (pre .0),
+      ready-placed _ _ (memoryOf (pre .0)) _ _ (extent .0) (extent .1) (count .set-count .ensures) (clear .clear-cells .ensures) (extent .2) (pre .0),
       pre .3,
     )
 
@@ -65,10 +66,11 @@ returns c =
     let clear = cleared (put c .before) in
     let count = counted clear in
     let extent = marked count .mark-extent .ensures in
+    let h = memoryOf (start (marked count) .pre .0) in
     let counts = count .set-count .ensures in
     let cells = clear .clear-cells .ensures in (
-      place-done _ _ _ _ _ _ _ _ _ _ _ _ _ _ _ (extent .0) (extent .1) counts cells _ _ (put c .put-root .ensures .0 _),
-      place-blocks _ _ _ _ _ _ _ _ _ _ _ _ _ _ _ (extent .0) (extent .1) counts cells _ _ (put c .put-root .ensures .1 _),
+      place-done _ _ h _ _ (extent .0) (extent .1) counts cells _ (put c .put-root .ensures .0 _),
+      place-blocks _ _ h _ _ (extent .0) (extent .1) counts cells _ (put c .put-root .ensures .1 _),
       ap (λ (most : ℕ). eqb most 1) (marked count .before .before .before .before .capacity-of .ensures .0),
       put c .put-root .ensures .2 .coherent,
     )

@@ -20,7 +20,7 @@ freed c = c .before .before .before .before .before .before .before .before .bef
 count-down-requires : tie.Need-count-down-requires
 count-down-requires c κs =
     let pre = start c .pre in
-    (pre .0, stack-empty _ _ _ _ _ (pre .2))
+    (pre .0, stack-empty (pre .2))
 
 release-all-requires : tie.Need-release-all-requires
 release-all-requires c κs = search needs
@@ -29,8 +29,8 @@ returns : tie.Need-returns
 returns c =
     let down = counted (freed c) .count-down .ensures .result in
     let released = freed c .release-all .ensures in (
-      let-go-done _ _ _ _ _ _ _ _ _ _ _ down _ _ _ _ _ (released .0) (start (counted (freed c) .before) .pre .2) (released .2),
-      let-go-blocks-done _ _ _ _ _ _ _ _ _ _ _ down _ (released .1),
+      let-go-done _ _ _ _ down (released .0) (start (counted (freed c) .before) .pre .2) (released .2),
+      let-go-blocks-done _ _ _ _ down (released .1),
       released .3,
     )
 

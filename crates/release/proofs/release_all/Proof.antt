@@ -45,7 +45,7 @@ dropped c = c .before .before .before .before .before .before
 loop-holds : tie.Need-loop-holds Inv-loop μ-loop
 loop-holds c =
     let pre = start c .pre in
-    (releasing-start _ _ _ _ _ _ _ _ (pre .0) (pre .1) (pre .2), record { coherent = pre .3; untouched = λ _. (refl, refl) })
+    (releasing-start (pre .0) (pre .1) (pre .2), record { coherent = pre .3; untouched = λ _. (refl, refl) })
 
 sub-t : tie.Need-sub-t Inv-loop μ-loop
 sub-t c = omega arith
@@ -97,7 +97,7 @@ drop-cells-requires c κs =
     let l = test .before .loop in
     let size = found .object-size .ensures in (
       l .inv .0 .planes,
-      stack-pop _ _ _ _ _ (l .t) (test .loop-test .taken) (l .inv .0 .stack),
+      stack-pop (test .loop-test .taken) (l .inv .0 .stack),
       omega (arith, l .inv .0 .extents .cells-length),
     )
 
@@ -122,7 +122,7 @@ loop-again c =
     let size = sized clear .object-size .ensures in
     let extent = clear .clear-extent .ensures in
     let cells = dropped c .drop-cells .ensures in (
-      releasing-step _ _ _ _ _ _ _ _ _ (l .t) _ _ _ _ _ _ _ _ _ (test .loop-test .taken) refl (size .0) (size .2)
+      releasing-step (test .loop-test .taken) refl (size .0) (size .2)
           (extent .0) (extent .1) (cells .1) (cells .0) (l .inv .0),
       record { coherent = extent .2; untouched = λ none. absurd (omega (arith, none, size .1)) },
     )
@@ -150,9 +150,9 @@ returns c =
     let kept = c .before .loop .inv in
     let inv = kept .0 in
     let none : c .before .loop .t ≡ 0 = omega arith in (
-      releasing-done _ _ _ _ _ _ _ _ _ _ _ inv none,
-      blocks-done _ _ _ _ _ _ _ _ _ _ _ inv none,
-      waiting-done _ _ _ _ _ _ _ _ _ _ _ inv none,
+      releasing-done inv none,
+      blocks-done inv none,
+      waiting-done inv none,
       kept .1,
     )
 

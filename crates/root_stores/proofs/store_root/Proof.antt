@@ -2,12 +2,16 @@
 use mathlib.Core.Path.{refl, _∙_}
 use native.Mathlib.Omega.{arith}
 use borrow.Author.Needs.{needs}
+use Rattle.counting.proofs.Shapes.{memoryOf}
 use Rattle.stores.proofs.Presence.{sticks-present, sticks-changed}
 use Rattle.root_stores.proofs.RootSteps.{ready-counts, root-present, root-present-blocks, root-changed, root-changed-blocks}
 use Rattle.root_stores.proofs.store_root.Statement.{statement}
 use Rattle.root_stores.proofs.store_root.Tie as tie
 
--- the places: counted up, and the root written
+-- the places: the entry, counted up, and the root written
+abbrev start : tie.After-count-up → tie.Start
+start c = c .before .before .before .before .before .before .before .before .before .before .before
+
 abbrev up : tie.After-put-root → tie.After-count-up
 up c = c .before .before .before .before .before .before .before .before .before .before
 
@@ -24,9 +28,9 @@ returns : tie.Need-returns
 returns c =
     let ready = c .before .before .before .before .before .before .before .before .before .pre .0 in
     let same = c .if1 .taken in (
-      root-present _ _ _ _ _ _ _ _ _ _ _ same,
-      root-present-blocks _ _ _ _ _ _ _ _ _ _ _ same,
-      sticks-present _ _ _ _ _ same,
+      root-present _ _ (memoryOf ready) _ same,
+      root-present-blocks _ _ (memoryOf ready) _ same,
+      sticks-present _ _ _ same,
       record { coherent = ready .coherent; untouched = λ _. (refl, refl) },
     )
 
@@ -36,15 +40,16 @@ count-up-requires c κs = search needs
 put-root-requires : tie.Need-put-root-requires
 put-root-requires c κs =
     let pre = c .before .before .before .before .before .before .before .before .before .before .before .before .before .before .before .before .before .before .before .before .pre in
-    (ready-counts _ _ _ _ _ _ _ _ _ _ (omega arith) (pre .0), pre .1)
+    (ready-counts (omega arith) (pre .0), pre .1)
 
 returns-2 : tie.Need-returns-2
 returns-2 c =
     let counted = up (put c) .count-up .ensures in
-    let other = up (put c) .before .before .if1 .left in (
-      root-changed _ _ _ _ _ _ _ _ _ _ _ other _ (counted .0) _ (put c .put-root .ensures .0 _),
-      root-changed-blocks _ _ _ _ _ _ _ _ _ _ _ other _ (counted .0) _ (put c .put-root .ensures .1 _),
-      counted .1 ∙ sticks-changed _ _ _ _ _ other,
+    let other = up (put c) .before .before .if1 .left in
+    let h = memoryOf (start (up (put c)) .pre .0) in (
+      root-changed _ _ h _ other (counted .0) (put c .put-root .ensures .0 _),
+      root-changed-blocks _ _ h _ other (counted .0) (put c .put-root .ensures .1 _),
+      counted .1 ∙ sticks-changed _ _ _ other,
       put c .put-root .ensures .2,
     )
 

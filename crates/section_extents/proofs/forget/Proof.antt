@@ -32,10 +32,10 @@ section-of-requires-2 c κs = omega (arith, c .before .before .pre .2, c .before
 loop-holds : tie.Need-loop-holds Inv-loop μ-loop
 loop-holds c =
     let s = c .before .before .before in (
-      sections-of _ _ _ _ _ (s .pre .0) (s .pre .2) (s .pre .3) (c .section-of2 .ensures) (c .before .section-of .ensures),
-      forgetting-start _ _,
+      sections-of (s .pre .0) (s .pre .2) (s .pre .3) (c .section-of2 .ensures) (c .before .section-of .ensures),
+      forgetting-start,
       omega arith,
-      omega (arith, sections-of _ _ _ _ _ (s .pre .0) (s .pre .2) (s .pre .3) (c .section-of2 .ensures) (c .before .section-of .ensures) .upward),
+      omega (arith, sections-of (s .pre .0) (s .pre .2) (s .pre .3) (c .section-of2 .ensures) (c .before .section-of .ensures) .upward),
     )
 
 mul-sections : tie.Need-mul-sections Inv-loop μ-loop
@@ -56,7 +56,7 @@ loop-again : tie.Need-loop-again Inv-loop μ-loop
 loop-again c =
     let inv = c .before .loop .inv in (
       inv .0,
-      forgetting-next _ _ _ _ (inv .1) (inv .2) (omega (arith, inv .0 .below, inv .1 .same-length, start c .pre .1)),
+      forgetting-next (inv .1) (inv .2) (omega (arith, inv .0 .below, inv .1 .same-length, start c .pre .1)),
       omega (arith, inv .2),
       omega arith,
     )
@@ -67,7 +67,7 @@ same-length c = c .before .loop .inv .1 .same-length
 returns : tie.Need-returns Inv-loop μ-loop
 returns c =
     let inv = c .before .loop .inv in
-    forgotten _ _ _ _ _ _ _ _ (inv .0) (inv .1) (omega (arith, inv .3))
+    forgotten (inv .0) (inv .1) (omega (arith, inv .3))
 
 pub forget-spec : {M : Type 1} → statement M
 forget-spec =

@@ -55,8 +55,8 @@ loop-again c =
       omega arith,
       omega arith,
       omega arith,
-      sweep-next _ _ _ _ _ (v .4) _ (swept .sweep-one .ensures .0),
-      sweep-blocks-next _ _ _ _ _ (v .4) _ _ (v .5) (swept .sweep-one .ensures .1),
+      sweep-next _ _ _ _ (v .4) (swept .sweep-one .ensures .0),
+      sweep-blocks-next _ _ _ _ (v .4) (v .5) (swept .sweep-one .ensures .1),
       omega arith,
       swept .sweep-one .ensures .3,
     )

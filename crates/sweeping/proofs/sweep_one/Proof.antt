@@ -24,7 +24,7 @@ is-first-requires : tie.Need-is-first-requires
 is-first-requires c κs = search needs
 
 returns : tie.Need-returns
-returns c = sweep-not-first _ _ _ _ _ (start (c .before) .pre .5) (sym (c .before .is-first .ensures) ∙ not-true _ (c .if1 .taken))
+returns c = sweep-not-first _ _ _ _ (start (c .before) .pre .5) (sym (c .before .is-first .ensures) ∙ not-true _ (c .if1 .taken))
 
 get-count-requires : tie.Need-get-count-requires
 get-count-requires c κs = search needs
@@ -32,7 +32,7 @@ get-count-requires c κs = search needs
 returns-2 : tie.Need-returns-2
 returns-2 c =
     let first = c .before .before in
-    sweep-marked _ _ _ _ _ (start (first .before) .pre .5) (sym (first .before .is-first .ensures) ∙ not-false _ (first .if1 .left))
+    sweep-marked _ _ _ _ (start (first .before) .pre .5) (sym (first .before .is-first .ensures) ∙ not-false _ (first .if1 .left))
     (λ z. c .if2 .taken (c .before .get-count .ensures .0 ∙ z))
 
 object-size-requires : tie.Need-object-size-requires
@@ -56,8 +56,8 @@ returns-3 c =
     let first = unmarked .before .before in
     let size = sized (extent (emptied c)) .object-size .ensures in
     let cleared = extent (emptied c) .clear-extent .ensures in
-    sweep-unmarked _ _ _ _ _ _ _ _ (size .0) (size .2) (sym (first .before .is-first .ensures) ∙ not-false _ (first .if1 .left))
-    (sym (unmarked .before .get-count .ensures .0) ∙ unmarked .if2 .left) _ _ _ (cleared .0) (cleared .1) (emptied c .clear-cells .ensures) _
+    sweep-unmarked _ _ _ _ (size .0) (size .2) (sym (first .before .is-first .ensures) ∙ not-false _ (first .if1 .left))
+    (sym (unmarked .before .get-count .ensures .0) ∙ unmarked .if2 .left) (cleared .0) (cleared .1) (emptied c .clear-cells .ensures)
     (cleared .2)
 
 pub sweep-one-spec : {M : Type 1} → statement M

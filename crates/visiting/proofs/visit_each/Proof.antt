@@ -56,7 +56,7 @@ loop-again : tie.Need-loop-again Inv-loop μ-loop
 loop-again c =
     let r = c .before .before .before .before in
     let l = turn (r .before) in
-    (omega arith, marking-more _ _ _ _ _ _ _ _ _ _ _ _ _ (l .loop .inv .1) (r .visit-one .ensures))
+    (omega arith, marking-more _ _ _ _ (l .loop .inv .1) (r .visit-one .ensures))
 
 same-length : tie.Need-same-length Inv-loop μ-loop
 same-length c = omega arith

@@ -13,7 +13,7 @@ returns-2 : tie.Need-returns-2
 returns-2 c =
     let some = c .before in
     let start = some .before .before .before in
-    visit-past _ _ _ _ _ _ (start .pre .0) (start .pre .1) (some .if1 .left) (c .if2 .taken)
+    visit-past (start .pre .0) (start .pre .1) (some .if1 .left) (c .if2 .taken)
 
 sub-block : tie.Need-sub-block
 sub-block c = search needs
