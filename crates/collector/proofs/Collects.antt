@@ -3,7 +3,7 @@ use mathlib.Core.Path.{_≡_, refl, sym, ap, ap₂, _∙_}
 use mathlib.Core.List.{List, []}
 use Prim.Native.Nat.{ℕ, zero, suc, _+_}
 use lib.ListN.{replicate}
-use Rattle.rules.specs.Heap.{Memory, memory, withCounts, withWaiting, sizeAt}
+use Rattle.rules.specs.Heap.{Memory, memory, withA, withB, withCounts, withCells, withWaiting, sizeAt}
 use Rattle.rules.specs.Store.{freed}
 use Rattle.rules.proofs.Tests.{choose-both}
 use Rattle.rules.proofs.Unread.{beside}
@@ -13,16 +13,16 @@ use Rattle.sweeping.specs.Sweep.{isUnmarked, sweepOne, sweepOneBlocks, sweep, s
 use Rattle.collector.specs.Collection.{collectBy, collectBlocks}
 
 -- a sweep carries other roots, another waiting list and another list of sections along
-module _ (N w : ℕ) (roots waiting sections : List ℕ → List ℕ) where
-  sweep-beside : (h : Memory) (n : ℕ) → sweep N w (beside roots waiting sections h) n ≡ beside roots waiting sections (sweep N w h n)
+module _ (N w : ℕ) (other : Memory → Memory) where
+  sweep-beside : (h : Memory) (n : ℕ) → sweep N w (beside other h) n ≡ beside other (sweep N w h n)
   unfolding sweep sweepOne isUnmarked freed
   sweep-beside h zero = refl
   sweep-beside h (suc n) =
       let g = sweep N w h n in
       ap (λ (k : Memory). sweepOne N w k n) (sweep-beside h n)
-      ∙ choose-both (beside roots waiting sections) (isUnmarked N w g n) (freed N w g n (sizeAt N g n)) g refl refl
+      ∙ choose-both (beside other) (isUnmarked N w g n) (freed N w g n (sizeAt N g n)) g refl refl
 
-  blocks-beside : (h : Memory) (n : ℕ) → sweepBlocks N w (beside roots waiting sections h) n ≡ sweepBlocks N w h n
+  blocks-beside : (h : Memory) (n : ℕ) → sweepBlocks N w (beside other h) n ≡ sweepBlocks N w h n
   unfolding sweepBlocks sweepOneBlocks isUnmarked
   blocks-beside h zero = refl
   blocks-beside h (suc n) = ap₂ (λ (k : ℕ) (g : Memory). k + sweepOneBlocks N w g n) (blocks-beside h n) (sweep-beside h n)
@@ -34,9 +34,9 @@ module _ (N w : ℕ) (h : Memory) (idle : h .waiting ≡ replicate N 0) {counts 
   abbrev handed : Memory
   handed = memory (h .a) (h .b) counts (h .cells) [] []
 
-  -- what it leaves, with the other lists
+  -- h with what it leaves, and the waiting list that the marking leaves
   abbrev whole : Memory → Memory
-  whole g = beside (λ _. h .roots) (λ _. waiting) (λ _. h .sections) g
+  whole g = withA (g .a) (withB (g .b) (withCounts (g .counts) (withCells (g .cells) (withWaiting waiting h))))
 
   marked-memory : whole handed ≡ withCounts (markCounts N w h) h
   marked-memory t =
@@ -45,13 +45,9 @@ module _ (N w : ℕ) (h : Memory) (idle : h .waiting ≡ replicate N 0) {counts 
   pub collected-memory : {g : Memory} → g ≡ sweep N w handed N → whole g ≡ collectBy N w h
   unfolding collectBy
   collected-memory swept =
-      ap whole swept
-      ∙ sym (sweep-beside N w (λ _. h .roots) (λ _. waiting) (λ _. h .sections) handed N)
-      ∙ ap (λ (g : Memory). sweep N w g N) marked-memory
+      ap whole swept ∙ sym (sweep-beside N w whole handed N) ∙ ap (λ (g : Memory). sweep N w g N) marked-memory
 
   pub collected-blocks : {freed : ℕ} → freed ≡ sweepBlocks N w handed N → freed ≡ collectBlocks N w h
   unfolding collectBlocks
   collected-blocks swept =
-      swept
-      ∙ sym (blocks-beside N w (λ _. h .roots) (λ _. waiting) (λ _. h .sections) handed N)
-      ∙ ap (λ (g : Memory). sweepBlocks N w g N) marked-memory
+      swept ∙ sym (blocks-beside N w whole handed N) ∙ ap (λ (g : Memory). sweepBlocks N w g N) marked-memory

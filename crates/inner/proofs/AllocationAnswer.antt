@@ -5,7 +5,7 @@ use mathlib.Core.Option.{Option, some, Option·getD}
 use Prim.Native.Nat.{ℕ}
 use lib.ListN.{length}
 use Rattle.bitmap.specs.Bit.{one}
-use Rattle.rules.specs.Heap.{Memory, withSections, exponent, lowestFree}
+use Rattle.rules.specs.Heap.{Memory, withWaiting, withSections, exponent, lowestFree}
 use Rattle.rules.specs.Sections.{figures}
 use Rattle.rules.specs.Store.{birthSticks, allocateIn}
 use Rattle.rules.specs.Calls.{allocate, Answer, reply, settled, outcome, answer}
@@ -36,4 +36,4 @@ module _ {N w : ℕ} {h : Memory} {n r at : ℕ} (free : AllocationPassed N (h .
       promised N w h (allocate n r) (reply 0 at (one (birthSticks w)), settled N (allocateIn N w h n r at))
       (allocate-answered (usable-fit usable)) x g
       (replied ∙ ap (λ (t : Bool). reply 0 at (one t)) told)
-      (left-settled usable left (allocate-beside N w (λ _. h .waiting) (λ l. l) h n r at) listed)
+      (left-settled usable left (allocate-beside N w (withWaiting (h .waiting)) h n r at) listed)

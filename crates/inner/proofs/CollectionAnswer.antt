@@ -1,7 +1,7 @@
 -- The answer of a collection on a fit memory, and that of the collector: memory and number of blocks freed.
 use mathlib.Core.Path.{_≡_, _∙_}
 use Prim.Native.Nat.{ℕ}
-use Rattle.rules.specs.Heap.{Memory, withSections}
+use Rattle.rules.specs.Heap.{Memory, withWaiting, withSections}
 use Rattle.rules.specs.Sections.{figures}
 use Rattle.rules.specs.Collection.{collected}
 use Rattle.rules.specs.Calls.{collect, reply, freeing, outcome, answer}
@@ -32,4 +32,4 @@ module _ {N w : ℕ} {h : Memory} where
       (counted ∙ collect-blocks-is N w h healthy)
       replied
       (left-settled usable (left ∙ collect-by-is N w h healthy bytes)
-      (collect-beside N w (λ _. h .waiting) (λ l. l) h) listed)
+      (collect-beside N w (withWaiting (h .waiting)) h) listed)

@@ -4,7 +4,7 @@ use mathlib.Core.Bool.{Bool}
 use Prim.Native.Nat.{ℕ, _+_, _-_, _*_}
 use lib.ListN.{getD}
 use Rattle.bitmap.specs.Bit.{one, zeros}
-use Rattle.rules.specs.Heap.{Memory, withSections}
+use Rattle.rules.specs.Heap.{Memory, withWaiting, withSections}
 use Rattle.rules.specs.Sections.{figures}
 use Rattle.rules.specs.Store.{storeRootIn, storeCellIn, storeSticks}
 use Rattle.rules.specs.Calls.{Call, storeRoot, storeCell, reply, freeing, settled, outcome, answer}
@@ -49,7 +49,7 @@ module _ {N w : ℕ} {h : Memory} {r v : ℕ} (passed : RootPassed N h r v) wher
       freeing-promised N w h (storeRootIn N w h r v) (one (rootSticks N w h r v)) (storeRoot r v) (root-answered (usable-fit usable)) freed x g
       (counted ∙ sym (store-root-freed N w h healthy r v (passed .place) (passed .ref)))
       (replied ∙ ap (λ (t : Bool). reply 0 freed (one t)) told)
-      (left-settled usable left (store-root-beside N w (λ _. h .waiting) (λ l. l) h r v) listed)
+      (left-settled usable left (store-root-beside N w (withWaiting (h .waiting)) h r v) listed)
 
 module _ {N w : ℕ} {h : Memory} {a j v : ℕ} (passed : CellPassed N h a j v) where
   pub cell-answered :
@@ -68,4 +68,4 @@ module _ {N w : ℕ} {h : Memory} {a j v : ℕ} (passed : CellPassed N h a j v) 
       (counted ∙ sym (store-cell-freed N w h healthy a j v (passed .first) (passed .place) (passed .ref)))
       (replied ∙ ap (λ (t : Bool). reply 0 freed (one t)) told)
       (left-settled usable left
-      (store-cell-beside N w (λ _. h .waiting) (λ l. l) h (4 * a + j) v) listed)
+      (store-cell-beside N w (withWaiting (h .waiting)) h (4 * a + j) v) listed)

@@ -4,21 +4,20 @@ use mathlib.Core.Path.{_≡_, refl, sym, ap, _∙_}
 use mathlib.Core.List.{List, [], _∷_}
 use Prim.Native.Nat.{ℕ, zero, suc, _+_}
 use lib.ListN.{replicate}
-use Rattle.rules.specs.Heap.{Memory, withCounts, withRoots, withWaiting, withSections, sizeAt}
+use Rattle.rules.specs.Heap.{Memory, memory, withA, withB, withCounts, withCells, withWaiting, sizeAt}
 use Rattle.rules.specs.Store.{Work, work, countDown, freed, workAfter, memoryAfter, release, letGo}
 use Rattle.rules.proofs.Unread as unread
 use Rattle.rules.proofs.Unread.{beside, release-beside}
 use Rattle.counting.specs.Stack.{topFirst}
 use Rattle.release.specs.Blocks.{releasedBlocks, letGoBlocks}
 
-released-beside : (N w : ℕ) (roots waiting sections : List ℕ → List ℕ) (f : ℕ) (h : Memory) (stack : List ℕ)
-    → releasedBlocks f N w (beside roots waiting sections h) stack ≡ releasedBlocks f N w h stack
+released-beside : (N w : ℕ) (other : Memory → Memory) (f : ℕ) (h : Memory) (stack : List ℕ)
+    → releasedBlocks f N w (beside other h) stack ≡ releasedBlocks f N w h stack
 unfolding releasedBlocks freed
-released-beside N w roots waiting sections zero h stack = refl
-released-beside N w roots waiting sections (suc f) h [] = refl
-released-beside N w roots waiting sections (suc f) h (i ∷ rest) =
-    ap (λ (k : ℕ). sizeAt N h i + k)
-    (released-beside N w roots waiting sections f (memoryAfter N w h i rest) ((workAfter N w h i rest) .stack))
+released-beside N w other zero h stack = refl
+released-beside N w other (suc f) h [] = refl
+released-beside N w other (suc f) h (i ∷ rest) =
+    ap (λ (k : ℕ). sizeAt N h i + k) (released-beside N w other f (memoryAfter N w h i rest) ((workAfter N w h i rest) .stack))
 
 -- ---- letting go, in the code's two steps: v counted down on an empty stack, then what waits is freed
 
@@ -33,7 +32,7 @@ module _ (N w : ℕ) (h : Memory) (v : ℕ) {counts stack : List ℕ}
   unfolding letGo topFirst
   let-go-done {waiting = waiting} released idle idle′ =
       ap (withWaiting waiting) released
-      ∙ sym (release-beside N w (λ l. l) (λ _. waiting) (λ l. l) N handed stack)
+      ∙ sym (release-beside N w (withWaiting waiting) N handed stack)
       ∙ ap (λ (x : List ℕ). release N N w (withWaiting x handed) stack) (idle′ ∙ sym idle)
       ∙ ap (λ (s : Work). release N N w (withCounts (s .counts) h) (s .stack)) down
 
@@ -41,25 +40,24 @@ module _ (N w : ℕ) (h : Memory) (v : ℕ) {counts stack : List ℕ}
   unfolding letGoBlocks topFirst
   let-go-blocks-done released =
       released
-      ∙ sym (released-beside N w (λ l. l) (λ _. h .waiting) (λ l. l) N handed stack)
+      ∙ sym (released-beside N w (withWaiting (h .waiting)) N handed stack)
       ∙ ap (λ (s : Work). releasedBlocks N N w (withCounts (s .counts) h) (s .stack)) down
 
 -- ---- the same beside roots and a list of sections
 
--- the memory as it is known where neither is lent
+-- the memory as the code that lets go knows it: neither is lent to it
 abbrev pub unlent : Memory → Memory
-unlent h = withRoots [] (withSections [] h)
+unlent h = memory (h .a) (h .b) (h .counts) (h .cells) [] (h .waiting)
 
--- what is left of it, with both as in h
+-- h with the lists that are, as g has them
 abbrev pub lentAgain : Memory → Memory → Memory
-lentAgain h g = withRoots (h .roots) (withSections (h .sections) g)
+lentAgain h g = withA (g .a) (withB (g .b) (withCounts (g .counts) (withCells (g .cells) (withWaiting (g .waiting) h))))
 
 pub let-go-beside : (N w : ℕ) (h : Memory) (v : ℕ) {g : Memory} → g ≡ letGo N w (unlent h) v → lentAgain h g ≡ letGo N w h v
-let-go-beside N w h v e =
-    ap (lentAgain h) e ∙ sym (unread.let-go-beside N w (λ _. h .roots) (λ l. l) (λ _. h .sections) (unlent h) v)
+let-go-beside N w h v e = ap (lentAgain h) e ∙ sym (unread.let-go-beside N w (lentAgain h) (unlent h) v)
 
 pub let-go-blocks-beside : (N w : ℕ) (h : Memory) (v : ℕ) {n : ℕ} → n ≡ letGoBlocks N w (unlent h) v → n ≡ letGoBlocks N w h v
 unfolding letGoBlocks
 let-go-blocks-beside N w h v e =
     let s = countDown N w (work (h .counts) []) v in
-    e ∙ sym (released-beside N w (λ _. h .roots) (λ l. l) (λ _. h .sections) N (withCounts (s .counts) (unlent h)) (s .stack))
+    e ∙ sym (released-beside N w (lentAgain h) N (withCounts (s .counts) (unlent h)) (s .stack))

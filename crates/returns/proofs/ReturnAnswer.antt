@@ -7,7 +7,7 @@ use native.Mathlib.Omega.{arith}
 use lib.ListN.{length, replicate}
 use borrow.Author.Tests.{eq-eqb, ne-eqb}
 use Rattle.bitmap.specs.Bit.{bitOf, zeros}
-use Rattle.rules.specs.Heap.{Memory, withSections}
+use Rattle.rules.specs.Heap.{Memory, withWaiting, withSections}
 use Rattle.rules.specs.Store.{storeRootIn, chosenBelow, clearChosen, returnIn}
 use Rattle.rules.specs.Calls.{returnRoots, storeRoot, reply, Answer, settled, freeing, outcome, answer}
 use Rattle.rules.specs.Promise.{Promise}
@@ -64,7 +64,7 @@ module _ {N w : ℕ} {h : Memory} (usable : Usable N w h) {chosen r : ℕ} where
       let grows = root-cleared N w (λ i. Unit {0}) h (fit .healthy) r inside tt .grows in
       record {
         after-is = λ l.
-            ap (withSections l) is ∙ sym (store-root-beside N w (λ _. replicate N 0) (λ _. l) h r 0)
+            ap (withSections l) is ∙ sym (store-root-beside N w (λ k. withWaiting (replicate N 0) (withSections l k)) h r 0)
             ∙ ap (λ (k : Memory). storeRootIn N w (withSections l k) r 0) (cleared-same usable)
             ∙ rw (eq-eqb (bitOf chosen r) 1 e, clearChosen) refl;
         usable = usable-kept usable promise;

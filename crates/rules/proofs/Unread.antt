@@ -7,28 +7,30 @@ use Prim.Native.Nat.{ℕ, zero, suc, _+_, _/_, min}
 use lib.Dec.{eqb}
 use lib.ListN.{getD, set}
 use Rattle.planes.specs.Plane.{setCount}
-use Rattle.rules.specs.Heap.{Memory, withCounts, withCells, withRoots, withWaiting, withSections, capacity, isFirst, sizeAt}
+use Rattle.rules.specs.Heap.{Memory, withA, withB, withCounts, withCells, withRoots, withWaiting, withSections, capacity, isFirst, sizeAt}
 use Rattle.rules.specs.Store.{work, countUp, countDown, freed, workAfter, memoryAfter, release, letGo, putRoot, putCell, placed}
 use Rattle.rules.specs.Store.{changeRoot, changeCell, storeRootIn, storeCellIn, isChosen, clearChosen, returnIn, allocateIn}
 use Rattle.rules.specs.Collection.{isCellOf, cellOfChosen, referencesFrom, marked, reachedNext, reachedIn, reached, swept, recounted, collected}
 use Rattle.rules.proofs.Tests.{choose-both}
 
--- the memory beside other roots, another waiting list and another list of sections
-abbrev pub beside : (roots waiting sections : List ℕ → List ℕ) → Memory → Memory
-beside roots waiting sections h =
-    withRoots (roots (h .roots)) (withWaiting (waiting (h .waiting)) (withSections (sections (h .sections)) h))
+-- the lists that letting go does not read, with the others empty
+abbrev unread : Memory → Memory
+unread h = withA [] (withB [] (withCounts [] (withCells [] h)))
 
-module _ (N w : ℕ) (roots waiting sections : List ℕ → List ℕ) where
+-- the memory with these lists as `other` makes them, which sees no others: beside another waiting list x, `other` is `withWaiting x`
+abbrev pub beside : (other : Memory → Memory) → Memory → Memory
+beside other h =
+    withRoots (other (unread h) .roots) (withWaiting (other (unread h) .waiting) (withSections (other (unread h) .sections) h))
+
+module _ (N w : ℕ) (other : Memory → Memory) where
   pub release-beside :
-      (fuel : ℕ) (h : Memory) (stack : List ℕ)
-      → release fuel N w (beside roots waiting sections h) stack ≡ beside roots waiting sections (release fuel N w h stack)
+      (fuel : ℕ) (h : Memory) (stack : List ℕ) → release fuel N w (beside other h) stack ≡ beside other (release fuel N w h stack)
   unfolding release freed
   release-beside zero h stack = refl
   release-beside (suc fuel) h [] = refl
   release-beside (suc fuel) h (b ∷ rest) = release-beside fuel (memoryAfter N w h b rest) ((workAfter N w h b rest) .stack)
 
-  pub let-go-beside :
-      (h : Memory) (v : ℕ) → letGo N w (beside roots waiting sections h) v ≡ beside roots waiting sections (letGo N w h v)
+  pub let-go-beside : (h : Memory) (v : ℕ) → letGo N w (beside other h) v ≡ beside other (letGo N w h v)
   unfolding letGo
   let-go-beside h v =
       let s = countDown N w (work (h .counts) []) v in
@@ -36,12 +38,16 @@ module _ (N w : ℕ) (roots waiting sections : List ℕ → List ℕ) where
 
 -- ---- beside the roots that there are
 
-module _ (N w : ℕ) (waiting sections : List ℕ → List ℕ) where
+-- the roots as they are, and the rest as `other` makes it, which does not see the roots
+abbrev rooted : (Memory → Memory) → Memory → Memory
+rooted other h = withRoots (h .roots) (other (withRoots [] h))
+
+module _ (N w : ℕ) (others : Memory → Memory) where
   abbrev other : Memory → Memory
-  other h = beside (λ l. l) waiting sections h
+  other h = beside (rooted others) h
 
   let-go-other : (h : Memory) (v : ℕ) → letGo N w (other h) v ≡ other (letGo N w h v)
-  let-go-other h v = let-go-beside N w (λ l. l) waiting sections h v
+  let-go-other h v = let-go-beside N w (rooted others) h v
 
   module _ (h : Memory) where
     pub store-root-beside : (r v : ℕ) → storeRootIn N w (other h) r v ≡ other (storeRootIn N w h r v)

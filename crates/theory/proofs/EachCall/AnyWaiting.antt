@@ -70,20 +70,20 @@ module _ (N w : ℕ) (h : Memory) (x : List ℕ) (same-length : length x ≡ len
   outcome-alike format = record { reply-is = refl; heap-is = refl }
   outcome-alike check = unchanged-alike (reply 0 0 0)
   outcome-alike freeBlocks = unchanged-alike (reply 0 (zeros (h .a)) 0)
-  outcome-alike collect = freeing-alike (collected N w g) (collected N w h) 0 (collect-beside N w (λ _. x) (λ l. l) h)
+  outcome-alike collect = freeing-alike (collected N w g) (collected N w h) 0 (collect-beside N w (withWaiting x) h)
   outcome-alike (allocate n r) =
       let i = Option·getD (lowestFree N (exponent n) (h .a)) 0 in
       let said : Reply = reply 0 i (one (birthSticks w)) in
       subst (λ (k : Memory). Alike (said, settled N k) (said, settled N (allocateIn N w h n r i)))
-      (sym (allocate-beside N w (λ _. x) (λ l. l) h n r i)) (record { reply-is = refl; heap-is = refl })
+      (sym (allocate-beside N w (withWaiting x) h n r i)) (record { reply-is = refl; heap-is = refl })
   outcome-alike (storeRoot r v) =
-      freeing-alike (storeRootIn N w g r v) (storeRootIn N w h r v) _ (store-root-beside N w (λ _. x) (λ l. l) h r v)
+      freeing-alike (storeRootIn N w g r v) (storeRootIn N w h r v) _ (store-root-beside N w (withWaiting x) h r v)
   outcome-alike (storeCell a j v) =
-      freeing-alike (storeCellIn N w g (4 * a + j) v) (storeCellIn N w h (4 * a + j) v) _ (store-cell-beside N w (λ _. x) (λ l. l) h (4 * a + j) v)
+      freeing-alike (storeCellIn N w g (4 * a + j) v) (storeCellIn N w h (4 * a + j) v) _ (store-cell-beside N w (withWaiting x) h (4 * a + j) v)
   outcome-alike (look a) = unchanged-alike (reply 0 (sizeAt N h a) (countOf N w h a))
   outcome-alike (returnRoots chosen) =
       freeing-alike (returnIn N w g chosen (length (h .roots))) (returnIn N w h chosen (length (h .roots))) 0
-      (return-beside N w (λ _. x) (λ l. l) h chosen (length (h .roots)))
+      (return-beside N w (withWaiting x) h chosen (length (h .roots)))
 
   answer-alike : (c : Call) → Alike (answer N w g c) (answer N w h c)
   unfolding answer
