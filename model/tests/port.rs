@@ -178,7 +178,7 @@ fn port_is_the_model_on_histories() {
     }
 }
 
-/// Pieces of whole records, runs that are stopped and runs that no run leaves: what the port does where a run is handed
+/// Pieces of whole records, runs that are stopped and runs out of range: what the port does where a run is handed
 /// in.
 #[test]
 fn port_hands_runs_in_and_out() {

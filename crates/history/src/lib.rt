@@ -31,7 +31,7 @@ fn refused(reply: Reply) -> Ran
 }
 
 // The reply of a run of records, which depends on the heap and on the run handed in alone: that of the check, whose refusals are 1, 2 and 11,
-// then 19 for a run that no run leaves.
+// then 19 for a run out of range.
 fn run_reply(
     blocks: usize,
     width: usize,

@@ -1,10 +1,10 @@
 -- Calls that kept their promises, each on the memory that the one before it left, are a chain; behind an accepted format demand 3's claim
 -- holds of it.
-use mathlib.Core.Path.{_≡_, refl}
+use mathlib.Core.Path.{_≡_, refl, ap, _∙_}
 use mathlib.Core.List.{List, [], _∷_}
 use Prim.Native.Nat.{ℕ}
 use Rattle.rules.specs.Heap.{Memory}
-use Rattle.rules.specs.Calls.{Call, format, allocate, storeRoot, collect, lastMemory}
+use Rattle.rules.specs.Calls.{Call, format, allocate, storeRoot, collect, answer, run, lastMemory}
 use Rattle.rules.specs.Promise.{Promise}
 use Rattle.types.specs.declared.Reply.{Reply}
 use Rattle.rules.proofs.Shape.{shape-facts}
@@ -25,7 +25,7 @@ pub life :
     {N w : ℕ} {h : Memory} {x : Reply} {start : Memory} → Promise N w format h x start → x .number ≡ 0
     → {y : Reply} {one : Memory} → Promise N w (allocate 1 0) start y one → {z : Reply} {two : Memory} → Promise N w (storeRoot 0 0) one z two
     → {u : Reply} {g : Memory} → Promise N w collect two u g → Life N w h x g
-unfolding lastMemory
+unfolding run lastMemory
 life {N} {w} {h} {x} {start} formatting taken {y} {one} first {z} {two} second {u} {g} third =
     let fine = accepted-format-undamaged N w h x start formatting taken in
     let next = promise-keeps-undamaged N w (allocate 1 0) start y one fine first in
@@ -40,5 +40,9 @@ life {N} {w} {h} {x} {start} formatting taken {y} {one} first {z} {two} second {
       calls-are = refl;
       chain = chain;
       left-is = refl;
+      after-is =
+          third .after-is
+          ∙ ap (λ (m : Memory). answer N w m collect .1)
+          (second .after-is ∙ ap (λ (m : Memory). answer N w m (storeRoot 0 0) .1) (first .after-is));
       claim = claim-from-format N w h x start formatting taken _ chain;
     }

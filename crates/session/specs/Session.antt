@@ -3,20 +3,25 @@ use Prim.Native.Nat.{ℕ}
 use mathlib.Core.Path.{_≡_}
 use mathlib.Core.List.{List, [], _∷_}
 use Rattle.rules.specs.Heap.{Memory}
-use Rattle.rules.specs.Calls.{format, allocate, storeRoot, collect}
+use Rattle.rules.specs.Calls.{Call, format, allocate, storeRoot, collect, run, lastMemory}
 use Rattle.rules.specs.Promise.{Promise}
 use Rattle.types.specs.declared.Reply.{Reply}
 use Rattle.theory.specs.Words.{Made, callsOf, leftBy}
 use Rattle.theory.specs.Demand.{Chain, Claim}
 
--- the heap was formatted; an object was made in root 0 and let go; a collection followed
+-- an object is made in root 0 and let go; a collection follows
+abbrev pub lifeCalls : List Call
+lifeCalls = allocate 1 0 ∷ storeRoot 0 0 ∷ collect ∷ []
+
+-- The heap was formatted, and these calls were made. Every lent number, the waiting list and the list of sections too, is the plain machine's.
 pub record Life (N w : ℕ) (h : Memory) (x : Reply) (g : Memory) : Type 0 where
   pub start : Memory
   pub formatting : Promise N w format h x start
   pub made : List Made
-  pub calls-are : callsOf made ≡ allocate 1 0 ∷ storeRoot 0 0 ∷ collect ∷ []
+  pub calls-are : callsOf made ≡ lifeCalls
   pub chain : Chain N w start made
   pub left-is : g ≡ leftBy start made
+  pub after-is : g ≡ lastMemory start (run N w start lifeCalls)
   pub claim : Claim N w start made
 
 pub record Lived (N w : ℕ) (h : Memory) (x : Reply) (g : Memory) : Type 0 where

@@ -1,6 +1,6 @@
 -- Request U7: "Implementers differ in the order of taking the objects waiting to be freed. Show that from an undamaged heap each order ends
 -- in the same maps, cells, counts and freed blocks."
-use Prim.Native.Nat.{ℕ, suc, _+_, _-_, _*_, _≤_, _<_}
+use Prim.Native.Nat.{ℕ, suc, _+_, _*_, _≤_, _<_}
 use mathlib.Core.Path.{_≡_}
 use mathlib.Core.Bool.{true}
 use mathlib.Core.List.{List, [], _∷_, _++_}
@@ -28,8 +28,8 @@ pub record OneEnd (N w : ℕ) (h : Memory) (waiting : List ℕ) (end : Memory) :
   pub bounded : (k n : ℕ) (g : Memory) (left : List ℕ) → Taken N w k n h waiting g left → k ≤ N
   -- none gets stuck: whatever was taken so far, the rest can be taken too
   pub finishes : (k n : ℕ) (g : Memory) (left : List ℕ) → Taken N w k n h waiting g left → (l : ℕ) × (m : ℕ) × Taken N w l m g left end []
-  -- where none waits any more all lists are those of `end`, and the blocks counted on the way are its 0 bits in the A-map less those before
-  pub alike : (k n : ℕ) (g : Memory) → Taken N w k n h waiting g [] → (g ≡ end) × (n ≡ zeros (end .a) - zeros (h .a))
+  -- where none waits any more all lists are those of `end`, and the blocks counted on the way make up its 0 bits in the A-map with those before
+  pub alike : (k n : ℕ) (g : Memory) → Taken N w k n h waiting g [] → (g ≡ end) × (zeros (h .a) + n ≡ zeros (end .a))
   -- the order of the rules is one of them
   pub own : (k : ℕ) × (n : ℕ) × Taken N w k n h waiting end []
 

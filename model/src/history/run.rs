@@ -102,7 +102,7 @@ pub fn run_records(
     if let Some(reply) = refused_first(blocks, width, memory, Call::Check) {
         return (reply, Run::default());
     }
-    if no_run_leaves(so_far) {
+    if is_out_of_range(so_far) {
         return (refused(19), Run::default());
     }
     // "Accepted, the waiting list is left all 0, also where no record was run."
@@ -113,10 +113,10 @@ pub fn run_records(
     (accepted(0), after)
 }
 
-/// "19 is for a run that no run leaves: more than 4,294,967,295 records, more allocations than records, more than 8,192 blocks
+/// "19 is for a run out of range: more than 4,294,967,295 records, more allocations than records, more than 8,192 blocks
 /// for each record, more objects that became stuck than records (U5), or more collections than records (one more where the run
 /// was stopped, ...)."
-fn no_run_leaves(run: Run) -> bool {
+fn is_out_of_range(run: Run) -> bool {
     let figures = run.figures;
     let stopped = u64::from(run.number != 0);
     run.records > MOST_RECORDS
