@@ -3,4 +3,5 @@ pub mod Maps
 pub mod Memories
 pub mod EachCall
 pub mod Demand
+pub mod Spaces
 pub mod Theorems

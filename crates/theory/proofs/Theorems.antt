@@ -24,6 +24,7 @@ use Rattle.rules.proofs.Chunks.{exponent-covers, exponent-least}
 use Rattle.theory.specs.Statements.{Intact, Undamaged, CallsKeepUndamaged, FormatMakesUndamaged, RefusedExactly, Lowest, LowestTaken}
 use Rattle.theory.specs.Statements.{LeastPower, NStepsSuffice, ReachedIsLed, ObjectsAreEnds, EndsOnLast}
 use Rattle.theory.specs.Statements.{ClaimFromUndamaged, ClaimFromFormat}
+use Rattle.theory.specs.Spaces.{ClaimWithAnySpaces}
 use Rattle.theory.specs.Words.{Object}
 use Rattle.theory.specs.Orders.{OrderUnseen}
 use Rattle.theory.specs.Balance.{BlocksBalance}
@@ -51,6 +52,7 @@ use Rattle.theory.proofs.Memories.Leads.{object-size, size-object}
 use Rattle.theory.proofs.EachCall.AnyWaiting.{waiting-unread}
 use Rattle.theory.proofs.EachCall.ReturnOrders.{same-as-singly, return-refused}
 use Rattle.theory.proofs.Demand.{every-list, chains-append, claim, demand3, balance}
+use Rattle.theory.proofs.Spaces.{claim-of-all, every-list-with-any-spaces}
 use Rattle.theory.proofs.EachCall.Balance.{blocks-add-up}
 use Rattle.theory.proofs.EachCall.Moments as moments
 
@@ -160,6 +162,9 @@ pub claim-from-format : ClaimFromFormat
 claim-from-format N w lent x left promise taken made chain =
     claim-from-undamaged N w left (accepted-format-undamaged N w lent x left promise taken) made chain
 
+pub claim-with-any-spaces : ClaimWithAnySpaces
+claim-with-any-spaces N w h u made all = claim-of-all N w h (undamaged-fit N w h u) made all
+
 -- the maps' own sizes
 ends-represent :
     (N : ℕ) (h : Memory) (sizes : List ℕ) → Represents N (h .a) (h .b) sizes → (i : ℕ) → i < N
@@ -202,6 +207,8 @@ theory =
       chains-append = chains-append;
       claim-from-undamaged = claim-from-undamaged;
       claim-from-format = claim-from-format;
+      claim-with-any-spaces = claim-with-any-spaces;
+      every-list-with-any-spaces = every-list-with-any-spaces;
       calls-keep-undamaged = calls-keep-undamaged;
       format-makes-undamaged = format-makes-undamaged;
       waiting-unread = waiting-unread;

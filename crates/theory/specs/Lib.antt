@@ -2,6 +2,7 @@ pub mod Words
 pub mod Stuck
 pub mod Demand
 pub mod Statements
+pub mod Spaces
 pub mod Orders
 pub mod Balance
 pub mod Returns

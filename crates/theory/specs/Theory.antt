@@ -3,6 +3,7 @@ use Rattle.theory.specs.Demand.{Demand3}
 use Rattle.theory.specs.Statements.{CallsKeepUndamaged, FormatMakesUndamaged, RefusedAsCheck, FiveToAllocations, EndsOnLast, LeastPower, RefusedExactly, LowestTaken}
 use Rattle.theory.specs.Statements.{ReachedIsLed, EveryListHasAChain, ChainsAppend, ClaimFromUndamaged, ClaimFromFormat, WaitingUnread}
 use Rattle.theory.specs.Statements.{NStepsSuffice, ObjectsAreEnds}
+use Rattle.theory.specs.Spaces.{ClaimWithAnySpaces, EveryListWithAnySpaces}
 use Rattle.theory.specs.Orders.{OrderUnseen}
 use Rattle.theory.specs.Balance.{BlocksBalance, BlocksAddUp}
 use Rattle.theory.specs.Returns.{ReturnInAnyOrder, ReturnRefusedExactly}
@@ -16,6 +17,8 @@ pub record Theory : Type 0 where
   pub chains-append : ChainsAppend
   pub claim-from-undamaged : ClaimFromUndamaged
   pub claim-from-format : ClaimFromFormat
+  pub claim-with-any-spaces : ClaimWithAnySpaces
+  pub every-list-with-any-spaces : EveryListWithAnySpaces
   -- what calls keep, and what they don't read
   pub calls-keep-undamaged : CallsKeepUndamaged
   pub format-makes-undamaged : FormatMakesUndamaged
