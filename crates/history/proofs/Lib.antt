@@ -4,4 +4,5 @@ pub mod CallsMade
 pub mod Pieces
 pub mod WholeRecords
 pub mod TwoCalls
+pub mod Theorems
 pub mod Cases

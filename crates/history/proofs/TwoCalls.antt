@@ -39,7 +39,7 @@ module _ (N w : ℕ) (bytes : List ℕ) (h : Memory) (r : Run) (x : Ran) (g : Me
   answered : x .run ≡ ran N w bytes (cleared N h) r .run
   answered = rw (from .reply-is) at (promised .run-is)
 
-  left : g ≡ ran N w bytes (cleared N h) r .memory
+  pub left : g ≡ ran N w bytes (cleared N h) r .memory
   left = rw (from .reply-is) at (promised .after-is)
 
   -- what it leaves is usable

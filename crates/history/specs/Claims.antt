@@ -1,9 +1,11 @@
 -- What is proved of every run of records, over the rules' own words.
 use Prim.Native.Nat.{ℕ, _+_, _%_}
 use mathlib.Core.Path.{_≡_}
+use mathlib.Core.Bool.{true}
 use mathlib.Core.List.{List, _++_}
 use lib.ListN.{length}
-use Rattle.rules.specs.Heap.{Memory}
+use Rattle.rules.specs.Heap.{Memory, shaped}
+use Rattle.rules.specs.Store.{formatted}
 use Rattle.theory.specs.Words.{leftBy}
 use Rattle.theory.specs.Demand.{Chain, Claim}
 use Rattle.theory.specs.Statements.{Undamaged}
@@ -12,7 +14,7 @@ use Rattle.records.specs.Records.{recordLength}
 use Rattle.figures.specs.declared.tally.Tally.{Tally}
 use Rattle.figures.specs.declared.tally.Run.{Run}
 use Rattle.figures.specs.Figures.{tally, notedAll}
-use Rattle.history.specs.Runs.{Came, came, ran}
+use Rattle.history.specs.Runs.{Came, came, ran, history}
 
 -- figures with another peak
 abbrev pub withPeak : (peak : ℕ) → Tally → Tally
@@ -39,3 +41,15 @@ PiecesAreWhole =
     → let x = ran N w first h r in
     let y = ran N w rest (x .memory) (x .run) in
     ran N w (first ++ rest) h r ≡ came (y .run) (y .memory) (x .made ++ y .made)
+
+-- A new heap has no block in use.
+abbrev pub NewHeapUnused : Type 0
+NewHeapUnused = (N w roots : ℕ) → shaped N w (formatted N w roots) ≡ true → inUse N (formatted N w roots) ≡ 0
+
+-- "blocks allocated in all, less the blocks freed by every call, allocations too, are the blocks in use": of every
+-- history, stopped or not, on a new heap of right shape. What is allocated is the run's figure; what is freed is
+-- freed by the calls that the records made.
+abbrev pub HistoryBalances : Type 0
+HistoryBalances =
+    (N w roots : ℕ) → shaped N w (formatted N w roots) ≡ true → (bytes : List ℕ) → let x = history N w roots bytes in
+    x .run .tally .blocks ≡ blocksFreed N (x .made) + inUse N (x .memory)

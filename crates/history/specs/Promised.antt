@@ -9,7 +9,8 @@ use Rattle.rules.specs.Heap.{Memory, withWaiting}
 use Rattle.rules.specs.Sections.{figures}
 use Rattle.rules.specs.Calls.{check, reply, answer}
 use Rattle.types.specs.declared.Reply.{Reply}
-use Rattle.theory.specs.Demand.{Finds}
+use Rattle.theory.specs.Words.{leftBy}
+use Rattle.theory.specs.Demand.{Finds, Chain}
 use Rattle.records.specs.Records.{recordLength}
 use Rattle.figures.specs.declared.tally.Run.{Run}
 use Rattle.figures.specs.Figures.{newRun, inRange}
@@ -51,3 +52,14 @@ CallsAreOne =
     (N w : ℕ) (first rest : List ℕ) (h found : Memory) (r : Run) (x y : Ran) (g k : Memory) → length first % recordLength ≡ 0
     → Promised N w first h r x g → x .reply .number ≡ 0 → Finds N g found → Promised N w rest found (x .run) y k
     → Promised N w (first ++ rest) h r y k
+
+-- "a run of records counts as the calls it makes", in a list of public calls. The list so far left `left`; the run
+-- found this heap, with a waiting list of its own, and was accepted. Then the calls that it made go on behind the
+-- list (`ChainsAppend`, theory/specs/Statements.antt), and the run left what they leave, the waiting list cleared.
+-- (A refused run changes nothing, and counts as no call.)
+abbrev pub RunIsCalls : Type 0
+RunIsCalls =
+    (N w : ℕ) (left h : Memory) (bytes : List ℕ) (r : Run) (x : Ran) (after : Memory) → Finds N left h
+    → Promised N w bytes h r x after → x .reply .number ≡ 0
+    → let made = ran N w bytes (cleared N h) r .made in
+    Chain N w left made × (after ≡ cleared N (leftBy left made))

@@ -7,4 +7,5 @@ pub mod Collections
 pub mod FirstTry
 pub mod SecondTry
 pub mod UsableAfterRecord
+pub mod Stopped
 pub mod Notes

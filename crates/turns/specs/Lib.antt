@@ -1,3 +1,4 @@
 pub mod Turns
+pub mod Stopped
 pub mod Outcomes
 pub mod Steps
