@@ -30,7 +30,7 @@ use Rattle.history.proofs.Ends.{ended-figures}
 
 -- ---- lists of calls, one behind the other
 
-left-append : (h : Memory) (made more : List Made) → leftBy h (made ++ more) ≡ leftBy (leftBy h made) more
+pub left-append : (h : Memory) (made more : List Made) → leftBy h (made ++ more) ≡ leftBy (leftBy h made) more
 unfolding lastMemory
 left-append h [] more = refl
 left-append h (m ∷ made) more = left-append (m .after) made more

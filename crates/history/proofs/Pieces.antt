@@ -19,6 +19,7 @@ use Rattle.theory.specs.Statements.{Undamaged}
 use Rattle.theory.specs.Balance.{inUse}
 use Rattle.inner.specs.Usable.{Usable}
 use Rattle.inner.proofs.UsableHeap.{cleared-usable as UsableHeap·cleared-usable, usable-fit}
+use Rattle.inspect.proofs.CheckReply.{check-passed}
 use Rattle.figures.specs.declared.tally.Run.{Run}
 use Rattle.figures.specs.Figures.{inRange}
 use Rattle.figures.proofs.Ranges.{in-range-within}
@@ -101,6 +102,10 @@ module _ {N w : ℕ} {h : Memory} {y : Reply} (checked : Promise N w check h y h
 
     pub reply-passed : inRange r ≡ true → {x : Reply} → x ≡ reply 0 0 0 → x ≡ runReply N w h r
     reply-passed range e = e ∙ sym (reply-right N w h r (check-number ∙ accepts) range)
+
+-- an undamaged heap and a run in range are accepted
+pub undamaged-accepted : {N w : ℕ} {h : Memory} → Undamaged N w h → (r : Run) → inRange r ≡ true → runReply N w h r ≡ reply 0 0 0
+undamaged-accepted undamaged r range = sym (reply-passed (check-passed {x = reply 0 0 0} undamaged refl) r refl range refl)
 
 -- what an accepted run of records starts from
 pub record Accepted (N w : ℕ) (h : Memory) (r : Run) : Type 0 where

@@ -14,7 +14,6 @@ use Rattle.theory.specs.Demand.{Finds}
 use Rattle.theory.proofs.Memories.ViewRelease.{reshaped}
 use Rattle.inner.specs.Usable.{Usable}
 use Rattle.inner.proofs.UsableHeap.{cleared-usable, cleared-same}
-use Rattle.inspect.proofs.CheckReply.{check-passed}
 use Rattle.records.specs.Records.{recordLength}
 use Rattle.figures.specs.declared.tally.Run.{Run}
 use Rattle.figures.specs.Figures.{inRange}
@@ -22,7 +21,7 @@ use Rattle.history.specs.declared.Ran.{Ran}
 use Rattle.history.specs.Runs.{Came, came, ran}
 use Rattle.history.specs.Promised.{runReply, cleared, Promised, CallsAreOne}
 use Rattle.history.proofs.CallsMade.{run-undamaged, runs-are-calls}
-use Rattle.history.proofs.Pieces.{Accepted, accepted, reply-passed}
+use Rattle.history.proofs.Pieces.{Accepted, accepted, undamaged-accepted}
 use Rattle.history.proofs.WholeRecords.{pieces-are-whole}
 
 -- ---- an accepted call
@@ -69,8 +68,7 @@ module _ (N w : ℕ) (g found : Memory) (usable : Usable N w g) (finds : Finds N
       record { intact = record { right-shape = found-shaped; no-damage = found-cleared .intact .no-damage }; true-list = found-cleared .true-list }
 
   found-accepted : (r : Run) → inRange r ≡ true → runReply N w found r ≡ reply 0 0 0
-  found-accepted r range =
-      sym (reply-passed (check-passed {x = reply 0 0 0} found-undamaged refl) r refl range refl)
+  found-accepted r range = undamaged-accepted found-undamaged r range
 
 -- ---- both
 
