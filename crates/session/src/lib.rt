@@ -5,6 +5,8 @@ ghost use Rattle.session.specs.Session.{Lived};
 use types::Ref;
 use types::Reply;
 
+pub mod mixed;
+
 // Formats the heap, allocates one block into root 0, clears that root and collects. The reply is format's; where it refuses, no other call
 // is made.
 pub fn one_life(
