@@ -58,7 +58,8 @@ unfoldable pub blocksFreed : ℕ → List Made → ℕ
 blocksFreed N [] = 0
 blocksFreed N (m ∷ ms) = freedBlocks N (m .before) (m .after) + blocksFreed N ms
 
--- over every list of calls from an undamaged heap, with what was in use before it; a formatted heap has no block in use
+-- over every list of calls from an undamaged heap, with what was in use before it; a new heap has no block in use (`NewHeapUnused`,
+-- history/specs/Claims.antt)
 abbrev pub BlocksBalance : Type 0
 BlocksBalance =
     (N w : ℕ) (h : Memory) → Undamaged N w h → (made : List Made) → Chain N w h made
