@@ -97,7 +97,9 @@ pub mixed :
     → {words replies : List ℕ} {u : Reply} {three : Memory} {replies′ : List ℕ} → Replayed N w two words replies u three replies′
     → {v : Reply} {g : Memory} → Promise N w collect three v g → Mixed N w h bytes words replies x g replies′
 unfolding lastMemory
-mixed {N} {w} {h} {x} {start} formatting taken {y} {one} allocating {bytes} {r} {z} {two} new promised {words} {replies} {u} {three} {replies′} replaying {v} {g} collecting =
+mixed
+    {N} {w} {h} {x} {start} formatting taken {y} {one} allocating {bytes} {r} {z} {two} new promised
+    {words} {replies} {u} {three} {replies′} replaying {v} {g} collecting =
     let fine = accepted-format-undamaged N w h x start formatting taken in
     let next = promise-keeps-undamaged N w (allocate 1 0) start y one fine allocating in
     let running : Promised N w bytes one newRun z two = subst (λ (k : Run). Promised N w bytes one k z two) new promised in

@@ -1,13 +1,13 @@
-// Public calls with a run of records and a replay between them, on the same buffers: all of them are one list of calls, and demand 3's claim of it
-// is the contract.
+// Public calls with a run of records and a replay between them, on the same buffers: all of them are one list of
+// calls, and demand 3's claim of it is the contract.
 ghost use Rattle.rules.specs.Lent.{before, after};
 ghost use Rattle.session.specs.Mixed.{MixedCalls};
 use figures::tally;
 use types::Ref;
 use types::Reply;
 
-// Formats the heap, allocates one block into root 0, runs the records of the bytes, replays the list of calls, and collects. The reply is format's;
-// where it refuses, no other call is made.
+// Formats the heap, allocates one block into root 0, runs the records of the bytes, replays the list of calls, and
+// collects. The reply is format's; where it refuses, no other call is made.
 pub fn mixed_calls(
     blocks: usize,
     width: usize,
