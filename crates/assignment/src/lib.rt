@@ -4,7 +4,6 @@ ghost use Rattle.rules.specs.Lent.{before, after};
 ghost use Rattle.rules.specs.Calls.{Call};
 ghost use Rattle.rules.specs.Promise.{Promise};
 use blocks::lists;
-use inner::acts;
 use types::Ref;
 use types::Reply;
 
@@ -44,7 +43,7 @@ pub fn store_root(
         return tested;
     }
     lists::clear_all(waiting);
-    acts::store_root(
+    let done = work_root::store_root(
         blocks,
         width,
         a,
@@ -56,7 +55,8 @@ pub fn store_root(
         sections,
         r,
         v,
-    )
+    );
+    done.reply()
 }
 
 // Stores v in cell j of the object at block `at`. The value is the number of blocks freed.
@@ -97,7 +97,7 @@ pub fn store_cell(
         return tested;
     }
     lists::clear_all(waiting);
-    acts::store_cell(
+    let done = work_cell::store_cell(
         blocks,
         width,
         a,
@@ -110,7 +110,8 @@ pub fn store_cell(
         at,
         j,
         v,
-    )
+    );
+    done.reply()
 }
 
 // Clears the roots of a set, bit r of `chosen` for root r, the lowest first. The value is the number of blocks freed in all.
@@ -147,7 +148,7 @@ pub fn return_roots(
         return tested;
     }
     lists::clear_all(waiting);
-    returns::clear_roots(
+    let done = returns::clear_roots(
         blocks,
         width,
         a,
@@ -158,5 +159,6 @@ pub fn return_roots(
         waiting,
         sections,
         chosen,
-    )
+    );
+    done.reply()
 }

@@ -17,7 +17,7 @@ use Rattle.rules.proofs.Tests.{choose}
 use Rattle.visiting.specs.Visit.{visit, visitEach}
 use Rattle.marking.specs.Mark.{scan, markCounts}
 use Rattle.sweeping.specs.Sweep.{isUnmarked, sweepOne, sweep}
-use Rattle.collector.specs.Collection.{collectBy}
+use Rattle.bridge.proofs.Collection.{collectBy}
 
 pub record Bytewise (h : Memory) : Type 0 where
   pub a : Bytes (h .a)

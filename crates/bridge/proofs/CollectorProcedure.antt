@@ -12,7 +12,7 @@ use Rattle.planes.proofs.Counts.{counts-ext}
 use Rattle.rules.specs.Heap.{Memory, withCounts, capacity, countOf}
 use Rattle.rules.specs.Collection.{collected}
 use Rattle.marking.specs.Mark.{markCounts}
-use Rattle.collector.specs.Collection.{collectBy, collectBlocks}
+use Rattle.bridge.proofs.Collection.{collectBy, collectBlocks}
 use Rattle.rules.proofs.Shape.{Shaped}
 use Rattle.theory.proofs.Maps.Extents.{length-sizes-of, same-maps}
 use Rattle.theory.proofs.Maps.Totals.{free-and-sizes}

@@ -10,7 +10,7 @@ use Rattle.bitmap.specs.Bit.{zeros}
 use Rattle.rules.specs.Heap.{Memory, isFirst, sizeAt, isRef}
 use Rattle.rules.specs.Store.{freed, release, letGo, putRoot, putCell, changeRoot, changeCell, storeRootIn, storeCellIn}
 use Rattle.release.specs.Blocks.{releasedBlocks, letGoBlocks}
-use Rattle.stores.specs.Blocks.{putRootBlocks, storeRootBlocks, storeCellBlocks}
+use Rattle.bridge.proofs.StoreBlocks.{putRootBlocks, storeRootBlocks, storeCellBlocks}
 use Rattle.theory.proofs.Memories.Healthy.{Healthy}
 use Rattle.theory.proofs.Memories.ViewRelease.{Releasing, freed-zeros, releasing-next}
 use Rattle.theory.proofs.Memories.Stores.{store-root, store-cell}

@@ -1,7 +1,10 @@
+pub mod Collection
 pub mod ViewMarking
 pub mod CollectorSweep
 pub mod Bytewise
 pub mod CollectorProcedure
+pub mod StoreBlocks
+pub mod Presence
 pub mod FreedBlocks
 pub mod ReadyHeap
 pub mod PlacedBlocks

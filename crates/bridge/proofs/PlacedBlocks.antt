@@ -10,7 +10,7 @@ use Rattle.bitmap.specs.Bit.{setBit, fillBits, zeros}
 use Rattle.rules.specs.Heap.{Memory, exponent, lowestFree}
 use Rattle.rules.specs.Store.{letGo, putRoot, placed, allocateIn}
 use Rattle.release.specs.Blocks.{letGoBlocks}
-use Rattle.stores.specs.Blocks.{putRootBlocks}
+use Rattle.bridge.proofs.StoreBlocks.{putRootBlocks}
 use Rattle.theory.proofs.Maps.Extents.{sizesOf, length-sizes-of}
 use Rattle.theory.proofs.Maps.LowestChunk.{Room, room}
 use Rattle.theory.proofs.Maps.Totals.{sum-set, free-and-sizes}

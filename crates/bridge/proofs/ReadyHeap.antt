@@ -1,14 +1,20 @@
--- The inner calls of the code are handed a fit memory whose waiting list is cleared. Such a memory is ready for them.
-use mathlib.Core.Path.{refl, sym}
+-- The work of a call is handed a usable memory: it is ready for what the work calls, and where nothing was freed the list of sections is left
+-- true.
+use mathlib.Core.Path.{_≡_, refl, sym, ap, _∙_, subst}
+use mathlib.Core.List.{List}
 use Prim.Native.Nat.{ℕ}
 use lib.ListN.{replicate}
 use Rattle.rules.specs.Heap.{Memory, withWaiting}
+use Rattle.rules.specs.Sections.{figures}
 use Rattle.rules.proofs.Shape.{shaped-blocks}
+use Rattle.sections.specs.Figures.{Upkeep}
 use Rattle.sections.proofs.Lists.{coherent-true}
 use Rattle.counting.specs.Ready.{Ready}
+use Rattle.theory.specs.Usable.{Usable}
 use Rattle.theory.proofs.Memories.Fit.{Fit}
+use Rattle.theory.proofs.Usable.UsableHeap.{cleared-same, usable-fit}
 
-pub fit-ready : (N w : ℕ) (h : Memory) → Fit N w h → Ready N w (withWaiting (replicate N 0) h)
+fit-ready : (N w : ℕ) (h : Memory) → Fit N w h → Ready N w (withWaiting (replicate N 0) h)
 fit-ready N w h fit =
     let shape = fit .healthy .shape in
     record {
@@ -24,3 +30,13 @@ fit-ready N w h fit =
       idle = refl;
       coherent = coherent-true N (h .a) (h .sections) (shaped-blocks N w h shape) (fit .listed);
     }
+
+module _ {N w : ℕ} {h : Memory} (usable : Usable N w h) where
+  pub usable-ready : Ready N w h
+  usable-ready = subst (λ (g : Memory). Ready N w g) (cleared-same usable) (fit-ready N w h (usable-fit usable))
+
+  -- where nothing was freed, the list is the true one still
+  pub list-untouched : {freed : ℕ} {a sections : List ℕ} → Upkeep N freed (h .a) (h .sections) a sections → freed ≡ 0 → sections ≡ figures N a
+  list-untouched upkeep none =
+      let same = upkeep .untouched none in
+      same .1 ∙ usable-fit usable .listed ∙ ap (figures N) (sym (same .0))

@@ -12,8 +12,8 @@ use Rattle.rules.proofs.Promised.{promised}
 use Rattle.theory.proofs.EachCall.Accepted.{fit-accepted}
 use Rattle.arguments.specs.Replies.{lookReply}
 use Rattle.arguments.proofs.ArgumentTests.{look-answered}
-use Rattle.inner.specs.Usable.{Usable}
-use Rattle.inner.proofs.UsableHeap.{usable-fit}
+use Rattle.theory.specs.Usable.{Usable}
+use Rattle.theory.proofs.Usable.UsableHeap.{usable-fit}
 
 module _ {N w : ℕ} {h : Memory} (usable : Usable N w h) where
   pub check-promise : {r : Reply} → r ≡ reply 0 0 0 → Promise N w check h r h

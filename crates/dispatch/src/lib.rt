@@ -1,9 +1,8 @@
 // One call of the list, on an undamaged heap.
 ghost use Rattle.rules.specs.Lent.{before, after, lent};
-ghost use Rattle.inner.specs.Usable.{Usable};
+ghost use Rattle.theory.specs.Usable.{Usable};
 ghost use Rattle.dispatch.specs.Dispatched.{Dispatched};
 use arguments::looking;
-use inner::acts;
 use types::Ref;
 use types::Reply;
 use types::replies;
@@ -46,50 +45,62 @@ pub fn step(
                 x as usize,
                 y as usize,
             );
-            done.reply
+            done.reply()
         }
-        3 => steps::store_root(
-            blocks,
-            width,
-            a,
-            b,
-            counts,
-            cells,
-            roots,
-            waiting,
-            sections,
-            x as usize,
-            y as usize,
-        ),
-        4 => steps::store_cell(
-            blocks,
-            width,
-            a,
-            b,
-            counts,
-            cells,
-            roots,
-            waiting,
-            sections,
-            x as usize,
-            y as usize,
-            z as usize,
-        ),
-        5 => acts::collect(blocks, width, a, b, counts, cells, roots, waiting, sections),
+        3 => {
+            let done = steps::store_root(
+                blocks,
+                width,
+                a,
+                b,
+                counts,
+                cells,
+                roots,
+                waiting,
+                sections,
+                x as usize,
+                y as usize,
+            );
+            done.reply()
+        }
+        4 => {
+            let done = steps::store_cell(
+                blocks,
+                width,
+                a,
+                b,
+                counts,
+                cells,
+                roots,
+                waiting,
+                sections,
+                x as usize,
+                y as usize,
+                z as usize,
+            );
+            done.reply()
+        }
+        5 => {
+            let done = work_collect::collect(blocks, width, a, b, counts, cells, roots, waiting, sections);
+            done.reply()
+        }
         6 => looking::look_reply(blocks, width, a, b, counts, x as usize),
         7 => replies::acceptance(bitmap::count_zeros(a)),
-        8 => returns::return_roots(
-            blocks,
-            width,
-            a,
-            b,
-            counts,
-            cells,
-            roots,
-            waiting,
-            sections,
-            x,
-        ),
+        8 => {
+            let done = returns::return_roots(
+                blocks,
+                width,
+                a,
+                b,
+                counts,
+                cells,
+                roots,
+                waiting,
+                sections,
+                x,
+            );
+            done.reply()
+        }
         _ => replies::refusal(9),
     }
 }

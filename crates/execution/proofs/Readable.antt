@@ -4,9 +4,9 @@ use mathlib.Core.List.{[]}
 use Prim.Native.Nat.{ℕ}
 use native.Mathlib.Omega.{arith}
 use Rattle.rules.specs.Heap.{Memory, memory}
-use Rattle.inner.specs.Usable.{Usable}
+use Rattle.theory.specs.Usable.{Usable}
 use Rattle.theory.proofs.Memories.Stores.{roots-named}
-use Rattle.inner.proofs.UsableHeap.{usable-healthy}
+use Rattle.theory.proofs.Usable.UsableHeap.{usable-healthy}
 use Rattle.records.specs.declared.Fields.{Fields}
 use Rattle.plans.specs.declared.Plan.{Plan}
 use Rattle.plans.specs.Meaning.{meaning}

@@ -1,10 +1,9 @@
 // The calls of one record, on an undamaged heap with a cleared waiting list.
 ghost use Rattle.rules.specs.Lent.{before, after, lent};
-ghost use Rattle.inner.specs.Usable.{Usable};
+ghost use Rattle.theory.specs.Usable.{Usable};
 ghost use Rattle.plans.specs.Meaning.{meaning};
 ghost use Rattle.turns.specs.Turns.{turnOf};
 ghost use Rattle.turns.specs.Steps.{Acted};
-use inner::acts;
 use plans::Plan;
 use turns::outcome::Done;
 use types::Ref;
@@ -50,7 +49,7 @@ pub(crate) fn act(
             r,
         ),
         Plan::StoreRoot { r, v } => {
-            let reply = steps::store_root(
+            let done = steps::store_root(
                 blocks,
                 width,
                 a,
@@ -64,15 +63,15 @@ pub(crate) fn act(
                 v,
             );
             Done {
-                number: reply.number,
+                number: done.number,
                 allocated: 0,
                 collected: false,
-                freed: reply.value,
-                stuck: reply.second == 1,
+                freed: done.freed,
+                stuck: done.stuck,
             }
         }
         Plan::StoreCell { at, j, v } => {
-            let reply = steps::store_cell(
+            let done = steps::store_cell(
                 blocks,
                 width,
                 a,
@@ -87,20 +86,20 @@ pub(crate) fn act(
                 v,
             );
             Done {
-                number: reply.number,
+                number: done.number,
                 allocated: 0,
                 collected: false,
-                freed: reply.value,
-                stuck: reply.second == 1,
+                freed: done.freed,
+                stuck: done.stuck,
             }
         }
         Plan::Collect => {
-            let reply = acts::collect(blocks, width, a, b, counts, cells, roots, waiting, sections);
+            let done = work_collect::collect(blocks, width, a, b, counts, cells, roots, waiting, sections);
             Done {
                 number: 0,
                 allocated: 0,
                 collected: true,
-                freed: reply.value,
+                freed: done.freed,
                 stuck: false,
             }
         }

@@ -1,6 +1,6 @@
 // One record of a history, on an undamaged heap with a cleared waiting list: the calls it asks for, and what they add to the run.
 ghost use Rattle.rules.specs.Lent.{before, after, lent};
-ghost use Rattle.inner.specs.Usable.{Usable};
+ghost use Rattle.theory.specs.Usable.{Usable};
 ghost use Rattle.plans.specs.Asked.{asked};
 ghost use Rattle.turns.specs.Turns.{turnOf};
 ghost use Rattle.turns.specs.Steps.{Going, Stepped};

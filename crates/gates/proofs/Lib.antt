@@ -1,1 +1,2 @@
 pub mod CheckAtGate
+pub mod ClearedHeap

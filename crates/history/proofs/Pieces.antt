@@ -17,8 +17,8 @@ use Rattle.rules.proofs.Tests.{test-cases}
 use Rattle.rules.proofs.Replies.{accepted-none, undamaged-passed}
 use Rattle.theory.specs.Statements.{Undamaged}
 use Rattle.theory.specs.Balance.{inUse}
-use Rattle.inner.specs.Usable.{Usable}
-use Rattle.inner.proofs.UsableHeap.{cleared-usable as UsableHeap·cleared-usable, usable-fit}
+use Rattle.theory.specs.Usable.{Usable}
+use Rattle.theory.proofs.Usable.UsableHeap.{cleared-usable as UsableHeap·cleared-usable, usable-fit}
 use Rattle.inspect.proofs.CheckReply.{check-passed}
 use Rattle.figures.specs.declared.tally.Run.{Run}
 use Rattle.figures.specs.Figures.{inRange}

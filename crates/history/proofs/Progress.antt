@@ -6,7 +6,7 @@ use native.Mathlib.Omega.{arith}
 use lib.ListN.{length}
 use borrow.Author.Tests.{eq-eqb, ne-eqb}
 use Rattle.rules.specs.Heap.{Memory}
-use Rattle.inner.specs.Usable.{Usable}
+use Rattle.theory.specs.Usable.{Usable}
 use Rattle.records.specs.Records.{recordLength, fieldsAt}
 use Rattle.plans.specs.Asked.{asked}
 use Rattle.records.specs.declared.Fields.{Fields}

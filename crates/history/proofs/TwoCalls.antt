@@ -12,8 +12,8 @@ use Rattle.rules.proofs.Shape.{shape-facts, shape-test}
 use Rattle.theory.specs.Statements.{Undamaged}
 use Rattle.theory.specs.Demand.{Finds}
 use Rattle.theory.proofs.Memories.ViewRelease.{reshaped}
-use Rattle.inner.specs.Usable.{Usable}
-use Rattle.inner.proofs.UsableHeap.{cleared-usable, cleared-same}
+use Rattle.theory.specs.Usable.{Usable}
+use Rattle.theory.proofs.Usable.UsableHeap.{cleared-usable, cleared-same}
 use Rattle.records.specs.Records.{recordLength}
 use Rattle.figures.specs.declared.tally.Run.{Run}
 use Rattle.figures.specs.Figures.{inRange}

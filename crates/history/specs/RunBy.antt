@@ -3,7 +3,7 @@ use Prim.Native.Nat.{ℕ}
 use mathlib.Core.Path.{_≡_}
 use mathlib.Core.Bool.{true}
 use Rattle.rules.specs.Heap.{Memory}
-use Rattle.inner.specs.Usable.{Usable}
+use Rattle.theory.specs.Usable.{Usable}
 use Rattle.figures.specs.declared.tally.Run.{Run}
 use Rattle.figures.specs.Figures.{inRange}
 use Rattle.history.specs.Runs.{Came}

@@ -4,7 +4,7 @@ ghost use mathlib.Core.Bool.{true};
 ghost use Prim.Native.Nat.{_+_, _*_, _/_, _-_, _≤_, min};
 ghost use lib.ListN.{length};
 ghost use Rattle.rules.specs.Lent.{before, after, lent};
-ghost use Rattle.inner.specs.Usable.{Usable};
+ghost use Rattle.theory.specs.Usable.{Usable};
 ghost use Rattle.figures.specs.Figures.{mostRecords, inRange};
 ghost use Rattle.turns.specs.Steps.{Going};
 ghost use Rattle.history.specs.Runs.{ranFrom, ended, ran};

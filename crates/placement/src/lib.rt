@@ -1,17 +1,14 @@
-// The placing of a new object, whose reference goes into a root.
+// The making of an object: its blocks, its count and its cells. The figures of sections that it lies in are left unknown.
 ghost use mathlib.Core.Path.{_≡_};
-ghost use Prim.Native.Nat.{_+_, _≤_, _<_};
-ghost use lib.ListN.{length};
-ghost use Rattle.rules.specs.Heap.{withSections};
-ghost use Rattle.rules.specs.Lent.{before, after, lent};
-ghost use Rattle.rules.specs.Store.{placed, birthSticks, allocateIn};
+ghost use mathlib.Core.List.{[]};
+ghost use Prim.Native.Nat.{_+_, _≤_};
+ghost use Rattle.rules.specs.Heap.{memory};
+ghost use Rattle.rules.specs.Store.{placed};
 ghost use Rattle.sections.specs.Figures.{Coherent};
-ghost use Rattle.counting.specs.Ready.{Ready};
-ghost use Rattle.stores.specs.Blocks.{putRootBlocks};
-use stores::Stored;
+ghost use Rattle.counting.specs.Ready.{Planes, Extents};
 use types::Ref;
 
-// Makes an object of count 1 of the n blocks from block i on, and puts its reference into root r.
+// Makes an object of count 1 of the n blocks from block i on, its cells cleared.
 pub fn place(
     blocks: usize,
     width: usize,
@@ -19,40 +16,18 @@ pub fn place(
     b: &mut [u8],
     counts: &mut [u8],
     cells: &mut [Ref],
-    roots: &mut [Ref],
-    waiting: &mut [Ref],
     sections: &mut [Ref],
-    n: usize,
-    r: usize,
     i: usize,
-) -> Stored
-    requires { ⌜ Ready blocks width (lent a b counts cells roots waiting sections) × (1 ≤ n) × (i + n ≤ blocks) × (r < length (now roots)) ⌝ }
-    ensures { λ done.
-        ⌜ (withSections (now (sections .entry)) (after a b counts cells roots waiting sections)
-        ≡ allocateIn blocks width (before a b counts cells roots waiting sections) n r i)
-        × (done .freed ≡ putRootBlocks blocks width (placed blocks width (before a b counts cells roots waiting sections) i n) r (i + 1))
-        × (done .stuck ≡ birthSticks width)
+    n: usize,
+)
+    requires { ⌜ Planes blocks width (now counts) × Extents blocks (now a) (now b) (now cells)
+        × Coherent blocks (now a) (now sections) × (1 ≤ n) × (i + n ≤ blocks) ⌝ }
+    ensures { λ _.
+        ⌜ (memory (now (a .exit)) (now (b .exit)) (now (counts .exit)) (now (cells .exit)) [] []
+        ≡ placed blocks width (memory (now (a .entry)) (now (b .entry)) (now (counts .entry)) (now (cells .entry)) [] []) i n)
         × Coherent blocks (now (a .exit)) (now (sections .exit)) ⌝ }
 {
-    let stuck = types::capacity_of(width) == 1;
     section_extents::mark_extent(blocks, a, b, sections, i, n);
     planes::set_count(counts, blocks / 8, width, i, 1);
     object_extents::clear_cells(cells, 4 * i, 4 * n);
-    let freed = stores::put_root(
-        blocks,
-        width,
-        a,
-        b,
-        counts,
-        cells,
-        roots,
-        waiting,
-        sections,
-        r,
-        (i + 1) as Ref,
-    );
-    Stored {
-        freed: freed,
-        stuck: stuck,
-    }
 }

@@ -10,8 +10,8 @@ use Rattle.rules.specs.Heap.{Memory}
 use Rattle.rules.specs.Calls.{Call, Answer, answer, run, lastMemory}
 use Rattle.rules.specs.Promise.{Promise}
 use Rattle.types.specs.declared.Reply.{Reply}
-use Rattle.inner.specs.Usable.{Usable}
-use Rattle.inner.proofs.UsableAfterCalls.{usable-kept}
+use Rattle.theory.specs.Usable.{Usable}
+use Rattle.theory.proofs.Usable.UsableAfterCalls.{usable-kept}
 use Rattle.encoding.specs.Encoding.{callAt, callsFrom, callsIn, replyWords, isCallAt}
 use Rattle.encoding.specs.Words.{wordsAt, withReply}
 use Rattle.encoding.specs.declared.words.Words.{Words}

@@ -15,7 +15,7 @@ use Rattle.types.specs.declared.Reply.{Reply}
 use Rattle.rules.proofs.Replies.{format-accepted}
 use Rattle.rules.proofs.Shape.{shape-facts}
 use Rattle.theory.proofs.Theorems.{calls-keep-undamaged, format-makes-undamaged, demand-3}
-use Rattle.inner.specs.Usable.{Usable}
+use Rattle.theory.specs.Usable.{Usable}
 use Rattle.encoding.specs.Encoding.{callsIn, replyWords}
 use Rattle.replay.specs.Run.{AsRun}
 use Rattle.encoding.proofs.Calls.{accepted-passed}

@@ -2,11 +2,10 @@
 // second one.
 ghost use Rattle.rules.specs.Lent.{before, after, lent};
 ghost use Rattle.rules.specs.Calls.{Call};
-ghost use Rattle.inner.specs.Usable.{Usable};
+ghost use Rattle.theory.specs.Usable.{Usable};
 ghost use Rattle.plans.specs.Asked.{makes};
 ghost use Rattle.turns.specs.Turns.{turnOf};
 ghost use Rattle.turns.specs.Steps.{Acted};
-use inner::acts;
 use turns::outcome;
 use turns::outcome::Done;
 use types::Ref;
@@ -44,11 +43,11 @@ pub fn allocate(
         n,
         r,
     );
-    let number = first.reply.number;
+    let number = first.number;
     if number != 5 {
         return outcome::done_after(first, n, false, 0);
     }
-    let forced = acts::collect(blocks, width, a, b, counts, cells, roots, waiting, sections);
+    let forced = work_collect::collect(blocks, width, a, b, counts, cells, roots, waiting, sections);
     let second = steps::allocate(
         blocks,
         width,
@@ -62,5 +61,5 @@ pub fn allocate(
         n,
         r,
     );
-    outcome::done_after(second, n, true, forced.value)
+    outcome::done_after(second, n, true, forced.freed)
 }

@@ -1,5 +1,6 @@
 -- A return (request U10): its answer once its test is passed, and its work root by root.
 use mathlib.Core.Path.{_≡_, refl, sym, ap, _∙_}
+use mathlib.Core.Bool.{false}
 use mathlib.Core.List.{[]}
 use Prim.Native.Nat.{ℕ, _+_, _-_, _≤_, _<_}
 use native.Mathlib.Numerals.{add-one}
@@ -9,9 +10,9 @@ use borrow.Author.Tests.{eq-eqb, ne-eqb}
 use Rattle.bitmap.specs.Bit.{bitOf, zeros}
 use Rattle.rules.specs.Heap.{Memory, withWaiting, withSections}
 use Rattle.rules.specs.Store.{storeRootIn, chosenBelow, clearChosen, returnIn}
-use Rattle.rules.specs.Calls.{returnRoots, storeRoot, reply, Answer, settled, freeing, outcome, answer}
-use Rattle.rules.specs.Promise.{Promise}
+use Rattle.rules.specs.Calls.{returnRoots, storeRoot, Answer, settled, freeing, outcome, answer}
 use Rattle.types.specs.declared.Reply.{Reply}
+use Rattle.types.specs.declared.Outcome.{Outcome}
 use Rattle.rules.proofs.Replies.{Passed, passed-own}
 use Rattle.rules.proofs.Tests.{first-not}
 use Rattle.rules.proofs.Unread.{store-root-beside}
@@ -20,10 +21,13 @@ use Rattle.theory.proofs.EachCall.Accepted.{fit-accepted}
 use Rattle.theory.proofs.EachCall.Clearing.{none-ref, root-cleared}
 use Rattle.arguments.specs.Replies.{ownTest, storeRootTest, returnTest}
 use Rattle.arguments.proofs.ArgumentTests.{root-passed}
-use Rattle.inner.specs.Usable.{Usable}
-use Rattle.inner.proofs.UsableHeap.{cleared-same, usable-fit, left-settled}
-use Rattle.inner.proofs.StoreAnswer.{root-answered, freeing-promised}
-use Rattle.inner.proofs.UsableAfterCalls.{usable-kept}
+use Rattle.theory.specs.Balance.{freedBlocks}
+use Rattle.theory.specs.Usable.{Usable, outcomeOf, Worked}
+use Rattle.theory.proofs.EachCall.Balance.{blocks-add-up}
+use Rattle.theory.proofs.Usable.UsableHeap.{cleared-same, usable-fit, left-settled}
+use Rattle.theory.proofs.Usable.UsableAfterCalls.{usable-kept}
+use Rattle.theory.proofs.Usable.WorkDone.{worked-freeing}
+use Rattle.work_root.proofs.RootAnswer.{root-answered}
 use Rattle.returns.specs.Returns.{ClearedIfChosen}
 
 -- ---- the answer
@@ -51,16 +55,20 @@ module _ {N w : ℕ} {h : Memory} (usable : Usable N w h) {chosen r : ℕ} where
 
   -- it is, and was cleared; the waiting list was clear and is left so, and the store reads no list of sections
   pub chosen-cleared :
-      r < length (h .roots) → bitOf chosen r ≡ 1 → {x : Reply} {g : Memory} → Promise N w (storeRoot r 0) h x g
-      → ClearedIfChosen N w h chosen r g (x .value)
+      r < length (h .roots) → bitOf chosen r ≡ 1 → {done : Outcome} {g : Memory} → Worked N w (storeRoot r 0) h done g
+      → ClearedIfChosen N w h chosen r g (done .freed)
   unfolding freeing clearChosen
-  chosen-cleared inside e {x} {g} promise =
+  chosen-cleared inside e {done} {g} worked =
+      let promise = worked .promise in
       let fit = usable-fit usable in
       let end : Memory = storeRootIn N w h r 0 in
       let stored = root-answered (root-passed (zero-passes N h r inside)) fit in
       let is : g ≡ settled N end = promise .after-is ∙ ap (λ (y : Answer). y .1) stored in
-      let value : x .value ≡ zeros (end .a) - zeros (h .a) =
-      ap (λ (y : Reply). y .value) (promise .reply-is) ∙ ap (λ (y : Answer). y .0 .value) stored in
+      let freed : done .freed ≡ zeros (end .a) - zeros (h .a) =
+      worked .freed-is
+      ∙ ap (freedBlocks N h) (promise .after-is)
+      ∙ sym (blocks-add-up N w h .store-root r 0 (ap (λ (y : Answer). y .0 .number) stored) .by-objects)
+      ∙ ap (λ (y : Answer). y .0 .value) stored in
       let grows = root-cleared N w (λ i. Unit {0}) h (fit .healthy) r inside tt .grows in
       record {
         after-is = λ l.
@@ -68,7 +76,7 @@ module _ {N w : ℕ} {h : Memory} (usable : Usable N w h) {chosen r : ℕ} where
             ∙ ap (λ (k : Memory). storeRootIn N w (withSections l k) r 0) (cleared-same usable)
             ∙ rw (eq-eqb (bitOf chosen r) 1 e, clearChosen) refl;
         usable = usable-kept usable promise;
-        blocks = omega (arith, value, grows, ap (λ (k : Memory). zeros (k .a)) is);
+        blocks = omega (arith, freed, grows, ap (λ (k : Memory). zeros (k .a)) is);
       }
 
 -- ---- the loop's invariant: the roots below r are seen to, and `freed` blocks were freed
@@ -102,13 +110,12 @@ module _ {N w : ℕ} {start : Memory} {chosen : ℕ} where
       }
 
   pub progress-done :
-      {r freed : ℕ} {h : Memory} {x : Reply} → Usable N w start → returnTest (length (start .roots)) chosen .number ≡ 0
-      → length (h .roots) ≤ r → Progress N w start chosen r h freed → x ≡ reply 0 freed 0 → Promise N w (returnRoots chosen) start x h
-  progress-done {r} {freed} {h} {x} usable passes l p replied =
+      {r freed : ℕ} {h : Memory} → Usable N w start → returnTest (length (start .roots)) chosen .number ≡ 0 → length (h .roots) ≤ r
+      → Progress N w start chosen r h freed → Worked N w (returnRoots chosen) start (outcomeOf 0 freed freed false) h
+  progress-done {r} {freed} {h} usable passes l p =
       let end : Memory = returnIn N w start chosen (length (start .roots)) in
       let all : r ≡ length (start .roots) = omega (arith, p .made, p .roots-length) in
       let is : withSections (start .sections) h ≡ end = p .after-is ∙ ap (returnIn N w start chosen) all in
-      freeing-promised N w start end 0 (returnRoots chosen) (return-answered N w start (usable-fit usable) chosen passes)
-      freed x h
-      (omega (arith, p .blocks, ap (λ (k : Memory). zeros (k .a)) is)) replied
+      worked-freeing (blocks-add-up N w start .return-roots chosen) end (return-answered N w start (usable-fit usable) chosen passes)
+      (omega (arith, p .blocks, ap (λ (k : Memory). zeros (k .a)) is))
       (left-settled (p .usable) {k = h} refl refl (usable-fit (p .usable) .listed) ∙ ap (settled N) is)

@@ -5,7 +5,7 @@ use mathlib.Core.List.{List}
 use Rattle.bitmap.specs.Bit.{zeros}
 use Rattle.rules.specs.Heap.{Memory, withSections}
 use Rattle.rules.specs.Store.{clearChosen}
-use Rattle.inner.specs.Usable.{Usable}
+use Rattle.theory.specs.Usable.{Usable}
 
 -- root r was cleared where it is one of the set, and `freed` blocks were freed: as the rule has it whatever list of sections stands beside,
 -- and the heap's own list is left true

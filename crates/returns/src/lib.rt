@@ -5,15 +5,12 @@ ghost use Prim.Native.Nat.{_<_};
 ghost use lib.ListN.{length};
 ghost use Rattle.rules.specs.Lent.{before, after, lent};
 ghost use Rattle.rules.specs.Calls.{Call};
-ghost use Rattle.rules.specs.Promise.{Promise};
 ghost use Rattle.arguments.specs.Replies.{returnTest};
-ghost use Rattle.inner.specs.Usable.{Usable};
+ghost use Rattle.theory.specs.Usable.{Usable, Worked};
 ghost use Rattle.returns.specs.Returns.{ClearedIfChosen};
 use arguments::returning;
-use inner::acts;
+use types::Outcome;
 use types::Ref;
-use types::Reply;
-use types::replies;
 
 // Clears root r where it is one of the set. The number of blocks freed.
 fn clear_chosen(
@@ -41,7 +38,7 @@ fn clear_chosen(
     if (chosen >> r) % 2 != 1 {
         return 0;
     }
-    let reply = acts::store_root(
+    let done = work_root::store_root(
         blocks,
         width,
         a,
@@ -54,7 +51,7 @@ fn clear_chosen(
         r,
         0,
     );
-    reply.value
+    done.freed
 }
 
 // Clears the roots of the set, the lowest first, once the test is passed.
@@ -69,11 +66,11 @@ pub fn clear_roots(
     waiting: &mut [Ref],
     sections: &mut [Ref],
     chosen: u64,
-) -> Reply
+) -> Outcome
     requires { ⌜ Usable blocks width (lent a b counts cells roots waiting sections)
         × (returnTest (length (now roots)) chosen .number ≡ 0) ⌝ }
-    ensures { λ reply.
-        ⌜ Promise blocks width (Call.returnRoots chosen) (before a b counts cells roots waiting sections) reply
+    ensures { λ done.
+        ⌜ Worked blocks width (Call.returnRoots chosen) (before a b counts cells roots waiting sections) done
         (after a b counts cells roots waiting sections) ⌝ }
 {
     let mut freed: usize = 0;
@@ -95,7 +92,12 @@ pub fn clear_roots(
         freed += more;
         r += 1;
     }
-    replies::acceptance(freed)
+    Outcome {
+        number: 0,
+        value: freed,
+        freed: freed,
+        stuck: false,
+    }
 }
 
 // The test, and the work where it passes.
@@ -110,16 +112,21 @@ pub fn return_roots(
     waiting: &mut [Ref],
     sections: &mut [Ref],
     chosen: u64,
-) -> Reply
+) -> Outcome
     requires { ⌜ Usable blocks width (lent a b counts cells roots waiting sections) ⌝ }
-    ensures { λ reply.
-        ⌜ Promise blocks width (Call.returnRoots chosen) (before a b counts cells roots waiting sections) reply
+    ensures { λ done.
+        ⌜ Worked blocks width (Call.returnRoots chosen) (before a b counts cells roots waiting sections) done
         (after a b counts cells roots waiting sections) ⌝ }
 {
     let test = returning::return_test(roots.len(), chosen);
     let number = test.number;
     if number != 0 {
-        return test;
+        return Outcome {
+            number: number,
+            value: 0,
+            freed: 0,
+            stuck: false,
+        };
     }
     clear_roots(
         blocks,

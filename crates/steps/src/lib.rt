@@ -1,14 +1,10 @@
 // The calls that write, on an undamaged heap with a cleared waiting list: their tests, and their work where these pass.
 ghost use Rattle.rules.specs.Lent.{before, after, lent};
 ghost use Rattle.rules.specs.Calls.{Call};
-ghost use Rattle.rules.specs.Promise.{Promise};
-ghost use Rattle.inner.specs.Allocating.{Allocating};
-ghost use Rattle.inner.specs.Usable.{Usable};
+ghost use Rattle.theory.specs.Usable.{Usable, Worked};
 use arguments::storing;
-use inner::acts;
-use inner::acts::Allocated;
+use types::Outcome;
 use types::Ref;
-use types::Reply;
 
 // Allocates n blocks into root r; a refused allocation frees nothing.
 pub fn allocate(
@@ -23,21 +19,24 @@ pub fn allocate(
     sections: &mut [Ref],
     n: usize,
     r: usize,
-) -> Allocated
+) -> Outcome
     requires { ⌜ Usable blocks width (lent a b counts cells roots waiting sections) ⌝ }
     ensures { λ done.
-        ⌜ Allocating blocks width n r (before a b counts cells roots waiting sections) done (after a b counts cells roots waiting sections) ⌝ }
+        ⌜ Worked blocks width (Call.allocate n r) (before a b counts cells roots waiting sections) done
+        (after a b counts cells roots waiting sections) ⌝ }
 {
     let test = allocation_tests::allocate_reply(blocks, a, sections, roots.len(), n, r);
     let number = test.number;
     if number != 0 {
-        return Allocated {
-            reply: test,
+        return Outcome {
+            number: number,
+            value: 0,
             freed: 0,
+            stuck: false,
         };
     }
     let at = test.value;
-    acts::allocate(
+    work_allocate::allocate(
         blocks,
         width,
         a,
@@ -66,18 +65,23 @@ pub fn store_root(
     sections: &mut [Ref],
     r: usize,
     v: usize,
-) -> Reply
+) -> Outcome
     requires { ⌜ Usable blocks width (lent a b counts cells roots waiting sections) ⌝ }
-    ensures { λ reply.
-        ⌜ Promise blocks width (Call.storeRoot r v) (before a b counts cells roots waiting sections) reply
+    ensures { λ done.
+        ⌜ Worked blocks width (Call.storeRoot r v) (before a b counts cells roots waiting sections) done
         (after a b counts cells roots waiting sections) ⌝ }
 {
     let test = storing::store_root_test(blocks, a, b, roots, r, v);
     let number = test.number;
     if number != 0 {
-        return test;
+        return Outcome {
+            number: number,
+            value: 0,
+            freed: 0,
+            stuck: false,
+        };
     }
-    acts::store_root(
+    work_root::store_root(
         blocks,
         width,
         a,
@@ -106,18 +110,23 @@ pub fn store_cell(
     at: usize,
     j: usize,
     v: usize,
-) -> Reply
+) -> Outcome
     requires { ⌜ Usable blocks width (lent a b counts cells roots waiting sections) ⌝ }
-    ensures { λ reply.
-        ⌜ Promise blocks width (Call.storeCell at j v) (before a b counts cells roots waiting sections) reply
+    ensures { λ done.
+        ⌜ Worked blocks width (Call.storeCell at j v) (before a b counts cells roots waiting sections) done
         (after a b counts cells roots waiting sections) ⌝ }
 {
     let test = storing::store_cell_test(blocks, a, b, at, j, v);
     let number = test.number;
     if number != 0 {
-        return test;
+        return Outcome {
+            number: number,
+            value: 0,
+            freed: 0,
+            stuck: false,
+        };
     }
-    acts::store_cell(
+    work_cell::store_cell(
         blocks,
         width,
         a,

@@ -5,3 +5,4 @@ pub mod EachCall
 pub mod Demand
 pub mod Spaces
 pub mod Theorems
+pub mod Usable

@@ -8,4 +8,5 @@ pub mod Balance
 pub mod Returns
 pub mod Sections
 pub mod Moments
+pub mod Usable
 pub mod Theory

@@ -1,13 +1,20 @@
 -- What a call adds to the figures, accepted and refused.
-use mathlib.Core.Path.{_≡_}
-use mathlib.Core.Bool.{Bool}
+use mathlib.Core.Path.{_≡_, refl}
+use mathlib.Core.Bool.{Bool, true, false}
 use Prim.Native.Nat.{ℕ, _≤_}
 use native.Mathlib.Omega.{arith}
+use lib.Dec.{eqb}
 use borrow.Author.Tests.{eq-eqb, ne-eqb}
+use Rattle.bitmap.specs.Bit.{one}
 use Rattle.theory.specs.Words.{Made}
 use Rattle.figures.specs.declared.tally.Tally.{Tally}
 use Rattle.figures.specs.Figures.{allocated, countedIn, toldStuck, momentIn, noted}
 use Rattle.turns.specs.Outcomes.{done, withAllocation}
+
+-- a reply tells of a stuck object by 1
+pub told-stuck : (s : Bool) → eqb (one s) 1 ≡ s
+told-stuck true = refl
+told-stuck false = refl
 
 -- a refused call adds nothing
 pub noted-refused : (m : Made) (t : Tally) → (m .reply .number ≡ 0 → ⊥) → noted m t ≡ t

@@ -1,5 +1,3 @@
-pub mod Refusals
-pub mod Blocks
 pub mod Figures
 pub mod Turns
 pub mod Stores

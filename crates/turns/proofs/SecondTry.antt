@@ -5,17 +5,13 @@ use mathlib.Core.List.{[], _∷_}
 use Prim.Native.Nat.{ℕ, _+_, _^_, _≤_, _<_}
 use native.Mathlib.Decide.{ℕ-discrete}
 use native.Mathlib.Omega.{arith}
-use lib.Dec.{eqb}
 use borrow.Author.Tests.{eq-eqb, ne-eqb}
 use Rattle.rules.specs.Heap.{Memory}
 use Rattle.rules.specs.Calls.{collect, allocate, answer}
-use Rattle.rules.specs.Promise.{Promise}
-use Rattle.types.specs.declared.Reply.{Reply}
-use Rattle.inner.specs.Usable.{Usable}
-use Rattle.inner.specs.Allocating.{Allocating}
-use Rattle.inner.specs.declared.acts.Allocated.{Allocated}
-use Rattle.inner.proofs.UsableHeap.{usable-healthy}
-use Rattle.inner.proofs.UsableAfterCalls.{usable-kept}
+use Rattle.types.specs.declared.Outcome.{Outcome}
+use Rattle.theory.specs.Usable.{Usable, Worked}
+use Rattle.theory.proofs.Usable.UsableHeap.{usable-healthy}
+use Rattle.theory.proofs.Usable.UsableAfterCalls.{usable-kept}
 use Rattle.plans.specs.Asked.{makes}
 use Rattle.figures.specs.declared.tally.Tally.{Tally}
 use Rattle.figures.specs.Figures.{collected, momentIn, noted, notedAll}
@@ -27,10 +23,10 @@ use Rattle.turns.proofs.Turns.{acted-as}
 use Rattle.turns.proofs.Collections.{collect-noted, collect-balance}
 use Rattle.turns.proofs.FirstTry.{reply-number, refused-noted, refused-balance, size-fits, accepted-noted, accepted-balance, acted-again}
 
-module _ {N w : ℕ} {h : Memory} (usable : Usable N w h) {n r : ℕ} {y : Reply} {k : Memory} (forced : Promise N w collect h y k)
-    {second : Allocated} {g : Memory} (tried : Allocating N w n r k second g) where
+module _ {N w : ℕ} {h : Memory} (usable : Usable N w h) {n r : ℕ} {y : Outcome} {k : Memory} (forced : Worked N w collect h y k)
+    {second : Outcome} {g : Memory} (tried : Worked N w (allocate n r) k second g) where
   forced-usable : Usable N w k
-  forced-usable = usable-kept usable forced
+  forced-usable = usable-kept usable (forced .promise)
 
   abbrev again : Turn
   again =
@@ -44,7 +40,7 @@ module _ {N w : ℕ} {h : Memory} (usable : Usable N w h) {n r : ℕ} {y : Reply
       (λ (m : Memory).
       turn (answer N w m (allocate n r) .0 .number) (madeOn N w h collect ∷ madeOn N w m (allocate n r) ∷ [])
       (answer N w m (allocate n r) .1))
-      (sym (forced .after-is))
+      (sym (forced .promise .after-is))
 
   -- the two calls noted, one after the other
   both-noted : (t : Tally) → notedAll (again .made) t ≡ noted (madeOn N w k (allocate n r)) (collected t)
@@ -52,8 +48,8 @@ module _ {N w : ℕ} {h : Memory} (usable : Usable N w h) {n r : ℕ} {y : Reply
   both-noted t = ap (noted (madeOn N w k (allocate n r))) (collect-noted usable t)
 
   -- together they free no more blocks than two heaps have
-  freed-few : y .value + second .freed ≤ N + N
-  freed-few = elim (ℕ-discrete (second .reply .number) 0) [
+  freed-few : y .freed + second .freed ≤ N + N
+  freed-few = elim (ℕ-discrete (second .number) 0) [
     | yes e ↦
         omega (
           arith,
@@ -65,8 +61,8 @@ module _ {N w : ℕ} {h : Memory} (usable : Usable N w h) {n r : ℕ} {y : Reply
   ]
 
   again-refused :
-      (second .reply .number ≡ 0 → ⊥)
-      → Acted N h (triedAgain N w h (allocate n r)) (done (second .reply .number) 0 true (y .value + second .freed) false) g
+      (second .number ≡ 0 → ⊥)
+      → Acted N h (triedAgain N w h (allocate n r)) (done (second .number) 0 true (y .freed + second .freed) false) g
   unfolding withCollection withAllocation momentIn
   again-refused refused =
       acted-as tried-again
@@ -81,7 +77,7 @@ module _ {N w : ℕ} {h : Memory} (usable : Usable N w h) {n r : ℕ} {y : Reply
       }
 
   again-allocated :
-      second .reply .number ≡ 0 → Acted N h (triedAgain N w h (allocate n r)) (done 0 n true (y .value + second .freed) (eqb (second .reply .second) 1)) g
+      second .number ≡ 0 → Acted N h (triedAgain N w h (allocate n r)) (done 0 n true (y .freed + second .freed) (second .stuck)) g
   unfolding withCollection
   again-allocated accepted =
       let size = size-fits forced-usable tried accepted in
@@ -90,8 +86,8 @@ module _ {N w : ℕ} {h : Memory} (usable : Usable N w h) {n r : ℕ} {y : Reply
         number-is = sym (reply-number forced-usable tried ∙ accepted);
         after-is = tried .promise .after-is;
         figures-are = λ t.
-            ap (momentIn (eqb (second .reply .second) 1))
-            (with-allocated n true 0 (y .value + second .freed) (eqb (second .reply .second) 1) (collected t) (size .0))
+            ap (momentIn (second .stuck))
+            (with-allocated n true 0 (y .freed + second .freed) (second .stuck) (collected t) (size .0))
             ∙ sym (both-noted t ∙ accepted-noted forced-usable tried accepted (collected t));
         balance =
             omega (arith, collect-balance usable forced, accepted-balance forced-usable tried accepted);
@@ -99,25 +95,25 @@ module _ {N w : ℕ} {h : Memory} (usable : Usable N w h) {n r : ℕ} {y : Reply
         refused-none = λ some. absurd (some refl);
       }
 
-  again-acted : Acted N h (triedAgain N w h (allocate n r)) (doneAfter second n true (y .value)) g
+  again-acted : Acted N h (triedAgain N w h (allocate n r)) (doneAfter second n true (y .freed)) g
   unfolding doneAfter
-  again-acted = elim (ℕ-discrete (second .reply .number) 0) [
-    | yes accepted ↦ rw (eq-eqb (second .reply .number) 0 accepted, doneAfter) (again-allocated accepted)
-    | no refused ↦ rw (ne-eqb (second .reply .number) 0 refused, doneAfter) (again-refused refused)
+  again-acted = elim (ℕ-discrete (second .number) 0) [
+    | yes accepted ↦ rw (eq-eqb (second .number) 0 accepted, doneAfter) (again-allocated accepted)
+    | no refused ↦ rw (ne-eqb (second .number) 0 refused, doneAfter) (again-refused refused)
   ]
 
 -- ---- an allocation that was tried twice: the first try left k, the collection l
 
-module _ {N w : ℕ} {h : Memory} (usable : Usable N w h) {n r : ℕ} {first : Allocated} {k : Memory} (tried : Allocating N w n r h first k)
-    {y : Reply} {l : Memory} (forced : Promise N w collect k y l) {second : Allocated} {g : Memory}
-    (retried : Allocating N w n r l second g) where
+module _ {N w : ℕ} {h : Memory} (usable : Usable N w h) {n r : ℕ} {first : Outcome} {k : Memory}
+    (tried : Worked N w (allocate n r) h first k) {y : Outcome} {l : Memory} (forced : Worked N w collect k y l) {second : Outcome} {g : Memory}
+    (retried : Worked N w (allocate n r) l second g) where
   tried-usable : Usable N w k
   tried-usable = usable-kept usable (tried .promise)
 
-  pub freed-fits : y .value + second .freed < 2 ^ 64
+  pub freed-fits : y .freed + second .freed < 2 ^ 64
   freed-fits =
       omega (arith, freed-few tried-usable forced retried, usable-healthy usable .shape .blocks-max)
 
-  pub acted-twice : first .reply .number ≡ 5 → Acted N h (turnOf N w h (makes (allocate n r))) (doneAfter second n true (y .value)) g
+  pub acted-twice : first .number ≡ 5 → Acted N h (turnOf N w h (makes (allocate n r))) (doneAfter second n true (y .freed)) g
   acted-twice none-free =
       acted-again usable tried none-free (again-acted tried-usable forced retried)

@@ -5,8 +5,8 @@ use native.Mathlib.Decide.{ℕ-discrete}
 use borrow.Author.Tests.{eq-eqb, ne-eqb}
 use Rattle.rules.specs.Heap.{Memory}
 use Rattle.rules.specs.Calls.{Call, collect, answer}
-use Rattle.inner.specs.Usable.{Usable}
-use Rattle.inner.proofs.UsableAfterCalls.{usable-kept}
+use Rattle.theory.specs.Usable.{Usable}
+use Rattle.theory.proofs.Usable.UsableAfterCalls.{usable-kept}
 use Rattle.plans.specs.Asked.{Asked, makes, stops}
 use Rattle.figures.specs.declared.tally.Run.{Run}
 use Rattle.turns.specs.Turns.{Turn, triedAgain, turnOf, afterTurn}

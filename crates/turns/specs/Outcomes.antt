@@ -2,7 +2,7 @@
 use Prim.Native.Nat.{ℕ, _+_, _-_, _^_, _≤_, _<_}
 use mathlib.Core.Bool.{Bool, true, false}
 use lib.Dec.{eqb}
-use Rattle.inner.specs.declared.acts.Allocated.{Allocated}
+use Rattle.types.specs.declared.Outcome.{Outcome}
 use Rattle.figures.specs.declared.tally.Tally.{Tally}
 use Rattle.figures.specs.declared.tally.Run.{Run}
 use Rattle.figures.specs.Figures.{allocated, collected, used, momentIn, run}
@@ -17,11 +17,11 @@ done number allocated collected freed stuck =
     record { number = number; allocated = allocated; collected = collected; freed = freed; stuck = stuck }
 
 -- what came of an allocation of n blocks: of its last try, and of a collection before that, if one was made, which freed so many blocks
-unfoldable pub doneAfter : Allocated → (n : ℕ) → (collected : Bool) → (freed : ℕ) → Done
+unfoldable pub doneAfter : Outcome → (n : ℕ) → (collected : Bool) → (freed : ℕ) → Done
 doneAfter last n collected freed =
-    elim (eqb (last .reply .number) 0) [
-      | true ↦ done 0 n collected (freed + last .freed) (eqb (last .reply .second) 1)
-      | false ↦ done (last .reply .number) 0 collected (freed + last .freed) false
+    elim (eqb (last .number) 0) [
+      | true ↦ done 0 n collected (freed + last .freed) (last .stuck)
+      | false ↦ done (last .number) 0 collected (freed + last .freed) false
     ]
 
 -- figures with a collection more, where one was made; with an allocation of n blocks more, where n is not 0

@@ -2,7 +2,7 @@
 ghost use mathlib.Core.Path.{_≡_};
 ghost use Prim.Native.Nat.{_+_, _<_, _^_};
 ghost use Rattle.turns.specs.Outcomes.{doneAfter};
-use inner::acts::Allocated;
+use types::Outcome;
 
 // What came of a record's calls: the number that stops the run or 0, the blocks allocated, whether a collection was made, the blocks freed,
 // whether an object became stuck.
@@ -15,11 +15,11 @@ pub struct Done {
 }
 
 // What came of an allocation of n blocks: of its last try, and of a collection before that, if one was made, which freed so many blocks.
-pub fn done_after(last: Allocated, n: usize, collected: bool, freed: usize) -> Done
+pub fn done_after(last: Outcome, n: usize, collected: bool, freed: usize) -> Done
     requires { ⌜ freed + last .freed < 2 ^ 64 ⌝ }
     ensures { λ done. ⌜ done ≡ doneAfter last n collected freed ⌝ }
 {
-    let number = last.reply.number;
+    let number = last.number;
     let freed = freed + last.freed;
     if number != 0 {
         return Done {
@@ -35,6 +35,6 @@ pub fn done_after(last: Allocated, n: usize, collected: bool, freed: usize) -> D
         allocated: n,
         collected: collected,
         freed: freed,
-        stuck: last.reply.second == 1,
+        stuck: last.stuck,
     }
 }

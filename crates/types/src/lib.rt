@@ -1,6 +1,7 @@
 // What rules and code share: references, the bounds of a heap, the capacity of a count, and the reply of a call.
 ghost use mathlib.Core.Path.{_≡_};
 ghost use Prim.Native.Nat.{_-_, _^_, _≤_, _<_};
+ghost use Rattle.bitmap.specs.Bit.{one};
 
 pub mod replies;
 
@@ -33,4 +34,26 @@ pub struct Reply {
     pub number: usize,
     pub value: usize,
     pub second: usize,
+}
+
+// What came of a call on an undamaged heap, accepted or refused: the number and the value of its reply, the blocks that it freed, and whether
+// it brought a count to the capacity. Code that works answers this, and who asked builds the reply.
+pub struct Outcome {
+    pub number: usize,
+    pub value: usize,
+    pub freed: usize,
+    pub stuck: bool,
+}
+
+impl Outcome {
+    // The reply that tells it.
+    pub fn reply(self) -> Reply
+        ensures { λ r. ⌜ r ≡ record { number = self .number; value = self .value; second = one (self .stuck) } ⌝ }
+    {
+        Reply {
+            number: self.number,
+            value: self.value,
+            second: self.stuck as usize,
+        }
+    }
 }

@@ -1,6 +1,5 @@
-// The replies as they are built: a refusal, and acceptance with one value or two.
+// The replies as they are built: a refusal, and acceptance with one value.
 ghost use mathlib.Core.Path.{_≡_};
-ghost use Rattle.bitmap.specs.Bit.{one};
 use crate::Reply;
 
 // A refusal.
@@ -22,16 +21,5 @@ pub fn acceptance(value: usize) -> Reply
         number: 0,
         value: value,
         second: 0,
-    }
-}
-
-// Acceptance of an allocation or a store: its value, and whether an object became stuck.
-pub fn telling(value: usize, stuck: bool) -> Reply
-    ensures { λ r. ⌜ r ≡ record { number = 0; value = value; second = one stuck } ⌝ }
-{
-    Reply {
-        number: 0,
-        value: value,
-        second: stuck as usize,
     }
 }

@@ -4,7 +4,7 @@ use borrow.Author.Needs.{needs}
 use Rattle.rules.specs.Calls.{freeing, outcome}
 use Rattle.types.specs.declared.Reply.{Reply}
 use Rattle.arguments.proofs.ArgumentTests.{goes-on, return-tested}
-use Rattle.inner.proofs.ClearedHeap.{cleared-usable, promised-back}
+use Rattle.gates.proofs.ClearedHeap.{cleared-usable, promised-back}
 use Rattle.assignment.proofs.return_roots.Statement.{statement}
 use Rattle.assignment.proofs.return_roots.Tie as tie
 

@@ -3,7 +3,7 @@ use mathlib.Core.Path.{refl, _∙_}
 use borrow.Author.Needs.{needs}
 use Rattle.rules.specs.Calls.{freeing, outcome}
 use Rattle.arguments.proofs.ArgumentTests.{goes-on, cell-tested}
-use Rattle.inner.proofs.ClearedHeap.{cleared-usable, promised-back}
+use Rattle.gates.proofs.ClearedHeap.{cleared-usable, promised-back}
 use Rattle.assignment.proofs.store_cell.Statement.{statement}
 use Rattle.assignment.proofs.store_cell.Tie as tie
 

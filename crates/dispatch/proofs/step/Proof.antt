@@ -4,7 +4,7 @@ use Prim.Native.Nat.{ℕ}
 use native.Mathlib.Omega.{arith}
 use borrow.Author.Needs.{needs}
 use Rattle.rules.specs.Calls.{reply}
-use Rattle.inner.proofs.UsableHeap.{usable-healthy}
+use Rattle.theory.proofs.Usable.UsableHeap.{usable-healthy}
 use Rattle.encoding.specs.Encoding.{decoded}
 use Rattle.dispatch.proofs.Codes.{stepped-as, stepped-none, past-codes}
 use Rattle.dispatch.proofs.Reading.{check-promise, look-promise, free-promise}

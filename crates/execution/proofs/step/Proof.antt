@@ -1,5 +1,5 @@
 -- `step` meets its contract: the plan, its calls, and what came of them noted.
-use Rattle.inner.proofs.UsableHeap.{usable-healthy}
+use Rattle.theory.proofs.Usable.UsableHeap.{usable-healthy}
 use Rattle.turns.proofs.Notes.{can-note, noted-stepped}
 use Rattle.execution.proofs.Readable.{usable-readable, planned}
 use Rattle.execution.proofs.step.Statement.{statement}

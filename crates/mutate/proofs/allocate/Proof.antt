@@ -3,7 +3,7 @@ use mathlib.Core.Path.{refl, _∙_}
 use borrow.Author.Needs.{needs}
 use Rattle.rules.specs.Calls.{outcome}
 use Rattle.allocation_tests.proofs.AllocationReply.{replied, allocate-accepts, allocate-goes-on}
-use Rattle.inner.proofs.ClearedHeap.{cleared-usable, promised-back}
+use Rattle.gates.proofs.ClearedHeap.{cleared-usable, promised-back}
 use Rattle.mutate.proofs.allocate.Statement.{statement}
 use Rattle.mutate.proofs.allocate.Tie as tie
 

@@ -1,7 +1,7 @@
 -- `allocate` meets its contract: one try, or a collection and a second one where no chunk was free.
 use mathlib.Core.Path.{_∙_}
 use borrow.Author.Needs.{needs}
-use Rattle.inner.proofs.UsableAfterCalls.{usable-kept}
+use Rattle.theory.proofs.Usable.UsableAfterCalls.{usable-kept}
 use Rattle.turns.proofs.FirstTry.{acted-once}
 use Rattle.turns.proofs.SecondTry.{freed-fits, acted-twice}
 use Rattle.retries.proofs.allocate.Statement.{statement}

@@ -1,19 +1,19 @@
 -- `returns::clear_chosen` meets its contract.
 use native.Mathlib.Omega.{arith}
-use Rattle.inner.proofs.UsableHeap.{usable-healthy}
+use Rattle.theory.proofs.Usable.UsableHeap.{usable-healthy}
 use Rattle.returns.proofs.ReturnAnswer.{not-chosen, zero-passes, chosen-cleared}
 use Rattle.returns.proofs.clear_chosen.Statement.{statement}
 use Rattle.returns.proofs.clear_chosen.Tie as tie
 
 -- the places: the entry, the root found chosen, the root cleared
 abbrev entry : tie.After-slice-known7 → tie.Start
-entry c = c .before .before .before .before .before .before .before
+entry c = search
 
 abbrev chosen : tie.After-store-root-arg7 → tie.Else1
-chosen c = c .before .before .before .before .before .before .before
+chosen c = search
 
 abbrev cleared : tie.After-slice-known14 → tie.After-store-root
-cleared c = c .before .before .before .before .before .before .before .before .before .before .before .before .before .before
+cleared c = search
 
 shr-if1 : tie.Need-shr-if1
 shr-if1 c =

@@ -7,7 +7,7 @@ use borrow.Author.Needs.{needs}
 use Rattle.bitmap.proofs.Zeros.{zeros-le}
 use Rattle.rules.specs.Heap.{lentMemory}
 use Rattle.rules.proofs.Shape.{Shaped}
-use Rattle.inner.proofs.UsableHeap.{usable-healthy}
+use Rattle.theory.proofs.Usable.UsableHeap.{usable-healthy}
 use Rattle.returns.proofs.ReturnAnswer.{Progress, progress-start, progress-next, progress-done}
 use Rattle.returns.proofs.clear_roots.Statement.{statement}
 use Rattle.returns.proofs.clear_roots.Tie as tie
@@ -23,13 +23,13 @@ abbrev μ-loop : tie.MeasureT-loop
 
 -- the places: the entry, a turn of the loop, its root seen to
 abbrev entry : tie.After-slice-known7 Inv-loop μ-loop → tie.Start Inv-loop μ-loop
-entry c = c .before .before .before .before .before .before .before
+entry c = search
 
 abbrev turn : tie.After-clear-chosen-arg7 Inv-loop μ-loop → tie.In-loop Inv-loop μ-loop
-turn c = c .before .before .before .before .before .before .before
+turn c = search
 
 abbrev seen : tie.After-slice-known14 Inv-loop μ-loop → tie.After-clear-chosen Inv-loop μ-loop
-seen c = c .before .before .before .before .before .before .before .before .before .before .before .before .before .before
+seen c = search
 
 loop-holds : tie.Need-loop-holds Inv-loop μ-loop
 loop-holds c = progress-start (entry c .pre .0)
@@ -68,29 +68,26 @@ loop-again c =
     let test = turn (seen c .before) in
     progress-next (test .loop-test .taken) (made .kept .1 .1 .1 .1 .1 .1 .0) (made .ensures) (test .before .loop .inv)
 
-acceptance-requires : tie.Need-acceptance-requires Inv-loop μ-loop
-acceptance-requires c κs = search needs
-
 -- the shape after the loop, and before it
 shaped-now :
-    (c : tie.After-acceptance Inv-loop μ-loop)
-    → let l = c .before .before .loop in
-    let args = entry (c .before .before .before) .args in
+    (c : tie.After-loop Inv-loop μ-loop)
+    → let l = c .before .loop in
+    let args = entry (c .before .before) .args in
     Shaped (args .blocks) (args .width) (lentMemory (l .a) (l .b) (l .counts) (l .cells) (l .roots) (l .waiting) (l .sections))
-shaped-now c = usable-healthy (c .before .before .loop .inv .usable) .shape
+shaped-now c = usable-healthy (c .before .loop .inv .usable) .shape
 
 shaped-before :
-    (c : tie.After-acceptance Inv-loop μ-loop)
-    → let args = entry (c .before .before .before) .args in
+    (c : tie.After-loop Inv-loop μ-loop)
+    → let args = entry (c .before .before) .args in
     Shaped (args .blocks) (args .width)
     (lentMemory (args .a .now) (args .b .now) (args .counts .now) (args .cells .now) (args .roots .now) (args .waiting .now)
     (args .sections .now))
-shaped-before c = usable-healthy (entry (c .before .before .before) .pre .0) .shape
+shaped-before c = usable-healthy (entry (c .before .before) .pre .0) .shape
 
 returns : tie.Need-returns Inv-loop μ-loop
 returns c =
-    let pre = entry (c .before .before .before) .pre in
-    progress-done (pre .0) (pre .1) (omega arith) (c .before .before .loop .inv) (c .acceptance .ensures)
+    let pre = entry (c .before .before) .pre in
+    progress-done (pre .0) (pre .1) (omega arith) (c .before .loop .inv)
 
 pub clear-roots-spec : {M : Type 1} → statement M
 clear-roots-spec =
@@ -104,12 +101,11 @@ clear-roots-spec =
     add-r
     loop-less
     loop-again
-    acceptance-requires
     (λ c. shaped-now c .length-a ∙ sym (shaped-before c .length-a))
     (λ c. shaped-now c .length-b ∙ sym (shaped-before c .length-b))
     (λ c. shaped-now c .length-counts ∙ sym (shaped-before c .length-counts))
     (λ c. shaped-now c .length-cells ∙ sym (shaped-before c .length-cells))
-    (λ c. c .before .before .loop .inv .roots-length)
+    (λ c. c .before .loop .inv .roots-length)
     (λ c. shaped-now c .length-waiting ∙ sym (shaped-before c .length-waiting))
     (λ c. shaped-now c .length-sections ∙ sym (shaped-before c .length-sections))
     returns)

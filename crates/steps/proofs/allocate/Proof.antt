@@ -1,20 +1,20 @@
--- `inner::steps::allocate` meets its contract.
+-- `steps::allocate` meets its contract.
 use mathlib.Core.Path.{refl}
 use native.Mathlib.Omega.{arith}
 use Rattle.rules.proofs.Shape.{shaped-blocks}
 use Rattle.allocation_tests.proofs.AllocationReply.{replied, allocate-accepts, allocate-refused}
-use Rattle.inner.proofs.UsableHeap.{usable-fit}
-use Rattle.inner.proofs.AllocationBlocks.{allocate-refusing}
+use Rattle.theory.proofs.Usable.UsableHeap.{usable-fit}
+use Rattle.theory.proofs.Usable.WorkDone.{worked-refused}
 use borrow.Author.Needs.{needs}
 use Rattle.steps.proofs.allocate.Statement.{statement}
 use Rattle.steps.proofs.allocate.Tie as tie
 
 -- the places: the start, and the work done
 abbrev start : tie.After-allocate-reply-arg2 → tie.Start
-start c = c .before .before .before .before .before .before .before .before .before
+start c = search
 
 abbrev done : tie.After-slice-known14 → tie.After-allocate
-done c = c .before .before .before .before .before .before .before .before .before .before .before .before .before .before
+done c = search
 
 allocate-reply-requires : tie.Need-allocate-reply-requires
 allocate-reply-requires c κs =
@@ -24,14 +24,15 @@ allocate-reply-requires c κs =
 
 returns : tie.Need-returns
 returns c =
-    let usable = start (c .before .before) .pre in
-    allocate-refusing usable (c .if1 .taken) refl
-    (allocate-refused (c .before .allocate-reply .ensures) (usable-fit usable) (c .if1 .taken))
+    let start : tie.Start = search in
+    worked-refused (start .pre) (allocate-refused (c .before .allocate-reply .ensures) (usable-fit (start .pre)) (c .if1 .taken))
+    (c .if1 .taken)
 
 allocate-requires : tie.Need-allocate-requires
 allocate-requires c κs =
-    let tested = c .before .before .before .before .before .before .before in
-    (start (tested .before .before) .pre, allocate-accepts (replied (tested .before .allocate-reply .ensures)) (tested .if1 .left))
+    let tested : tie.Else1 = search in
+    let start : tie.Start = search in
+    (start .pre, allocate-accepts (replied (tested .before .allocate-reply .ensures)) (tested .if1 .left))
 
 returns-2 : tie.Need-returns-2
 returns-2 c = search needs

@@ -1,18 +1,19 @@
--- `inner::steps::store_cell` meets its contract.
+-- `steps::store_cell` meets its contract.
 use mathlib.Core.Path.{refl}
 use native.Mathlib.Omega.{arith}
 use Rattle.arguments.proofs.ArgumentTests.{goes-on, own-refused, cell-tested}
-use Rattle.inner.proofs.UsableHeap.{usable-fit, usable-healthy}
+use Rattle.theory.proofs.Usable.UsableHeap.{usable-fit, usable-healthy}
+use Rattle.theory.proofs.Usable.WorkDone.{worked-refused}
 use borrow.Author.Needs.{needs}
 use Rattle.steps.proofs.store_cell.Statement.{statement}
 use Rattle.steps.proofs.store_cell.Tie as tie
 
 -- the places: the start, and the work done
 abbrev start : tie.After-store-cell-test-arg2 → tie.Start
-start c = c .before .before .before .before .before .before .before .before .before
+start c = search
 
 abbrev done : tie.After-slice-known12 → tie.After-store-cell
-done c = c .before .before .before .before .before .before .before .before .before .before .before .before
+done c = search
 
 store-cell-test-requires : tie.Need-store-cell-test-requires
 store-cell-test-requires c κs =
@@ -21,12 +22,15 @@ store-cell-test-requires c κs =
 
 returns : tie.Need-returns
 returns c =
-    own-refused (cell-tested (c .before .store-cell-test .ensures)) (usable-fit (start (c .before .before) .pre)) (c .if1 .taken)
+    let start : tie.Start = search in
+    worked-refused (start .pre) (own-refused (cell-tested (c .before .store-cell-test .ensures)) (usable-fit (start .pre)) (c .if1 .taken))
+    (c .if1 .taken)
 
 store-cell-requires : tie.Need-store-cell-requires
 store-cell-requires c κs =
-    let tested = c .before .before .before .before .before .before in
-    (start (tested .before .before) .pre, goes-on (cell-tested (tested .before .store-cell-test .ensures)) (tested .if1 .left))
+    let tested : tie.Else1 = search in
+    let start : tie.Start = search in
+    (start .pre, goes-on (cell-tested (tested .before .store-cell-test .ensures)) (tested .if1 .left))
 
 returns-2 : tie.Need-returns-2
 returns-2 c = search needs

@@ -1,18 +1,19 @@
--- `inner::steps::store_root` meets its contract.
+-- `steps::store_root` meets its contract.
 use mathlib.Core.Path.{refl}
 use native.Mathlib.Omega.{arith}
 use Rattle.arguments.proofs.ArgumentTests.{goes-on, own-refused, root-tested}
-use Rattle.inner.proofs.UsableHeap.{usable-fit, usable-healthy}
+use Rattle.theory.proofs.Usable.UsableHeap.{usable-fit, usable-healthy}
+use Rattle.theory.proofs.Usable.WorkDone.{worked-refused}
 use borrow.Author.Needs.{needs}
 use Rattle.steps.proofs.store_root.Statement.{statement}
 use Rattle.steps.proofs.store_root.Tie as tie
 
 -- the places: the start, and the work done
 abbrev start : tie.After-store-root-test-arg3 → tie.Start
-start c = c .before .before .before .before .before .before .before .before .before .before
+start c = search
 
 abbrev done : tie.After-slice-known14 → tie.After-store-root
-done c = c .before .before .before .before .before .before .before .before .before .before .before .before .before .before
+done c = search
 
 store-root-test-requires : tie.Need-store-root-test-requires
 store-root-test-requires c κs =
@@ -21,12 +22,15 @@ store-root-test-requires c κs =
 
 returns : tie.Need-returns
 returns c =
-    own-refused (root-tested (c .before .store-root-test .ensures)) (usable-fit (start (c .before .before) .pre)) (c .if1 .taken)
+    let start : tie.Start = search in
+    worked-refused (start .pre) (own-refused (root-tested (c .before .store-root-test .ensures)) (usable-fit (start .pre)) (c .if1 .taken))
+    (c .if1 .taken)
 
 store-root-requires : tie.Need-store-root-requires
 store-root-requires c κs =
-    let tested = c .before .before .before .before .before .before .before in
-    (start (tested .before .before) .pre, goes-on (root-tested (tested .before .store-root-test .ensures)) (tested .if1 .left))
+    let tested : tie.Else1 = search in
+    let start : tie.Start = search in
+    (start .pre, goes-on (root-tested (tested .before .store-root-test .ensures)) (tested .if1 .left))
 
 returns-2 : tie.Need-returns-2
 returns-2 c = search needs

@@ -3,7 +3,7 @@ use mathlib.Core.Path.{ap}
 use Prim.Native.Nat.{ℕ, _-_}
 use native.Mathlib.Omega.{arith}
 use borrow.Author.Needs.{needs}
-use Rattle.inner.proofs.UsableHeap.{usable-healthy}
+use Rattle.theory.proofs.Usable.UsableHeap.{usable-healthy}
 use Rattle.figures.proofs.Ranges.{in-range-within}
 use Rattle.history.proofs.Pieces.{whole-room, whole-going, piece-stopped, piece-ran}
 use Rattle.history.proofs.run.run_piece.Statement.{statement}

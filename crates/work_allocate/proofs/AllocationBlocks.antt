@@ -1,0 +1,55 @@
+-- The answer of an allocation that found a place, and what came of the code's: its promise, and the blocks that it freed.
+use mathlib.Core.Path.{_≡_, refl, ap}
+use mathlib.Core.Bool.{Bool}
+use Prim.Native.Nat.{ℕ, _+_, _-_}
+use native.Mathlib.Omega.{arith}
+use lib.ListN.{length}
+use Rattle.bitmap.specs.Bit.{zeros}
+use Rattle.rules.specs.Heap.{Memory, withSections}
+use Rattle.rules.specs.Sections.{figures}
+use Rattle.rules.specs.Store.{placed, birthSticks, allocateIn}
+use Rattle.rules.specs.Calls.{allocate}
+use Rattle.rules.specs.Promise.{Promise}
+use Rattle.types.specs.declared.Reply.{Reply}
+use Rattle.theory.specs.Balance.{freedBlocks, allocates}
+use Rattle.theory.specs.Usable.{Usable, outcomeOf, Worked}
+use Rattle.theory.proofs.Maps.Totals.{free-and-sizes}
+use Rattle.theory.proofs.Usable.UsableHeap.{usable-fit, usable-healthy}
+use Rattle.theory.proofs.Usable.UsableAfterCalls.{usable-kept}
+use Rattle.theory.proofs.Usable.WorkDone.{accepted-allocates, call-balance}
+use Rattle.bridge.proofs.StoreBlocks.{putRootBlocks}
+use Rattle.bridge.proofs.PlacedBlocks.{allocate-freed}
+use Rattle.allocation_tests.proofs.AllocationReply.{AllocationPassed}
+use Rattle.work_allocate.proofs.AllocationAnswer.{allocate-promised}
+
+-- the blocks that an accepted one frees, from the zeros of the A-map
+accepted-freed :
+    {N w : ℕ} {h : Memory} → Usable N w h → {n r : ℕ} {x : Reply} {g : Memory} → Promise N w (allocate n r) h x g → x .number ≡ 0
+    → {freed : ℕ} → zeros (g .a) + n ≡ zeros (h .a) + freed → freed ≡ freedBlocks N h g
+unfolding allocates
+accepted-freed {N} {w} {h} usable {n} {r} {x} {g} promise accepted counted =
+    omega (
+      arith,
+      call-balance usable promise,
+      accepted-allocates (allocate n r) x accepted,
+      free-and-sizes N (h .a) (h .b) _ (usable-healthy usable .represents),
+      free-and-sizes N (g .a) (g .b) _ (usable-healthy (usable-kept usable promise) .represents),
+    )
+
+module _ {N w : ℕ} {h : Memory} (usable : Usable N w h) {n r at : ℕ} (free : AllocationPassed N (h .a) (length (h .roots)) n r at) where
+  pub allocate-worked :
+      {freed : ℕ} {stuck : Bool} {g : Memory} → withSections (h .sections) g ≡ allocateIn N w h n r at → g .sections ≡ figures N (g .a)
+      → freed ≡ putRootBlocks N w (placed N w h at n) r (at + 1) → stuck ≡ birthSticks w
+      → Worked N w (allocate n r) h (outcomeOf 0 at freed stuck) g
+  allocate-worked left listed counted told =
+      let promise = allocate-promised free usable left listed told refl in
+      record {
+        promise = promise;
+        freed-is =
+            accepted-freed usable promise refl
+            (omega (
+              arith,
+              allocate-freed N w h (usable-fit usable) n r at (free .some-blocks) (free .place) (free .lowest),
+              ap (λ (k : Memory). zeros (k .a)) left,
+            ));
+      }

@@ -1,0 +1,3 @@
+pub mod AllocationSteps
+pub mod AllocationAnswer
+pub mod AllocationBlocks

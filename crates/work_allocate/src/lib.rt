@@ -1,0 +1,45 @@
+// The allocation on an undamaged heap with a cleared waiting list, which it leaves cleared: the whole work of the call, at the place that its
+// search found.
+ghost use mathlib.Core.Path.{_≡_};
+ghost use lib.ListN.{length};
+ghost use Rattle.rules.specs.Lent.{before, after, lent};
+ghost use Rattle.rules.specs.Calls.{Call, reply};
+ghost use Rattle.theory.specs.Usable.{Usable, Worked};
+ghost use Rattle.allocation_tests.specs.Replies.{allocateReply};
+use types::Outcome;
+use types::Ref;
+
+// Makes the object of n blocks at block `at`, which the search found, and stores its reference in root r.
+pub fn allocate(
+    blocks: usize,
+    width: usize,
+    a: &mut [u8],
+    b: &mut [u8],
+    counts: &mut [u8],
+    cells: &mut [Ref],
+    roots: &mut [Ref],
+    waiting: &mut [Ref],
+    sections: &mut [Ref],
+    n: usize,
+    r: usize,
+    at: usize,
+) -> Outcome
+    requires { ⌜ Usable blocks width (lent a b counts cells roots waiting sections)
+        × (allocateReply blocks (now a) (length (now roots)) n r ≡ reply 0 at 0) ⌝ }
+    ensures { λ done.
+        ⌜ Worked blocks width (Call.allocate n r) (before a b counts cells roots waiting sections) done
+        (after a b counts cells roots waiting sections) ⌝ }
+{
+    let stuck = types::capacity_of(width) == 1;
+    placement::place(blocks, width, a, b, counts, cells, sections, at, n);
+    let old = roots[r];
+    roots[r] = (at + 1) as Ref;
+    let freed = release::let_go(blocks, width, a, b, counts, cells, waiting, sections, old);
+    sections::renew(blocks, a, sections);
+    Outcome {
+        number: 0,
+        value: at,
+        freed: freed,
+        stuck: stuck,
+    }
+}

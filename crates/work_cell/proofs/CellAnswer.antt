@@ -1,0 +1,41 @@
+-- The answer of a store in a cell whose test is passed, and what came of the code's: memory, number of blocks freed, and whether an object
+-- became stuck.
+use mathlib.Core.Path.{_≡_, sym, ap, _∙_}
+use mathlib.Core.Bool.{Bool}
+use Prim.Native.Nat.{ℕ, _+_, _*_}
+use lib.ListN.{getD}
+use Rattle.bitmap.specs.Bit.{one}
+use Rattle.rules.specs.Heap.{Memory, withWaiting, withSections}
+use Rattle.rules.specs.Sections.{figures}
+use Rattle.rules.specs.Store.{storeCellIn, storeSticks}
+use Rattle.rules.specs.Calls.{storeCell, Answer, freeing, outcome, answer}
+use Rattle.rules.proofs.Replies.{Passed}
+use Rattle.rules.proofs.Unread.{store-cell-beside}
+use Rattle.theory.specs.Usable.{Usable, outcomeOf, Worked}
+use Rattle.theory.proofs.EachCall.Accepted.{fit-accepted}
+use Rattle.theory.proofs.EachCall.Balance.{blocks-add-up}
+use Rattle.theory.proofs.Usable.UsableHeap.{usable-fit, usable-healthy, left-settled}
+use Rattle.theory.proofs.Usable.WorkDone.{worked-freeing}
+use Rattle.bridge.proofs.StoreBlocks.{storeCellBlocks}
+use Rattle.bridge.proofs.FreedBlocks.{store-cell-freed}
+use Rattle.arguments.proofs.ArgumentTests.{CellPassed}
+
+-- whether the store makes an object stuck
+abbrev pub cellSticks : (N w : ℕ) → Memory → (a j v : ℕ) → Bool
+cellSticks N w h a j v = storeSticks N w (h .counts) (getD (h .cells) (4 * a + j) 0) v
+
+module _ {N w : ℕ} {h : Memory} {a j v : ℕ} (passed : CellPassed N h a j v) (usable : Usable N w h) where
+  cell-answered : answer N w h (storeCell a j v) ≡ freeing N h (storeCellIn N w h (4 * a + j) v) (one (cellSticks N w h a j v))
+  unfolding outcome Passed
+  cell-answered = fit-accepted N w h (usable-fit usable) (storeCell a j v) (passed .first, passed .place, passed .ref)
+
+  pub cell-worked :
+      {freed : ℕ} {stuck : Bool} {g : Memory} → withSections (h .sections) g ≡ storeCellIn N w h (4 * a + j) v
+      → g .sections ≡ figures N (g .a) → freed ≡ storeCellBlocks N w h (4 * a + j) v → stuck ≡ cellSticks N w h a j v
+      → Worked N w (storeCell a j v) h (outcomeOf 0 freed freed stuck) g
+  cell-worked left listed counted told =
+      let k : Memory = storeCellIn N w h (4 * a + j) v in
+      worked-freeing (blocks-add-up N w h .store-cell a j v) k
+      (cell-answered ∙ ap {B = Answer} (λ t. freeing N h k (one t)) (sym told))
+      (counted ∙ sym (store-cell-freed N w h (usable-healthy usable) a j v (passed .first) (passed .place) (passed .ref)))
+      (left-settled usable left (store-cell-beside N w (withWaiting (h .waiting)) h (4 * a + j) v) listed)

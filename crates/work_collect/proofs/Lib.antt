@@ -1,0 +1,2 @@
+pub mod Collects
+pub mod CollectionAnswer

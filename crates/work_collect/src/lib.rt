@@ -1,0 +1,35 @@
+// The full collection on an undamaged heap with a cleared waiting list, which it leaves cleared: all is counted anew from the roots, and what
+// is left at 0 is freed.
+ghost use Rattle.rules.specs.Lent.{before, after, lent};
+ghost use Rattle.rules.specs.Calls.{Call};
+ghost use Rattle.theory.specs.Usable.{Usable, Worked};
+use types::Outcome;
+use types::Ref;
+
+// Collects.
+pub fn collect(
+    blocks: usize,
+    width: usize,
+    a: &mut [u8],
+    b: &mut [u8],
+    counts: &mut [u8],
+    cells: &mut [Ref],
+    roots: &[Ref],
+    waiting: &mut [Ref],
+    sections: &mut [Ref],
+) -> Outcome
+    requires { ⌜ Usable blocks width (lent a b counts cells roots waiting sections) ⌝ }
+    ensures { λ done.
+        ⌜ Worked blocks width Call.collect (before a b counts cells roots waiting sections) done
+        (after a b counts cells roots waiting sections) ⌝ }
+{
+    marking::mark(blocks, width, b, counts, cells, roots, waiting);
+    let freed = sweeping::sweep(blocks, width, a, b, counts, cells, sections);
+    sections::renew(blocks, a, sections);
+    Outcome {
+        number: 0,
+        value: freed,
+        freed: freed,
+        stuck: false, // counts are made anew, and nothing is told of them
+    }
+}

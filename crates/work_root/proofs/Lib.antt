@@ -1,0 +1,2 @@
+pub mod RootSteps
+pub mod RootAnswer
