@@ -9,6 +9,8 @@ use Rattle.rules.specs.Heap.{Memory}
 use Rattle.rules.specs.Calls.{reply}
 use Rattle.rules.specs.Promise.{Promise}
 use Rattle.types.specs.declared.Reply.{Reply}
+use Rattle.types.specs.declared.Outcome.{Outcome}
+use Rattle.theory.specs.Usable.{replyOf, Worked}
 use Rattle.encoding.specs.Encoding.{decoded, isCall}
 use Rattle.dispatch.specs.Dispatched.{Dispatched}
 
@@ -22,6 +24,14 @@ stepped-as k {N} {w} {code} {x} {y} {z} {h} {r} {g} known e promise =
       known = λ _. subst (λ (k : ℕ). Promise N w (decoded k x y z) h r g) (sym e) promise;
       unknown = λ f. absurd (true≢false (sym (le-leb code 8 (omega arith)) ∙ f));
     }
+
+-- .. and one whose work was done
+pub stepped-worked :
+    (k : ℕ) {N w code x y z : ℕ} {h : Memory} {done : Outcome} {r : Reply} {g : Memory} → k ≤ 8 → code ≡ k
+    → Worked N w (decoded k x y z) h done g → r ≡ replyOf done → Dispatched N w code x y z h r g
+stepped-worked k known e worked replied =
+    stepped-as k known e
+    (record { reply-is = replied ∙ worked .promise .reply-is; after-is = worked .promise .after-is })
 
 -- .. and any other code
 pub stepped-none : {N w code x y z : ℕ} {h : Memory} {r : Reply} → 9 ≤ code → r ≡ reply 9 0 0 → Dispatched N w code x y z h r h

@@ -81,7 +81,17 @@ pub fn step(
             done.reply()
         }
         5 => {
-            let done = work_collect::collect(blocks, width, a, b, counts, cells, roots, waiting, sections);
+            let done = work_collect::collect(
+                blocks,
+                width,
+                a,
+                b,
+                counts,
+                cells,
+                roots,
+                waiting,
+                sections,
+            );
             done.reply()
         }
         6 => looking::look_reply(blocks, width, a, b, counts, x as usize),

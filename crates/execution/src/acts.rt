@@ -94,7 +94,17 @@ pub(crate) fn act(
             }
         }
         Plan::Collect => {
-            let done = work_collect::collect(blocks, width, a, b, counts, cells, roots, waiting, sections);
+            let done = work_collect::collect(
+                blocks,
+                width,
+                a,
+                b,
+                counts,
+                cells,
+                roots,
+                waiting,
+                sections,
+            );
             Done {
                 number: 0,
                 allocated: 0,

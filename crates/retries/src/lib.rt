@@ -47,7 +47,17 @@ pub fn allocate(
     if number != 5 {
         return outcome::done_after(first, n, false, 0);
     }
-    let forced = work_collect::collect(blocks, width, a, b, counts, cells, roots, waiting, sections);
+    let forced = work_collect::collect(
+        blocks,
+        width,
+        a,
+        b,
+        counts,
+        cells,
+        roots,
+        waiting,
+        sections,
+    );
     let second = steps::allocate(
         blocks,
         width,

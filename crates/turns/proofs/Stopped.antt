@@ -13,7 +13,7 @@ use Rattle.theory.proofs.EachCall.Accepted.{accepted-fit}
 use Rattle.theory.proofs.EachCall.Five.{not-five}
 use Rattle.theory.proofs.Memories.Fit.{Fit}
 use Rattle.theory.proofs.Theorems.{theory}
-use Rattle.inner.proofs.CollectionAnswer.{collect-answered}
+use Rattle.theory.proofs.Usable.WorkDone.{collect-answered}
 use Rattle.plans.specs.Asked.{Asked, makes, stops}
 use Rattle.turns.specs.Turns.{Turn, triedAgain, turnOf}
 use Rattle.turns.specs.Stopped.{Forced, StandsAsBefore}

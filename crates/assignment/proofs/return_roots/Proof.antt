@@ -10,13 +10,13 @@ use Rattle.assignment.proofs.return_roots.Tie as tie
 
 -- the places: past the gate, the waiting list cleared, the roots cleared
 abbrev passed : tie.After-clear-all → tie.Else1
-passed c = c .before .before
+passed c = search
 
 abbrev cleared : tie.After-clear-roots-arg7 → tie.After-clear-all
-cleared c = c .before .before .before .before .before .before .before .before .before
+cleared c = search
 
-abbrev done : tie.After-slice-known15 → tie.After-clear-roots
-done c = c .before .before .before .before .before .before .before .before .before .before .before .before .before .before
+abbrev done : tie.After-reply → tie.After-clear-roots
+done c = search
 
 return-roots-requires : tie.Need-return-roots-requires
 return-roots-requires c κs = search needs
@@ -35,6 +35,9 @@ clear-roots-requires c κs =
       ap (λ (y : Reply). y .number) (sym (facts .tested (gate .if1 .left))) ∙ gate .if1 .left,
     )
 
+reply-requires : tie.Need-reply-requires
+reply-requires c κs = search needs
+
 returns-2 : tie.Need-returns-2
 unfolding freeing outcome
 returns-2 c =
@@ -42,7 +45,7 @@ returns-2 c =
     let gate = passed clear in
     let facts = gate .before .return-roots .ensures in
     promised-back (facts .fit (gate .if1 .left)) (clear .clear-all .ensures)
-    (goes-on (return-tested (facts .tested (gate .if1 .left))) (gate .if1 .left)) refl (done c .clear-roots .ensures)
+    (goes-on (return-tested (facts .tested (gate .if1 .left))) (gate .if1 .left)) refl (done c .clear-roots .ensures) (c .reply .ensures)
 
 pub return-roots-spec : {M : Type 1} → statement M
 return-roots-spec =
@@ -59,6 +62,7 @@ return-roots-spec =
     returns
     clear-all-requires
     clear-roots-requires
+    reply-requires
     (λ c. done c .clear-roots .kept .1 .1 .0)
     (λ c. done c .clear-roots .kept .1 .1 .1 .0)
     (λ c. done c .clear-roots .kept .1 .1 .1 .1 .0)

@@ -9,13 +9,13 @@ use Rattle.assignment.proofs.store_cell.Tie as tie
 
 -- the places: past the gate, the waiting list cleared, the store done
 abbrev passed : tie.After-clear-all → tie.Else1
-passed c = c .before .before
+passed c = search
 
 abbrev cleared : tie.After-store-cell-arg12 → tie.After-clear-all
-cleared c = c .before .before .before .before .before .before .before .before
+cleared c = search
 
-abbrev done : tie.After-slice-known13 → tie.After-store-cell2
-done c = c .before .before .before .before .before .before .before .before .before .before .before .before
+abbrev done : tie.After-reply → tie.After-store-cell2
+done c = search
 
 store-cell-requires : tie.Need-store-cell-requires
 store-cell-requires c κs = search needs
@@ -34,6 +34,9 @@ store-cell-requires-2 c κs =
       goes-on (cell-tested (facts .tested (gate .if1 .left))) (gate .if1 .left),
     )
 
+reply-requires : tie.Need-reply-requires
+reply-requires c κs = search needs
+
 returns-2 : tie.Need-returns-2
 unfolding freeing outcome
 returns-2 c =
@@ -41,7 +44,7 @@ returns-2 c =
     let gate = passed clear in
     let facts = gate .before .store-cell .ensures in
     promised-back (facts .fit (gate .if1 .left)) (clear .clear-all .ensures)
-    (goes-on (cell-tested (facts .tested (gate .if1 .left))) (gate .if1 .left)) refl (done c .store-cell2 .ensures)
+    (goes-on (cell-tested (facts .tested (gate .if1 .left))) (gate .if1 .left)) refl (done c .store-cell2 .ensures) (c .reply .ensures)
 
 pub store-cell-spec : {M : Type 1} → statement M
 store-cell-spec =
@@ -57,6 +60,7 @@ store-cell-spec =
     returns
     clear-all-requires
     store-cell-requires-2
+    reply-requires
     (λ c. done c .store-cell2 .kept .1 .1 .0)
     (λ c. done c .store-cell2 .kept .1 .1 .1 .0)
     (λ c. done c .store-cell2 .kept .1 .1 .1 .1 .0)

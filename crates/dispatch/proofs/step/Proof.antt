@@ -6,35 +6,35 @@ use borrow.Author.Needs.{needs}
 use Rattle.rules.specs.Calls.{reply}
 use Rattle.theory.proofs.Usable.UsableHeap.{usable-healthy}
 use Rattle.encoding.specs.Encoding.{decoded}
-use Rattle.dispatch.proofs.Codes.{stepped-as, stepped-none, past-codes}
+use Rattle.dispatch.proofs.Codes.{stepped-as, stepped-worked, stepped-none, past-codes}
 use Rattle.dispatch.proofs.Reading.{check-promise, look-promise, free-promise}
 use Rattle.dispatch.proofs.step.Statement.{statement}
 use Rattle.dispatch.proofs.step.Tie as tie
 
 -- the places: the entry, the arm of the format, and in each arm the call that has just returned
 abbrev entry : tie.After-slice-known7 → tie.Start
-entry c = c .before .before .before .before .before .before .before
+entry c = search
 
 abbrev format-chosen : tie.After-format-arg7 → tie.At-match-keys1
-format-chosen c = c .before .before .before .before .before .before .before
+format-chosen c = search
 
 abbrev formatted : tie.After-slice-known14 → tie.After-format
-formatted c = c .before .before .before .before .before .before .before .before .before .before .before .before .before .before
+formatted c = search
 
-abbrev allocated : tie.After-result → tie.After-allocate
-allocated c = c .before .before .before .before .before .before .before .before .before .before .before .before .before .before .before
+abbrev allocated : tie.After-reply → tie.After-allocate
+allocated c = search
 
-abbrev root-stored : tie.After-slice-known28 → tie.After-store-root
-root-stored c = c .before .before .before .before .before .before .before .before .before .before .before .before .before .before
+abbrev root-stored : tie.After-reply2 → tie.After-store-root
+root-stored c = search
 
-abbrev cell-stored : tie.After-slice-known34 → tie.After-store-cell
-cell-stored c = c .before .before .before .before .before .before .before .before .before .before .before .before
+abbrev cell-stored : tie.After-reply3 → tie.After-store-cell
+cell-stored c = search
 
-abbrev collected : tie.After-slice-known40 → tie.After-collect
-collected c = c .before .before .before .before .before .before .before .before .before .before .before .before
+abbrev collected : tie.After-reply4 → tie.After-collect
+collected c = search
 
-abbrev returned : tie.After-slice-known47 → tie.After-return-roots
-returned c = c .before .before .before .before .before .before .before .before .before .before .before .before .before .before
+abbrev returned : tie.After-reply5 → tie.After-return-roots
+returned c = search
 
 format-requires : tie.Need-format-requires
 format-requires c κs = entry (format-chosen c .before) .pre .undamaged .intact .right-shape
@@ -45,14 +45,26 @@ acceptance-requires c κs = search needs
 allocate-requires : tie.Need-allocate-requires
 allocate-requires c κs = search needs
 
+reply-requires : tie.Need-reply-requires
+reply-requires c κs = search needs
+
 store-root-requires : tie.Need-store-root-requires
 store-root-requires c κs = search needs
+
+reply-requires-2 : tie.Need-reply-requires-2
+reply-requires-2 c κs = search needs
 
 store-cell-requires : tie.Need-store-cell-requires
 store-cell-requires c κs = search needs
 
+reply-requires-3 : tie.Need-reply-requires-3
+reply-requires-3 c κs = search needs
+
 collect-requires : tie.Need-collect-requires
 collect-requires c κs = search needs
+
+reply-requires-4 : tie.Need-reply-requires-4
+reply-requires-4 c κs = search needs
 
 look-reply-requires : tie.Need-look-reply-requires
 look-reply-requires c κs =
@@ -75,6 +87,9 @@ acceptance-requires-2 c κs = search needs
 return-roots-requires : tie.Need-return-roots-requires
 return-roots-requires c κs = search needs
 
+reply-requires-5 : tie.Need-reply-requires-5
+reply-requires-5 c κs = search needs
+
 refusal-requires : tie.Need-refusal-requires
 refusal-requires c κs = search needs
 
@@ -94,30 +109,26 @@ returns-2 c =
 returns-3 : tie.Need-returns-3
 unfolding decoded
 returns-3 c =
-    let called = allocated c in
-    let chosen = called .before .before .before .before .before .before .before .before in
-    stepped-as 2 (omega arith) (chosen .match .keys3) (called .allocate .ensures .promise)
+    let chosen : tie.At-match-keys3 = search in
+    stepped-worked 2 (omega arith) (chosen .match .keys3) (allocated c .allocate .ensures) (c .reply .ensures)
 
 returns-4 : tie.Need-returns-4
 unfolding decoded
 returns-4 c =
-    let called = root-stored c in
-    let chosen = called .before .before .before .before .before .before .before .before in
-    stepped-as 3 (omega arith) (chosen .match .keys4) (called .store-root .ensures)
+    let chosen : tie.At-match-keys4 = search in
+    stepped-worked 3 (omega arith) (chosen .match .keys4) (root-stored c .store-root .ensures) (c .reply2 .ensures)
 
 returns-5 : tie.Need-returns-5
 unfolding decoded
 returns-5 c =
-    let called = cell-stored c in
-    let chosen = called .before .before .before .before .before .before .before .before in
-    stepped-as 4 (omega arith) (chosen .match .keys5) (called .store-cell .ensures)
+    let chosen : tie.At-match-keys5 = search in
+    stepped-worked 4 (omega arith) (chosen .match .keys5) (cell-stored c .store-cell .ensures) (c .reply3 .ensures)
 
 returns-6 : tie.Need-returns-6
 unfolding decoded
 returns-6 c =
-    let called = collected c in
-    let chosen = called .before .before .before .before .before .before .before .before in
-    stepped-as 5 (omega arith) (chosen .match .keys6) (called .collect .ensures)
+    let chosen : tie.At-match-keys6 = search in
+    stepped-worked 5 (omega arith) (chosen .match .keys6) (collected c .collect .ensures) (c .reply4 .ensures)
 
 returns-7 : tie.Need-returns-7
 unfolding decoded
@@ -136,9 +147,8 @@ returns-8 c =
 returns-9 : tie.Need-returns-9
 unfolding decoded
 returns-9 c =
-    let called = returned c in
-    let chosen = called .before .before .before .before .before .before .before .before in
-    stepped-as 8 (omega arith) (chosen .match .keys9) (called .return-roots .ensures)
+    let chosen : tie.At-match-keys9 = search in
+    stepped-worked 8 (omega arith) (chosen .match .keys9) (returned c .return-roots .ensures) (c .reply5 .ensures)
 
 returns-10 : tie.Need-returns-10
 returns-10 c =
@@ -155,13 +165,18 @@ step-spec =
     format-requires
     acceptance-requires
     allocate-requires
+    reply-requires
     store-root-requires
+    reply-requires-2
     store-cell-requires
+    reply-requires-3
     collect-requires
+    reply-requires-4
     look-reply-requires
     count-zeros-requires
     acceptance-requires-2
     return-roots-requires
+    reply-requires-5
     refusal-requires
     (λ c. formatted c .format .kept .1 .1 .0)
     (λ c. formatted c .format .kept .1 .1 .1 .0)

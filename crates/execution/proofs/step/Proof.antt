@@ -7,13 +7,13 @@ use Rattle.execution.proofs.step.Tie as tie
 
 -- the places: the calls made, the plan known, the start
 abbrev acted : tie.After-slice-known14 → tie.After-act
-acted c = c .before .before .before .before .before .before .before .before .before .before .before .before .before .before
+acted c = search
 
 abbrev planned-at : tie.After-act-arg7 → tie.After-plan-of
-planned-at c = c .before .before .before .before .before .before .before
+planned-at c = search
 
 abbrev start : tie.After-plan-of-arg3 → tie.Start
-start c = c .before .before .before .before .before .before .before .before .before .before
+start c = search
 
 plan-of-requires : tie.Need-plan-of-requires
 plan-of-requires c κs = usable-readable (start c .pre .0)

@@ -9,13 +9,13 @@ use Rattle.mutate.proofs.allocate.Tie as tie
 
 -- the places: past the gate, the waiting list cleared, the object made
 abbrev passed : tie.After-clear-all → tie.Else1
-passed c = c .before .before
+passed c = search
 
 abbrev cleared : tie.After-allocate-arg14 → tie.After-clear-all
-cleared c = c .before .before .before .before .before .before .before .before .before
+cleared c = search
 
-abbrev done : tie.After-result → tie.After-allocate2
-done c = c .before .before .before .before .before .before .before .before .before .before .before .before .before .before .before
+abbrev done : tie.After-reply → tie.After-allocate2
+done c = search
 
 allocate-requires : tie.Need-allocate-requires
 allocate-requires c κs = search needs
@@ -34,6 +34,9 @@ allocate-requires-2 c κs =
       allocate-accepts (replied (facts .tested (gate .if1 .left))) (gate .if1 .left),
     )
 
+reply-requires : tie.Need-reply-requires
+reply-requires c κs = search needs
+
 returns-2 : tie.Need-returns-2
 unfolding outcome
 returns-2 c =
@@ -41,7 +44,7 @@ returns-2 c =
     let gate = passed clear in
     let facts = gate .before .allocate .ensures in
     promised-back (facts .fit (gate .if1 .left)) (clear .clear-all .ensures)
-    (allocate-goes-on _ (replied (facts .tested (gate .if1 .left))) (gate .if1 .left)) refl (done c .allocate2 .ensures .promise)
+    (allocate-goes-on _ (replied (facts .tested (gate .if1 .left))) (gate .if1 .left)) refl (done c .allocate2 .ensures) (c .reply .ensures)
 
 pub allocate-spec : {M : Type 1} → statement M
 allocate-spec =
@@ -58,6 +61,7 @@ allocate-spec =
     returns
     clear-all-requires
     allocate-requires-2
+    reply-requires
     (λ c. done c .allocate2 .kept .1 .1 .0)
     (λ c. done c .allocate2 .kept .1 .1 .1 .0)
     (λ c. done c .allocate2 .kept .1 .1 .1 .1 .0)

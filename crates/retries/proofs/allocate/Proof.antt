@@ -9,22 +9,22 @@ use Rattle.retries.proofs.allocate.Tie as tie
 
 -- the places, from the last back: the second try, the collection, that no chunk was free, the first try (or the only one), the start
 abbrev second : tie.After-slice-known27 → tie.After-allocate2
-second c = c .before .before .before .before .before .before .before .before .before .before .before .before .before .before
+second c = search
 
 abbrev forced : tie.After-allocate-arg14 → tie.After-collect
-forced c = c .before .before .before .before .before .before .before .before .before .before .before .before .before .before .before .before .before .before .before
+forced c = search
 
 abbrev none-free : tie.After-collect-arg7 → tie.Else1
-none-free c = c .before .before .before .before .before .before .before
+none-free c = search
 
 abbrev first : tie.Else1 → tie.After-allocate
-first c = c .before .before .before .before .before .before .before .before .before .before .before .before .before .before .before
+first c = search
 
 abbrev only : tie.Then1 → tie.After-allocate
-only c = c .before .before .before .before .before .before .before .before .before .before .before .before .before .before .before
+only c = search
 
 abbrev start : tie.After-allocate-arg7 → tie.Start
-start c = c .before .before .before .before .before .before .before .before .before .before .before .before .before .before
+start c = search
 
 -- those of an allocation that was tried twice, from its return
 abbrev last-try : tie.After-done-after2 → tie.After-allocate2
@@ -55,7 +55,7 @@ collect-requires c κs =
 allocate-requires-2 : tie.Need-allocate-requires-2
 allocate-requires-2 c κs =
     let try = first (none-free (forced c .before)) in
-    usable-kept (usable-kept (start (try .before) .pre) (try .allocate .ensures .promise)) (forced c .collect .ensures)
+    usable-kept (usable-kept (start (try .before) .pre) (try .allocate .ensures .promise)) (forced c .collect .ensures .promise)
 
 done-after-requires-2 : tie.Need-done-after-requires-2
 done-after-requires-2 c κs =

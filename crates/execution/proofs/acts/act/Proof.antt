@@ -9,31 +9,31 @@ use Rattle.execution.proofs.acts.act.Tie as tie
 
 -- the places: the entry; each arm with its plan known, from where its call is made; that call made, from where the arm returns
 abbrev entry : tie.After-slice-known7 → tie.Start
-entry c = c .before .before .before .before .before .before .before
+entry c = search
 
 abbrev allocating : tie.After-allocate-arg7 → tie.After-plan2
-allocating c = c .before .before .before .before .before .before .before .before
+allocating c = search
 
 abbrev root-storing : tie.After-store-root-arg7 → tie.After-plan3
-root-storing c = c .before .before .before .before .before .before .before .before
+root-storing c = search
 
 abbrev cell-storing : tie.After-store-cell-arg7 → tie.After-plan4
-cell-storing c = c .before .before .before .before .before .before .before .before
+cell-storing c = search
 
 abbrev collecting : tie.After-collect-arg7 → tie.After-enum-told
-collecting c = c .before .before .before .before .before .before .before
+collecting c = search
 
 abbrev allocated : tie.After-slice-known14 → tie.After-allocate
-allocated c = c .before .before .before .before .before .before .before .before .before .before .before .before .before .before
+allocated c = search
 
-abbrev root-stored : tie.After-struct-known → tie.After-store-root
-root-stored c = c .before .before .before .before .before .before .before .before .before .before .before .before .before .before .before
+abbrev root-stored : tie.After-slice-known21 → tie.After-store-root
+root-stored c = search
 
-abbrev cell-stored : tie.After-struct-known2 → tie.After-store-cell
-cell-stored c = c .before .before .before .before .before .before .before .before .before .before .before .before .before
+abbrev cell-stored : tie.After-slice-known27 → tie.After-store-cell
+cell-stored c = search
 
 abbrev collected : tie.After-slice-known33 → tie.After-collect
-collected c = c .before .before .before .before .before .before .before .before .before .before .before .before
+collected c = search
 
 enum-known-plan : tie.Need-enum-known-plan
 enum-known-plan c = search needs

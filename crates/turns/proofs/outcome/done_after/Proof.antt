@@ -14,7 +14,9 @@ returns c = rw (ne-eqb _ 0 (c .if1 .taken), doneAfter)
 
 returns-2 : tie.Need-returns-2
 unfolding doneAfter
-returns-2 c = rw (eq-eqb _ 0 (c .before .if1 .left), doneAfter)
+returns-2 c =
+    let accepted : tie.Else1 = search in
+    rw (eq-eqb _ 0 (accepted .if1 .left), doneAfter)
 
 pub done-after-spec : {M : Type 1} → statement M
 done-after-spec = tie.close (tie.spec add-freed returns returns-2)
