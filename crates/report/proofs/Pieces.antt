@@ -1,83 +1,170 @@
--- A piece that leaves the run going was run whole: all its records are counted, and they are no more than a run may have.
-use mathlib.Core.Path.{_≡_, sym, ap, subst, _∙_}
-use mathlib.Core.List.{List}
-use Prim.Native.Nat.{ℕ, zero, suc, _+_, _*_, _≤_, _<_}
-use native.Mathlib.Decide.{ℕ-discrete}
+-- The loop over the pieces of the input: the bytes run so far, in pieces of whole records, are one history.
+use mathlib.Core.Path.{_≡_, refl, sym, ap, subst, _∙_}
+use mathlib.Core.Bool.{true}
+use mathlib.Core.List.{List, [], _++_}
+use Prim.Native.Nat.{ℕ, _+_, _*_, _/_, _%_, _≤_, _<_}
 use native.Mathlib.Omega.{arith}
-use lib.ListN.{length}
-use borrow.Author.Tests.{eq-eqb, ne-eqb}
-use Rattle.rules.specs.Heap.{Memory}
+use lib.ListN.{length, replicate, length-append, length-replicate}
+use Rattle.rules.specs.Tools.{all}
+use Rattle.rules.specs.Heap.{Memory, lentMemory}
+use Rattle.rules.specs.Store.{formatted}
+use Rattle.rules.specs.Sections.{figures}
+use Rattle.rules.specs.Calls.{format, Answer, outcome, reply}
+use Rattle.rules.specs.Promise.{Promise}
 use Rattle.types.specs.declared.Reply.{Reply}
+use Rattle.rules.proofs.Shape.{Shaped, shape-test}
+use Rattle.rules.proofs.Replies.{format-accepted}
+use Rattle.theory.specs.Statements.{Undamaged}
+use Rattle.theory.proofs.Theorems.{format-makes-undamaged}
+use Rattle.inspect.proofs.CheckReply.{check-passed}
+use Rattle.records.specs.Records.{recordLength}
 use Rattle.figures.specs.declared.tally.Run.{Run}
-use Rattle.figures.specs.Figures.{mostRecords}
+use Rattle.figures.specs.Figures.{newRun, inRange, mostRecords, mostCollections}
+use Rattle.figures.proofs.Ranges.{in-range-within}
 use Rattle.history.specs.declared.Ran.{Ran}
-use Rattle.turns.specs.Turns.{afterTurn}
-use Rattle.history.specs.Runs.{recordAt, ranFrom, wholeRecords, ended, ran}
+use Rattle.history.specs.Runs.{ranFrom, ended, ran}
 use Rattle.history.specs.Promised.{runReply, cleared, Promised}
+use Rattle.history.proofs.CallsMade.{runs-are-calls}
+use Rattle.history.proofs.Pieces.{accepted, reply-passed}
+use Rattle.history.proofs.TwoCalls.{calls-are-one}
+use Rattle.report.specs.declared.run.Outcome.{Outcome}
+use Rattle.report.specs.declared.run.Outcome.the-variants.{Ran as ran-to, ReadFailed, HeapRefused}
 use Rattle.report.specs.declared.run.PieceOutcome.{PieceOutcome}
-use Rattle.report.specs.declared.run.PieceOutcome.the-variants.{GoesOn}
-use Rattle.report.specs.Further.{Further}
+use Rattle.report.specs.declared.run.PieceOutcome.the-variants.{GoesOn, Ends}
+use Rattle.report.specs.Meaning.{accepting, meaning, Reported, lastMeaning, pieceMeaning}
+use Rattle.report.proofs.Progress.{whole, further}
 
--- n records that leave the run going are n records more
-all-counted :
-    (n N w : ℕ) (bytes : List ℕ) (i : ℕ) (h : Memory) (r : Run) → ranFrom n N w bytes i h r .run .number ≡ 0
-    → ranFrom n N w bytes i h r .run .records ≡ r .records + n
-unfolding ranFrom afterTurn
-all-counted zero N w bytes i h r e = omega arith
-all-counted (suc n) N w bytes i h r e =
-    let x = recordAt N w bytes i h in
-    elim (ℕ-discrete (x .number) 0) [
-      | yes accepted ↦
-          let test = eq-eqb (x .number) 0 accepted in
-          let rest = all-counted n N w bytes (i + 1) (x .after) (afterTurn N x r) (rw (test, ranFrom) at e) in
-          let one : afterTurn N x r .records ≡ r .records + 1 = rw (test, afterTurn) in
-          rw (test, ranFrom) (omega (arith, rest, one))
-      | no refused ↦
-          let test = ne-eqb (x .number) 0 refused in
-          let stops : afterTurn N x r .number ≡ x .number = rw (test, afterTurn) in
-          absurd (refused (sym stops ∙ (rw (test, ranFrom) at e)))
-    ]
+-- ---- what a piece came to
 
--- the end of a piece leaves a run going only where it does nothing
-end-goes :
-    (size n : ℕ) (r : Run) → ended size n r .number ≡ 0 → (r .number ≡ 0) × (size ≡ 8 * n) × (ended size n r .records ≡ r .records)
-unfolding ended
-end-goes size n r e = elim (ℕ-discrete (r .number) 0) [
-  | yes going ↦
-      let test = eq-eqb (r .number) 0 going in
-      elim (ℕ-discrete size (8 * n)) [
-        | yes whole ↦ (going, whole, rw (test, eq-eqb size (8 * n) whole, ended))
-        | no more ↦ absurd (omega (arith, rw (test, ne-eqb size (8 * n) more, ended) at e))
-      ]
-  | no stopped ↦ absurd (stopped (rw (ne-eqb (r .number) 0 stopped, ended) at e))
-]
+-- an accepted answer is its run
+pub as-accepting :
+    {N w : ℕ} {bytes : List ℕ} {h : Memory} {r : Run} {x : Ran} {g : Memory} → Promised N w bytes h r x g → x .reply .number ≡ 0
+    → Promised N w bytes h r (accepting (x .run)) g
+as-accepting {N} {w} {bytes} {h} {r} {x} {g} promised accepts =
+    let same : x .reply ≡ reply 0 0 0 = promised .reply-is ∙ accepted (promised .reply-is) accepts .reply-is in
+    subst (λ (y : Ran). Promised N w bytes h r y g) (λ i. record { reply = same i; run = x .run }) promised
 
--- a piece, not empty, that leaves the run going
-piece-goes :
-    (N w : ℕ) (bytes : List ℕ) (h : Memory) (r : Run) → 0 < length bytes → ran N w bytes h r .run .number ≡ 0
-    → (r .records < ran N w bytes h r .run .records) × (ran N w bytes h r .run .records ≤ mostRecords)
-unfolding ran
-piece-goes N w bytes h r some e =
-    let n = wholeRecords bytes r in
-    let x = ranFrom n N w bytes 0 h r in
-    elim (ℕ-discrete (r .number) 0) [
-      | yes going ↦
-          let test = eq-eqb (r .number) 0 going in
-          let end = end-goes (length bytes) n (x .run) (rw (test, ran) at e) in
-          let counted = all-counted n N w bytes 0 h r (end .0) in
-          rw (test, ran) (omega (arith, end .1, end .2, counted), omega (arith, end .1, end .2, counted))
-      | no stopped ↦ absurd (stopped (rw (ne-eqb (r .number) 0 stopped, ran) at e))
-    ]
+-- ---- the bytes so far
 
-module _ {N w : ℕ} {bytes : List ℕ} {h : Memory} {r : Run} {x : Ran} {g : Memory} (promised : Promised N w bytes h r x g) where
-  pub further :
-      0 < length bytes → x .reply .number ≡ 0 → x .run .number ≡ 0 → (r .records < x .run .records) × (x .run .records ≤ mostRecords)
-  further some accepted going =
-      let test = eq-eqb (runReply N w h r .number) 0 (ap (λ (y : Reply). y .number) (sym (promised .reply-is)) ∙ accepted) in
-      let is = rw test at (promised .run-is) in
-      rw is (piece-goes N w bytes (cleared N h) r some (rw is at going))
+-- the heap and the run stand as one call on a new heap, on these bytes, would have left them
+pub record Kept (bytes : List ℕ) (h : Memory) (r : Run) : Type 0 where
+  pub whole-records : length bytes % recordLength ≡ 0
+  pub promised : Promised 8192 3 bytes (formatted 8192 3 64) newRun (accepting r) h
 
--- the same of a piece that leaves the run going
-pub goes-further :
-    {t : PieceOutcome} (r next : Run) → t ≡ GoesOn next → Further r t → (r .records < next .records) × (next .records ≤ mostRecords)
-goes-further r next e = subst (λ (t : PieceOutcome). Further r t) e
+-- a run before its first record is in range
+new-range : inRange newRun ≡ true
+unfolding inRange all mostCollections
+new-range = refl
+
+-- a new heap keeps no bytes
+module _ (N w roots : ℕ) where
+  cleared-new : cleared N (formatted N w roots) ≡ formatted N w roots
+  unfolding formatted
+  cleared-new = refl
+
+  listed-new : formatted N w roots .sections ≡ figures N (formatted N w roots .a)
+  unfolding formatted
+  listed-new = refl
+
+  none-run : (h : Memory) → ran N w [] h newRun .run ≡ newRun
+  unfolding ran ranFrom ended
+  none-run h = refl
+
+  none-memory : (h : Memory) → ran N w [] h newRun .memory ≡ h
+  unfolding ran ranFrom ended
+  none-memory h = refl
+
+  none-promised : Undamaged N w (formatted N w roots) → Promised N w [] (formatted N w roots) newRun (accepting newRun) (formatted N w roots)
+  none-promised fine =
+      let new : Memory = formatted N w roots in
+      let accepts : reply 0 0 0 ≡ runReply N w new newRun =
+      reply-passed (check-passed {x = reply 0 0 0} fine refl) newRun refl new-range refl in
+      record {
+        reply-is = accepts;
+        run-is = sym (rw (← accepts) (none-run (cleared N new)));
+        after-is = sym (rw (← accepts) (none-memory (cleared N new) ∙ cleared-new));
+        idle = λ _. sym (ap (λ (h : Memory). h .waiting) cleared-new);
+        listed = λ _. listed-new;
+        again = λ _. new-range;
+        calls = λ _. runs-are-calls N w [] (cleared N new) newRun (subst (λ (h : Memory). Undamaged N w h) (sym cleared-new) fine);
+      }
+
+pub kept-start :
+    {a b counts cells roots waiting sections : List ℕ} {x : Reply} {g : Memory} {r : Run}
+    → Promise 8192 3 format (lentMemory a b counts cells roots waiting sections) x g
+    → length a ≡ 1024 → length b ≡ 1024 → length counts ≡ 3072 → length cells ≡ 32768 → length roots ≡ 64 → length waiting ≡ 8192
+    → length sections ≡ 32 → r ≡ newRun → Kept [] g r
+unfolding outcome
+kept-start {a} {b} {counts} {cells} {roots} {waiting} {sections} {x} {g} {r} promise a-is b-is counts-are cells-are roots-are waiting-is
+    sections-are start =
+    let h : Memory = lentMemory a b counts cells roots waiting sections in
+    let right : Shaped 8192 3 h = record {
+      power = (13, refl);
+      blocks-min = omega arith;
+      blocks-max = omega arith;
+      whole-bytes = refl;
+      width-min = omega arith;
+      width-max = omega arith;
+      roots-min = omega arith;
+      roots-max = omega arith;
+      length-a = a-is;
+      length-b = b-is;
+      length-counts = counts-are;
+      length-cells = cells-are;
+      length-waiting = waiting-is;
+      length-sections = sections-are;
+    } in
+    let shape = shape-test 8192 3 h right in
+    let new : formatted 8192 3 (length roots) ≡ formatted 8192 3 64 = ap (formatted 8192 3) roots-are in
+    let left : g ≡ formatted 8192 3 64 = promise .after-is ∙ ap (λ (y : Answer). y .1) (format-accepted 8192 3 h shape) ∙ new in
+    let fine : Undamaged 8192 3 (formatted 8192 3 64) =
+    subst (λ (k : Memory). Undamaged 8192 3 k) new (format-makes-undamaged 8192 3 h shape) in
+    record {
+      whole-records = refl;
+      promised = rw (left, start) (none-promised 8192 3 64 fine);
+    }
+
+module _ {bytes : List ℕ} {h : Memory} {r : Run} (kept : Kept bytes h r) where
+  accepts : runReply 8192 3 (formatted 8192 3 64) newRun ≡ reply 0 0 0
+  accepts = sym (kept .promised .reply-is)
+
+  pub kept-few : r .records ≤ mostRecords
+  kept-few = in-range-within r (kept .promised .again refl) .few
+
+  -- a further call on the heap, with the run
+  module _ (piece : List ℕ) {x : Ran} {g : Memory} (call : Promised 8192 3 piece h r x g) where
+    both : Promised 8192 3 (bytes ++ piece) (formatted 8192 3 64) newRun x g
+    both =
+        calls-are-one 8192 3 bytes piece (formatted 8192 3 64) h newRun (accepting r) x h g (kept .whole-records) (kept .promised) refl
+        record { same-heap = refl; space = ap length (kept .promised .idle refl) ∙ length-replicate {A = ℕ} 8192 0 } call
+
+  -- a piece that leaves the run going
+  pub kept-next :
+      (came : PieceOutcome) (next : Run) (piece : List ℕ) (g : Memory) → came ≡ GoesOn next → pieceMeaning piece h r came g
+      → Kept (bytes ++ piece) g next × (r .records < next .records)
+  kept-next came next piece g is met =
+      let goes : pieceMeaning piece h r (GoesOn next) g = subst (λ (t : PieceOutcome). pieceMeaning piece h r t g) is met in
+      let call = goes .0 in
+      let more = whole call refl (goes .1) in (
+        record {
+          whole-records = omega (arith, length-append bytes piece, kept .whole-records, more);
+          promised = both piece call;
+        },
+        further call refl (goes .1) (omega (arith, goes .2)),
+      )
+
+  -- the last piece
+  last-meaning : (outcome : Outcome) (piece : List ℕ) (g : Memory) → lastMeaning piece h r outcome g → Reported outcome
+  last-meaning (ran-to next) piece g met =
+      let is : next ≡ ran 8192 3 (bytes ++ piece) (cleared 8192 (formatted 8192 3 64)) newRun .run =
+      rw accepts at (both piece (met .0) .run-is) in
+      (bytes ++ piece, is ∙ ap (λ (m : Memory). ran 8192 3 (bytes ++ piece) m newRun .run) (cleared-new 8192 3 64))
+  last-meaning ReadFailed piece g met = absurd met
+  last-meaning HeapRefused piece g met =
+      absurd (met .2 (ap (λ (y : Reply). y .number) (both piece (met .1) .reply-is ∙ accepts)))
+
+  pub kept-ends :
+      (came : PieceOutcome) (outcome : Outcome) (piece : List ℕ) (g : Memory) → came ≡ Ends outcome → pieceMeaning piece h r came g
+      → Reported outcome
+  kept-ends came outcome piece g is met =
+      last-meaning outcome piece g (subst (λ (t : PieceOutcome). pieceMeaning piece h r t g) is met)

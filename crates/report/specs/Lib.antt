@@ -1,1 +1,1 @@
-pub mod Further
+pub mod Meaning

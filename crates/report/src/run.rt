@@ -1,5 +1,6 @@
-// A run over a piece of the input.
-ghost use Rattle.report.specs.Further.{Further};
+// The run over the input, piece by piece.
+ghost use Rattle.rules.specs.Lent.{before, after};
+ghost use Rattle.report.specs.Meaning.{Reported, pieceMeaning};
 use crate::heap::BLOCKS;
 use crate::heap::CELLS;
 use crate::heap::COUNT_BYTES;
@@ -9,6 +10,7 @@ use crate::heap::SECTIONS;
 use crate::heap::WIDTH;
 use crate::input;
 use crate::input::PIECE;
+use figures::tally;
 use figures::tally::Run;
 use types::Ref;
 
@@ -25,7 +27,7 @@ pub enum PieceOutcome {
     Ends(Outcome),
 }
 
-// Reads a piece, and runs its records. A piece that is not full is the last.
+// Runs the records of a piece. A piece that is not full is the last.
 pub fn run_piece(
     run: Run,
     a: &mut [u8; MAP_BYTES],
@@ -35,15 +37,12 @@ pub fn run_piece(
     roots: &mut [Ref; ROOTS],
     waiting: &mut [Ref; BLOCKS],
     sections: &mut [Ref; SECTIONS],
+    bytes: &[u8],
 ) -> PieceOutcome
-    ensures { λ came. ⌜ Further run came ⌝ }
+    ensures { λ came.
+        ⌜ pieceMeaning (now (bytes .entry)) (before a b counts cells roots waiting sections) run came
+        (after a b counts cells roots waiting sections) ⌝ }
 {
-    let mut buffer = [0u8; PIECE];
-    let piece = input::read_piece(&mut buffer);
-    if piece.failed {
-        return PieceOutcome::Ends(Outcome::ReadFailed);
-    }
-    let n = piece.length;
     let ran = history::run_records(
         BLOCKS,
         WIDTH,
@@ -55,7 +54,7 @@ pub fn run_piece(
         waiting,
         sections,
         run,
-        &buffer[..n],
+        bytes,
     );
     if ran.reply.number != 0 {
         return PieceOutcome::Ends(Outcome::HeapRefused);
@@ -64,8 +63,60 @@ pub fn run_piece(
     if next.number != 0 {
         return PieceOutcome::Ends(Outcome::Ran(next));
     }
-    if n < PIECE {
+    if bytes.len() < PIECE {
         return PieceOutcome::Ends(Outcome::Ran(next));
     }
     PieceOutcome::GoesOn(next)
+}
+
+// Runs the pieces of standard input on a new heap, until it ends or the run is stopped, which the limit of its records makes sure of.
+pub fn run_input() -> Outcome
+    ensures { λ outcome. ⌜ Reported outcome ⌝ }
+{
+    let mut a = [0u8; MAP_BYTES];
+    let mut b = [0u8; MAP_BYTES];
+    let mut counts = [0u8; COUNT_BYTES];
+    let mut cells = [0 as Ref; CELLS];
+    let mut roots = [0 as Ref; ROOTS];
+    let mut waiting = [0 as Ref; BLOCKS];
+    let mut sections = [0 as Ref; SECTIONS];
+    mutate::format(
+        BLOCKS,
+        WIDTH,
+        &mut a,
+        &mut b,
+        &mut counts,
+        &mut cells,
+        &mut roots,
+        &mut waiting,
+        &mut sections,
+    );
+    let mut run = tally::new_run();
+    let mut buffer = [0u8; PIECE];
+    loop {
+        let piece = input::read_piece(&mut buffer);
+        if piece.failed {
+            return Outcome::ReadFailed;
+        }
+        let n = piece.length;
+        let came = run_piece(
+            run,
+            &mut a,
+            &mut b,
+            &mut counts,
+            &mut cells,
+            &mut roots,
+            &mut waiting,
+            &mut sections,
+            &buffer[..n],
+        );
+        match came {
+            PieceOutcome::GoesOn(next) => {
+                run = next;
+            }
+            PieceOutcome::Ends(outcome) => {
+                return outcome;
+            }
+        }
+    }
 }

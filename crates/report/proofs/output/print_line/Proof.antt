@@ -1,11 +1,17 @@
--- The line is no longer than the buffer.
-use mathlib.Core.Path.{sym, ap}
+-- The line is no longer than the buffer, and it is what the buffer starts with.
+use mathlib.Core.Path.{_≡_, sym, ap, _∙_}
+use mathlib.Core.List.{List, _++_}
+use Prim.Native.Nat.{ℕ}
 use native.Mathlib.Omega.{arith}
-use lib.ListN.{length, length-append}
-use lib.Seq.{length-take-le}
+use lib.ListN.{length, take, length-append}
+use lib.Seq.{length-take-le, take-at}
 use borrow.Author.Needs.{needs}
+use Rattle.line.specs.Line.{line}
 use Rattle.report.proofs.output.print_line.Statement.{statement}
 use Rattle.report.proofs.output.print_line.Tie as tie
+
+starts-with : {n : ℕ} {out : List ℕ} (text rest : List ℕ) → n ≡ length text → out ≡ text ++ rest → take n out ≡ text
+starts-with {n} text rest long is = ap (take n) is ∙ take-at text rest n (sym long)
 
 write-line-requires : tie.Need-write-line-requires
 write-line-requires c κs = search needs
@@ -13,24 +19,18 @@ write-line-requires c κs = search needs
 array-share-prefix-out : tie.Need-array-share-prefix-out
 array-share-prefix-out c = omega (arith, simp length-append at (ap length (c .write-line .ensures .1)))
 
-slice-aggregate-write-all : tie.Need-slice-aggregate-write-all
-slice-aggregate-write-all c =
+slice-aggregate-print : tie.Need-slice-aggregate-print
+slice-aggregate-print c =
     sym (length-take-le _ _ (omega (arith, simp length-append at (ap length (c .before .write-line .ensures .1)))))
 
-write-all-requires : tie.Need-write-all-requires
-write-all-requires c κs = search needs
-
-slice-aggregate-complain : tie.Need-slice-aggregate-complain
-slice-aggregate-complain c = search needs
-
-complain-requires : tie.Need-complain-requires
-complain-requires c κs = search needs
+print-requires : tie.Need-print-requires
+print-requires c κs =
+    let written = c .before .write-line .ensures in
+    let run = c .before .before .before .pre in
+    (run .0, starts-with _ _ (written .0) (written .1) ∙ ap line (run .1))
 
 returns : tie.Need-returns
 returns c = search needs
-
-returns-2 : tie.Need-returns-2
-returns-2 c = search needs
 
 pub print-line-spec : {M : Type 1} → statement M
 print-line-spec =
@@ -38,9 +38,6 @@ print-line-spec =
     (tie.spec
     write-line-requires
     array-share-prefix-out
-    slice-aggregate-write-all
-    write-all-requires
-    slice-aggregate-complain
-    complain-requires
-    returns
-    returns-2)
+    slice-aggregate-print
+    print-requires
+    returns)

@@ -1,0 +1,61 @@
+-- What the answers of the program stand for. "Where an answer is an enum, a definition gives this paper's number and values for each of
+-- its cases. The promises use that definition."
+use Prim.Native.Nat.{ℕ, _≤_, _<_}
+use mathlib.Core.Path.{_≡_}
+use mathlib.Core.List.{List}
+use lib.ListN.{length}
+use Rattle.rules.specs.Heap.{Memory}
+use Rattle.rules.specs.Calls.{reply}
+use Rattle.figures.specs.declared.tally.Run.{Run}
+use Rattle.line.specs.Line.{line}
+use Rattle.history.specs.declared.Ran.{Ran}
+use Rattle.history.specs.Runs.{Came, history}
+use Rattle.history.specs.Promised.{Promised}
+use Rattle.report.specs.declared.run.Outcome.{Outcome}
+use Rattle.report.specs.declared.run.Outcome.the-variants.{Ran as ran-to, ReadFailed, HeapRefused}
+use Rattle.report.specs.declared.run.PieceOutcome.{PieceOutcome}
+use Rattle.report.specs.declared.run.PieceOutcome.the-variants.{GoesOn, Ends}
+
+-- "on a new heap of 8,192 blocks, w = 3, 64 roots": what comes of the bytes of standard input
+abbrev pub reported : List ℕ → Came
+reported bytes = history 8192 3 64 bytes
+
+-- What came of the input, whose bytes these are: the run of all of them; after a read that failed nothing; and a refused heap can't be.
+abbrev pub meaning : List ℕ → Outcome → Type 0
+meaning bytes (ran-to r) = r ≡ reported bytes .run
+meaning bytes ReadFailed = Unit {0}
+meaning bytes HeapRefused = ⊥
+
+-- The library's read promises nothing of the bytes that it gives, so of an outcome it is said that there are such bytes.
+abbrev pub Reported : Outcome → Type 0
+Reported outcome = (bytes : List ℕ) × meaning bytes outcome
+
+-- .. of a run that it is the run of such bytes
+abbrev pub ReportedRun : Run → Type 0
+ReportedRun r = Reported (ran-to r)
+
+-- .. and of a text that it is the line that such bytes print
+abbrev pub ReportLine : List ℕ → Type 0
+ReportLine text = (bytes : List ℕ) × (text ≡ line (reported bytes .run))
+
+-- the bytes of a full piece: 8,192 records
+abbrev pub fullPiece : ℕ
+fullPiece = 65536
+
+-- an accepted call on records, which answers the run
+abbrev pub accepting : Run → Ran
+accepting r = record { reply = reply 0 0 0; run = r }
+
+-- What came of a last piece, on the heap h from where the run r stood, when the heap is left as g: a run that was stopped, or whose piece
+-- was not full; no read is made here; a refused heap.
+abbrev pub lastMeaning : List ℕ → Memory → Run → Outcome → Memory → Type 0
+lastMeaning bytes h r (ran-to next) g =
+    Promised 8192 3 bytes h r (accepting next) g × (next .number ≡ 0 → length bytes < fullPiece)
+lastMeaning bytes h r ReadFailed g = ⊥
+lastMeaning bytes h r HeapRefused g = (x : Ran) × Promised 8192 3 bytes h r x g × (x .reply .number ≡ 0 → ⊥)
+
+-- What came of a piece: a run that goes on after a full piece; or the outcome of the last.
+abbrev pub pieceMeaning : List ℕ → Memory → Run → PieceOutcome → Memory → Type 0
+pieceMeaning bytes h r (GoesOn next) g =
+    Promised 8192 3 bytes h r (accepting next) g × (next .number ≡ 0) × (fullPiece ≤ length bytes)
+pieceMeaning bytes h r (Ends outcome) g = lastMeaning bytes h r outcome g
