@@ -2,20 +2,16 @@
 use mathlib.Core.Path.{_≡_, refl, sym, ap, subst, _∙_}
 use mathlib.Core.Bool.{true}
 use mathlib.Core.List.{List, [], _++_}
-use Prim.Native.Nat.{ℕ, _+_, _*_, _/_, _%_, _≤_, _<_}
+use Prim.Native.Nat.{ℕ, _%_, _≤_, _<_}
 use native.Mathlib.Omega.{arith}
-use lib.ListN.{length, replicate, length-append, length-replicate}
+use lib.ListN.{length, length-append, length-replicate}
 use Rattle.rules.specs.Tools.{all}
-use Rattle.rules.specs.Heap.{Memory, lentMemory}
+use Rattle.rules.specs.Heap.{Memory}
 use Rattle.rules.specs.Store.{formatted}
 use Rattle.rules.specs.Sections.{figures}
-use Rattle.rules.specs.Calls.{format, Answer, outcome, reply}
-use Rattle.rules.specs.Promise.{Promise}
+use Rattle.rules.specs.Calls.{reply}
 use Rattle.types.specs.declared.Reply.{Reply}
-use Rattle.rules.proofs.Shape.{Shaped, shape-test}
-use Rattle.rules.proofs.Replies.{format-accepted}
 use Rattle.theory.specs.Statements.{Undamaged}
-use Rattle.theory.proofs.Theorems.{format-makes-undamaged}
 use Rattle.inspect.proofs.CheckReply.{check-passed}
 use Rattle.records.specs.Records.{recordLength}
 use Rattle.figures.specs.declared.tally.Run.{Run}
@@ -32,6 +28,7 @@ use Rattle.report.specs.declared.run.Outcome.the-variants.{Ran as ran-to
 use Rattle.report.specs.declared.run.PieceOutcome.{PieceOutcome}
 use Rattle.report.specs.declared.run.PieceOutcome.the-variants.{GoesOn, Ends}
 use Rattle.report.specs.Meaning.{accepting, meaning, Reported, lastMeaning, pieceMeaning}
+use Rattle.report.proofs.NewHeap.{new-undamaged}
 use Rattle.report.proofs.Progress.{whole, further}
 
 -- ---- what a piece came to
@@ -89,40 +86,8 @@ module _ (N w roots : ℕ) where
         calls = λ _. runs-are-calls N w [] (cleared N new) newRun (subst (λ (h : Memory). Undamaged N w h) (sym cleared-new) fine);
       }
 
-pub kept-start :
-    {a b counts cells roots waiting sections : List ℕ} {x : Reply} {g : Memory} {r : Run}
-    → Promise 8192 3 format (lentMemory a b counts cells roots waiting sections) x g
-    → length a ≡ 1024 → length b ≡ 1024 → length counts ≡ 3072 → length cells ≡ 32768 → length roots ≡ 64 → length waiting ≡ 8192
-    → length sections ≡ 32 → r ≡ newRun → Kept [] g r
-unfolding outcome
-kept-start {a} {b} {counts} {cells} {roots} {waiting} {sections} {x} {g} {r} promise a-is b-is counts-are cells-are roots-are waiting-is
-    sections-are start =
-    let h : Memory = lentMemory a b counts cells roots waiting sections in
-    let right : Shaped 8192 3 h = record {
-      power = (13, refl);
-      blocks-min = omega arith;
-      blocks-max = omega arith;
-      whole-bytes = refl;
-      width-min = omega arith;
-      width-max = omega arith;
-      roots-min = omega arith;
-      roots-max = omega arith;
-      length-a = a-is;
-      length-b = b-is;
-      length-counts = counts-are;
-      length-cells = cells-are;
-      length-waiting = waiting-is;
-      length-sections = sections-are;
-    } in
-    let shape = shape-test 8192 3 h right in
-    let new : formatted 8192 3 (length roots) ≡ formatted 8192 3 64 = ap (formatted 8192 3) roots-are in
-    let left : g ≡ formatted 8192 3 64 = promise .after-is ∙ ap (λ (y : Answer). y .1) (format-accepted 8192 3 h shape) ∙ new in
-    let fine : Undamaged 8192 3 (formatted 8192 3 64) =
-    subst (λ (k : Memory). Undamaged 8192 3 k) new (format-makes-undamaged 8192 3 h shape) in
-    record {
-      whole-records = refl;
-      promised = rw (left, start) (none-promised 8192 3 64 fine);
-    }
+pub kept-start : {g : Memory} {r : Run} → g ≡ formatted 8192 3 64 → r ≡ newRun → Kept [] g r
+kept-start new start = record { whole-records = refl; promised = rw (new, start) (none-promised 8192 3 64 new-undamaged) }
 
 module _ {bytes : List ℕ} {h : Memory} {r : Run} (kept : Kept bytes h r) where
   accepts : runReply 8192 3 (formatted 8192 3 64) newRun ≡ reply 0 0 0

@@ -1,4 +1,8 @@
 // The heap of a report, and the lengths of its buffers.
+ghost use mathlib.Core.Path.{_≡_};
+ghost use Rattle.rules.specs.Lent.{after};
+ghost use Rattle.rules.specs.Store.{formatted};
+use types::Ref;
 
 pub const BLOCKS: usize = 8192;
 
@@ -14,3 +18,18 @@ pub const CELLS: usize = 4 * BLOCKS;
 
 // A section of so large a heap has 256 blocks.
 pub const SECTIONS: usize = BLOCKS / 256;
+
+// Makes a new heap of the buffers. Their lengths are right, so that the format is accepted.
+pub fn format(
+    a: &mut [u8; MAP_BYTES],
+    b: &mut [u8; MAP_BYTES],
+    counts: &mut [u8; COUNT_BYTES],
+    cells: &mut [Ref; CELLS],
+    roots: &mut [Ref; ROOTS],
+    waiting: &mut [Ref; BLOCKS],
+    sections: &mut [Ref; SECTIONS],
+)
+    ensures { λ _. ⌜ after a b counts cells roots waiting sections ≡ formatted 8192 3 64 ⌝ }
+{
+    mutate::format(BLOCKS, WIDTH, a, b, counts, cells, roots, waiting, sections);
+}

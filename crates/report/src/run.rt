@@ -1,6 +1,7 @@
 // The run over the input, piece by piece.
 ghost use Rattle.rules.specs.Lent.{before, after};
 ghost use Rattle.report.specs.Meaning.{Reported, pieceMeaning};
+use crate::heap;
 use crate::heap::BLOCKS;
 use crate::heap::CELLS;
 use crate::heap::COUNT_BYTES;
@@ -80,9 +81,7 @@ pub fn run_input() -> Outcome
     let mut roots = [0 as Ref; ROOTS];
     let mut waiting = [0 as Ref; BLOCKS];
     let mut sections = [0 as Ref; SECTIONS];
-    mutate::format(
-        BLOCKS,
-        WIDTH,
+    heap::format(
         &mut a,
         &mut b,
         &mut counts,

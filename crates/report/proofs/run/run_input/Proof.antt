@@ -21,9 +21,6 @@ abbrev μ-loop : tie.MeasureT-loop
     mostRecords - run .records
 
 -- the places, from the last back
-abbrev new-heap : tie.After-new-run Inv-loop μ-loop → tie.After-format Inv-loop μ-loop
-new-heap c = c .before .before .before .before .before .before .before .before
-
 abbrev read : tie.After-run-piece Inv-loop μ-loop → tie.After-read-piece Inv-loop μ-loop
 read c = c .before .before .before .before .before .before .before .before .before .before .before
 
@@ -31,12 +28,7 @@ abbrev looped : tie.After-read-piece Inv-loop μ-loop → tie.At-loop Inv-loop �
 looped c = c .before .before
 
 loop-holds : tie.Need-loop-holds Inv-loop μ-loop
-loop-holds c = (
-  search needs,
-  [],
-  kept-start (new-heap c .format .ensures) (search needs) (search needs) (search needs) (search needs) (search needs) (search needs)
-      (search needs) (c .new-run .ensures),
-)
+loop-holds c = (search needs, [], kept-start (c .before .format .ensures) (c .new-run .ensures))
 
 returns : tie.Need-returns Inv-loop μ-loop
 returns c = ([], tt)
@@ -72,13 +64,6 @@ run-input-spec =
     (tie.spec
     Inv-loop
     μ-loop
-    (λ c. search needs)
-    (λ c. search needs)
-    (λ c. search needs)
-    (λ c. search needs)
-    (λ c. search needs)
-    (λ c. search needs)
-    (λ c. search needs)
     (λ c κs. search needs)
     (λ c κs. search needs)
     loop-holds
