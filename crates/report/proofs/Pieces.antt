@@ -2,9 +2,12 @@
 use mathlib.Core.Path.{_≡_, refl, sym, ap, subst, _∙_}
 use mathlib.Core.Bool.{true}
 use mathlib.Core.List.{List, [], _++_}
-use Prim.Native.Nat.{ℕ, _%_, _≤_, _<_}
+use Prim.Native.Nat.{ℕ, zero, suc, _+_, _-_, _%_, _≤_, _<_}
+use native.Mathlib.Decide.{decLt}
 use native.Mathlib.Omega.{arith}
-use lib.ListN.{length, length-append, length-replicate}
+use lib.ListN.{length, getD, length-append, length-replicate, List·getD-append}
+use lib.Seq.{getD-append-add}
+use Rattle.bitmap.specs.Bit.{Bytes}
 use Rattle.rules.specs.Tools.{all}
 use Rattle.rules.specs.Heap.{Memory}
 use Rattle.rules.specs.Store.{formatted}
@@ -43,8 +46,27 @@ as-accepting {N} {w} {bytes} {h} {r} {x} {g} promised accepts =
 
 -- ---- the bytes so far
 
+pub no-bytes : Bytes []
+unfolding Bytes
+no-bytes i = getD-nil i
+  where
+    getD-nil : (i : ℕ) → getD {A = ℕ} [] i 0 < 256
+    getD-nil zero = omega arith
+    getD-nil (suc i) = omega arith
+
+more-bytes : (first rest : List ℕ) → Bytes first → Bytes rest → Bytes (first ++ rest)
+unfolding Bytes
+more-bytes first rest one two i = elim (decLt i (length first)) [
+  | yes l ↦ rw (List·getD-append first rest 0 i l) (one i)
+  | no past ↦
+      let there : i ≡ length first + (i - length first) = omega arith in
+      subst (λ (k : ℕ). getD (first ++ rest) k 0 < 256) (sym there)
+      (rw (getD-append-add first rest (i - length first) 0) (two (i - length first)))
+]
+
 -- the heap and the run stand as one call on a new heap, on these bytes, would have left them
 pub record Kept (bytes : List ℕ) (h : Memory) (r : Run) : Type 0 where
+  pub of-bytes : Bytes bytes
   pub whole-records : length bytes % recordLength ≡ 0
   pub promised : Promised 8192 3 bytes (formatted 8192 3 64) newRun (accepting r) h
 
@@ -87,7 +109,7 @@ module _ (N w roots : ℕ) where
       }
 
 pub kept-start : {g : Memory} {r : Run} → g ≡ formatted 8192 3 64 → r ≡ newRun → Kept [] g r
-kept-start new start = record { whole-records = refl; promised = rw (new, start) (none-promised 8192 3 64 new-undamaged) }
+kept-start new start = record { of-bytes = no-bytes; whole-records = refl; promised = rw (new, start) (none-promised 8192 3 64 new-undamaged) }
 
 module _ {bytes : List ℕ} {h : Memory} {r : Run} (kept : Kept bytes h r) where
   accepts : runReply 8192 3 (formatted 8192 3 64) newRun ≡ reply 0 0 0
@@ -105,13 +127,14 @@ module _ {bytes : List ℕ} {h : Memory} {r : Run} (kept : Kept bytes h r) where
 
   -- a piece that leaves the run going
   pub kept-next :
-      (came : PieceOutcome) (next : Run) (piece : List ℕ) (g : Memory) → came ≡ GoesOn next → pieceMeaning piece h r came g
+      (came : PieceOutcome) (next : Run) (piece : List ℕ) (g : Memory) → came ≡ GoesOn next → pieceMeaning piece h r came g → Bytes piece
       → Kept (bytes ++ piece) g next × (r .records < next .records)
-  kept-next came next piece g is met =
+  kept-next came next piece g is met read =
       let goes : pieceMeaning piece h r (GoesOn next) g = subst (λ (t : PieceOutcome). pieceMeaning piece h r t g) is met in
       let call = goes .0 in
       let more = whole call refl (goes .1) in (
         record {
+          of-bytes = more-bytes bytes piece (kept .of-bytes) read;
           whole-records = omega (arith, length-append bytes piece, kept .whole-records, more);
           promised = both piece call;
         },
@@ -119,17 +142,20 @@ module _ {bytes : List ℕ} {h : Memory} {r : Run} (kept : Kept bytes h r) where
       )
 
   -- the last piece
-  last-meaning : (outcome : Outcome) (piece : List ℕ) (g : Memory) → lastMeaning piece h r outcome g → Reported outcome
-  last-meaning (ran-to next) piece g met =
+  last-meaning : (outcome : Outcome) (piece : List ℕ) (g : Memory) → lastMeaning piece h r outcome g → Bytes piece → Reported outcome
+  last-meaning (ran-to next) piece g met read =
       let is : next ≡ ran 8192 3 (bytes ++ piece) (cleared 8192 (formatted 8192 3 64)) newRun .run =
-      rw accepts at (both piece (met .0) .run-is) in
-      (bytes ++ piece, is ∙ ap (λ (m : Memory). ran 8192 3 (bytes ++ piece) m newRun .run) (cleared-new 8192 3 64))
-  last-meaning ReadFailed piece g met = absurd met
-  last-meaning HeapRefused piece g met =
+      rw accepts at (both piece (met .0) .run-is) in (
+        bytes ++ piece,
+        more-bytes bytes piece (kept .of-bytes) read,
+        is ∙ ap (λ (m : Memory). ran 8192 3 (bytes ++ piece) m newRun .run) (cleared-new 8192 3 64),
+      )
+  last-meaning ReadFailed piece g met read = absurd met
+  last-meaning HeapRefused piece g met read =
       absurd (met .2 (ap (λ (y : Reply). y .number) (both piece (met .1) .reply-is ∙ accepts)))
 
   pub kept-ends :
       (came : PieceOutcome) (outcome : Outcome) (piece : List ℕ) (g : Memory) → came ≡ Ends outcome → pieceMeaning piece h r came g
-      → Reported outcome
-  kept-ends came outcome piece g is met =
-      last-meaning outcome piece g (subst (λ (t : PieceOutcome). pieceMeaning piece h r t g) is met)
+      → Bytes piece → Reported outcome
+  kept-ends came outcome piece g is met read =
+      last-meaning outcome piece g (subst (λ (t : PieceOutcome). pieceMeaning piece h r t g) is met) read

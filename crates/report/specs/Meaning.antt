@@ -4,6 +4,7 @@ use Prim.Native.Nat.{ℕ, _≤_, _<_}
 use mathlib.Core.Path.{_≡_}
 use mathlib.Core.List.{List}
 use lib.ListN.{length}
+use Rattle.bitmap.specs.Bit.{Bytes}
 use Rattle.rules.specs.Heap.{Memory}
 use Rattle.rules.specs.Calls.{reply}
 use Rattle.figures.specs.declared.tally.Run.{Run}
@@ -28,7 +29,7 @@ meaning bytes HeapRefused = ⊥
 
 -- The library's read promises nothing of the bytes that it gives, so of an outcome it is said that there are such bytes.
 abbrev pub Reported : Outcome → Type 0
-Reported outcome = (bytes : List ℕ) × meaning bytes outcome
+Reported outcome = (bytes : List ℕ) × Bytes bytes × meaning bytes outcome
 
 -- .. of a run that it is the run of such bytes
 abbrev pub ReportedRun : Run → Type 0
@@ -36,7 +37,7 @@ ReportedRun r = Reported (ran-to r)
 
 -- .. and of a text that it is the line that such bytes print
 abbrev pub ReportLine : List ℕ → Type 0
-ReportLine text = (bytes : List ℕ) × (text ≡ line (reported bytes .run))
+ReportLine text = (bytes : List ℕ) × Bytes bytes × (text ≡ line (reported bytes .run))
 
 -- the bytes of a full piece: 8,192 records
 abbrev pub fullPiece : ℕ

@@ -1,4 +1,5 @@
 // The run over the input, piece by piece.
+ghost use Rattle.bitmap.specs.Bit.{Bytes};
 ghost use Rattle.rules.specs.Lent.{before, after};
 ghost use Rattle.report.specs.Meaning.{Reported, pieceMeaning};
 use crate::heap;
@@ -42,7 +43,8 @@ pub fn run_piece(
 ) -> PieceOutcome
     ensures { λ came.
         ⌜ pieceMeaning (now (bytes .entry)) (before a b counts cells roots waiting sections) run came
-        (after a b counts cells roots waiting sections) ⌝ }
+        (after a b counts cells roots waiting sections)
+        × Bytes (now (bytes .entry)) ⌝ }
 {
     let ran = history::run_records(
         BLOCKS,

@@ -27,7 +27,7 @@ print-requires : tie.Need-print-requires
 print-requires c κs =
     let written = c .before .write-line .ensures in
     let run = c .before .before .before .pre in
-    (run .0, starts-with _ _ (written .0) (written .1) ∙ ap line (run .1))
+    (run .0, run .1, starts-with _ _ (written .0) (written .1) ∙ ap line (run .2))
 
 returns : tie.Need-returns
 returns c = search needs

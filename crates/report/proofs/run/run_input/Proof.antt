@@ -1,6 +1,6 @@
 -- The bytes run so far are one history. Each piece that leaves the run going adds to its records, of which there is a limit: the measure is
 -- what is left of it.
-use mathlib.Core.Path.{_≡_}
+use mathlib.Core.Path.{_≡_, _∙_}
 use mathlib.Core.List.{List, []}
 use Prim.Native.Nat.{ℕ, _-_}
 use native.Mathlib.Omega.{arith}
@@ -8,7 +8,7 @@ use lib.ListN.{length}
 use borrow.Author.Needs.{needs}
 use Rattle.rules.specs.Heap.{lentMemory}
 use Rattle.figures.specs.Figures.{mostRecords}
-use Rattle.report.proofs.Pieces.{Kept, kept-start, kept-few, kept-next, kept-ends}
+use Rattle.report.proofs.Pieces.{Kept, kept-start, kept-few, kept-next, kept-ends, no-bytes}
 use Rattle.report.proofs.run.run_input.Statement.{statement}
 use Rattle.report.proofs.run.run_input.Tie as tie
 
@@ -31,7 +31,7 @@ loop-holds : tie.Need-loop-holds Inv-loop μ-loop
 loop-holds c = (search needs, [], kept-start (c .before .format .ensures) (c .new-run .ensures))
 
 returns : tie.Need-returns Inv-loop μ-loop
-returns c = ([], tt)
+returns c = ([], no-bytes, tt)
 
 array-share-prefix-buffer : tie.Need-array-share-prefix-buffer Inv-loop μ-loop
 array-share-prefix-buffer c = search needs
@@ -43,20 +43,23 @@ loop-less : tie.Need-loop-less Inv-loop μ-loop
 loop-less c =
     let ran = c .before .before .before in
     let kept = looped (read ran) .loop .inv .2 in
-    let next = kept-next kept _ _ _ _ (c .before .came .given .1) (ran .run-piece .ensures) in
+    let next = kept-next kept _ _ _ _ (c .before .came .given .1) (ran .run-piece .ensures .0) (ran .run-piece .ensures .1) in
     omega (arith, next .1, kept-few (next .0))
 
 loop-again : tie.Need-loop-again Inv-loop μ-loop
 loop-again c =
     let ran = c .before .before .before in
-    let kept = looped (read ran) .loop .inv .2 in
-    (search needs, _, kept-next kept _ _ _ _ (c .before .came .given .1) (ran .run-piece .ensures) .0)
+    let at = looped (read ran) .loop in (
+      read ran .read-piece .kept .0 ∙ at .inv .0,
+      _,
+      kept-next (at .inv .2) _ _ _ _ (c .before .came .given .1) (ran .run-piece .ensures .0) (ran .run-piece .ensures .1) .0,
+    )
 
 returns-2 : tie.Need-returns-2 Inv-loop μ-loop
 returns-2 c =
     let ran = c .before .before .before in
     let kept = looped (read ran) .loop .inv .2 in
-    kept-ends kept _ _ _ _ (c .before .came2 .given .1) (ran .run-piece .ensures)
+    kept-ends kept _ _ _ _ (c .before .came2 .given .1) (ran .run-piece .ensures .0) (ran .run-piece .ensures .1)
 
 pub run-input-spec : {M : Type 1} → statement M
 run-input-spec =
