@@ -112,8 +112,8 @@ pub fn run_input() -> Outcome
             &buffer[..n],
         );
         match came {
-            PieceOutcome::GoesOn(next) => {
-                run = next;
+            PieceOutcome::GoesOn(further) => {
+                run = further;
             }
             PieceOutcome::Ends(outcome) => {
                 return outcome;
