@@ -30,7 +30,7 @@
  *   - x86-64, and of a C library memset alone. Nothing is allocated, nothing is printed, and there is no global state: heaps in
  *     different buffers may be used by different threads at once. Calls on one heap must not overlap in time.
  *   - Stack: less than 18,000 bytes in every call but format and replay, which take less than 2,000, whatever the size of the heap.
- *     Recursion goes three deep at most, over the halves of a section.
+ *     Recursion goes six deep at most, over the halves of a section.
  *   - Time: every call but format and replay tests the whole heap before it does anything, and a run of records tests it once for
  *     each piece. Many calls at a time are therefore best made by replay, or by a run of records in long pieces.
  *   - Alignment: the numbers of cells, roots, waiting and sections are aligned as uint16_t is, those of replay's lists as

@@ -1,91 +1,28 @@
--- The figures of the code: a byte's by a table of four blocks, larger ones by halves.
-use mathlib.Core.Path.{_≡_, refl, sym, ap, ap₂, _∙_}
+-- The figures of the code: one block by its bit, larger chunks by halves.
+use mathlib.Core.Path.{_≡_, refl, sym, ap, _∙_}
 use mathlib.Core.Logic.{_≢_}
-use mathlib.Core.Bool.{Bool, true, false, not}
-use mathlib.Core.List.{List, [], _∷_}
-use Prim.Native.Nat.{ℕ, zero, suc, _+_, _*_, _/_, _%_, _^_, _-_, _≤_, _<_, max}
-use native.Mathlib.Nat.{pow-suc, add-assoc}
+use mathlib.Core.List.{List}
+use Prim.Native.Nat.{ℕ, zero, suc, _+_, _*_, _/_, _%_, _^_, _-_, _≤_, _<_}
+use native.Mathlib.Nat.{pow-suc}
 use native.Mathlib.Decide.{decLt, ℕ-discrete}
 use native.Mathlib.Omega.{arith}
-use lib.Dec.{eqb}
-use lib.ListN.{getD}
 use lib.Pow.{pow-pos, pow-mono, pow-lt, pow-add}
-use borrow.Author.Tests.{eqb-true, not-false, lt-ltb, le-ltb, eq-eqb, ne-eqb}
+use borrow.Author.Tests.{lt-ltb, le-ltb, eq-eqb, ne-eqb}
 use Rattle.bitmap.specs.Bit.{bitAt}
-use Rattle.bitmap.proofs.Maps.{bit-of-byte}
 use Rattle.rules.specs.Heap.{chunkFree}
-use Rattle.rules.specs.Tools.{someBelow}
 use Rattle.rules.specs.Sections.{largestFree}
-use Rattle.rules.proofs.Tests.{some-false}
-use Rattle.rules.proofs.Figures.{figure-of-halves, figure-le}
-use Rattle.chunk_figures.specs.Figures.{byteFigure, ofHalves}
+use Rattle.rules.proofs.Figures.{figure-free, figure-of-halves, figure-le}
+use Rattle.chunk_figures.specs.Figures.{ofHalves}
 
--- ---- the figure depends on the blocks' bits alone
+-- ---- one block
 
-same-free : (k : ℕ) (a b : List ℕ) (i j : ℕ) → ((n : ℕ) → n < 2 ^ k → bitAt a (i + n) ≡ bitAt b (j + n)) → chunkFree k a i ≡ chunkFree k b j
+pub free-block : (a : List ℕ) (i : ℕ) → bitAt a i ≡ 0 → 1 ≡ largestFree 0 a i
 unfolding chunkFree
-same-free zero a b i j same =
-    ap (λ (x : ℕ). eqb (bitAt a x) 0) (omega arith) ∙ ap (λ (x : ℕ). eqb x 0) (same 0 (omega arith)) ∙ ap (λ (x : ℕ). eqb (bitAt b x) 0) (omega arith)
-same-free (suc k) a b i j same =
-    ap₂ (λ (x y : Bool). elim x as (λ _. Bool) [ true ↦ y | false ↦ false ])
-    (same-free k a b i j (λ n l. same n (omega (arith, pow-suc 2 k))))
-    (same-free k a b (i + 2 ^ k) (j + 2 ^ k)
-    (λ n l.
-    ap (bitAt a) (add-assoc i (2 ^ k) n)
-    ∙ same (2 ^ k + n) (omega (arith, pow-suc 2 k))
-    ∙ ap (bitAt b) (sym (add-assoc j (2 ^ k) n))))
+free-block a i e = sym (figure-free 0 a i (eq-eqb (bitAt a i) 0 e))
 
-pub same-figure : (k : ℕ) (a b : List ℕ) (i j : ℕ) → ((n : ℕ) → n < 2 ^ k → bitAt a (i + n) ≡ bitAt b (j + n)) → largestFree k a i ≡ largestFree k b j
-unfolding largestFree
-same-figure zero a b i j same = ap (λ (x : Bool). elim x as (λ _. ℕ) [ true ↦ 1 | false ↦ 0 ]) (same-free 0 a b i j same)
-same-figure (suc k) a b i j same =
-    ap₂ (λ (x : Bool) (y : ℕ). elim x as (λ _. ℕ) [ true ↦ 2 ^ suc k | false ↦ y ]) (same-free (suc k) a b i j same)
-    (ap₂ max
-    (same-figure k a b i j (λ n l. same n (omega (arith, pow-suc 2 k))))
-    (same-figure k a b (i + 2 ^ k) (j + 2 ^ k)
-    (λ n l.
-    ap (bitAt a) (add-assoc i (2 ^ k) n)
-    ∙ same (2 ^ k + n) (omega (arith, pow-suc 2 k))
-    ∙ ap (bitAt b) (sym (add-assoc j (2 ^ k) n)))))
-
--- ---- a byte
-
--- the figure of eight blocks is their byte's
-pub eight-blocks : (a : List ℕ) (i : ℕ) → byteFigure (getD a i 0) ≡ largestFree 3 a (8 * i)
-unfolding byteFigure
-eight-blocks a i = same-figure 3 (getD a i 0 ∷ []) a 0 (8 * i) (λ n l.
-    ap (bitAt (getD a i 0 ∷ [])) (omega arith)
-    ∙ bit-of-byte (getD a i 0 ∷ []) 0 n (omega arith)
-    ∙ sym (bit-of-byte a i n (omega arith))
-    ∙ ap (bitAt a) (omega arith))
-
--- the largest free chunk of four blocks, as the code's number has it
-abbrev pub fourBlocks : ℕ → ℕ
-fourBlocks bits = 77142912912204324 / 2 ^ (bits * 4) % 16
-
--- the figure of a byte with a used block, by its two halves
-byHalves : ℕ → ℕ
-byHalves byte = max (fourBlocks (byte % 16)) (fourBlocks (byte / 16))
-
-differs : ℕ → Bool
-differs n = not (eqb (byHalves (n + 1)) (byteFigure (n + 1)))
-
--- computed at each of them
-none-differs : someBelow differs 255 ≡ false
-unfolding someBelow differs byHalves byteFigure largestFree chunkFree bitAt
-none-differs = refl
-
-pub used-byte : (byte : ℕ) → byte ≢ 0 → byte < 256 → max (fourBlocks (byte % 16)) (fourBlocks (byte / 16)) ≡ byteFigure byte
-unfolding differs byHalves
-used-byte byte n l =
-    let same = some-false differs 255 none-differs (byte - 1) (omega arith) in
-    let here : byte - 1 + 1 ≡ byte = omega arith in
-    ap byHalves (sym here) ∙ eqb-true (byHalves (byte - 1 + 1)) (byteFigure (byte - 1 + 1)) (not-false (eqb (byHalves (byte - 1 + 1)) (byteFigure (byte - 1 + 1))) same)
-    ∙ ap byteFigure here
-
-pub free-byte : byteFigure 0 ≡ 8
-unfolding byteFigure largestFree chunkFree bitAt
-free-byte = refl
+pub used-block : (a : List ℕ) (i : ℕ) → bitAt a i ≢ 0 → 0 ≡ largestFree 0 a i
+unfolding chunkFree
+used-block a i n = omega (arith, figure-le 0 a i .1 (ne-eqb (bitAt a i) 0 n))
 
 -- ---- two halves
 
@@ -131,46 +68,27 @@ same-exponent j k e =
 pub of-size : (j : ℕ) (a : List ℕ) (at size r : ℕ) → size ≡ 2 ^ j → r ≡ largestFree j a at → (k : ℕ) → size ≡ 2 ^ k → r ≡ largestFree k a at
 of-size j a at size r e is k p = is ∙ ap (λ (x : ℕ). largestFree x a at) (same-exponent j k (sym e ∙ p))
 
--- what is 8 to 64 blocks, and no more than 8
-pub eight-left : (size k : ℕ) → size ≡ 2 ^ k → 8 ≤ size → size ≤ 64 → size ≢ 64 → size ≢ 32 → size ≢ 16 → size ≡ 8
-eight-left size k e low high not-64 not-32 not-16 = go (whole-bytes size k e low .0) (whole-bytes size k e low .2)
-  where
-    go : (m : ℕ) → size ≡ 8 * 2 ^ m → size ≡ 8
-    go zero f = f
-    go (suc zero) f = absurd (not-16 f)
-    go (suc (suc zero)) f = absurd (not-32 f)
-    go (suc (suc (suc zero))) f = absurd (not-64 f)
-    go (suc (suc (suc (suc m)))) f =
-        absurd (omega (arith, pow-pos m, pow-suc 2 m, pow-suc 2 (suc m), pow-suc 2 (suc (suc m)), pow-suc 2 (suc (suc (suc m)))))
-
 pub record Half (size : ℕ) : Type 0 where
   pub exponent : ℕ
   pub power : size / 2 ≡ 2 ^ exponent
   pub whole : size ≡ 2 ^ suc exponent
-  pub large : 8 ≤ size / 2
-  pub bytes : size / 2 % 8 ≡ 0
   pub twice : size ≡ size / 2 + size / 2
+  pub some : 0 < size / 2
+  pub bytes : 8 ≤ size / 2 → size / 2 % 8 ≡ 0
 
-pub half-size : (size k : ℕ) → size ≡ 2 ^ k → 64 < size → Half size
-half-size size k e large = go (whole-bytes size k e (omega arith) .0) (whole-bytes size k e (omega arith) .2)
-  where
-    go : (m : ℕ) → size ≡ 8 * 2 ^ m → Half size
-    go zero f = absurd (omega arith)
-    go (suc m) f =
-        let half : size / 2 ≡ 8 * 2 ^ m = omega (arith, pow-suc 2 m) in
-        let positive = pow-pos m in
-        let large : 8 ≤ size / 2 = omega arith in
-        let bytes : size / 2 % 8 ≡ 0 = omega arith in
-        let power : size / 2 ≡ 2 ^ (3 + m) = half ∙ sym (pow-add 2 3 m) in
-        let twice : size ≡ size / 2 + size / 2 = omega (arith, pow-suc 2 m) in
-        record {
-          exponent = 3 + m;
-          power = power;
-          whole = twice ∙ ap (λ (x : ℕ). x + x) power ∙ omega (arith, pow-suc 2 (3 + m));
-          large = large;
-          bytes = bytes;
-          twice = twice;
-        }
+pub half-size : (size k : ℕ) → size ≡ 2 ^ k → size ≢ 1 → Half size
+half-size size zero e several = absurd (several e)
+half-size size (suc k) e several =
+    let doubled = pow-suc 2 k in
+    let power : size / 2 ≡ 2 ^ k = omega arith in
+    record {
+      exponent = k;
+      power = power;
+      whole = e;
+      twice = omega arith;
+      some = omega (arith, pow-pos k);
+      bytes = λ l. omega (arith, whole-bytes (size / 2) k power l .2);
+    }
 
 -- both halves found by a function that takes a size: x and y
 pub from-halves :

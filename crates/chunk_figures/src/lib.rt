@@ -1,27 +1,28 @@
-// The largest free chunk of a chunk's blocks (request U4), read off the A-map: 64 blocks at a time, as one word, and more by halves.
+// The largest free chunk of a chunk's blocks (request U4), read off the A-map: by recursion on the chunk's halves, down to one block, or to
+// 64 blocks at once, which are one word.
 ghost use mathlib.Core.Path.{_≡_};
 ghost use Prim.Native.Nat.{ℕ, _+_, _*_, _%_, _^_, _<_, _≤_};
 ghost use lib.ListN.{length};
 ghost use Rattle.rules.specs.Sections.{largestFree};
-ghost use Rattle.chunk_figures.specs.Figures.{byteFigure, ofHalves};
+ghost use Rattle.chunk_figures.specs.Figures.{ofHalves};
 
-// The largest free chunk of four blocks, by their bits: 16 numbers of four bits each, that of no used block first. (An array would be
-// written out anew at each look into it.)
-const FOUR_BLOCKS: u64 = 77142912912204324;
-
-// The largest free chunk of the eight blocks of a byte.
-fn byte_figure(byte: u8) -> usize
-    ensures { λ r. ⌜ r ≡ byteFigure byte ⌝ }
+// "A chunk of one block is free when its A bit is 0".
+fn of_block(a: &[u8], at: usize) -> usize
+    requires { ⌜ at < 8 * length (now a) ⌝ }
+    ensures { λ r. ⌜ r ≡ largestFree 0 (now (a .entry)) at ⌝ }
 {
-    if byte == 0 {
-        return 8;
+    if bitmap::get_bit(a, at) == 0 {
+        return 1;
     }
-    let lower = (FOUR_BLOCKS >> (byte % 16 * 4)) % 16;
-    let upper = (FOUR_BLOCKS >> (byte / 16 * 4)) % 16;
-    if lower < upper {
-        return upper as usize;
-    }
-    lower as usize
+    0
+}
+
+// The largest free chunk of 64 blocks, which are eight bytes of the map, as one word: what the recursion gives for them.
+fn of_word(a: &[u8], at: usize) -> usize
+    requires { ⌜ (at % 8 ≡ 0) × (at + 64 ≤ 8 * length (now a)) × (at + 64 < 2 ^ 64) ⌝ }
+    ensures { λ r. ⌜ r ≡ largestFree 6 (now (a .entry)) at ⌝ }
+{
+    word_figures::figure(word_figures::eight_bytes(a, at / 8))
 }
 
 // The largest free chunk of a chunk, from those of its two halves, of `half` blocks each: the whole chunk where both halves are free.
@@ -38,66 +39,18 @@ fn of_halves(lower: usize, upper: usize, half: usize) -> usize
     lower
 }
 
-// The largest free chunk of byte i of the map, and of 2 and 4 bytes from there on, by their halves; of 8 bytes, as one word.
-fn of_byte(a: &[u8], i: usize) -> usize
-    requires { ⌜ i < length (now a) ⌝ }
-    ensures { λ r. ⌜ r ≡ largestFree 3 (now (a .entry)) (8 * i) ⌝ }
-{
-    byte_figure(a[i])
-}
-
-fn of_two_bytes(a: &[u8], i: usize) -> usize
-    requires { ⌜ (i + 2 ≤ length (now a)) × (i + 2 < 2 ^ 64) ⌝ }
-    ensures { λ r. ⌜ r ≡ largestFree 4 (now (a .entry)) (8 * i) ⌝ }
-{
-    let lower = of_byte(a, i);
-    let upper = of_byte(a, i + 1);
-    of_halves(lower, upper, 8)
-}
-
-fn of_four_bytes(a: &[u8], i: usize) -> usize
-    requires { ⌜ (i + 4 ≤ length (now a)) × (i + 4 < 2 ^ 64) ⌝ }
-    ensures { λ r. ⌜ r ≡ largestFree 5 (now (a .entry)) (8 * i) ⌝ }
-{
-    let lower = of_two_bytes(a, i);
-    let upper = of_two_bytes(a, i + 2);
-    of_halves(lower, upper, 16)
-}
-
-fn of_eight_bytes(a: &[u8], i: usize) -> usize
-    requires { ⌜ (i + 8 ≤ length (now a)) × (i + 8 < 2 ^ 64) ⌝ }
-    ensures { λ r. ⌜ r ≡ largestFree 6 (now (a .entry)) (8 * i) ⌝ }
-{
-    word_figures::figure(word_figures::eight_bytes(a, i))
-}
-
-// The largest free chunk of the `size` blocks from byte i of the map on, at most 64 blocks.
-fn of_few_bytes(a: &[u8], i: usize, size: usize) -> usize
-    requires { ⌜ ((k : ℕ) × (size ≡ 2 ^ k)) ⌝ }
-    requires { ⌜ (8 ≤ size) × (size ≤ 64) × (8 * i + size ≤ 8 * length (now a)) × (8 * i + size < 2 ^ 64) ⌝ }
-    ensures { λ r. ⌜ ((k : ℕ) → size ≡ 2 ^ k → r ≡ largestFree k (now (a .entry)) (8 * i)) ⌝ }
-{
-    if size == 64 {
-        return of_eight_bytes(a, i);
-    }
-    if size == 32 {
-        return of_four_bytes(a, i);
-    }
-    if size == 16 {
-        return of_two_bytes(a, i);
-    }
-    of_byte(a, i)
-}
-
 // The largest free chunk of the `size` blocks from block `at` on: all of them where both halves are free, else the larger of what their
-// halves have.
+// halves have. Chunks of fewer than 64 blocks go down to their blocks, larger ones to words of 64.
 pub fn largest_free(a: &[u8], at: usize, size: usize) -> usize
     requires { ⌜ ((k : ℕ) × (size ≡ 2 ^ k)) ⌝ }
-    requires { ⌜ (8 ≤ size) × (at % 8 ≡ 0) × (at + size ≤ 8 * length (now a)) × (at + size < 2 ^ 64) ⌝ }
+    requires { ⌜ (64 ≤ size → at % 8 ≡ 0) × (at + size ≤ 8 * length (now a)) × (at + size < 2 ^ 64) ⌝ }
     ensures { λ r. ⌜ ((k : ℕ) → size ≡ 2 ^ k → r ≡ largestFree k (now (a .entry)) at) ⌝ }
 {
-    if size <= 64 {
-        return of_few_bytes(a, at / 8, size);
+    if size == 64 {
+        return of_word(a, at);
+    }
+    if size == 1 {
+        return of_block(a, at);
     }
     let half = size / 2;
     let lower = largest_free(a, at, half);

@@ -1,24 +1,52 @@
 -- Figures made unknown: the sections that some blocks lie in, and that a list stays coherent where only bits of these blocks change.
-use mathlib.Core.Path.{_≡_, refl, sym, ap, _∙_}
+use mathlib.Core.Path.{_≡_, refl, sym, ap, ap₂, _∙_}
 use mathlib.Core.Logic.{_⊎_, inl, inr}
-use mathlib.Core.Bool.{true}
+use mathlib.Core.Bool.{Bool, true, false}
 use mathlib.Core.List.{List}
-use Prim.Native.Nat.{ℕ, _+_, _-_, _*_, _/_, _^_, _≤_, _<_}
-use native.Mathlib.Nat.{div-eq-of-lt, div-mul-le-self, lt-div-mul-add, le-div-iff-mul-le, div-lt-iff-lt-mul, mul-le-mul-right, div-le-self}
+use Prim.Native.Nat.{ℕ, zero, suc, _+_, _-_, _*_, _/_, _^_, _≤_, _<_, max}
+use native.Mathlib.Nat.{div-eq-of-lt, div-mul-le-self, lt-div-mul-add, le-div-iff-mul-le, div-lt-iff-lt-mul, mul-le-mul-right, div-le-self, pow-suc, add-assoc}
 use native.Mathlib.Decide.{decLt, ℕ-discrete}
 use native.Mathlib.Omega.{arith}
+use lib.Dec.{eqb}
 use lib.ListN.{length, getD, set, length-set}
 use lib.Seq.{getD-set-same, getD-set-other}
 use Rattle.bitmap.specs.Bit.{bitAt, fillBits}
 use Rattle.bitmap.proofs.Runs.{bit-fill-out}
-use Rattle.rules.specs.Heap.{isBlocks, sectionLength, sectionCount, exponent}
-use Rattle.rules.specs.Sections.{figure}
+use Rattle.rules.specs.Heap.{isBlocks, sectionLength, sectionCount, exponent, chunkFree}
+use Rattle.rules.specs.Sections.{figure, largestFree}
 use Rattle.rules.proofs.Shape.{blocks-facts, blocks-le}
 use Rattle.rules.proofs.Sections.{divided}
-use Rattle.chunk_figures.proofs.Figures.{same-figure}
 use Rattle.sections.specs.Figures.{Coherent}
 use Rattle.sections.proofs.SectionPlaces.{section-size}
 use Rattle.section_extents.specs.Forgotten.{Forgotten}
+
+-- ---- the figure depends on the blocks' bits alone
+
+same-free : (k : ℕ) (a b : List ℕ) (i j : ℕ) → ((n : ℕ) → n < 2 ^ k → bitAt a (i + n) ≡ bitAt b (j + n)) → chunkFree k a i ≡ chunkFree k b j
+unfolding chunkFree
+same-free zero a b i j same =
+    ap (λ (x : ℕ). eqb (bitAt a x) 0) (omega arith) ∙ ap (λ (x : ℕ). eqb x 0) (same 0 (omega arith)) ∙ ap (λ (x : ℕ). eqb (bitAt b x) 0) (omega arith)
+same-free (suc k) a b i j same =
+    ap₂ (λ (x y : Bool). elim x as (λ _. Bool) [ true ↦ y | false ↦ false ])
+    (same-free k a b i j (λ n l. same n (omega (arith, pow-suc 2 k))))
+    (same-free k a b (i + 2 ^ k) (j + 2 ^ k)
+    (λ n l.
+    ap (bitAt a) (add-assoc i (2 ^ k) n)
+    ∙ same (2 ^ k + n) (omega (arith, pow-suc 2 k))
+    ∙ ap (bitAt b) (sym (add-assoc j (2 ^ k) n))))
+
+same-figure : (k : ℕ) (a b : List ℕ) (i j : ℕ) → ((n : ℕ) → n < 2 ^ k → bitAt a (i + n) ≡ bitAt b (j + n)) → largestFree k a i ≡ largestFree k b j
+unfolding largestFree
+same-figure zero a b i j same = ap (λ (x : Bool). elim x as (λ _. ℕ) [ true ↦ 1 | false ↦ 0 ]) (same-free 0 a b i j same)
+same-figure (suc k) a b i j same =
+    ap₂ (λ (x : Bool) (y : ℕ). elim x as (λ _. ℕ) [ true ↦ 2 ^ suc k | false ↦ y ]) (same-free (suc k) a b i j same)
+    (ap₂ max
+    (same-figure k a b i j (λ n l. same n (omega (arith, pow-suc 2 k))))
+    (same-figure k a b (i + 2 ^ k) (j + 2 ^ k)
+    (λ n l.
+    ap (bitAt a) (add-assoc i (2 ^ k) n)
+    ∙ same (2 ^ k + n) (omega (arith, pow-suc 2 k))
+    ∙ ap (bitAt b) (sym (add-assoc j (2 ^ k) n)))))
 
 -- ---- the section of a block
 

@@ -46,7 +46,6 @@ large-count N large = ap (λ (x : ℕ). N / x) (omega arith)
 -- section number s, whose length is `size`
 pub record Place (N s size : ℕ) : Type 0 where
   pub power : (k : ℕ) × (size ≡ 2 ^ k)
-  pub large : 8 ≤ size
   pub inside : s * size + size ≤ N
   pub from-byte : s * size % 8 ≡ 0
   pub bytes : size % 8 ≡ 0
@@ -62,7 +61,6 @@ place N s size blocks below e =
     ap (λ (x : ℕ). s * x) (e ∙ l .bytes .1) ∙ omega (arith, mul-comm s (8 * q), mul-assoc 8 q s, mul-comm q s) in
     record {
       power = (l .power .0, e ∙ l .power .1);
-      large = omega (arith, l .large);
       inside = omega arith;
       from-byte = omega arith;
       bytes = omega (arith, l .bytes .1);

@@ -18,7 +18,7 @@ largest-free-requires : tie.Need-largest-free-requires
 largest-free-requires c κs =
     let s = c .before .before in
     let at = place (s .args .blocks) (s .args .s) (c .section-length .result) (s .pre .0) (s .pre .2) (c .section-length .ensures) in
-    (at .power, (at .large, at .from-byte, omega (arith, at .inside), omega (arith, at .inside, at .few)))
+    (at .power, (λ l. at .from-byte, omega (arith, at .inside), omega (arith, at .inside, at .few)))
 
 returns : tie.Need-returns
 returns c =

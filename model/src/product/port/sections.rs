@@ -1,32 +1,17 @@
 //! Sections: their figures, the marks on those that have to be found anew, and the search by them.
 
-use super::blocks::{lowest_chunk, Searched};
+use super::blocks::{get_bit, lowest_chunk, Searched};
 
 const MAX_SECTION: usize = 256;
 
 /// A figure that no section has: it has to be found anew.
 pub const UNKNOWN: u16 = 65_535;
 
-/// The largest free chunk of four blocks, by their bits: 16 numbers of four bits each.
-const FOUR_BLOCKS: u64 = 77142912912204324;
-
 pub fn section_length(blocks: usize) -> usize {
     if blocks < MAX_SECTION {
         return blocks;
     }
     MAX_SECTION
-}
-
-fn byte_figure(byte: u8) -> usize {
-    if byte == 0 {
-        return 8;
-    }
-    let lower = (FOUR_BLOCKS >> (byte % 16 * 4)) % 16;
-    let upper = (FOUR_BLOCKS >> (byte / 16 * 4)) % 16;
-    if lower < upper {
-        return upper as usize;
-    }
-    lower as usize
 }
 
 /// The figure of a chunk from those of its halves, of `half` blocks each.
@@ -38,18 +23,6 @@ fn of_halves(lower: usize, upper: usize, half: usize) -> usize {
         return half + half;
     }
     lower
-}
-
-fn of_byte(a: &[u8], i: usize) -> usize {
-    byte_figure(a[i])
-}
-
-fn of_two_bytes(a: &[u8], i: usize) -> usize {
-    of_halves(of_byte(a, i), of_byte(a, i + 1), 8)
-}
-
-fn of_four_bytes(a: &[u8], i: usize) -> usize {
-    of_halves(of_two_bytes(a, i), of_two_bytes(a, i + 2), 16)
 }
 
 /// A 1 at the first block of each chunk of 2, 4, 8, 16, 32 and 64 blocks.
@@ -107,26 +80,24 @@ fn word_figure(used: u64) -> usize {
     of_eights(eights)
 }
 
-fn of_eight_bytes(a: &[u8], i: usize) -> usize {
-    word_figure(eight_bytes(a, i))
+fn of_word(a: &[u8], at: usize) -> usize {
+    word_figure(eight_bytes(a, at / 8))
 }
 
-fn of_few_bytes(a: &[u8], i: usize, size: usize) -> usize {
-    if size == 64 {
-        return of_eight_bytes(a, i);
+fn of_block(a: &[u8], at: usize) -> usize {
+    if get_bit(a, at) == 0 {
+        return 1;
     }
-    if size == 32 {
-        return of_four_bytes(a, i);
-    }
-    if size == 16 {
-        return of_two_bytes(a, i);
-    }
-    of_byte(a, i)
+    0
 }
 
+/// By halves, down to one block, or to 64 blocks at once.
 fn largest_free(a: &[u8], at: usize, size: usize) -> usize {
-    if size <= 64 {
-        return of_few_bytes(a, at / 8, size);
+    if size == 64 {
+        return of_word(a, at);
+    }
+    if size == 1 {
+        return of_block(a, at);
     }
     let half = size / 2;
     let lower = largest_free(a, at, half);
