@@ -4,7 +4,7 @@ ghost use mathlib.Core.List.{[]};
 ghost use Rattle.rules.specs.Heap.{memory};
 ghost use Rattle.plans.specs.Asked.{copying, writing, reading, clearing, asked};
 ghost use Rattle.plans.specs.Meaning.{meaning};
-ghost use Rattle.plans.specs.Readable.{Readable};
+ghost use Rattle.plans.specs.Readable.{Readable, areRoots};
 use blocks::objects;
 use records::Fields;
 use types::Ref;
@@ -25,18 +25,27 @@ fn word(v: Ref) -> usize
     v as usize
 }
 
+// "A root out of range gives 4": whether both roots of an operation that names two are in range.
+fn both_roots(roots: &[Ref], f: Fields) -> bool
+    ensures { λ r. ⌜ r ≡ areRoots (now (roots .entry)) f ⌝ }
+{
+    let d = f.d;
+    if roots.len() <= d {
+        return false;
+    }
+    let s = f.s;
+    s < roots.len()
+}
+
 // Root s copied to root d.
 fn plan_copy(roots: &[Ref], f: Fields) -> Plan
     ensures { λ r. ⌜ meaning r ≡ copying (memory [] [] [] [] (now (roots .entry)) []) f ⌝ }
 {
+    if !both_roots(roots, f) {
+        return Plan::Stop(4);
+    }
     let d = f.d;
-    if roots.len() <= d {
-        return Plan::Stop(4);
-    }
     let s = f.s;
-    if roots.len() <= s {
-        return Plan::Stop(4);
-    }
     Plan::StoreRoot {
         r: d,
         v: word(roots[s]),
@@ -47,14 +56,11 @@ fn plan_copy(roots: &[Ref], f: Fields) -> Plan
 fn plan_write(roots: &[Ref], f: Fields) -> Plan
     ensures { λ r. ⌜ meaning r ≡ writing (memory [] [] [] [] (now (roots .entry)) []) f ⌝ }
 {
+    if !both_roots(roots, f) {
+        return Plan::Stop(4);
+    }
     let d = f.d;
-    if roots.len() <= d {
-        return Plan::Stop(4);
-    }
     let s = f.s;
-    if roots.len() <= s {
-        return Plan::Stop(4);
-    }
     let owner = word(roots[d]);
     if owner == 0 {
         return Plan::Stop(6);
@@ -71,14 +77,11 @@ fn plan_read(blocks: usize, b: &[u8], cells: &[Ref], roots: &[Ref], f: Fields) -
     requires { ⌜ Readable blocks (now b) (now cells) (now roots) ⌝ }
     ensures { λ r. ⌜ meaning r ≡ reading blocks (memory [] (now (b .entry)) [] (now (cells .entry)) (now (roots .entry)) []) f ⌝ }
 {
+    if !both_roots(roots, f) {
+        return Plan::Stop(4);
+    }
     let d = f.d;
-    if roots.len() <= d {
-        return Plan::Stop(4);
-    }
     let s = f.s;
-    if roots.len() <= s {
-        return Plan::Stop(4);
-    }
     let owner = word(roots[s]);
     if owner == 0 {
         return Plan::Stop(6);
