@@ -3,7 +3,7 @@ use mathlib.Core.Path.{_≡_, sym, ap, _∙_}
 use mathlib.Core.List.{List, _++_, append-assoc}
 use Prim.Native.Nat.{ℕ, _+_, _≤_}
 use native.Mathlib.Omega.{arith}
-use lib.ListN.{length, take, drop, length-append, length-drop}
+use lib.ListN.{length, take, drop, length-append}
 use lib.Seq.{take-at, drop-at, drop-drop, length-take-le}
 use Rattle.text.specs.Text.{Put}
 
@@ -31,12 +31,3 @@ put-both {before} {middle} {after} {s} {t} {at} {next} {end} room first second =
           ∙ ap (λ (l : List ℕ). l ++ drop (at + length (s ++ t)) before) (append-assoc (take at before) s t);
       end-is = omega (arith, first .end-is, second .end-is, length-append s t);
     }
-
--- the buffer keeps its length
-pub put-length :
-    {before text after : List ℕ} {at end : ℕ} → at + length text ≤ length before → Put before at text after end
-    → length after ≡ length before
-put-length {before} {text} {after} {at} {end} room put =
-    ap length (put .written)
-    ∙ length-append (take at before ++ text) (drop (at + length text) before)
-    ∙ omega (arith, length-append (take at before) text, length-take-le at before (omega arith), length-drop (at + length text) before)
