@@ -11,6 +11,7 @@ ghost use Rattle.rules.specs.Heap.{memory, maxBlocks};
 ghost use Rattle.rules.specs.Damage.{badCount};
 use types::MAX_BLOCKS;
 use types::Ref;
+use types::capacity_of;
 
 // Adds the references of a list to the tally: at place b the number of those that name block b.
 fn tally(refs: &[Ref], at: &mut [Ref; MAX_BLOCKS])
@@ -54,7 +55,7 @@ pub fn has_bad_count(
     let mut at = [0 as Ref; MAX_BLOCKS];
     tally(roots, &mut at);
     tally(cells, &mut at);
-    let capacity = (1u8 << width) - 1;
+    let capacity = capacity_of(width);
     let mut i = 0;
     while i < blocks {
         let count = planes::get_count(counts, blocks / 8, width, i);

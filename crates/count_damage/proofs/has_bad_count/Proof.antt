@@ -3,11 +3,9 @@
 use mathlib.Core.Path.{_≡_, sym, _∙_}
 use mathlib.Core.Bool.{Bool}
 use mathlib.Core.List.{[]}
-use Prim.Native.Nat.{ℕ, _<_, _-_, _+_, _*_, _%_, _^_}
+use Prim.Native.Nat.{ℕ, _<_, _-_, _+_}
 use native.Mathlib.Omega.{arith}
 use lib.ListN.{getD, length-replicate, getD-replicate}
-use lib.Pow.{pow-pos}
-use Rattle.bitmap.proofs.Bits.{shift-exact}
 use Rattle.rules.specs.Heap.{Memory, memory, maxBlocks, references}
 use Rattle.rules.specs.Damage.{badCount}
 use Rattle.rules.proofs.Searches.{Searched, searched-start, searched-next, searched-all, searched-hit}
@@ -32,7 +30,7 @@ test s = badCount (s .args .blocks) (s .args .width) (whole s)
 
 -- where the code starts from
 abbrev start : tie.After-tally2 Inv-loop μ-loop → tie.Start Inv-loop μ-loop
-start c = c .before .before .before .before .before .before .before .before .before
+start c = search
 
 tally-requires : tie.Need-tally-requires Inv-loop μ-loop
 tally-requires c κs =
@@ -55,15 +53,8 @@ tally-requires-2 c κs =
       ),
     )
 
-cast-capacity : tie.Need-cast-capacity Inv-loop μ-loop
-cast-capacity c = omega arith
-
-shl-capacity : tie.Need-shl-capacity Inv-loop μ-loop
-shl-capacity c = omega arith
-
--- 2 ^ width fits a byte
-power : (c : tie.After-tally2 Inv-loop μ-loop) → let w = start c .args .width in 1 * 2 ^ w % 256 ≡ 2 ^ w
-power c = let w = start c .args .width in omega (arith, shift-exact 1 w (omega arith) (omega arith))
+capacity-of-requires : tie.Need-capacity-of-requires Inv-loop μ-loop
+capacity-of-requires c κs = omega arith
 
 -- every place has the number of all references that name its block
 tallied : (c : tie.After-tally2 Inv-loop μ-loop)
@@ -71,12 +62,9 @@ tallied : (c : tie.After-tally2 Inv-loop μ-loop)
 tallied c b l =
     omega (arith, c .tally2 .ensures .1 b l, c .before .before .tally .ensures .1 b l, getD-replicate {A = ℕ} maxBlocks b 0 0 l)
 
-sub-capacity : tie.Need-sub-capacity Inv-loop μ-loop
-sub-capacity c = omega (arith, power c, pow-pos (start c .args .width))
-
 loop-holds : tie.Need-loop-holds Inv-loop μ-loop
 loop-holds c =
-    let s = start c in
+    let s = start (c .before) in
     searched-start (test s) (s .args .blocks)
 
 get-count-requires : tie.Need-get-count-requires Inv-loop μ-loop
@@ -97,24 +85,24 @@ is-bad-count-requires c κs = tt
 -- what the code finds at block i is the rule's test
 found : (c : tie.After-is-bad-count Inv-loop μ-loop)
     → let l = c .before .before .before .before in
-    let s = start (l .before) in
+    let s = start (l .before .before) in
     c .is-bad-count .result
     ≡ test s (l .loop .i)
 found c =
     let l = c .before .before .before .before in
-    let s = start (l .before) in
+    let s = start (l .before .before) in
     c .is-bad-count .ensures
     ∙ bad-count-read (s .args .blocks) (s .args .width) (whole s) (l .loop .i)
     _ _ _ _
     (c .before .is-first .ensures)
     (c .before .before .get-count .ensures .0)
-    (omega (arith, power (l .before)))
-    (tallied (l .before) (l .loop .i) (omega arith))
+    (l .before .capacity-of .ensures .0)
+    (tallied (l .before .before) (l .loop .i) (omega arith))
 
 returns : tie.Need-returns Inv-loop μ-loop
 returns c =
     let l = c .before .before .before .before .before in
-    let s = start (l .before) in
+    let s = start (l .before .before) in
     searched-hit (test s) (s .args .blocks) (l .loop .i) (omega arith) (sym (found (c .before)) ∙ c .if1 .taken)
 
 add-i : tie.Need-add-i Inv-loop μ-loop
@@ -126,13 +114,13 @@ loop-less c = omega arith
 loop-again : tie.Need-loop-again Inv-loop μ-loop
 loop-again c =
     let l = c .before .before .before .before .before in
-    let s = start (l .before) in
+    let s = start (l .before .before) in
     searched-next (test s) (s .args .blocks) (l .loop .i) (l .loop .inv) (omega arith) (sym (found (c .before)) ∙ c .if1 .left)
 
 returns-2 : tie.Need-returns-2 Inv-loop μ-loop
 returns-2 c =
     let l = c .before in
-    let s = start (l .before) in
+    let s = start (l .before .before) in
     searched-all (test s) (s .args .blocks) (l .loop .i) (l .loop .inv) (omega arith)
 
 pub has-bad-count-spec : {M : Type 1} → statement M
@@ -143,9 +131,7 @@ has-bad-count-spec =
     μ-loop
     tally-requires
     tally-requires-2
-    cast-capacity
-    shl-capacity
-    sub-capacity
+    capacity-of-requires
     loop-holds
     get-count-requires
     is-first-requires
