@@ -1,12 +1,14 @@
 // Number 2: the first damage kind that applies.
 ghost use mathlib.Core.Path.{_≡_};
 ghost use mathlib.Core.Bool.{true};
-ghost use Rattle.rules.specs.Heap.{shaped};
-ghost use Rattle.rules.specs.Lent.{before, lent};
+ghost use mathlib.Core.List.{List};
+ghost use Prim.Native.Nat.{ℕ};
+ghost use Rattle.rules.specs.Heap.{shaped, lentMemory};
 ghost use Rattle.rules.specs.Damage.{damage};
 use types::Ref;
 
-// The damage kind of a heap of right shape, or 0. Each kind is tested over the whole heap before the next.
+// The damage kind of a heap of right shape, or 0. Each kind is tested over the whole heap before the next. No kind reads the waiting list
+// or the sections: the answer is the same whatever they hold.
 pub fn damage_kind(
     blocks: usize,
     width: usize,
@@ -15,13 +17,15 @@ pub fn damage_kind(
     counts: &[u8],
     cells: &[Ref],
     roots: &[Ref],
-    waiting: &[Ref],
-    sections: &[Ref],
 ) -> usize
-    requires { ⌜ shaped blocks width (lent a b counts cells roots waiting sections) ≡ true ⌝ }
+    requires { ⌜ ((waiting : List ℕ) × (sections : List ℕ)
+        × (shaped blocks width
+        (lentMemory (now a) (now b) (now counts) (now cells) (now roots) waiting sections) ≡ true)) ⌝ }
     ensures { λ r.
-        ⌜ r ≡ damage blocks width
-        (before a b counts cells roots waiting sections) ⌝ }
+        ⌜ ((waiting sections : List ℕ)
+        → r ≡ damage blocks width
+        (lentMemory (now (a .entry)) (now (b .entry)) (now (counts .entry)) (now (cells .entry)) (now (roots .entry))
+        waiting sections)) ⌝ }
 {
     if map_damage::has_end_on_free(blocks, a, b) {
         return 1;

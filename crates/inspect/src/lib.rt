@@ -36,7 +36,7 @@ pub fn check(
     ) {
         return replies::refusal(1);
     }
-    let kind = damage::damage_kind(blocks, width, a, b, counts, cells, roots, waiting, sections);
+    let kind = damage::damage_kind(blocks, width, a, b, counts, cells, roots);
     if kind != 0 {
         return Reply {
             number: 2,

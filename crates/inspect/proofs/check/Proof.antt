@@ -18,7 +18,7 @@ lent s =
     (s .args .sections .now)
 
 abbrev start : tie.After-is-shaped → tie.Start
-start c = c .before .before .before .before .before .before .before .before
+start c = search
 
 -- past the first test its shape is right
 shape-is : (c : tie.Else1) → let s = start (c .before) in shaped (s .args .blocks) (s .args .width) (lent s) ≡ true
@@ -37,16 +37,23 @@ returns c =
     (c .refusal .ensures)
 
 damage-kind-requires : tie.Need-damage-kind-requires
-damage-kind-requires c κs = shape-is c
+damage-kind-requires c κs =
+    let s = start (c .before) in
+    (s .args .waiting .now, s .args .sections .now, shape-is c)
+
+-- what the test of damage found, of all that is lent
+kind-is : (c : tie.After-damage-kind) → let s = start (c .before .before) in
+    c .damage-kind .result ≡ damage (s .args .blocks) (s .args .width) (lent s)
+kind-is c = let s = start (c .before .before) in c .damage-kind .ensures (s .args .waiting .now) (s .args .sections .now)
 
 returns-2 : tie.Need-returns-2
 returns-2 c =
     let shaped-here = c .before .before in
-    check-damaged {h = lent (start (shaped-here .before))} (shape-is shaped-here) (c .before .damage-kind .ensures) (c .if2 .taken)
+    check-damaged {h = lent (start (shaped-here .before))} (shape-is shaped-here) (kind-is (c .before)) (c .if2 .taken)
 
 -- past the second test it is undamaged
 undamaged : (c : tie.Else2) → let s = start (c .before .before .before) in damage (s .args .blocks) (s .args .width) (lent s) ≡ 0
-undamaged c = sym (c .before .damage-kind .ensures) ∙ c .if2 .left
+undamaged c = sym (kind-is (c .before)) ∙ c .if2 .left
 
 is-stale-requires : tie.Need-is-stale-requires
 is-stale-requires c κs =
