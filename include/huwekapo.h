@@ -153,106 +153,57 @@ enum huwekapo_operation {
     HUWEKAPO_RECORD_COLLECT = 6
 };
 
+/* The parameters that every call begins with: blocks, width, and the buffers in their order, each as a pointer and a length in
+ * elements. Three macros have them: HUWEKAPO_BUFFERS for a call that may write every buffer, HUWEKAPO_BUFFERS_BUT_ROOTS for one
+ * that may write every buffer but the roots, HUWEKAPO_CONST_BUFFERS for one that writes none. So huwekapo_look is
+ *
+ *     struct huwekapo_reply huwekapo_look(size_t blocks, size_t width, const uint8_t *a, size_t a_length, .., size_t at);
+ */
+#define HUWEKAPO_BUFFERS_(byte, number, root) \
+    size_t blocks, size_t width, \
+    byte *a, size_t a_length, \
+    byte *b, size_t b_length, \
+    byte *counts, size_t counts_length, \
+    number *cells, size_t cells_length, \
+    root *roots, size_t roots_length, \
+    number *waiting, size_t waiting_length, \
+    number *sections, size_t sections_length
+#define HUWEKAPO_BUFFERS HUWEKAPO_BUFFERS_(uint8_t, uint16_t, uint16_t)
+#define HUWEKAPO_BUFFERS_BUT_ROOTS HUWEKAPO_BUFFERS_(uint8_t, uint16_t, const uint16_t)
+#define HUWEKAPO_CONST_BUFFERS HUWEKAPO_BUFFERS_(const uint8_t, const uint16_t, const uint16_t)
+
 /* Makes an empty heap of whatever the buffers held: b is all ones, each number of sections the blocks of a section,
  * every other buffer all 0. The value is 0. Refusals: 1. */
-struct huwekapo_reply huwekapo_format(size_t blocks, size_t width,
-                                      uint8_t *a, size_t a_length,
-                                      uint8_t *b, size_t b_length,
-                                      uint8_t *counts, size_t counts_length,
-                                      uint16_t *cells, size_t cells_length,
-                                      uint16_t *roots, size_t roots_length,
-                                      uint16_t *waiting, size_t waiting_length,
-                                      uint16_t *sections, size_t sections_length);
+struct huwekapo_reply huwekapo_format(HUWEKAPO_BUFFERS);
 
 /* Tests the whole heap. The value is 0. Refusals: 1, 2, 11. */
-struct huwekapo_reply huwekapo_check(size_t blocks, size_t width,
-                                     const uint8_t *a, size_t a_length,
-                                     const uint8_t *b, size_t b_length,
-                                     const uint8_t *counts, size_t counts_length,
-                                     const uint16_t *cells, size_t cells_length,
-                                     const uint16_t *roots, size_t roots_length,
-                                     const uint16_t *waiting, size_t waiting_length,
-                                     const uint16_t *sections, size_t sections_length);
+struct huwekapo_reply huwekapo_check(HUWEKAPO_CONST_BUFFERS);
 
 /* Allocates n blocks into root r. The value is the first block, `second` whether the new object is stuck, as it is at width 1.
  * Refusals: 1, 2, 11, 3, 4, 5. */
-struct huwekapo_reply huwekapo_allocate(size_t blocks, size_t width,
-                                        uint8_t *a, size_t a_length,
-                                        uint8_t *b, size_t b_length,
-                                        uint8_t *counts, size_t counts_length,
-                                        uint16_t *cells, size_t cells_length,
-                                        uint16_t *roots, size_t roots_length,
-                                        uint16_t *waiting, size_t waiting_length,
-                                        uint16_t *sections, size_t sections_length,
-                                        size_t n, size_t r);
+struct huwekapo_reply huwekapo_allocate(HUWEKAPO_BUFFERS, size_t n, size_t r);
 
 /* Stores v in root r. The value is the number of blocks freed, `second` whether the object that v names became stuck. Where
  * the root holds v already, only the waiting list is written. Refusals: 1, 2, 11, 4, 8. */
-struct huwekapo_reply huwekapo_store_root(size_t blocks, size_t width,
-                                          uint8_t *a, size_t a_length,
-                                          uint8_t *b, size_t b_length,
-                                          uint8_t *counts, size_t counts_length,
-                                          uint16_t *cells, size_t cells_length,
-                                          uint16_t *roots, size_t roots_length,
-                                          uint16_t *waiting, size_t waiting_length,
-                                          uint16_t *sections, size_t sections_length,
-                                          size_t r, size_t v);
+struct huwekapo_reply huwekapo_store_root(HUWEKAPO_BUFFERS, size_t r, size_t v);
 
 /* Stores v in cell j of the object at block `at`. The value is the number of blocks freed, `second` whether the object that v
  * names became stuck. Where the cell holds v already, only the waiting list is written. Refusals: 1, 2, 11, 6, 7, 8. */
-struct huwekapo_reply huwekapo_store_cell(size_t blocks, size_t width,
-                                          uint8_t *a, size_t a_length,
-                                          uint8_t *b, size_t b_length,
-                                          uint8_t *counts, size_t counts_length,
-                                          uint16_t *cells, size_t cells_length,
-                                          const uint16_t *roots, size_t roots_length,
-                                          uint16_t *waiting, size_t waiting_length,
-                                          uint16_t *sections, size_t sections_length,
-                                          size_t at, size_t j, size_t v);
+struct huwekapo_reply huwekapo_store_cell(HUWEKAPO_BUFFERS_BUT_ROOTS, size_t at, size_t j, size_t v);
 
 /* Clears the roots of a set, bit r of `chosen` for root r, as stores of 0 do one after another. The value is the number of
  * blocks freed in all. Refusals: 1, 2, 11, 4. */
-struct huwekapo_reply huwekapo_return_roots(size_t blocks, size_t width,
-                                            uint8_t *a, size_t a_length,
-                                            uint8_t *b, size_t b_length,
-                                            uint8_t *counts, size_t counts_length,
-                                            uint16_t *cells, size_t cells_length,
-                                            uint16_t *roots, size_t roots_length,
-                                            uint16_t *waiting, size_t waiting_length,
-                                            uint16_t *sections, size_t sections_length,
-                                            uint64_t chosen);
+struct huwekapo_reply huwekapo_return_roots(HUWEKAPO_BUFFERS, uint64_t chosen);
 
 /* Frees the objects that no root reaches, and counts the references of the others anew. The value is the number of blocks
  * freed. Refusals: 1, 2, 11. */
-struct huwekapo_reply huwekapo_collect(size_t blocks, size_t width,
-                                       uint8_t *a, size_t a_length,
-                                       uint8_t *b, size_t b_length,
-                                       uint8_t *counts, size_t counts_length,
-                                       uint16_t *cells, size_t cells_length,
-                                       const uint16_t *roots, size_t roots_length,
-                                       uint16_t *waiting, size_t waiting_length,
-                                       uint16_t *sections, size_t sections_length);
+struct huwekapo_reply huwekapo_collect(HUWEKAPO_BUFFERS_BUT_ROOTS);
 
 /* Looks at the object at block `at`. The value is its size in blocks, `second` its count. Refusals: 1, 2, 11, 6. */
-struct huwekapo_reply huwekapo_look(size_t blocks, size_t width,
-                                    const uint8_t *a, size_t a_length,
-                                    const uint8_t *b, size_t b_length,
-                                    const uint8_t *counts, size_t counts_length,
-                                    const uint16_t *cells, size_t cells_length,
-                                    const uint16_t *roots, size_t roots_length,
-                                    const uint16_t *waiting, size_t waiting_length,
-                                    const uint16_t *sections, size_t sections_length,
-                                    size_t at);
+struct huwekapo_reply huwekapo_look(HUWEKAPO_CONST_BUFFERS, size_t at);
 
 /* Counts the free blocks. The value is their number. Refusals: 1, 2, 11. */
-struct huwekapo_reply huwekapo_free_blocks(size_t blocks, size_t width,
-                                           const uint8_t *a, size_t a_length,
-                                           const uint8_t *b, size_t b_length,
-                                           const uint8_t *counts, size_t counts_length,
-                                           const uint16_t *cells, size_t cells_length,
-                                           const uint16_t *roots, size_t roots_length,
-                                           const uint16_t *waiting, size_t waiting_length,
-                                           const uint16_t *sections, size_t sections_length);
+struct huwekapo_reply huwekapo_free_blocks(HUWEKAPO_CONST_BUFFERS);
 
 /* Formats the heap and runs a list of calls, each an entry of four words, a code and arguments:
  *
@@ -269,15 +220,7 @@ struct huwekapo_reply huwekapo_free_blocks(size_t blocks, size_t width,
  * Words that a call does not name are not looked at. The reply of call i goes to places 3i, 3i + 1 and 3i + 2 of `replies`;
  * words of `replies` behind the last reply keep their content. The value is the number of calls. Refusals, which write
  * nothing: 1, 10, 9, 18. */
-struct huwekapo_reply huwekapo_replay(size_t blocks, size_t width,
-                                      uint8_t *a, size_t a_length,
-                                      uint8_t *b, size_t b_length,
-                                      uint8_t *counts, size_t counts_length,
-                                      uint16_t *cells, size_t cells_length,
-                                      uint16_t *roots, size_t roots_length,
-                                      uint16_t *waiting, size_t waiting_length,
-                                      uint16_t *sections, size_t sections_length,
-                                      const uint64_t *calls, size_t calls_length,
+struct huwekapo_reply huwekapo_replay(HUWEKAPO_BUFFERS, const uint64_t *calls, size_t calls_length,
                                       uint64_t *replies, size_t replies_length);
 
 /* The figures of a run, in the order of the printed line. */
@@ -332,16 +275,7 @@ struct huwekapo_ran {
  * Refusals, which change no buffer and answer a run of all 0: 1, 2, 11, then 19 for a `run` of more than 4,294,967,295
  * records, of more allocations than records, of more blocks than 8,192 for each record, of more objects that became stuck than
  * records, or of more collections than records (one more where its number is not 0). */
-struct huwekapo_ran huwekapo_run_records(size_t blocks, size_t width,
-                                         uint8_t *a, size_t a_length,
-                                         uint8_t *b, size_t b_length,
-                                         uint8_t *counts, size_t counts_length,
-                                         uint16_t *cells, size_t cells_length,
-                                         uint16_t *roots, size_t roots_length,
-                                         uint16_t *waiting, size_t waiting_length,
-                                         uint16_t *sections, size_t sections_length,
-                                         struct huwekapo_run run,
-                                         const uint8_t *bytes, size_t bytes_length);
+struct huwekapo_ran huwekapo_run_records(HUWEKAPO_BUFFERS, struct huwekapo_run run, const uint8_t *bytes, size_t bytes_length);
 
 #ifdef __cplusplus
 }

@@ -256,11 +256,17 @@ class Header(unittest.TestCase):
             kinds["uint64_t"] = declared[library.WORD] = "WORD"
         found = re.findall(r"struct huwekapo_(\w+) huwekapo_(\w+)\((.*?)\);", self.code, flags=re.DOTALL)
         self.assertEqual({name for _, name, _ in found}, set(library.FUNCTIONS))
+        # Every function begins with the same buffers, which a macro names once.
+        macro = re.search(r"#define HUWEKAPO_BUFFERS_\(byte, number, root\)(.*?[^\\])\n", self.code, flags=re.DOTALL)
+        assert macro
+        lent = [argument.split()[-1].lstrip("*") for argument in macro.group(1).replace("\\\n", " ").split(",")]
+        names = [buffer.name for buffer in library.BUFFERS]
+        self.assertEqual(lent, ["blocks", "width", *(word for name in names for word in (name, f"{name}_length"))])
         for answer, name, arguments in found:
-            words = [re.fullmatch(r"\s*(.*?)(\w+)\s*", argument).groups() for argument in arguments.split(",")]  # type: ignore[union-attr]
-            lent = [word for _, word in words[2 : 2 + 2 * len(library.BUFFERS) : 2]]
-            self.assertEqual(lent, [buffer.name for buffer in library.BUFFERS], name)
-            rest = [kinds[kind.strip()] for kind, _ in words[2 + 2 * len(library.BUFFERS) :]]
+            first, *others = arguments.split(",")
+            self.assertIn(first.strip(), ["HUWEKAPO_BUFFERS", "HUWEKAPO_BUFFERS_BUT_ROOTS", "HUWEKAPO_CONST_BUFFERS"], name)
+            words = [re.fullmatch(r"\s*(.*?)(\w+)\s*", argument).groups() for argument in others]  # type: ignore[union-attr]
+            rest = [kinds[kind.strip()] for kind, _ in words]
             self.assertEqual(rest, [declared[kind] for kind in library.FUNCTIONS[name][0]], name)
             self.assertEqual(answer, {library.Reply: "reply", library.Ran: "ran"}[library.FUNCTIONS[name][1]], name)
 

@@ -3,229 +3,50 @@
 use crate::lent::{Ran, Reply};
 use crate::{Ref, SoFar};
 
-extern "C" {
-    pub fn huwekapo_format(
-        blocks: usize,
-        width: usize,
-        a: *mut u8,
-        a_length: usize,
-        b: *mut u8,
-        b_length: usize,
-        counts: *mut u8,
-        counts_length: usize,
-        cells: *mut Ref,
-        cells_length: usize,
-        roots: *mut Ref,
-        roots_length: usize,
-        waiting: *mut Ref,
-        waiting_length: usize,
-        sections: *mut u16,
-        sections_length: usize,
-    ) -> Reply;
+/// Declares functions that take the blocks, the width, each buffer as a pointer and a length, and what is named further. First
+/// stands whether the buffers are written, `mut` or `const`, then whether the roots are.
+macro_rules! declared {
+    ($($call:ident($lent:tt, $roots:tt $(, $argument:ident: $type:ty)*) -> $answer:ty;)*) => {
+        extern "C" {
+            $(pub fn $call(
+                blocks: usize,
+                width: usize,
+                a: *$lent u8,
+                a_length: usize,
+                b: *$lent u8,
+                b_length: usize,
+                counts: *$lent u8,
+                counts_length: usize,
+                cells: *$lent Ref,
+                cells_length: usize,
+                roots: *$roots Ref,
+                roots_length: usize,
+                waiting: *$lent Ref,
+                waiting_length: usize,
+                sections: *$lent u16,
+                sections_length: usize,
+                $($argument: $type,)*
+            ) -> $answer;)*
+        }
+    };
+}
 
-    pub fn huwekapo_check(
-        blocks: usize,
-        width: usize,
-        a: *const u8,
-        a_length: usize,
-        b: *const u8,
-        b_length: usize,
-        counts: *const u8,
-        counts_length: usize,
-        cells: *const Ref,
-        cells_length: usize,
-        roots: *const Ref,
-        roots_length: usize,
-        waiting: *const Ref,
-        waiting_length: usize,
-        sections: *const u16,
-        sections_length: usize,
-    ) -> Reply;
-
-    pub fn huwekapo_allocate(
-        blocks: usize,
-        width: usize,
-        a: *mut u8,
-        a_length: usize,
-        b: *mut u8,
-        b_length: usize,
-        counts: *mut u8,
-        counts_length: usize,
-        cells: *mut Ref,
-        cells_length: usize,
-        roots: *mut Ref,
-        roots_length: usize,
-        waiting: *mut Ref,
-        waiting_length: usize,
-        sections: *mut u16,
-        sections_length: usize,
-        n: usize,
-        r: usize,
-    ) -> Reply;
-
-    pub fn huwekapo_store_root(
-        blocks: usize,
-        width: usize,
-        a: *mut u8,
-        a_length: usize,
-        b: *mut u8,
-        b_length: usize,
-        counts: *mut u8,
-        counts_length: usize,
-        cells: *mut Ref,
-        cells_length: usize,
-        roots: *mut Ref,
-        roots_length: usize,
-        waiting: *mut Ref,
-        waiting_length: usize,
-        sections: *mut u16,
-        sections_length: usize,
-        r: usize,
-        v: usize,
-    ) -> Reply;
-
-    pub fn huwekapo_store_cell(
-        blocks: usize,
-        width: usize,
-        a: *mut u8,
-        a_length: usize,
-        b: *mut u8,
-        b_length: usize,
-        counts: *mut u8,
-        counts_length: usize,
-        cells: *mut Ref,
-        cells_length: usize,
-        roots: *const Ref,
-        roots_length: usize,
-        waiting: *mut Ref,
-        waiting_length: usize,
-        sections: *mut u16,
-        sections_length: usize,
-        at: usize,
-        j: usize,
-        v: usize,
-    ) -> Reply;
-
-    pub fn huwekapo_return_roots(
-        blocks: usize,
-        width: usize,
-        a: *mut u8,
-        a_length: usize,
-        b: *mut u8,
-        b_length: usize,
-        counts: *mut u8,
-        counts_length: usize,
-        cells: *mut Ref,
-        cells_length: usize,
-        roots: *mut Ref,
-        roots_length: usize,
-        waiting: *mut Ref,
-        waiting_length: usize,
-        sections: *mut u16,
-        sections_length: usize,
-        chosen: u64,
-    ) -> Reply;
-
-    pub fn huwekapo_collect(
-        blocks: usize,
-        width: usize,
-        a: *mut u8,
-        a_length: usize,
-        b: *mut u8,
-        b_length: usize,
-        counts: *mut u8,
-        counts_length: usize,
-        cells: *mut Ref,
-        cells_length: usize,
-        roots: *const Ref,
-        roots_length: usize,
-        waiting: *mut Ref,
-        waiting_length: usize,
-        sections: *mut u16,
-        sections_length: usize,
-    ) -> Reply;
-
-    pub fn huwekapo_look(
-        blocks: usize,
-        width: usize,
-        a: *const u8,
-        a_length: usize,
-        b: *const u8,
-        b_length: usize,
-        counts: *const u8,
-        counts_length: usize,
-        cells: *const Ref,
-        cells_length: usize,
-        roots: *const Ref,
-        roots_length: usize,
-        waiting: *const Ref,
-        waiting_length: usize,
-        sections: *const u16,
-        sections_length: usize,
-        at: usize,
-    ) -> Reply;
-
-    pub fn huwekapo_free_blocks(
-        blocks: usize,
-        width: usize,
-        a: *const u8,
-        a_length: usize,
-        b: *const u8,
-        b_length: usize,
-        counts: *const u8,
-        counts_length: usize,
-        cells: *const Ref,
-        cells_length: usize,
-        roots: *const Ref,
-        roots_length: usize,
-        waiting: *const Ref,
-        waiting_length: usize,
-        sections: *const u16,
-        sections_length: usize,
-    ) -> Reply;
-
-    pub fn huwekapo_replay(
-        blocks: usize,
-        width: usize,
-        a: *mut u8,
-        a_length: usize,
-        b: *mut u8,
-        b_length: usize,
-        counts: *mut u8,
-        counts_length: usize,
-        cells: *mut Ref,
-        cells_length: usize,
-        roots: *mut Ref,
-        roots_length: usize,
-        waiting: *mut Ref,
-        waiting_length: usize,
-        sections: *mut u16,
-        sections_length: usize,
+declared! {
+    huwekapo_format(mut, mut) -> Reply;
+    huwekapo_check(const, const) -> Reply;
+    huwekapo_allocate(mut, mut, n: usize, r: usize) -> Reply;
+    huwekapo_store_root(mut, mut, r: usize, v: usize) -> Reply;
+    huwekapo_store_cell(mut, const, at: usize, j: usize, v: usize) -> Reply;
+    huwekapo_return_roots(mut, mut, chosen: u64) -> Reply;
+    huwekapo_collect(mut, const) -> Reply;
+    huwekapo_look(const, const, at: usize) -> Reply;
+    huwekapo_free_blocks(const, const) -> Reply;
+    huwekapo_replay(
+        mut, mut,
         calls: *const u64,
         calls_length: usize,
         replies: *mut u64,
-        replies_length: usize,
+        replies_length: usize
     ) -> Reply;
-
-    pub fn huwekapo_run_records(
-        blocks: usize,
-        width: usize,
-        a: *mut u8,
-        a_length: usize,
-        b: *mut u8,
-        b_length: usize,
-        counts: *mut u8,
-        counts_length: usize,
-        cells: *mut Ref,
-        cells_length: usize,
-        roots: *mut Ref,
-        roots_length: usize,
-        waiting: *mut Ref,
-        waiting_length: usize,
-        sections: *mut u16,
-        sections_length: usize,
-        run: SoFar,
-        bytes: *const u8,
-        bytes_length: usize,
-    ) -> Ran;
+    huwekapo_run_records(mut, mut, run: SoFar, bytes: *const u8, bytes_length: usize) -> Ran;
 }
