@@ -32,7 +32,8 @@ refusal-requires-3 c κs = search needs
 returns-3 : tie.Need-returns-3
 unfolding allocateReply
 returns-3 c =
-    let args = c .before .before .before .before .before .before .args in
+    let start : tie.Start = search in
+    let args = start .args in
     let some-blocks = le-leb 1 (args .n) (omega arith) in
     let not-too-many = le-leb (args .n) (args .blocks) (omega arith) in
     rw (some-blocks, not-too-many, le-ltb (args .r) (args .roots) (omega arith), allocateReply) (c .refusal3 .ensures)

@@ -28,7 +28,7 @@ slice-read-if1 c = omega arith
 
 section-figure-requires : tie.Need-section-figure-requires Inv-loop μ-loop
 section-figure-requires c κs =
-    let s = c .before .before .before .before .before .before in
+    let s : tie.Start Inv-loop μ-loop = search in
     (s .pre .0 .blocks, s .pre .1, omega arith)
 
 cast-sections : tie.Need-cast-sections Inv-loop μ-loop

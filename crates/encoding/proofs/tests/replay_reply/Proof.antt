@@ -20,8 +20,12 @@ shaped : (c : tie.Else1) →
     ≡ true
 shaped c = sym (c .before .is-shaped .ensures) ∙ not-false _ (c .if1 .left)
 
+-- where the code starts from
+abbrev start : tie.Else3 → tie.Start
+start c = search
+
 called : (c : tie.Else3) →
-    let words = c .before .before .before .before .before .before .args .calls .now in
+    let words = start c .args .calls .now in
     areCalls words (length words / 4) ≡ true
 called c = sym (c .before .are-calls .ensures) ∙ not-false _ (c .if3 .left)
 
@@ -65,7 +69,7 @@ returns-4 : tie.Need-returns-4
 unfolding replyOn listRefusals firstNumber
 returns-4 c =
     let tested = c .before .before in
-    let args = tested .before .before .before .before .before .before .args in
+    let args = start tested .args in
     rw (
       shaped (tested .before .before .before),
       eq-eqb _ 0 (tested .before .before .if2 .left),
@@ -83,7 +87,7 @@ returns-5 : tie.Need-returns-5
 unfolding replyOn listRefusals firstNumber
 returns-5 c =
     let tested = c .before .before in
-    let args = tested .before .before .before .before .before .before .args in
+    let args = start tested .args in
     rw (
       shaped (tested .before .before .before),
       eq-eqb _ 0 (tested .before .before .if2 .left),
