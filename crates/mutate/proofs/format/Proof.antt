@@ -8,7 +8,7 @@ use Rattle.mutate.proofs.format.Tie as tie
 
 -- the place where the heap is written
 abbrev done : tie.After-slice-known14 → tie.After-format
-done c = c .before .before .before .before .before .before .before .before .before .before .before .before .before .before
+done c = search
 
 is-shaped-requires : tie.Need-is-shaped-requires
 is-shaped-requires c κs = search needs
@@ -23,7 +23,7 @@ returns c =
 
 format-requires : tie.Need-format-requires
 format-requires c κs =
-    let tested = c .before .before .before .before .before .before .before in
+    let tested : tie.Else1 = search in
     sym (tested .before .is-shaped .ensures) ∙ not-false _ (tested .if1 .left)
 
 returns-2 : tie.Need-returns-2
