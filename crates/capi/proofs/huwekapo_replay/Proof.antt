@@ -5,7 +5,7 @@ use Rattle.capi.proofs.huwekapo_replay.Tie as tie
 
 -- the call has returned
 abbrev done : tie.After-slice-known16 → tie.After-replay
-done c = c .before .before .before .before .before .before .before .before .before .before .before .before .before .before .before .before
+done c = search
 
 replay-requires : tie.Need-replay-requires
 replay-requires c κs = search needs

@@ -5,7 +5,7 @@ use Rattle.capi.proofs.runs.huwekapo_run_records.Tie as tie
 
 -- the call has returned
 abbrev done : tie.After-slice-known14 → tie.After-run-records
-done c = c .before .before .before .before .before .before .before .before .before .before .before .before .before .before
+done c = search
 
 run-records-requires : tie.Need-run-records-requires
 run-records-requires c κs = search needs

@@ -5,22 +5,22 @@ use Rattle.entries.proofs.perform.perform.Tie as tie
 
 -- the places: in each arm the call has returned
 abbrev formatted : tie.After-slice-known21 → tie.After-format
-formatted c = c .before .before .before .before .before .before .before .before .before .before .before .before .before .before
+formatted c = search
 
 abbrev allocated : tie.After-slice-known28 → tie.After-allocate
-allocated c = c .before .before .before .before .before .before .before .before .before .before .before .before .before .before
+allocated c = search
 
 abbrev root-stored : tie.After-slice-known35 → tie.After-store-root
-root-stored c = c .before .before .before .before .before .before .before .before .before .before .before .before .before .before
+root-stored c = search
 
 abbrev cell-stored : tie.After-slice-known41 → tie.After-store-cell
-cell-stored c = c .before .before .before .before .before .before .before .before .before .before .before .before
+cell-stored c = search
 
 abbrev collected : tie.After-slice-known47 → tie.After-collect
-collected c = c .before .before .before .before .before .before .before .before .before .before .before .before
+collected c = search
 
 abbrev returned : tie.After-slice-known54 → tie.After-return-roots
-returned c = c .before .before .before .before .before .before .before .before .before .before .before .before .before .before
+returned c = search
 
 pub perform-spec : {M : Type 1} → statement M
 perform-spec =
