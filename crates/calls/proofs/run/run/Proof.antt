@@ -22,7 +22,7 @@ abbrev turn : tie.After-next-entry Inv-loop μ-loop → tie.In-loop Inv-loop μ-
 turn c = c .before .before
 
 abbrev performed : tie.Else2 Inv-loop μ-loop → tie.After-perform Inv-loop μ-loop
-performed c = c .before .before .before .before .before .before .before .before .before .before .before
+performed c = search
 
 abbrev lent-entry : tie.After-cells Inv-loop μ-loop → tie.After-next-entry Inv-loop μ-loop
 lent-entry c = c .before .before .before .before
