@@ -1,44 +1,75 @@
 #!/bin/bash
 # Proves the library and puts it below PREFIX (target/install unless said): lib/libhuwekapo.a and lib/libhuwekapo.so,
-# include/huwekapo.h and include/huwekapo_heap.h, lib/pkgconfig/huwekapo.pc. HUWEKAPO_LIB_DIR names a folder of libcapi.a, as
-# `rt staticlib capi` writes it; where it is not set, the library is proved now.
+# include/huwekapo.h and include/huwekapo_heap.h, lib/pkgconfig/huwekapo.pc; and the program `report` with an exit status,
+# bin/huwekapo-report. HUWEKAPO_LIB_DIR names a folder of libcapi.a, as `rt staticlib capi` writes it; where it is not set, the library and
+# the program are proved now, unless they stand as these sources make them. Where nothing has changed nothing is written.
 set -eu
 here=$(cd "$(dirname "$0")" && pwd)
 if [ $# -gt 1 ] || [ "${1:-}" = --help ]; then
     echo "usage: bash install.sh [PREFIX]" >&2
     exit 2
 fi
+cc=${CC:-cc}
+ar=${AR:-ar}
+
+missing=0
+need() {
+    if ! command -v "$1" >/dev/null; then
+        echo "install.sh: $1 is missing: $2" >&2
+        missing=1
+    fi
+}
+need "${cc%% *}" "the C compiler, which links the library (Debian's gcc; CC may name another)"
+need "${ar%% *}" "it makes the archive (Debian's binutils; AR may name another)"
+[ -n "${HUWEKAPO_LIB_DIR:-}" ] ||
+    need rt "the Rattle kit, which proves the library (HUWEKAPO_LIB_DIR may name a folder of libcapi.a that is proved already)"
+[ "$missing" -eq 0 ] || exit 1
+
 prefix=${1:-$here/target/install}
 mkdir -p "$prefix"
 prefix=$(cd "$prefix" && pwd)
+work=$(mktemp -d)
+trap 'rm -r "$work"' EXIT
 
+# Proves and builds by `rt $2 $3` what is to stand at $1, unless it does: the stamp beside it has the digest of the sources and its own.
+prove() {
+    local sources
+    sources=$({
+        rt version
+        cd "$here" && find crates crates.txt -type f -print0 | LC_ALL=C sort -z | xargs -0 sha256sum
+    } | sha256sum)
+    if [ -f "$1" ] && [ "$(cat "$1.stamp" 2>/dev/null)" = "$sources$(sha256sum <"$1")" ]; then
+        return
+    fi
+    echo "proving $3: some minutes on a clean clone"
+    if ! (cd "$here" && rt "$2" "$3") >"$work/log" 2>&1; then
+        cat "$work/log"
+        echo "install.sh: $3 was not proved" >&2
+        exit 1
+    fi
+    echo "$sources$(sha256sum <"$1")" >"$1.stamp"
+}
+
+report=$here/target/bin/report
 if [ -n "${HUWEKAPO_LIB_DIR:-}" ]; then
     archive=$(cd "$HUWEKAPO_LIB_DIR" && pwd)/libcapi.a
+    if [ ! -f "$archive" ]; then
+        echo "install.sh: $archive is missing: \`rt staticlib capi\` writes it to target/staticlib" >&2
+        exit 1
+    fi
 else
-    (cd "$here" && rt staticlib capi)
     archive=$here/target/staticlib/libcapi.a
+    prove "$archive" staticlib capi
+    prove "$report" check report
 fi
 
 version=$(sed -n 's/^#define HUWEKAPO_VERSION "\(.*\)"$/\1/p' "$here/include/huwekapo.h")
 shared=libhuwekapo.so.${version%.*}
-cc=${CC:-cc}
-work=$(mktemp -d)
-trap 'rm -r "$work"' EXIT
-
-printf '#include "huwekapo.h"\nconst char huwekapo_version[] = HUWEKAPO_VERSION;\n' >"$work/version.c"
-"$cc" -O2 -fPIC -I"$here/include" -c "$work/version.c" -o "$work/version.o"
 cp "$archive" "$work/libhuwekapo.a"
-"${AR:-ar}" r "$work/libhuwekapo.a" "$work/version.o"
 # The archive's code is position independent: the linker is told to refuse what is not, and symbols that nothing defines.
 "$cc" -shared -o "$work/$shared" -Wl,-soname,"$shared" -Wl,-z,text -Wl,-z,defs -Wl,-z,noexecstack \
     -Wl,--whole-archive "$work/libhuwekapo.a" -Wl,--no-whole-archive
-
-install -d "$prefix/lib/pkgconfig" "$prefix/include"
-install -m 644 "$here/include/huwekapo.h" "$here/include/huwekapo_heap.h" "$prefix/include"
-install -m 644 "$work/libhuwekapo.a" "$prefix/lib"
-install -m 755 "$work/$shared" "$prefix/lib"
-ln -sf "$shared" "$prefix/lib/libhuwekapo.so"
-cat >"$prefix/lib/pkgconfig/huwekapo.pc" <<PC
+cat >"$work/huwekapo.pc" <<PC
 prefix=\${pcfiledir}/../..
 libdir=\${prefix}/lib
 includedir=\${prefix}/include
@@ -49,4 +80,31 @@ Version: $version
 Cflags: -I\${includedir}
 Libs: -L\${libdir} -lhuwekapo
 PC
-echo "installed libhuwekapo $version below $prefix"
+
+written=0
+# Puts a file in its place, where another stands or none. It is written beside and renamed: who runs the old one keeps it.
+put() {
+    if cmp -s "$2" "$prefix/$3"; then
+        return
+    fi
+    install -d "$prefix/$(dirname "$3")"
+    install -m "$1" "$2" "$prefix/$3.new"
+    mv "$prefix/$3.new" "$prefix/$3"
+    written=1
+}
+put 644 "$here/include/huwekapo.h" include/huwekapo.h
+put 644 "$here/include/huwekapo_heap.h" include/huwekapo_heap.h
+put 644 "$work/libhuwekapo.a" lib/libhuwekapo.a
+put 755 "$work/$shared" "lib/$shared"
+put 644 "$work/huwekapo.pc" lib/pkgconfig/huwekapo.pc
+if [ "$(readlink "$prefix/lib/libhuwekapo.so" || true)" != "$shared" ]; then
+    ln -sf "$shared" "$prefix/lib/libhuwekapo.so"
+    written=1
+fi
+if [ -x "$report" ]; then
+    put 755 "$report" libexec/huwekapo/report
+    put 755 "$here/bin/huwekapo-report" bin/huwekapo-report
+else
+    echo "install.sh: target/bin/report is missing, and so bin/huwekapo-report is not installed: \`rt check report\` builds it" >&2
+fi
+[ "$written" -eq 0 ] || echo "installed libhuwekapo $version below $prefix"

@@ -18,9 +18,13 @@ static size_t value(const char *call, struct huwekapo_reply reply) {
 }
 
 int main(void) {
+    if (!HUWEKAPO_IS_THIS_LIBRARY()) {
+        fprintf(stderr, "heap: this is for libhuwekapo %s, and another is linked\n", HUWEKAPO_VERSION);
+        return 1;
+    }
     struct huwekapo_heap heap = huwekapo_heap_in(memory, BLOCKS, WIDTH, ROOTS);
     value("format", huwekapo_heap_format(&heap));
-    printf("huwekapo %s: %zu blocks, counts up to %d\n", huwekapo_version, heap.blocks, HUWEKAPO_CAPACITY(WIDTH));
+    printf("huwekapo %s: %zu blocks, counts up to %d\n", HUWEKAPO_VERSION, heap.blocks, HUWEKAPO_CAPACITY(WIDTH));
     for (size_t size = 1; size <= 3; size++) {
         size_t node = value("allocate", huwekapo_heap_allocate(&heap, size, NODE));
         value("store", huwekapo_heap_store_cell(&heap, node, 0, heap.roots[LIST]));

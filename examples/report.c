@@ -23,6 +23,10 @@ static void print_line(void) {
 }
 
 int main(void) {
+    if (!HUWEKAPO_IS_THIS_LIBRARY()) {
+        fprintf(stderr, "report: this is for libhuwekapo %s, and another is linked\n", HUWEKAPO_VERSION);
+        return 1;
+    }
     struct huwekapo_heap heap = huwekapo_heap_in(memory, BLOCKS, WIDTH, ROOTS);
     size_t held = 0, read;
     huwekapo_heap_format(&heap);

@@ -42,11 +42,16 @@
 #include <stddef.h>
 #include <stdint.h>
 
-/* The version of this header, and of the library that it goes with. */
+/* The version of this header, and of the library that it goes with. What changes an argument, a struct or a buffer raises the
+ * minor number, and with it the shared library's name. */
 #define HUWEKAPO_VERSION_MAJOR 0
-#define HUWEKAPO_VERSION_MINOR 2
+#define HUWEKAPO_VERSION_MINOR 3
 #define HUWEKAPO_VERSION_PATCH 0
-#define HUWEKAPO_VERSION "0.2.0"
+#define HUWEKAPO_VERSION "0.3.0"
+#define HUWEKAPO_VERSION_NUMBER (1000000 * HUWEKAPO_VERSION_MAJOR + 1000 * HUWEKAPO_VERSION_MINOR + HUWEKAPO_VERSION_PATCH)
+
+/* The number of buffers that every call takes. */
+#define HUWEKAPO_BUFFERS 7
 
 /* The limits. */
 #define HUWEKAPO_MIN_BLOCKS 8
@@ -85,8 +90,14 @@
 extern "C" {
 #endif
 
-/* The version of the library that is linked, to be held against HUWEKAPO_VERSION. libhuwekapo has it, libcapi.a alone does not. */
-extern const char huwekapo_version[];
+/* Of the library that is linked: its version, as HUWEKAPO_VERSION_NUMBER has it, and the number of buffers that its calls take. */
+size_t huwekapo_version(void);
+size_t huwekapo_buffers(void);
+
+/* Whether the library that is linked is the one that this header declares, to be asked before anything is lent: to another one the
+ * arguments mean something else. */
+#define HUWEKAPO_IS_THIS_LIBRARY() \
+    (huwekapo_version() / 1000 == HUWEKAPO_VERSION_NUMBER / 1000 && huwekapo_buffers() == HUWEKAPO_BUFFERS)
 
 /* A number and its values. `number` is 0 where the call was accepted, else the first that applies of the refusals that the
  * call names, in the order in which it names them. A refusal carries value 0, or the damage kind for number 2. `second` is the

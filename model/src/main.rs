@@ -1,7 +1,7 @@
 //! The commands. See README.md.
 
 use model::history::vectors::{histories, mixed, History};
-use model::history::{driver, report, text};
+use model::history::{driver, garbage, report, text};
 use model::lists::families::{generate, FAMILIES};
 use model::lists::vectors;
 use model::product::{history_bench, port};
@@ -26,6 +26,9 @@ const USAGE: &str = "usage:
   model history assemble < TEXT      a recorded history from its text, to standard output
   model history words < FILE         the text of a recorded history
   model history run < FILE           the line that the program `report` must print for it
+  model history garbage N W R < FILE the same on a heap of N blocks, count width W and R roots; and below it what no root
+                                     reaches then, held by stuck counts alone | by cycles alone | by both, each
+                                     `objects blocks`
   model history vectors FOLDER       some 340 histories, NAME.history and NAME.line each
   model history check PROGRAM ..     runs a program on all of these, by file and through a pipe
   model history mixed SEED COUNT     a mixed history of COUNT records, each accepted
@@ -92,6 +95,13 @@ fn history(words: &[&str]) {
         ["assemble"] => print_assembled(text::assemble(&String::from_utf8_lossy(&input()))),
         ["words"] => print(text::words(&input()).as_bytes()),
         ["run"] => print(report(&input()).as_bytes()),
+        ["garbage", blocks, width, roots] => {
+            let shape = [blocks, width, roots].map(|word| number(word) as usize);
+            match garbage::left(shape, &input()) {
+                Some(text) => print(text.as_bytes()),
+                None => stop("N is a power of two from 8 to 8192, W 1 to 4, R 1 to 64\n"),
+            }
+        }
         ["vectors", folder] => {
             for History { name, bytes } in histories() {
                 let place = |ending: &str| format!("{folder}/{name}.{ending}");

@@ -1,10 +1,27 @@
-"""Huwekapo: a heap of 16-byte blocks in bitmaps, with reference counts of one to four bits.
+"""Runs recorded histories on a proved heap of 16-byte blocks in bitmaps, with reference counts of one to four bits.
 
-The heap is a proved library, libhuwekapo.so; this package lends it buffers and hands on what it answers. Nothing is proved of the
-package itself.
+`run` takes a history (a path, a binary file that is open, or bytes) through a new heap, and gives its figures:
 
-    >>> from huwekapo import Heap, Refused
-    >>> heap = Heap(blocks=8, width=2, roots=4)
+    >>> import huwekapo
+    >>> from huwekapo.records import ALLOCATE, CLEAR, record
+    >>> history = b"".join(record(ALLOCATE, d=root, size=size) for root, size in [(0, 2), (1, 1), (2, 3)])
+    >>> ran = huwekapo.run(history, blocks=1024, width=2)
+    >>> ran.figures.peak, ran.line()
+    (6, '3 6 3 0 6 0\\n')
+
+A history that can't be run to its end has no such figures. `run` raises `Stopped` then, unless it is told that it may stop:
+
+    >>> try:
+    ...     huwekapo.run(history + record(ALLOCATE, d=3, size=9), blocks=8)
+    ... except huwekapo.Stopped as stopped:
+    ...     print(stopped)
+    bytes: refused 3 at record 3: the size is 0 or above the number of blocks
+    >>> huwekapo.run(history + b"...", blocks=8, may_stop=True).stop()
+    'refused 10 at record 3'
+
+`Heap` has the calls of the heap itself, `History` runs in pieces, `garbage` says what no root reaches and what holds it:
+
+    >>> heap = huwekapo.Heap(blocks=8, width=2, roots=4)
     >>> heap.allocate(2, 0), heap.allocate(1, 1), heap.allocate(3, 2)
     (0, 2, 4)
     >>> heap.look(4)
@@ -15,18 +32,14 @@ package itself.
     ([1], 2)
     >>> try:
     ...     heap.allocate(2, 3)
-    ... except Refused as refused:
+    ... except huwekapo.Refused as refused:
     ...     refused.number, refused.name
     (5, 'NO_CHUNK')
+    >>> heap
+    <Heap of 8 blocks, width 2, 4 roots: 6 blocks in use>
 
-`run` takes a recorded history through a new heap:
-
-    >>> import io, huwekapo
-    >>> records = [bytes([1, root, 0, 0, 0, 0, size, 0]) for root, size in [(0, 2), (1, 1), (2, 3)]]
-    >>> huwekapo.run(io.BytesIO(b"".join(records))).figures.peak
-    6
-
-`python3 -m huwekapo` has the commands.
+`python3 -m huwekapo` has the commands. The heap is the library libhuwekapo.so; this package lends it buffers and hands on what it
+answers. Nothing is proved of the package itself.
 """
 
 from .unreached import Garbage, Held, garbage, in_use, objects, stuck
@@ -34,7 +47,7 @@ from .heap import Heap, Look, Reply
 from .history import History, run
 from .library import VERSION, Figures, LibraryMissing
 from .refused import Damage, Number, Refused
-from .runs import Run
+from .runs import Run, Stopped
 
 __version__ = VERSION
 
@@ -51,6 +64,7 @@ __all__ = [
     "Refused",
     "Reply",
     "Run",
+    "Stopped",
     "garbage",
     "in_use",
     "objects",

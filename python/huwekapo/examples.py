@@ -8,6 +8,8 @@ from __future__ import annotations
 
 from typing import Callable, Dict, Iterator, List, Optional
 
+from .records import ALLOCATE, CLEAR, COPY, READ, RECORD, WRITE, record
+
 #: Variables of a program, as many as the program `report` has roots.
 _ROOTS = 64
 
@@ -45,44 +47,44 @@ class _Program:
         return self._random.random() < part
 
     def _record(self, operation: int, d: int = 0, s: int = 0, c: int = 0, size: int = 0) -> None:
-        if len(self.history) == 8 * self._records:
+        if len(self.history) == RECORD * self._records:
             raise _Full
-        self.history += bytes([operation, d, s, 0]) + c.to_bytes(2, "little") + size.to_bytes(2, "little")
+        self.history += record(operation, d, s, c, size)
 
     def new(self, size: int, d: int) -> None:
         """d = new Object"""
-        self._record(1, d=d, size=size)
+        self._record(ALLOCATE, d=d, size=size)
         self.variables[d] = _Object(size)
 
     def copy(self, s: int, d: int) -> None:
         """d = s"""
-        self._record(2, d=d, s=s)
+        self._record(COPY, d=d, s=s)
         self.variables[d] = self.variables[s]
 
     def write(self, s: int, c: int, d: int) -> None:
         """d.c = s"""
         owner = self.variables[d]
         assert owner
-        self._record(3, d=d, s=s, c=c)
+        self._record(WRITE, d=d, s=s, c=c)
         owner.cells[c] = self.variables[s]
 
     def read(self, c: int, s: int, d: int) -> bool:
         """d = s.c; whether that is an object"""
         owner = self.variables[s]
         assert owner
-        self._record(4, d=d, s=s, c=c)
+        self._record(READ, d=d, s=s, c=c)
         self.variables[d] = owner.cells[c]
         return owner.cells[c] is not None
 
     def clear(self, *variables: int) -> None:
         """The variables' scope ends."""
         for d in variables:
-            self._record(5, d=d)
+            self._record(CLEAR, d=d)
             self.variables[d] = None
 
     def progress(self) -> float:
         """The part of the records that is written."""
-        return len(self.history) / (8 * self._records)
+        return len(self.history) / (RECORD * self._records)
 
 
 def _loops(program: _Program) -> Iterator[None]:

@@ -40,6 +40,8 @@ class Heap:
 
     The buffers are readable as memoryviews: `a`, `b` and `counts` of bytes, `cells`, `roots`, `waiting` and `sections` of 16-bit
     numbers. They show the heap as it is, also after later calls. A heap may be used from several threads: its calls wait for each other.
+
+    Two heaps are equal where blocks, width and all buffers but the waiting lists are; `copy` makes another that is.
     """
 
     def __init__(self, blocks: int = REPORT_BLOCKS, width: int = REPORT_WIDTH, roots: int = REPORT_ROOTS) -> None:
@@ -63,6 +65,38 @@ class Heap:
                 raise OverflowError(f"a number of {name} is out of range")
             array[:] = numbers
         return heap
+
+    def copy(self) -> Heap:
+        """A heap of its own with the same content."""
+        heap = Heap.__new__(type(self))
+        heap._lend(self._blocks, self._width, {name: len(array) for name, array in self._arrays.items()})
+        with self._lock:
+            heap._became_stuck = self._became_stuck
+            for name, array in self._arrays.items():
+                ctypes.memmove(heap._arrays[name], array, ctypes.sizeof(array))
+        return heap
+
+    __copy__ = copy
+
+    def __deepcopy__(self, _: object) -> Heap:
+        return self.copy()
+
+    def __eq__(self, other: object) -> bool:
+        """Whether blocks, width and all buffers but the waiting lists are equal: that list is working space."""
+        if not isinstance(other, Heap):
+            return NotImplemented
+        names = [buffer.name for buffer in library.BUFFERS if buffer.name != "waiting"]
+        return (self._blocks, self._width) == (other._blocks, other._width) and all(
+            self._view(name) == other._view(name) for name in names
+        )
+
+    # Its content changes.
+    __hash__ = None  # type: ignore[assignment]
+
+    def __repr__(self) -> str:
+        used = bin(int.from_bytes(self.a, "little")).count("1")
+        roots = len(self._arrays["roots"])
+        return f"<Heap of {self._blocks:,} blocks, width {self._width}, {roots} roots: {used:,} blocks in use>"
 
     def _lend(self, blocks: int, width: int, lengths: dict[str, int]) -> None:
         self._functions = library.load()

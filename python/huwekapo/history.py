@@ -3,17 +3,16 @@
 from __future__ import annotations
 
 import ctypes
+import io
 import os
 import time
 from contextlib import contextmanager
-from typing import IO, Callable, Iterator, Optional, Union
+from typing import IO, Callable, Iterator, Optional, Tuple, Union
 
-from .heap import Heap
+from .heap import Bytes, Heap
 from .library import REPORT_BLOCKS, REPORT_ROOTS, REPORT_WIDTH
-from .runs import Run
-
-#: The bytes of a record.
-RECORD = 8
+from .records import RECORD
+from .runs import Run, Stopped
 
 #: The bytes that are run at a time: so many that the check of the heap, which each piece begins with, hardly counts.
 PIECE = 1 << 20
@@ -22,24 +21,26 @@ PIECE = 1 << 20
 _PATIENCE = 0.1
 
 #: What a history may be given as.
-Source = Union[str, "os.PathLike[str]", IO[bytes], "History"]
+Source = Union[str, "os.PathLike[str]", Bytes, IO[bytes], "History"]
 
 #: Is told how many bytes of the history have been run.
 Progress = Callable[[int], object]
 
 
 class History:
-    """A recorded history: a file of eight-byte records, by its path or as a binary file that is open.
+    """A recorded history: a file of records, by its path or as a binary file that is open; or its bytes.
 
-    It is read in pieces, so that one of any size takes little memory. One given by its path may be run again and again; so may an
+    It is read in pieces, so that one of any size takes little memory. One given by its path, or as bytes, may be run again and again; so may an
     open file that can seek, each time from where it stood. Any other, as a pipe, is run once.
     """
 
-    def __init__(self, source: Union[str, os.PathLike[str], IO[bytes]]) -> None:
+    def __init__(self, source: Union[str, os.PathLike[str], Bytes, IO[bytes]]) -> None:
         self._path: Optional[str] = None
         self._file: Optional[IO[bytes]] = None
         if isinstance(source, (str, os.PathLike)):
             self._path = os.fspath(source)
+        elif isinstance(source, (bytes, bytearray, memoryview)):
+            self._file = io.BytesIO(source)
         else:
             self._file = source
         self._start = _position(self._file) if self._file else 0
@@ -53,7 +54,9 @@ class History:
     @property
     def name(self) -> str:
         """The path, or the open file's name."""
-        return self._path if self._path is not None else str(getattr(self._file, "name", "a file"))
+        if self._path is not None:
+            return self._path
+        return "bytes" if isinstance(self._file, io.BytesIO) else str(getattr(self._file, "name", "a file"))
 
     def size(self) -> Optional[int]:
         """The length in bytes, where it is known before it is read."""
@@ -84,25 +87,56 @@ class History:
     def runs(self, heap: Heap, step: Optional[int] = None) -> Iterator[Run]:
         """Runs the history on a heap, in pieces, and gives where the run stands after each; the last is where it ends. A piece has
         `step` records; without it, as many as come in a tenth of a second, and a mebibyte at most."""
-        if step is not None and step < 1:
-            raise ValueError(f"a piece can't have {step} records")
-        buffer = bytearray(RECORD * step if step else PIECE)
-        # This pins the buffer, whose address the library is given.
-        array = (ctypes.c_uint8 * len(buffer)).from_buffer(buffer)
-        run = Run()
-        with self._opened() as file:
-            for length in _pieces(file, memoryview(buffer), fill=step is not None):
-                run = heap._run(run, ctypes.addressof(array), length)
+        if step is not None:
+            for run, _ in self.steps(heap, step):
                 yield run
+            return
+        run = Run()
+        for address, length in self._in_memory(fill=False):
+            run = heap._run(run, address, length)
+            yield run
+            if run.stopped:
+                return
+
+    def steps(self, heap: Heap, step: int) -> Iterator[Tuple[Run, int]]:
+        """The same in pieces of `step` records, with the most blocks in use after any record of each piece."""
+        if step < 1:
+            raise ValueError(f"a piece can't have {step} records")
+        run, due, highest = Run(), step, 0
+        for address, length in self._in_memory(fill=True):
+            at = 0
+            while True:
+                part = min(length - at, RECORD * (due - run.records))
+                run, in_part = _run_and_peak(heap, run, address + at, part)
+                at, highest = at + part, max(highest, in_part)
+                if run.stopped or run.records == due:
+                    yield run, highest
+                    due, highest = due + step, 0
                 if run.stopped:
                     return
+                if at == length:
+                    break
+        if run.records == 0 or run.records % step:
+            yield run, highest
 
-    def run(self, heap: Heap, progress: Optional[Progress] = None) -> Run:
-        """Runs the history on a heap, and gives where the run ends."""
+    def _in_memory(self, fill: bool) -> Iterator[Tuple[int, int]]:
+        """The address and the length of each piece of the file, there until the next is asked for."""
+        buffer = bytearray(PIECE)
+        # This pins the buffer, whose address the library is given.
+        array = (ctypes.c_uint8 * len(buffer)).from_buffer(buffer)
+        with self._opened() as file:
+            for length in _pieces(file, memoryview(buffer), fill):
+                yield ctypes.addressof(array), length
+
+    def run(self, heap: Heap, progress: Optional[Progress] = None, may_stop: bool = False) -> Run:
+        """Runs the history on a heap, and gives where the run ends. Where it stops before the end it raises `Stopped`, unless it
+        may."""
         run = Run()
         for run in self.runs(heap):
             if progress:
                 progress(RECORD * run.records)
+        if run.stopped and not may_stop:
+            raise Stopped(run, self.name)
         return run
 
 
@@ -112,9 +146,20 @@ def run(
     width: int = REPORT_WIDTH,
     roots: int = REPORT_ROOTS,
     progress: Optional[Progress] = None,
+    may_stop: bool = False,
 ) -> Run:
-    """Runs a history on a new heap. The run has the figures, or the number that stopped it and the record where it did."""
-    return History.of(history).run(Heap(blocks, width, roots), progress)
+    """Runs a history on a new heap: a path, a binary file that is open, or bytes. The run has the figures.
+
+    Where it stops before the end it raises `Stopped`. With `may_stop` it doesn't: the run then has the number that stopped it, the
+    record where it did, and the figures of the records before that one."""
+    return History.of(history).run(Heap(blocks, width, roots), progress, may_stop)
+
+
+def _run_and_peak(heap: Heap, run: Run, address: int, length: int) -> Tuple[Run, int]:
+    """A run over a piece, and the most blocks in use after any of its records: the library is handed a peak of 0."""
+    after = heap._run(run._replace(figures=run.figures._replace(peak=0)), address, length)
+    peak = after.figures.peak
+    return after._replace(figures=after.figures._replace(peak=max(peak, run.figures.peak))), peak
 
 
 def _position(file: IO[bytes]) -> Optional[int]:

@@ -1,7 +1,7 @@
 """The library libhuwekapo.so: where it is found, and its functions as include/huwekapo.h declares them.
 
 What a later version of the library adds to the heap's buffers or to a run's figures is added to `BUFFERS` or `Figures` here, and
-to nothing else of the declarations.
+to nothing else of the declarations. A library of another version takes other arguments: it is asked before anything is lent to it.
 """
 
 from __future__ import annotations
@@ -12,7 +12,7 @@ import os
 from typing import Any, Callable, Iterator, List, NamedTuple
 
 #: The version of the library that this package is for, and its own.
-VERSION = "0.2.0"
+VERSION = "0.3.0"
 
 #: The environment variable that names the library: its file, or the folder that it lies in.
 VARIABLE = "HUWEKAPO_LIBRARY"
@@ -157,13 +157,48 @@ def load() -> dict[str, Any]:
 
 
 def _same_version(library: Any, place: str) -> None:
-    """Structs of another version have other fields."""
+    """Asks the library. The number of buffers comes first: in versions before 0.3.0, which could not be asked, there is no such
+    function, and `huwekapo_version` is none."""
     try:
-        version = ctypes.string_at(ctypes.addressof(ctypes.c_char.in_dll(library, "huwekapo_version"))).decode()
-    except ValueError as error:
-        raise LibraryMissing(f"{place} is no libhuwekapo: it has no version") from error
-    if version.split(".")[:2] != VERSION.split(".")[:2]:
-        raise LibraryMissing(f"{place} is version {version}; this package is for {VERSION}")
+        buffers = _asked(library, "huwekapo_buffers")
+        version = _asked(library, "huwekapo_version")
+    except AttributeError:
+        raise LibraryMissing(f"{place} is no libhuwekapo of version 0.3.0 or later; this package is for {VERSION}") from None
+    words = f"{version // 1_000_000}.{version // 1000 % 1000}.{version % 1000}"
+    if words.split(".")[:2] != VERSION.split(".")[:2]:
+        raise LibraryMissing(f"{place} is version {words}; this package is for {VERSION}")
+    if buffers != len(BUFFERS):
+        raise LibraryMissing(f"{place} takes {buffers} buffers; this package lends {len(BUFFERS)}")
+
+
+def _asked(library: Any, name: str) -> int:
+    function = getattr(library, name)
+    function.argtypes, function.restype = [], WORD
+    return int(function())
+
+
+@functools.lru_cache(maxsize=None)
+def build() -> str:
+    """The library that is loaded, as tables name it: the package's version, and of the SHA-256 of the library's file 16 digits."""
+    import hashlib
+
+    with open(path(), "rb") as file:
+        return f"{VERSION}+{hashlib.sha256(file.read()).hexdigest()[:16]}"
+
+
+class _Found(ctypes.Structure):
+    """Dl_info of dlfcn.h."""
+
+    _fields_ = [("file", ctypes.c_char_p), ("base", ctypes.c_void_p), ("name", ctypes.c_char_p), ("address", ctypes.c_void_p)]
+
+
+def path() -> str:
+    """The file that the library was loaded from."""
+    found = _Found()
+    address = ctypes.cast(load()["check"], ctypes.c_void_p)
+    if not ctypes.CDLL(None).dladdr(address, ctypes.byref(found)) or not found.file:
+        raise LibraryMissing("the file of the library that is loaded can't be found")
+    return os.fsdecode(found.file)
 
 
 def _declared(library: Any, name: str) -> Any:

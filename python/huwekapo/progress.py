@@ -20,7 +20,8 @@ class Bar:
         self._label = label
         self._total = total
         self._stream = stream or sys.stderr
-        self._shown = self._stream.isatty()
+        # Python has no standard error where it was closed.
+        self._shown = self._stream is not None and self._stream.isatty()
         self._drawn_at = time.monotonic()
         self._drawn = False
 

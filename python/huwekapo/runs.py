@@ -30,6 +30,10 @@ class Run(NamedTuple):
             return f"refused {self.number} at record {self.records}\n"
         return " ".join(map(str, self.figures)) + "\n"
 
+    def stop(self) -> str:
+        """Where the run stopped, as tables have it: `refused 5 at record 7`; empty where it didn't."""
+        return self.line().rstrip() if self.stopped else ""
+
     def stop_in_words(self) -> str:
         """Why the run stopped; empty where it didn't."""
         return stop_in_words(self.number) if self.stopped else ""
@@ -43,3 +47,19 @@ class Run(NamedTuple):
     @staticmethod
     def _of(run: library.RunSoFar) -> Run:
         return Run(run.number, run.records, Figures(*(getattr(run.tally, name) for name in Figures._fields)))
+
+
+class Stopped(Exception):
+    """A history that was not run to its end: its figures are of the records before the one that stopped it, and not the history's.
+
+    run: where the run stands.
+    name: the history's name.
+    """
+
+    def __init__(self, run: Run, name: str) -> None:
+        super().__init__(run, name)
+        self.run = run
+        self.name = name
+
+    def __str__(self) -> str:
+        return f"{self.name}: {self.run.stop()}: {self.run.stop_in_words()}"

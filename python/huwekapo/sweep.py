@@ -2,6 +2,7 @@
 
 Rows are appended to the table as they are finished, so that a sweep that is killed loses none; the same command goes on where it
 stopped. At the end the table is put in order: by history, size and width. It is then the same, row for row, however it was run.
+A row is kept only where the history has the same bytes and the library is the same.
 """
 
 from __future__ import annotations
@@ -15,16 +16,19 @@ import multiprocessing
 import multiprocessing.connection
 import os
 import signal
+import stat
+import sys
 import threading
-from concurrent.futures import Executor, Future
+from concurrent.futures import BrokenExecutor, Executor, Future
 from contextlib import contextmanager
 from pathlib import Path
-from typing import BinaryIO, Callable, Iterable, Iterator, List, NamedTuple, Optional, Sequence, Union
+from typing import BinaryIO, Callable, Iterable, Iterator, List, NamedTuple, Optional, Sequence
 
+from .files import Place, shown
 from .heap import Heap
 from .history import PIECE, History
-from .library import REPORT_ROOTS
-from .measures import COLUMNS, measure
+from .library import REPORT_ROOTS, build
+from .measures import COLUMNS, FIGURE_COLUMNS, measure
 
 #: The columns of the table: the history's path below the folder, the SHA-256 of its bytes, and those of `measures`.
 TABLE_COLUMNS = ["history", "sha256", *COLUMNS]
@@ -32,27 +36,38 @@ TABLE_COLUMNS = ["history", "sha256", *COLUMNS]
 #: A row, as the table has it.
 Row = List[str]
 
-Place = Union[str, "os.PathLike[str]"]
-
 
 class Task(NamedTuple):
-    """A history to run at a size and a width: the key of its row."""
+    """A history to run on a heap: the key of its row."""
 
     history: str
     blocks: int
     width: int
+    roots: int
+
+    def __str__(self) -> str:
+        return f"{shown(self.history)}, {self.blocks} blocks, width {self.width}"
 
 
 class Swept(NamedTuple):
-    """What a sweep did: how many rows stood already, how many were run, and what could not be run, with the reason."""
+    """What a sweep did."""
 
+    #: rows that stood already
     kept: int
+    #: rows that were run
     run: int
+    #: rows that stood, but were of other bytes of the history or of another library: these were run anew
+    anew: int
+    #: rows of histories that are not there any more: these were taken out
+    pruned: int
+    #: what could not be run or was passed over, with the reason
     failures: list[str]
+    #: the history of each row and the number that stopped it
+    runs: list[tuple[str, int]]
 
 
 class SweepError(Exception):
-    """A sweep that can't begin. The message says why; the table is as it was."""
+    """A sweep that can't begin, or go on. The message says why, and where it had begun how many rows stand."""
 
 
 def sweep(
@@ -65,42 +80,100 @@ def sweep(
     jobs: int = 1,
     dask: Optional[str] = None,
     progress: Optional[Callable[[int, int], object]] = None,
+    prune: bool = False,
 ) -> Swept:
     """Runs every history below a folder whose name matches, in so many processes, or on the Dask cluster at an address, whose
-    workers must have this package, and the folder under the same path."""
-    top = Path(folder).resolve()
-    paths = {path.relative_to(top).as_posix(): path for path in top.rglob(pattern) if path.is_file()}
+    workers must have this package, and the folder under the same path. The table is no history, wherever it lies. Rows of histories
+    that are not there any more are refused, or taken out with `prune`."""
+    paths, passed_over = histories(folder, pattern, table)
     if not paths:
-        raise SweepError(f"{folder} has no file {pattern}")
+        raise SweepError("; ".join([f"{shown(folder)} has no file {pattern}", *passed_over]))
     widths, blocks = sorted(set(widths)), sorted(set(blocks))
     for n in blocks:
         for width in widths:
             # What the library refuses, it refuses here.
             Heap(n, width, roots)
-    tasks = [Task(history, n, width) for history in sorted(paths) for n in blocks for width in widths]
-    with _workers(jobs, dask) as workers, _Table(Path(table)) as file:
-        rows = _still_true(file.rows(), tasks, roots, paths)
+    tasks = [Task(history, n, width, roots) for history in sorted(paths) for n in blocks for width in widths]
+    with workers_for(min(jobs, len(tasks)), dask) as workers, _Table(Path(table)) as file:
+        rows, anew, lost = _still_true(file.rows(), tasks, paths)
+        if lost and not prune:
+            names = ", ".join(map(shown, sorted(set(lost))))
+            raise SweepError(
+                f"{shown(table)} has {len(lost)} row{'s' * (len(lost) > 1)} of histories that are not in {shown(folder)}: {names}. "
+                "`--prune` takes them out; or name another table"
+            )
         file.replace(rows.values())
         kept = len(rows)
         failures = []
-        for task, row, error in _finished(workers, paths, (task for task in tasks if task not in rows), roots):
+        for task, row, error in finished(workers, paths, (task for task in tasks if task not in rows)):
             if row is None:
-                failures.append(f"{task.history}, {task.blocks} blocks, width {task.width}: {error}")
+                failures.append(f"{task}: {error}")
                 continue
             file.append(row)
             rows[task] = row
             if progress:
                 progress(len(rows), len(tasks))
         file.replace(rows[task] for task in tasks if task in rows)
-    return Swept(kept, len(rows) - kept, failures + _changed(rows.values()))
+    runs = [(task.history, int(cell(rows[task], "number"))) for task in tasks if task in rows]
+    return Swept(kept, len(rows) - kept, anew, len(lost), passed_over + failures + _changed(rows.values()), runs)
 
 
-def row_of(path: str, task: Task, roots: int) -> Row:
+def histories(folder: Place, pattern: str, left_out: Optional[Place] = None) -> tuple[dict[str, Path], list[str]]:
+    """The files below a folder whose names match, by their paths below it; and what was passed over, with the reason. A table and
+    the file that it is renamed from are left out."""
+    top = Path(folder).resolve()
+    if not top.exists():
+        raise SweepError(f"{shown(folder)}: no such folder")
+    if not top.is_dir():
+        raise SweepError(f"{shown(folder)} is no folder")
+    out = {str(_real(left_out)), f"{_real(left_out)}.new"} if left_out is not None else set()
+    found: dict[str, Path] = {}
+    passed_over: list[str] = []
+
+    def pass_over(path: "str | Path", why: str) -> None:
+        passed_over.append(f"{shown(os.path.relpath(path, top))}: passed over: {why}")
+
+    def failed(error: OSError) -> None:
+        pass_over(error.filename or top, str(error.strerror))
+
+    for place, folders, files in os.walk(top, onerror=failed):
+        for name in folders:
+            if os.path.islink(os.path.join(place, name)):
+                pass_over(os.path.join(place, name), "a link to a folder, which is not followed")
+        for name in files:
+            path = Path(place, name)
+            below = path.relative_to(top).as_posix()
+            if not Path(below).match(pattern) or str(path) in out:
+                continue
+            try:
+                kind = os.stat(path).st_mode
+            except OSError as error:
+                pass_over(path, "a link to nothing" if path.is_symlink() else str(error.strerror))
+                continue
+            if stat.S_ISREG(kind):
+                found[below] = path
+            else:
+                pass_over(path, "no regular file")
+    return found, sorted(passed_over)
+
+
+def _real(place: Place) -> Path:
+    """The place with the links of its folder resolved, whether or not there is a file."""
+    path = Path(place)
+    return path.parent.resolve() / path.name
+
+
+def cell(row: Row, column: str) -> str:
+    """What a row has in a column."""
+    return row[TABLE_COLUMNS.index(column)]
+
+
+def row_of(path: str, task: Task) -> Row:
     """Runs a history, and gives its row. The digest is of the very bytes that were run."""
     with open(path, "rb", buffering=0) as file:
         digested = _Digested(file)
-        measured = measure(History(digested), task.blocks, task.width, roots)  # type: ignore[arg-type]
-        return [task.history, digested.whole(), *map(str, measured.numbers())]
+        measured = measure(History(digested), task.blocks, task.width, task.roots)  # type: ignore[arg-type]
+        return [task.history, digested.whole(), *measured.row()]
 
 
 class _Digested:
@@ -139,7 +212,7 @@ class _Table:
                 fcntl.flock(self._file, fcntl.LOCK_EX | fcntl.LOCK_NB)
             except BlockingIOError:
                 self._file.close()
-                raise SweepError(f"another sweep writes {path}") from None
+                raise SweepError(f"another sweep writes {shown(path)}") from None
             # It may have been replaced since it was opened.
             if os.path.exists(path) and os.path.samestat(os.fstat(self._file.fileno()), os.stat(path)):
                 return
@@ -154,23 +227,7 @@ class _Table:
     def rows(self) -> list[Row]:
         """The rows, up to the first that is not whole."""
         self._file.seek(0)
-        text = self._file.read().decode("utf-8", "surrogateescape")
-        if _line(TABLE_COLUMNS).startswith(text):
-            return []
-        if not text.startswith(_line(TABLE_COLUMNS)):
-            raise SweepError(
-                f"{self._path} is no table of a sweep, or one of another version: its first line is another. Name another table, or "
-                "delete this one"
-            )
-        rows = list(csv.reader(io.StringIO(text, newline="")))[1:]
-        if not text.endswith("\n"):
-            rows.pop()
-        whole = []
-        for row in rows:
-            if len(row) != len(TABLE_COLUMNS) or not all(word.isdigit() for word in row[2:]):
-                break
-            whole.append(row)
-        return whole
+        return whole_rows(self._file.read(), self._path)
 
     def append(self, row: Row) -> None:
         """Adds a row, and sees it to the disk."""
@@ -194,30 +251,83 @@ class _Table:
         os.fsync(self._file.fileno())
 
 
+def standing(table: Place) -> int:
+    """How many whole rows a table has."""
+    try:
+        with open(table, "rb") as file:
+            return len(whole_rows(file.read(), table))
+    except (OSError, SweepError):
+        return 0
+
+
+def whole_rows(content: bytes, path: Place) -> list[Row]:
+    """The rows of a table, up to the first that is not whole. A spreadsheet's line ends and byte order mark are read over."""
+    text = content.decode("utf-8", "surrogateescape")
+    if text.startswith("\ufeff"):
+        text = text[1:]
+    if _line(TABLE_COLUMNS).startswith(text):
+        return []
+    rows = list(csv.reader(io.StringIO(text, newline="")))
+    if not rows or rows[0] != TABLE_COLUMNS:
+        raise SweepError(
+            f"{shown(path)} is no table of a sweep, or one of another version: its first line is another. Name another table, or "
+            "delete this one"
+        )
+    if not text.endswith("\n"):
+        rows.pop()
+    whole = []
+    for row in rows[1:]:
+        if not _is_whole(row):
+            break
+        whole.append(row)
+    return whole
+
+
+def _is_whole(row: Row) -> bool:
+    """Whether a row has every column, with a number where there must be one: a run that stopped has no figures."""
+    if len(row) != len(TABLE_COLUMNS) or not row[0] or not cell(row, "library"):
+        return False
+    stopped = cell(row, "stopped") != ""
+    return all(cell(row, name).isdigit() for name in ["heap_blocks", "count_width", "roots", "number", "records"]) and all(
+        cell(row, name) == "" if stopped else cell(row, name).isdigit() for name in FIGURE_COLUMNS
+    )
+
+
+def task_of(row: Row) -> Task:
+    """The key of a row that is whole."""
+    return Task(row[0], *(int(cell(row, name)) for name in ["heap_blocks", "count_width", "roots"]))
+
+
 def _line(row: Sequence[str]) -> str:
     line = io.StringIO()
     csv.writer(line, lineterminator="\n").writerow(row)
     return line.getvalue()
 
 
-def _still_true(rows: Iterable[Row], tasks: Sequence[Task], roots: int, paths: dict[str, Path]) -> dict[Task, Row]:
-    """The rows of histories that are there and have not changed."""
-    shapes = {(str(task.blocks), str(task.width), str(roots)) for task in tasks}
+def _still_true(rows: Iterable[Row], tasks: Sequence[Task], paths: dict[str, Path]) -> tuple[dict[Task, Row], int, list[str]]:
+    """The rows of histories that are there and have not changed, run by the library that is loaded; how many are of other bytes or
+    of another library; and the histories of those that are of none that is there."""
+    shapes = {task[1:] for task in tasks}
     digests: dict[str, str] = {}
-    kept = {}
+    kept: dict[Task, Row] = {}
+    anew, lost = 0, []
     for row in rows:
-        history, digest, blocks, width, row_roots = row[:5]
-        if (blocks, width, row_roots) not in shapes:
+        task = task_of(row)
+        if task[1:] not in shapes:
             raise SweepError(
-                f"the table has a row of {blocks} blocks, width {width} and {row_roots} roots, which is not asked for: name another "
-                "table, or delete this one"
+                f"the table has a row of {task.blocks} blocks, width {task.width} and {task.roots} roots, which is not asked for: name "
+                "another table, or delete this one"
             )
-        if history in paths:
-            if history not in digests:
-                digests[history] = _digest(paths[history])
-            if digests[history] == digest:
-                kept[Task(history, int(blocks), int(width))] = row
-    return kept
+        if task.history not in paths:
+            lost.append(task.history)
+            continue
+        if task.history not in digests:
+            digests[task.history] = _digest(paths[task.history])
+        if (digests[task.history], build()) == (cell(row, "sha256"), cell(row, "library")):
+            kept[task] = row
+        else:
+            anew += 1
+    return kept, anew, lost
 
 
 def _changed(rows: Iterable[Row]) -> list[str]:
@@ -225,7 +335,7 @@ def _changed(rows: Iterable[Row]) -> list[str]:
     digests: dict[str, set[str]] = {}
     for row in rows:
         digests.setdefault(row[0], set()).add(row[1])
-    return [f"{history}: changed during the sweep; run it again" for history, found in digests.items() if len(found) > 1]
+    return [f"{shown(history)}: changed during the sweep; run it again" for history, found in digests.items() if len(found) > 1]
 
 
 class _Workers(NamedTuple):
@@ -248,12 +358,14 @@ class _Here(Executor):
 
 
 @contextmanager
-def _workers(jobs: int, dask: Optional[str]) -> Iterator[_Workers]:
+def workers_for(jobs: int, dask: Optional[str]) -> Iterator[_Workers]:
     if dask is not None:
         try:
             from distributed import Client
         except ImportError:
-            raise SweepError("a Dask cluster needs distributed: `apt-get install python3-distributed` on Debian") from None
+            raise SweepError(
+                f"a Dask cluster needs distributed, which {sys.executable} has not: `apt-get install python3-distributed` on Debian"
+            ) from None
         with Client(dask) as client:  # type: ignore[no-untyped-call]
             yield _Workers(client.get_executor(pure=False), 2 * max(1, sum(client.ncores().values())))
         return
@@ -265,8 +377,13 @@ def _workers(jobs: int, dask: Optional[str]) -> Iterator[_Workers]:
     executor = concurrent.futures.ProcessPoolExecutor(jobs, mp_context=context, initializer=_begin_worker)
     try:
         yield _Workers(executor, 2 * jobs)
-    finally:
-        executor.shutdown(cancel_futures=True)
+    except BaseException:
+        # What they are at would be waited for.
+        executor.shutdown(wait=False, cancel_futures=True)
+        for process in multiprocessing.active_children():
+            process.terminate()
+        raise
+    executor.shutdown()
 
 
 def _begin_worker() -> None:
@@ -282,14 +399,14 @@ def _end_after(sentinel: int) -> None:
     os._exit(1)
 
 
-def _finished(
-    workers: _Workers, paths: dict[str, Path], tasks: Iterator[Task], roots: int
+def finished(
+    workers: _Workers, paths: dict[str, Path], tasks: Iterator[Task]
 ) -> Iterator[tuple[Task, Optional[Row], str]]:
     """Each task with its row, or with what went wrong, as they are finished."""
     running: dict[Future[Row], Task] = {}
     while True:
         for task in tasks:
-            running[workers.executor.submit(row_of, str(paths[task.history]), task, roots)] = task
+            running[workers.executor.submit(row_of, str(paths[task.history]), task)] = task
             if len(running) >= workers.most:
                 break
         if not running:
@@ -298,7 +415,9 @@ def _finished(
             task, error = running.pop(future), future.exception()
             if error is None:
                 yield task, future.result(), ""
+            elif isinstance(error, BrokenExecutor):
+                raise SweepError("a worker process died, as one does that is killed for want of memory") from error
             elif isinstance(error, OSError):
                 yield task, None, str(error)
             else:
-                raise error
+                yield task, None, f"{type(error).__name__}: {error}"

@@ -2,7 +2,7 @@
 
 from __future__ import annotations
 
-from typing import Iterable, NamedTuple
+from typing import AbstractSet, Iterable, NamedTuple
 
 from .heap import Heap
 
@@ -15,12 +15,23 @@ class Held(NamedTuple):
 
 
 class Garbage(NamedTuple):
-    """The objects that no root reaches."""
+    """The objects that no root reaches, by what holds them.
 
-    #: those that are stuck, or that a stuck one of them leads to
+    Take away from the garbage, again and again, each object that no cell of what is left names. What goes is held by stuck counts
+    alone; what stays is on a cycle of garbage or behind one.
+    """
+
+    #: held by stuck counts alone: counts without a limit would have freed it
     stuck: Held
-    #: the others: each is named, directly or over others, by a cycle of them
+    #: held by cycles alone: no width of counts would free it, and no stuck garbage leads to it
     cycles: Held
+    #: held by both: no width would free it, and it is stuck itself, or a stuck object of garbage leads to it
+    both: Held
+
+    @property
+    def blocks(self) -> int:
+        """The blocks of all garbage."""
+        return self.stuck.blocks + self.cycles.blocks + self.both.blocks
 
 
 def in_use(heap: Heap) -> int:
@@ -51,9 +62,31 @@ def garbage(heap: Heap) -> Garbage:
     sizes = objects(heap)
     cells = heap.cells.tolist()
     reached = _led_to((v - 1 for v in heap.roots.tolist() if v), sizes, cells, set())
+    unreached = sizes.keys() - reached
+    alone = _unnamed(unreached, sizes, cells)
     by_stuck = _led_to((first for first in stuck(heap) if first not in reached), sizes, cells, reached)
-    others = sizes.keys() - reached - by_stuck
-    return Garbage(*(Held(len(some), sum(sizes[first] for first in some)) for some in (by_stuck, others)))
+    by_cycles = unreached - alone
+    parts = (alone, by_cycles - by_stuck, by_cycles & by_stuck)
+    return Garbage(*(Held(len(some), sum(sizes[first] for first in some)) for some in parts))
+
+
+def _unnamed(some: AbstractSet[int], sizes: dict[int, int], cells: list[int]) -> set[int]:
+    """What goes if each of these objects that no cell of one of them names is taken away, again and again."""
+    names = {first: [v - 1 for v in cells[4 * first : 4 * (first + sizes[first])] if v and v - 1 in some] for first in some}
+    references = dict.fromkeys(some, 0)
+    for named in names.values():
+        for first in named:
+            references[first] += 1
+    to_take = [first for first in some if references[first] == 0]
+    taken: set[int] = set()
+    while to_take:
+        first = to_take.pop()
+        taken.add(first)
+        for named_one in names[first]:
+            references[named_one] -= 1
+            if references[named_one] == 0:
+                to_take.append(named_one)
+    return taken
 
 
 def _led_to(start: Iterable[int], sizes: dict[int, int], cells: list[int], left_out: set[int]) -> set[int]:

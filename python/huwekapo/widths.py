@@ -3,6 +3,7 @@
 from __future__ import annotations
 
 import csv
+import json
 from typing import Iterable, Iterator, Optional, Sequence, TextIO
 
 from .history import History, Progress, Source
@@ -30,29 +31,43 @@ def write_csv(measures: Iterable[Measured], file: TextIO) -> None:
     writer = csv.writer(file, lineterminator="\n")
     writer.writerow(COLUMNS)
     for measured in measures:
-        writer.writerow(measured.numbers())
+        writer.writerow(measured.row())
+
+
+def write_json(measures: Iterable[Measured], file: TextIO) -> None:
+    """The table as a list of objects with the same names; a figure that a stopped run hasn't is null."""
+    json.dump([measured.columns() for measured in measures], file, indent=2)
+    file.write("\n")
+
+
+#: The columns for reading: two lines of a head, and which of the columns it is.
+_HEADS = [
+    ("", "blocks", "heap_blocks"),
+    ("", "width", "count_width"),
+    ("full", "collections", "collections"),
+    ("most blocks", "in use", "peak"),
+    ("stuck", "moments", "stuck_moments"),
+    ("garbage held by", "stuck counts alone", "garbage_stuck_alone"),
+    ("garbage held by", "cycles alone", "garbage_cycles_alone"),
+    ("garbage held", "by both", "garbage_both"),
+    ("", "stopped", "stopped"),
+]
 
 
 def text(measures: Iterable[Measured]) -> str:
-    """The table for reading. The column of stops is left out where nothing stopped."""
-    heads = [
-        ("", "blocks"),
-        ("", "width"),
-        ("full", "collections"),
-        ("most blocks", "in use"),
-        ("stuck", "moments"),
-        ("garbage held", "by stuck counts"),
-        ("garbage held", "by cycles"),
-        ("", "stopped"),
-    ]
-    rows: list[tuple[str, ...]] = [tuple(head[line] for head in heads) for line in range(2)]
+    """The table for reading. A run that stopped has no figures. The column of stops is left out where nothing stopped."""
+    rows: list[tuple[str, ...]] = [tuple(head[line] for head in _HEADS) for line in range(2)]
     for measured in measures:
-        figures = measured.run.figures
-        numbers = [measured.blocks, measured.width, figures.collections, figures.peak, figures.stuck]
-        numbers += [measured.garbage.stuck.blocks, measured.garbage.cycles.blocks]
-        rows.append((*(f"{number:,}" for number in numbers), measured.stop()))
+        columns = measured.columns()
+        rows.append(tuple(_word(columns[head[2]]) for head in _HEADS))
     if not any(row[-1] for row in rows[2:]):
         rows = [row[:-1] for row in rows]
     breadths = [max(map(len, column)) for column in zip(*rows)]
     lines = ["  ".join(word.rjust(breadth) for word, breadth in zip(row, breadths)).rstrip() for row in rows]
     return "\n".join(lines) + "\n"
+
+
+def _word(cell: object) -> str:
+    if cell is None:
+        return "-"
+    return f"{cell:,}" if isinstance(cell, int) else str(cell)

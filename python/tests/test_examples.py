@@ -18,7 +18,7 @@ class Examples(unittest.TestCase):
                 history = examples.example(name, 20_000, seed)
                 self.assertEqual(len(history), 8 * 20_000)
                 for blocks in [1024, 8192]:
-                    run = huwekapo.run(io.BytesIO(history), blocks)
+                    run = huwekapo.run(history, blocks, may_stop=True)
                     with self.subTest(name=name, seed=seed, blocks=blocks, line=run.line()):
                         # The leak outgrows a small heap; nothing else stops.
                         self.assertEqual(run.number, 5 if (name, blocks) == ("leak", 1024) else 0)
@@ -54,6 +54,8 @@ class Examples(unittest.TestCase):
         for name in ["lists", "trees"]:
             self.assertEqual(by_width[name][3].garbage.stuck.blocks, 0, name)
             self.assertGreater(by_width[name][3].garbage.cycles.blocks, 1000, name)
+            # What narrow counts hold of them is mostly behind cycles too.
+            self.assertGreater(by_width[name][0].garbage.both.blocks, 1000, name)
 
 
 DIGEST = "560cb5d595616c7c492f0d4bd99e49ef4b58db81b29b690e911e738459e7f80a"

@@ -2,12 +2,16 @@
 
 from __future__ import annotations
 
+import copy
 import doctest
 import os
 import pickle
+import pydoc
 import re
+import shutil
 import subprocess
 import sys
+import tempfile
 import threading
 import unittest
 from pathlib import Path
@@ -171,8 +175,39 @@ class Calls(unittest.TestCase):
         heap.check()
         self.assertEqual(heap.free_blocks(), 1024)
 
+    def test_copies(self) -> None:
+        heap = Heap(64, 2, 4)
+        heap.allocate(3, 0)
+        heap.store_root(1, 1)
+        for other in [heap.copy(), copy.copy(heap), copy.deepcopy(heap)]:
+            self.assertEqual(heap, other)
+            self.assertEqual(repr(other), "<Heap of 64 blocks, width 2, 4 roots: 3 blocks in use>")
+            other.store_root(2, 1)
+            self.assertTrue(other.became_stuck and not heap.became_stuck)
+            self.assertNotEqual(heap, other)
+            # Each has buffers of its own, and can be used on.
+            self.assertEqual((heap.look(0).count, other.look(0).count), (2, 3))
+            other.check()
+        buffers = {buffer.name: getattr(heap, buffer.name) for buffer in library.BUFFERS}
+        again = Heap.from_buffers(64, 2, **{**buffers, "waiting": [7] * 64})
+        # The waiting list is left out, and nothing else.
+        self.assertEqual(heap, again)
+        self.assertNotEqual(heap, Heap.from_buffers(64, 2, **{**buffers, "sections": [9]}))
+        self.assertNotEqual(heap, Heap.from_buffers(64, 2, **{**buffers, "cells": [0, 0, 1, *(253 * [0])]}))
+        self.assertNotEqual(Heap(8, 1, 4), Heap(8, 2, 4))
+        self.assertNotEqual(Heap(8, 2, 4), Heap(8, 2, 5))
+        self.assertNotEqual(heap, "a heap")
+        with self.assertRaises(TypeError):
+            hash(heap)
+
     def test_documentation(self) -> None:
-        self.assertEqual(doctest.testmod(huwekapo).failed, 0)
+        found = doctest.testmod(huwekapo)
+        self.assertEqual(found.failed, 0)
+        self.assertGreater(found.attempted, 12)
+        # Help begins with what one wants: a history's figures.
+        text = pydoc.plain(pydoc.render_doc(huwekapo))
+        self.assertLess(text.index("huwekapo.run(history"), 900)
+        self.assertIn("except huwekapo.Stopped", text)
         for name in huwekapo.__all__:
             self.assertTrue(getattr(huwekapo, name).__doc__, name)
 
@@ -205,7 +240,26 @@ class Library(unittest.TestCase):
     def test_another_library(self) -> None:
         maps = Path("/proc/self/maps").read_text()
         path = next(word for word in maps.split() if "/libc.so" in word)
-        self.assertIn("is no libhuwekapo: it has no version", self.start(HUWEKAPO_LIBRARY=path).stderr)
+        self.assertIn("is no libhuwekapo of version 0.3.0 or later", self.start(HUWEKAPO_LIBRARY=path).stderr)
+
+    def test_other_libraries_are_asked(self) -> None:
+        compiler = shutil.which(os.environ.get("CC", "cc"))
+        if not compiler:
+            self.skipTest("there is no C compiler")
+        number = "size_t huwekapo_version(void) {{ return {}; }} size_t huwekapo_buffers(void) {{ return {}; }}"
+        for code, words in [
+            # Version 0.2.0 has its version as a text, and can't be asked.
+            ('const char huwekapo_version[] = "0.2.0";', "is no libhuwekapo of version 0.3.0 or later; this package is for"),
+            (number.format(2000, 7), "is version 0.2.0; this package is for"),
+            (number.format(1003000, 7), "is version 1.3.0; this package is for"),
+            (number.format(3000, 8), "takes 8 buffers; this package lends 7"),
+        ]:
+            with self.subTest(code=code), tempfile.TemporaryDirectory() as folder:
+                source, made = Path(folder) / "other.c", Path(folder) / "libhuwekapo.so"
+                source.write_text(f"#include <stddef.h>\n{code}\n")
+                subprocess.run([compiler, "-shared", "-fPIC", "-o", made, source], check=True)
+                said = self.start(HUWEKAPO_LIBRARY=folder).stderr
+                self.assertIn(f"{made} {words}", said)
 
 
 class Header(unittest.TestCase):
@@ -232,6 +286,7 @@ class Header(unittest.TestCase):
         self.assertEqual(macros["VERSION"], f'"{huwekapo.__version__}"')
         parts = [macros[f"VERSION_{part}"] for part in ("MAJOR", "MINOR", "PATCH")]
         self.assertEqual(".".join(parts), huwekapo.__version__)
+        self.assertEqual(int(macros["BUFFERS"]), len(library.BUFFERS))
         limits = [library.MAX_BLOCKS, library.MAX_WIDTH, library.MAX_ROOTS]
         self.assertEqual([int(macros[f"MAX_{name}"]) for name in ("BLOCKS", "WIDTH", "ROOTS")], limits)
 

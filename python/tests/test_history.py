@@ -13,7 +13,7 @@ from pathlib import Path
 from unittest import mock
 
 import huwekapo
-from huwekapo import Figures, Heap, History, Refused, Run, examples
+from huwekapo import Figures, Heap, History, Refused, Run, Stopped, examples, in_use
 
 from .records import COLLECT, allocate, clear, copy, read, record, write
 
@@ -21,7 +21,7 @@ THREE = allocate(2, 0) + allocate(1, 1) + allocate(3, 2)
 
 
 def line(history: bytes) -> str:
-    return huwekapo.run(io.BytesIO(history)).line()
+    return huwekapo.run(history, may_stop=True).line()
 
 
 class Lines(unittest.TestCase):
@@ -52,21 +52,31 @@ class Lines(unittest.TestCase):
             (10, b"\x05"),
         ]:
             with self.subTest(number=number, history=history.hex()):
-                run = huwekapo.run(io.BytesIO(allocate(2, 0) + history + THREE * (number != 10)))
+                history = allocate(2, 0) + history + THREE * (number != 10)
+                run = huwekapo.run(history, may_stop=True)
                 self.assertEqual((run.number, run.records, run.line()), (number, 1, f"refused {number} at record 1\n"))
                 self.assertTrue(run.stopped and run.stop_in_words())
                 self.assertEqual(run.figures.allocations, 1)
+                self.assertEqual(run.stop() + "\n", run.line())
+                # Unless it is asked not to, it raises.
+                with self.assertRaises(Stopped) as caught:
+                    huwekapo.run(history)
+                self.assertEqual((caught.exception.run, caught.exception.name), (run, "bytes"))
+                self.assertEqual(str(caught.exception), f"bytes: {run.stop()}: {run.stop_in_words()}")
+                with self.assertRaises(Stopped):
+                    History(history).run(Heap())
+        self.assertEqual(huwekapo.run(THREE).stop(), "")
 
     def test_forced_collection(self) -> None:
         full = allocate(4096, 0) + write(0, 0, 0) + allocate(4096, 1)
         run = huwekapo.run(io.BytesIO(full + clear(0) + allocate(4096, 2)))
         self.assertEqual((run.number, run.figures.collections), (0, 1))
-        run = huwekapo.run(io.BytesIO(full + allocate(1, 2)))
+        run = huwekapo.run(full + allocate(1, 2), may_stop=True)
         self.assertEqual((run.number, run.records, run.figures.collections), (5, 3, 1))
 
     def test_other_heaps(self) -> None:
         self.assertEqual(huwekapo.run(io.BytesIO(THREE), 8, 2, 3).figures.peak, 6)
-        self.assertEqual(huwekapo.run(io.BytesIO(THREE), 8, 2, 2).line(), "refused 4 at record 2\n")
+        self.assertEqual(huwekapo.run(THREE, 8, 2, 2, may_stop=True).line(), "refused 4 at record 2\n")
         with self.assertRaises(Refused):
             huwekapo.run(io.BytesIO(THREE), 9)
 
@@ -151,8 +161,10 @@ class Files(unittest.TestCase):
         with gzip.open(self.path.with_suffix(".gz"), "wb") as file:
             file.write(self.history)
         with open(self.path, "rb") as open_file, gzip.open(self.path.with_suffix(".gz")) as packed:
-            for source in [self.path, str(self.path), open_file, packed, Slow(self.history, 65535), OnlyRead(self.history)]:
-                with self.subTest(source=source):
+            read = [open_file, packed, Slow(self.history, 65535), OnlyRead(self.history)]
+            given = [self.history, bytearray(self.history), memoryview(self.history)]
+            for source in [self.path, str(self.path), *read, *given]:
+                with self.subTest(source=type(source)):
                     self.assertEqual(huwekapo.run(source).line(), self.line)  # type: ignore[arg-type]
 
     def test_small_pieces(self) -> None:
@@ -163,7 +175,7 @@ class Files(unittest.TestCase):
             for length, patience in [(length, patience) for length in (1, 3, 7, 8, 9) for patience in (0, 0.1)]:
                 with self.subTest(cut=cut, length=length, patience=patience), mock.patch("huwekapo.history._PATIENCE", patience):
                     told: list[int] = []
-                    run = huwekapo.run(Slow(history + end, length), progress=told.append)  # type: ignore[arg-type]
+                    run = huwekapo.run(Slow(history + end, length), progress=told.append, may_stop=True)  # type: ignore[arg-type]
                     self.assertEqual(run.line(), expected)
                     self.assertEqual(len(told) > 400, patience == 0)
 
@@ -185,8 +197,7 @@ class Files(unittest.TestCase):
         writer.join()
 
     def test_run_again(self) -> None:
-        by_path, by_file = History(self.path), History(io.BytesIO(self.history))
-        for history in [by_path, by_file]:
+        for history in [History(self.path), History(io.BytesIO(self.history)), History(self.history)]:
             self.assertEqual(history.size(), len(self.history))
             self.assertEqual([huwekapo.run(history).line() for _ in range(2)], 2 * [self.line])
         # From where the file stood.
@@ -204,6 +215,23 @@ class Files(unittest.TestCase):
         self.assertEqual([run.records for run in History(io.BytesIO(b"")).runs(heap, step=300)], [0])
         with self.assertRaises(ValueError):
             list(History(io.BytesIO(b"")).runs(heap, step=0))
+        # A huge one takes no more memory; one that is no part of a piece is one step all the same.
+        for step, records in [(10**30, [300_000]), (140_000, [140_000, 280_000, 300_000]), (100_000, [100_000, 200_000, 300_000])]:
+            runs = list(History(self.history).runs(Heap(), step=step))
+            self.assertEqual([run.records for run in runs], records)
+            self.assertEqual(runs[-1], huwekapo.run(self.history))
+
+    def test_highest_of_each_step(self) -> None:
+        history = self.history[: 8 * 2000]
+        heap, run, used = Heap(1024, 2, 64), Run(), []
+        for at in range(0, len(history), 8):
+            run = heap.run_records(run, history[at : at + 8])
+            used.append(in_use(heap))
+        for step in [1, 7, 300, 2000, 5000]:
+            steps = list(History(history).steps(Heap(1024, 2, 64), step))
+            self.assertEqual([highest for _, highest in steps], [max(used[at : at + step]) for at in range(0, 2000, step)])
+            self.assertEqual(steps[-1][0], run)
+            self.assertEqual([one.figures.peak for one, _ in steps], [max(used[: one.records]) for one, _ in steps])
 
     def test_progress(self) -> None:
         told: list[int] = []

@@ -1,21 +1,20 @@
-"""Tables and plots over count widths."""
+"""Tables over count widths."""
 
 from __future__ import annotations
 
 import csv
+import hashlib
 import io
-import sys
-import tempfile
+import json
+import re
 import unittest
 from pathlib import Path
-from unittest import mock
 
 import huwekapo
-from huwekapo import examples
+from huwekapo import examples, library
 from huwekapo.library import Figures
-from huwekapo.measures import COLUMNS, FIGURE_WORDS
-from huwekapo.plot import MatplotlibMissing, course, plot
-from huwekapo.widths import text, widths, write_csv
+from huwekapo.measures import COLUMNS, FIGURE_COLUMNS, FIGURE_WORDS, GARBAGE_WORDS, summary
+from huwekapo.widths import text, widths, write_csv, write_json
 
 from .records import allocate, clear, copy, write
 
@@ -23,14 +22,16 @@ from .records import allocate, clear, copy, write
 STUCK = allocate(2, 0) + copy(0, 1) + copy(0, 2) + clear(0) + clear(1) + clear(2)
 CYCLE = allocate(1, 0) + write(0, 0, 0) + clear(0)
 HISTORY = STUCK + CYCLE + allocate(4, 0)
+STOP = "refused 10 at record 10"
 
 
 class Widths(unittest.TestCase):
     def test_rows(self) -> None:
         rows = list(widths(io.BytesIO(HISTORY), [16, 64], [1, 2, 3], 4))
         self.assertEqual([(row.blocks, row.width) for row in rows], [(n, w) for n in (16, 64) for w in (1, 2, 3)])
-        held = [(row.garbage.stuck.blocks, row.garbage.cycles.blocks) for row in rows]
-        self.assertEqual(held, 2 * [(3, 0), (2, 1), (0, 1)])
+        held = [tuple(part.blocks for part in row.garbage) for row in rows]
+        # At width 1 the object that names itself is stuck too.
+        self.assertEqual(held, 2 * [(2, 0, 1), (2, 1, 0), (0, 1, 0)])
         self.assertEqual([row.run.figures.peak for row in rows], 2 * [7, 7, 5])
         self.assertEqual([row.run.figures.stuck for row in rows], 2 * [3, 1, 0])
 
@@ -38,23 +39,25 @@ class Widths(unittest.TestCase):
         shown = text(widths(io.BytesIO(HISTORY), [16], [1, 2, 3], 4)).splitlines()
         self.assertEqual(shown[1].split()[:4], ["blocks", "width", "collections", "in"])
         rows = [list(map(int, line.split())) for line in shown[2:]]
-        self.assertEqual(rows, [[16, 1, 0, 7, 3, 3, 0], [16, 2, 0, 7, 1, 2, 1], [16, 3, 0, 5, 0, 0, 1]])
+        self.assertEqual(rows, [[16, 1, 0, 7, 3, 2, 0, 1], [16, 2, 0, 7, 1, 2, 1, 0], [16, 3, 0, 5, 0, 0, 1, 0]])
         # A column for where runs stopped, where one did.
         self.assertNotIn("stopped", shown[1])
         stopped = text(widths(io.BytesIO(HISTORY + b"\x09"), [16], [2, 3], 4)).splitlines()
         self.assertEqual(stopped[1].split()[-1], "stopped")
-        self.assertTrue(all(line.endswith("  10 at record 10") for line in stopped[2:]))
+        # A run that stopped has no figures.
+        self.assertEqual([line.split(maxsplit=8) for line in stopped[2:]], [["16", w, *(6 * ["-"]), STOP] for w in ("2", "3")])
 
     def test_csv(self) -> None:
         out = io.StringIO()
-        write_csv(widths(io.BytesIO(HISTORY + b"123"), [16], [2], 4), out)
+        write_csv(widths(HISTORY, [16], [2], 4), out)
         (row,) = csv.DictReader(io.StringIO(out.getvalue()))
         self.assertEqual(list(row), COLUMNS)
         expected = {
             "heap_blocks": "16",
             "count_width": "2",
             "roots": "4",
-            "number": "10",
+            "stopped": "",
+            "number": "0",
             "records": "10",
             "allocations": "3",
             "blocks_allocated": "7",
@@ -62,58 +65,47 @@ class Widths(unittest.TestCase):
             "collections": "0",
             "peak": "7",
             "stuck_moments": "1",
-            "garbage_stuck": "2",
-            "garbage_cycles": "1",
+            "garbage_stuck_alone": "2",
+            "garbage_cycles_alone": "1",
+            "garbage_both": "0",
+            "library": library.build(),
         }
         self.assertEqual(row, expected)
+        self.assertRegex(row["library"], rf"^{re.escape(huwekapo.__version__)}\+[0-9a-f]{{16}}$")
+        digest = hashlib.sha256(Path(library.path()).read_bytes()).hexdigest()
+        self.assertEqual(row["library"].partition("+")[2], digest[:16])
+
+    def test_stopped_runs_have_no_figures(self) -> None:
+        out = io.StringIO()
+        write_csv(widths(HISTORY + b"123", [16], [2], 4), out)
+        (row,) = csv.DictReader(io.StringIO(out.getvalue()))
+        self.assertEqual((row["stopped"], row["number"], row["records"]), (STOP, "10", "10"))
+        self.assertEqual({row[name] for name in FIGURE_COLUMNS}, {""})
+
+    def test_json(self) -> None:
+        out = io.StringIO()
+        write_json([*widths(HISTORY, [16], [2], 4), *widths(HISTORY + b"123", [16], [3], 4)], out)
+        ended, stopped = json.loads(out.getvalue())
+        self.assertEqual(list(ended), COLUMNS)
+        self.assertEqual((ended["garbage_stuck_alone"], ended["garbage_cycles_alone"], ended["garbage_both"]), (2, 1, 0))
+        self.assertEqual((ended["stopped"], stopped["stopped"], stopped["peak"], stopped["count_width"]), ("", STOP, None, 3))
+
+    def test_summary(self) -> None:
+        self.assertEqual(summary([("a", 0)]), ["1 run ended, 0 stopped"])
+        lines = summary([("b", 5), ("a", 0), ("c", 10), ("b", 5), ("a", 5)])
+        self.assertEqual(
+            lines,
+            [
+                "1 run ended, 4 stopped",
+                "  3 refused 5 (no chunk is free, not after a full collection either): a, b",
+                "  1 refused 10 (the file ends inside a record, or goes on past 4,294,967,295 records): c",
+            ],
+        )
 
     def test_every_figure_has_words(self) -> None:
         self.assertEqual(list(Figures._fields), list(FIGURE_WORDS))
-
-
-class Courses(unittest.TestCase):
-    def test_samples(self) -> None:
-        history = examples.example("calls", 30_000)
-        one = course(io.BytesIO(history), 1024, 1, 64, step=1000)
-        self.assertEqual([sample.records for sample in one.samples], list(range(0, 30_001, 1000)))
-        expected = huwekapo.run(io.BytesIO(history), 1024, 1)
-        self.assertEqual(one.run, expected)
-        self.assertEqual(sum(sample.collections for sample in one.samples), expected.figures.collections)
-        self.assertGreater(expected.figures.collections, 5)
-        self.assertTrue(all(sample.stuck <= sample.in_use <= expected.figures.peak for sample in one.samples))
-        self.assertGreater(max(sample.stuck for sample in one.samples), 500)
-        # A step of its own: some 400 samples.
-        self.assertEqual(len(course(io.BytesIO(history), 1024, 1, 64).samples), 401)
-        self.assertEqual([sample.records for sample in course(io.BytesIO(b""), 8, 1, 1).samples], [0, 0])
-
-
-class Pictures(unittest.TestCase):
-    def draw(self, path: Path) -> None:
-        history = examples.example("caches", 5000)
-        plot([course(io.BytesIO(history), 1024, width, 64) for width in (1, 2)], 1024, "a title", path)
-
-    def test_picture(self) -> None:
-        try:
-            import matplotlib
-        except ImportError:
-            self.skipTest("matplotlib can't be imported")
-        with tempfile.TemporaryDirectory() as folder:
-            paths = [Path(folder) / name for name in ("one.svg", "two.svg", "one.png", "one.pdf")]
-            for path in paths:
-                self.draw(path)
-            drawn = paths[0].read_text()
-            for words in ["a title", "records", "blocks in use, of 1,024", "width 1: ", "width 2: ", "full collection"]:
-                self.assertIn(words, drawn)
-            self.assertIn("garbage held by stuck counts", drawn)
-            self.assertEqual(drawn, paths[1].read_text())
-            self.assertEqual(paths[2].read_bytes()[:4], b"\x89PNG")
-            self.assertEqual(paths[3].read_bytes()[:4], b"%PDF")
-
-    def test_without_matplotlib(self) -> None:
-        with mock.patch.dict(sys.modules, {"matplotlib": None}), tempfile.TemporaryDirectory() as folder:
-            with self.assertRaises(MatplotlibMissing) as caught:
-                self.draw(Path(folder) / "one.svg")
-        self.assertIn("apt-get install python3-matplotlib", str(caught.exception))
+        self.assertEqual(list(huwekapo.Garbage._fields), list(GARBAGE_WORDS))
+        self.assertEqual(len(FIGURE_COLUMNS), len(FIGURE_WORDS) + len(GARBAGE_WORDS))
 
 
 if __name__ == "__main__":

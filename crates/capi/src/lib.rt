@@ -8,6 +8,7 @@ use types::Ref;
 use types::Reply;
 
 mod runs;
+mod version;
 
 #[no_mangle]
 pub extern "C" fn huwekapo_format(

@@ -1,6 +1,6 @@
 //! Lists, damaged memories, single calls and garbage as plain text. README.md states the four forms.
 
-use crate::history::garbage::{self, blocks_of};
+use crate::history::garbage;
 use crate::lists::damaging::{some_damage, AIMS};
 use crate::lists::file::Bench;
 use crate::lists::generate::Desk;
@@ -111,7 +111,8 @@ pub fn steps(seed: u64, count: usize) -> String {
     out
 }
 
-/// Used memories, one a line, with the objects and blocks of their garbage: held by stuck counts, held by cycles.
+/// Used memories, one a line, with the objects and blocks of their garbage: held by stuck counts alone, by cycles alone,
+/// by both.
 pub fn garbage(seed: u64, count: usize) -> String {
     let mut random = Random::new(seed);
     let mut out = String::new();
@@ -135,12 +136,8 @@ pub fn garbage(seed: u64, count: usize) -> String {
             "no such list damages a heap"
         );
         let found = garbage::garbage(*blocks, *width, memory);
-        write!(out, "{blocks} {width} | {}", buffers(memory)).unwrap();
-        for held in [&found.stuck, &found.cycles] {
-            let held_blocks = blocks_of(*blocks, memory, held);
-            write!(out, " | {} {held_blocks}", held.len()).unwrap();
-        }
-        writeln!(out).unwrap();
+        let parts = found.text(*blocks, memory);
+        writeln!(out, "{blocks} {width} | {} | {parts}", buffers(memory)).unwrap();
     }
     out
 }
@@ -161,6 +158,23 @@ fn tangle(desk: &mut Desk) {
         let a = desk.some_object();
         let j = desk.random.below(desk.cells_of(a));
         desk.call(Call::StoreCell { a, j, v: 1 + named });
+    }
+    // Apart from these, where there is room: an object that sticks since eight cells name it, and one that names itself.
+    if desk.roots() > 1 && desk.random.percent(60) {
+        desk.call(Call::Allocate { n: 1, r: 1 });
+        let shared = desk.call(Call::Allocate { n: 1, r: 1 });
+        let owner = desk.call(Call::Allocate { n: 2, r: 0 });
+        if shared.number == 0 && owner.number == 0 {
+            for j in 0..8 {
+                let (a, v) = (owner.value, 1 + shared.value);
+                desk.call(Call::StoreCell { a, j, v });
+            }
+        }
+        let selfish = desk.call(Call::Allocate { n: 1, r: 0 });
+        if selfish.number == 0 {
+            let (a, v) = (selfish.value, 1 + selfish.value);
+            desk.call(Call::StoreCell { a, j: 0, v });
+        }
     }
     for r in 0..desk.roots() {
         if desk.random.percent(70) {
