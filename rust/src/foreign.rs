@@ -31,6 +31,12 @@ macro_rules! declared {
     };
 }
 
+extern "C" {
+    pub fn huwekapo_version() -> usize;
+
+    pub fn huwekapo_buffers() -> usize;
+}
+
 declared! {
     huwekapo_format(mut, mut) -> Reply;
     huwekapo_check(const, const) -> Reply;

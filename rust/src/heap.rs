@@ -68,6 +68,24 @@ pub struct Look {
     pub count: usize,
 }
 
+/// What an allocation does.
+#[derive(Clone, Copy, Debug, PartialEq, Eq, Hash)]
+pub struct Allocated {
+    /// The first block of the new object.
+    pub block: usize,
+    /// Whether it is stuck: at width 1 every object is born so.
+    pub became_stuck: bool,
+}
+
+/// What a store of a reference does.
+#[derive(Clone, Copy, Debug, PartialEq, Eq, Hash)]
+pub struct Stored {
+    /// The number of blocks freed.
+    pub freed: usize,
+    /// Whether this very store brought the count of the object that it stored to the capacity, at which it is stuck.
+    pub became_stuck: bool,
+}
+
 impl Heap {
     /// A formatted heap: blocks is a power of two from 8 to 8,192, the width 1 to 4, and there are 1 to 64
     /// roots. Refusals: 1.
@@ -146,21 +164,24 @@ impl Heap {
         value(lent::check(self.shared())).map(|_| ())
     }
 
-    /// Allocates n blocks into root r. The value is the first block. Refusals: 1, 2, 11, 3, 4, 5.
-    pub fn allocate(&mut self, n: usize, r: usize) -> Result<usize, Refusal> {
-        value(lent::allocate(self.unique(), n, r))
+    /// Allocates n blocks into root r. Refusals: 1, 2, 11, 3, 4, 5.
+    pub fn allocate(&mut self, n: usize, r: usize) -> Result<Allocated, Refusal> {
+        let reply = lent::allocate(self.unique(), n, r);
+        value(reply).map(|block| Allocated {
+            block,
+            became_stuck: reply.second == 1,
+        })
     }
 
-    /// Stores v in root r. The value is the number of blocks freed. Where the root holds v already, nothing but the
-    /// waiting list is written. Refusals: 1, 2, 11, 4, 8.
-    pub fn store_root(&mut self, r: usize, v: usize) -> Result<usize, Refusal> {
-        value(lent::store_root(self.unique(), r, v))
+    /// Stores v in root r. Where the root holds v already, nothing but the waiting list is written. Refusals: 1, 2, 11, 4, 8.
+    pub fn store_root(&mut self, r: usize, v: usize) -> Result<Stored, Refusal> {
+        stored(lent::store_root(self.unique(), r, v))
     }
 
-    /// Stores v in cell j of the object at block `at`. The value is the number of blocks freed. Where the cell holds v
-    /// already, nothing but the waiting list is written. Refusals: 1, 2, 11, 6, 7, 8.
-    pub fn store_cell(&mut self, at: usize, j: usize, v: usize) -> Result<usize, Refusal> {
-        value(lent::store_cell(self.unique(), at, j, v))
+    /// Stores v in cell j of the object at block `at`. Where the cell holds v already, nothing but the waiting list is
+    /// written. Refusals: 1, 2, 11, 6, 7, 8.
+    pub fn store_cell(&mut self, at: usize, j: usize, v: usize) -> Result<Stored, Refusal> {
+        stored(lent::store_cell(self.unique(), at, j, v))
     }
 
     /// Clears the roots of a set, bit r of `chosen` for root r, as stores of 0 do one after another. The value is
@@ -230,6 +251,14 @@ impl Heap {
             sections: &mut self.buffers.sections,
         }
     }
+}
+
+/// What an accepted store did, or the refusal.
+fn stored(reply: Reply) -> Result<Stored, Refusal> {
+    value(reply).map(|freed| Stored {
+        freed,
+        became_stuck: reply.second == 1,
+    })
 }
 
 /// The value of an acceptance, or the refusal.

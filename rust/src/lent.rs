@@ -21,6 +21,9 @@
 
 use crate::{foreign, Ref, SoFar};
 
+/// The number of buffers.
+pub const BUFFERS: usize = 7;
+
 /// A number and its values. `number` is 0 where the call was accepted, else the first that applies of the refusals
 /// that the call names, in the order in which it names them. A refusal carries value 0, or the damage kind for
 /// number 2. `second` is the count that a look finds; of an accepted allocation or store it is 1 where this call brought

@@ -9,9 +9,9 @@
 //!
 //! // 8 blocks, counts of 2 bits, 4 roots.
 //! let mut heap = Heap::new(8, 2, 4)?;
-//! assert_eq!(heap.allocate(2, 0)?, 0);
-//! assert_eq!(heap.allocate(1, 1)?, 2);
-//! assert_eq!(heap.allocate(3, 2)?, 4);
+//! assert_eq!(heap.allocate(2, 0)?.block, 0);
+//! assert_eq!(heap.allocate(1, 1)?.block, 2);
+//! assert_eq!(heap.allocate(3, 2)?.block, 4);
 //! assert_eq!(heap.look(4)?, Look { size: 3, count: 1 });
 //!
 //! // Blocks 3 and 7 are free, but no two of them together.
@@ -24,8 +24,10 @@
 //! assert_eq!(heap.free_blocks()?, 2);
 //! assert_eq!(heap.sections(), [1]);
 //!
-//! // Clearing root 2 lets go of the object at block 4.
-//! assert_eq!(heap.store_root(2, 0)?, 3);
+//! // Clearing root 2 lets go of the object at block 4. A third reference sticks the one at block 0.
+//! assert_eq!(heap.store_root(2, 0)?.freed, 3);
+//! assert!(!heap.store_root(2, 1)?.became_stuck);
+//! assert!(heap.store_root(3, 1)?.became_stuck);
 //! # Ok::<(), Refusal>(())
 //! ```
 
@@ -38,10 +40,32 @@ pub mod lent;
 mod refusal;
 mod run;
 
-pub use heap::{Buffers, Heap, Look};
+pub use heap::{Allocated, Buffers, Heap, Look, Stored};
 pub use history::{SoFar, Stopped, Tally};
 pub use refusal::{Damage, Refusal};
 pub use run::{Run, RunError};
 
 /// A cell or root: 0, or 1 + the first block of an object.
 pub type Ref = u16;
+
+/// The version of this crate, and of the library that it is for.
+pub const VERSION: &str = env!("CARGO_PKG_VERSION");
+
+/// The version of the library that is linked, 1,000,000 for each major number, 1,000 for each minor one and the patch; and
+/// the number of buffers that its calls take.
+#[must_use]
+pub fn linked() -> (usize, usize) {
+    // Safe: neither takes anything.
+    unsafe { (foreign::huwekapo_version(), foreign::huwekapo_buffers()) }
+}
+
+/// Whether the library that is linked is the one that this crate is for: to another one the arguments mean something else.
+#[must_use]
+pub fn is_this_library() -> bool {
+    let mut numbers = VERSION
+        .split('.')
+        .map(|part| part.parse().unwrap_or(usize::MAX));
+    let (version, buffers) = linked();
+    let parts = [version / 1_000_000, version / 1000 % 1000];
+    parts.iter().all(|part| numbers.next() == Some(*part)) && buffers == lent::BUFFERS
+}

@@ -1,5 +1,7 @@
 //! The paper cases through the Rust interface: 8 blocks, width 2 and 4 roots unless said.
 
+mod common;
+use common::{block, freed};
 use huwekapo::{Buffers, Damage, Heap, Look, Refusal};
 
 fn fresh(width: usize) -> Heap {
@@ -17,38 +19,38 @@ fn seen(size: usize, count: usize) -> Result<Look, Refusal> {
 #[test]
 fn p1_p2() {
     let mut heap = fresh(2);
-    assert_eq!(heap.allocate(2, 0), Ok(0));
-    assert_eq!(heap.allocate(1, 1), Ok(2));
-    assert_eq!(heap.allocate(3, 2), Ok(4));
+    assert_eq!(heap.allocate(2, 0).map(block), Ok(0));
+    assert_eq!(heap.allocate(1, 1).map(block), Ok(2));
+    assert_eq!(heap.allocate(3, 2).map(block), Ok(4));
     assert_eq!(maps(&heap), (119, 185));
     assert_eq!(heap.look(4), seen(3, 1));
     assert_eq!(heap.allocate(2, 3), Err(Refusal::NoChunk));
     assert_eq!(heap.free_blocks(), Ok(2));
-    assert_eq!(heap.allocate(1, 3), Ok(3));
+    assert_eq!(heap.allocate(1, 3).map(block), Ok(3));
 }
 
 #[test]
 fn p3() {
     let mut heap = fresh(2);
-    assert_eq!(heap.allocate(5, 0), Ok(0));
+    assert_eq!(heap.allocate(5, 0).map(block), Ok(0));
     assert_eq!(heap.allocate(3, 1), Err(Refusal::NoChunk));
-    assert_eq!(heap.allocate(2, 1), Ok(6));
+    assert_eq!(heap.allocate(2, 1).map(block), Ok(6));
 }
 
 #[test]
 fn p4_p5() {
     let mut heap = fresh(2);
-    assert_eq!(heap.allocate(1, 0), Ok(0));
-    assert_eq!(heap.store_root(1, 1), Ok(0));
-    assert_eq!(heap.store_root(0, 0), Ok(0));
+    assert_eq!(heap.allocate(1, 0).map(block), Ok(0));
+    assert_eq!(heap.store_root(1, 1).map(freed), Ok(0));
+    assert_eq!(heap.store_root(0, 0).map(freed), Ok(0));
     assert_eq!(heap.look(0), seen(1, 1));
-    assert_eq!(heap.store_root(1, 0), Ok(1));
+    assert_eq!(heap.store_root(1, 0).map(freed), Ok(1));
     assert_eq!(heap.look(0), Err(Refusal::NoObject));
-    assert_eq!(heap.allocate(1, 0), Ok(0));
-    assert_eq!(heap.store_root(1, 1), Ok(0));
-    assert_eq!(heap.store_root(2, 1), Ok(0));
+    assert_eq!(heap.allocate(1, 0).map(block), Ok(0));
+    assert_eq!(heap.store_root(1, 1).map(freed), Ok(0));
+    assert_eq!(heap.store_root(2, 1).map(freed), Ok(0));
     for r in 0..3 {
-        assert_eq!(heap.store_root(r, 0), Ok(0));
+        assert_eq!(heap.store_root(r, 0).map(freed), Ok(0));
     }
     assert_eq!(heap.look(0), seen(1, 3));
     assert_eq!(heap.collect(), Ok(1));
@@ -57,20 +59,20 @@ fn p4_p5() {
 #[test]
 fn p6() {
     let mut heap = fresh(1);
-    assert_eq!(heap.allocate(1, 0), Ok(0));
-    assert_eq!(heap.store_root(0, 0), Ok(0));
+    assert_eq!(heap.allocate(1, 0).map(block), Ok(0));
+    assert_eq!(heap.store_root(0, 0).map(freed), Ok(0));
     assert_eq!(heap.collect(), Ok(1));
 }
 
 #[test]
 fn p7() {
     let mut heap = fresh(2);
-    assert_eq!(heap.allocate(1, 0), Ok(0));
-    assert_eq!(heap.allocate(1, 1), Ok(1));
-    assert_eq!(heap.store_cell(0, 0, 2), Ok(0));
-    assert_eq!(heap.store_cell(1, 0, 1), Ok(0));
-    assert_eq!(heap.store_root(0, 0), Ok(0));
-    assert_eq!(heap.store_root(1, 0), Ok(0));
+    assert_eq!(heap.allocate(1, 0).map(block), Ok(0));
+    assert_eq!(heap.allocate(1, 1).map(block), Ok(1));
+    assert_eq!(heap.store_cell(0, 0, 2).map(freed), Ok(0));
+    assert_eq!(heap.store_cell(1, 0, 1).map(freed), Ok(0));
+    assert_eq!(heap.store_root(0, 0).map(freed), Ok(0));
+    assert_eq!(heap.store_root(1, 0).map(freed), Ok(0));
     assert_eq!(heap.look(0), seen(1, 1));
     assert_eq!(heap.look(1), seen(1, 1));
     assert_eq!(heap.collect(), Ok(2));
@@ -79,22 +81,22 @@ fn p7() {
 #[test]
 fn p8() {
     let mut heap = fresh(2);
-    assert_eq!(heap.allocate(2, 0), Ok(0));
-    assert_eq!(heap.allocate(1, 1), Ok(2));
+    assert_eq!(heap.allocate(2, 0).map(block), Ok(0));
+    assert_eq!(heap.allocate(1, 1).map(block), Ok(2));
     assert_eq!(heap.store_cell(0, 8, 3), Err(Refusal::BadCell));
-    assert_eq!(heap.store_cell(0, 7, 3), Ok(0));
-    assert_eq!(heap.store_root(1, 0), Ok(0));
-    assert_eq!(heap.store_root(0, 0), Ok(3));
+    assert_eq!(heap.store_cell(0, 7, 3).map(freed), Ok(0));
+    assert_eq!(heap.store_root(1, 0).map(freed), Ok(0));
+    assert_eq!(heap.store_root(0, 0).map(freed), Ok(3));
 }
 
 #[test]
 fn p9() {
     let mut heap = fresh(2);
-    assert_eq!(heap.allocate(1, 0), Ok(0));
-    assert_eq!(heap.store_root(0, 1), Ok(0));
+    assert_eq!(heap.allocate(1, 0).map(block), Ok(0));
+    assert_eq!(heap.store_root(0, 1).map(freed), Ok(0));
     assert_eq!(heap.look(0), seen(1, 1));
-    assert_eq!(heap.store_root(1, 1), Ok(0));
-    assert_eq!(heap.store_root(1, 1), Ok(0));
+    assert_eq!(heap.store_root(1, 1).map(freed), Ok(0));
+    assert_eq!(heap.store_root(1, 1).map(freed), Ok(0));
     assert_eq!(heap.look(0), seen(1, 2));
 }
 
@@ -105,7 +107,7 @@ fn p10_and_the_other_refusals() {
         assert_eq!(heap.allocate(n, r), Err(Refusal::BadSize));
     }
     assert_eq!(heap.allocate(8, 4), Err(Refusal::BadRoot));
-    assert_eq!(heap.allocate(8, 0), Ok(0));
+    assert_eq!(heap.allocate(8, 0).map(block), Ok(0));
     assert_eq!(heap.store_root(1, 2), Err(Refusal::BadReference));
     assert_eq!(heap.store_cell(1, 0, 0), Err(Refusal::NoObject));
     assert_eq!(heap.look(usize::MAX), Err(Refusal::NoObject));
@@ -115,7 +117,7 @@ fn p10_and_the_other_refusals() {
 #[test]
 fn values_are_whole_words() {
     let mut heap = fresh(2);
-    assert_eq!(heap.allocate(2, 0), Ok(0));
+    assert_eq!(heap.allocate(2, 0).map(block), Ok(0));
     let mut buffers = heap.into_buffers();
     buffers.waiting.fill(99);
     let mut heap = Heap::from_buffers(8, 2, buffers.clone());
@@ -201,8 +203,8 @@ fn equality_leaves_out_the_waiting_list() {
 fn getters() {
     let mut heap = fresh(2);
     assert_eq!((heap.blocks(), heap.width()), (8, 2));
-    assert_eq!(heap.allocate(2, 1), Ok(0));
-    assert_eq!(heap.allocate(1, 3), Ok(2));
+    assert_eq!(heap.allocate(2, 1).map(block), Ok(0));
+    assert_eq!(heap.allocate(1, 3).map(block), Ok(2));
     assert_eq!(heap.roots(), [0, 1, 0, 3]);
     assert_eq!(heap.sections(), [4]);
 }
@@ -225,4 +227,31 @@ fn words() {
         Refusal::StaleSections.to_string(),
         "11: a number of `sections` is not the size of the largest free chunk of its section"
     );
+}
+
+#[test]
+fn allocations_and_stores_tell_when_an_object_becomes_stuck() {
+    // The third reference at width 2; the first at width 1.
+    let mut heap = Heap::new(8, 2, 4).unwrap();
+    assert!(!heap.allocate(1, 0).unwrap().became_stuck);
+    assert!(!heap.store_root(1, 1).unwrap().became_stuck);
+    assert!(heap.store_cell(0, 0, 1).unwrap().became_stuck);
+    // It is stuck already; a store of the value present, or of none, counts nothing up.
+    assert!(!heap.store_root(2, 1).unwrap().became_stuck);
+    assert!(!heap.store_root(2, 1).unwrap().became_stuck);
+    assert!(!heap.store_root(2, 0).unwrap().became_stuck);
+    let mut heap = Heap::new(8, 1, 4).unwrap();
+    assert!(heap.allocate(1, 0).unwrap().became_stuck);
+}
+
+#[test]
+fn the_library_is_the_one_that_the_crate_is_for() {
+    assert!(huwekapo::is_this_library());
+    let (version, buffers) = huwekapo::linked();
+    let parts = [version / 1_000_000, version / 1000 % 1000, version % 1000];
+    assert_eq!(
+        parts.map(|part| part.to_string()).join("."),
+        huwekapo::VERSION
+    );
+    assert_eq!(buffers, huwekapo::lent::BUFFERS);
 }

@@ -1,5 +1,7 @@
 //! Returns of sets of roots: 8 blocks, width 2 and 4 roots unless said.
 
+mod common;
+use common::{block, freed};
 use huwekapo::{Damage, Heap, Look, Refusal};
 
 fn fresh() -> Heap {
@@ -16,9 +18,9 @@ fn with_rubbish(heap: Heap) -> Heap {
 /// One object of 2 blocks, in roots 0 to last.
 fn shared_by(last: usize) -> Heap {
     let mut heap = fresh();
-    assert_eq!(heap.allocate(2, 0), Ok(0));
+    assert_eq!(heap.allocate(2, 0).map(block), Ok(0));
     for r in 1..=last {
-        assert_eq!(heap.store_root(r, 1), Ok(0));
+        assert_eq!(heap.store_root(r, 1).map(freed), Ok(0));
     }
     heap
 }
@@ -64,7 +66,7 @@ fn one_object_in_some_roots() {
 fn only_the_set() {
     let mut heap = fresh();
     for (n, r, at) in [(2, 0, 0), (1, 1, 2), (1, 2, 3), (2, 3, 4)] {
-        assert_eq!(heap.allocate(n, r), Ok(at));
+        assert_eq!(heap.allocate(n, r).map(block), Ok(at));
     }
     assert_eq!(heap.return_roots(10), Ok(3));
     assert_eq!(heap.buffers().roots, [1, 0, 4, 0]);
@@ -75,10 +77,10 @@ fn only_the_set() {
 #[test]
 fn a_cycle() {
     let mut heap = fresh();
-    assert_eq!(heap.allocate(1, 0), Ok(0));
-    assert_eq!(heap.allocate(1, 1), Ok(1));
-    assert_eq!(heap.store_cell(0, 0, 2), Ok(0));
-    assert_eq!(heap.store_cell(1, 0, 1), Ok(0));
+    assert_eq!(heap.allocate(1, 0).map(block), Ok(0));
+    assert_eq!(heap.allocate(1, 1).map(block), Ok(1));
+    assert_eq!(heap.store_cell(0, 0, 2).map(freed), Ok(0));
+    assert_eq!(heap.store_cell(1, 0, 1).map(freed), Ok(0));
     assert_eq!(heap.return_roots(3), Ok(0));
     assert_eq!(heap.look(0), Ok(Look { size: 1, count: 1 }));
     assert_eq!(heap.look(1), Ok(Look { size: 1, count: 1 }));
@@ -89,7 +91,7 @@ fn a_cycle() {
 fn sixty_four_roots() {
     let mut heap = Heap::new(64, 1, 64).expect("a good shape");
     for r in 0..64 {
-        assert_eq!(heap.allocate(1, r), Ok(r));
+        assert_eq!(heap.allocate(1, r).map(block), Ok(r));
     }
     // At width 1 a new object is stuck.
     assert_eq!(heap.return_roots(u64::MAX), Ok(0));
@@ -98,7 +100,7 @@ fn sixty_four_roots() {
 
     let mut heap = Heap::new(64, 2, 64).expect("a good shape");
     for r in 0..64 {
-        assert_eq!(heap.allocate(1, r), Ok(r));
+        assert_eq!(heap.allocate(1, r).map(block), Ok(r));
     }
     assert_eq!(heap.return_roots(1 << 63 | 1), Ok(2));
     assert_eq!(heap.return_roots(u64::MAX), Ok(62));
@@ -107,7 +109,7 @@ fn sixty_four_roots() {
 #[test]
 fn sixty_three_roots() {
     let mut heap = Heap::new(64, 2, 63).expect("a good shape");
-    assert_eq!(heap.allocate(1, 62), Ok(0));
+    assert_eq!(heap.allocate(1, 62).map(block), Ok(0));
     assert_eq!(heap.return_roots(1 << 63), Err(Refusal::BadRoot));
     assert_eq!(heap.return_roots(1 << 62), Ok(1));
 }

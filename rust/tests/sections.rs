@@ -1,6 +1,8 @@
 //! The largest free chunk of each section (request U4): the lent list is true after every accepted call, and refused where it
 //! is not.
 
+mod common;
+use common::block;
 use huwekapo::lent::{self, Reply, Shared, Unique};
 use huwekapo::{Buffers, Heap, Refusal, SoFar};
 
@@ -112,7 +114,7 @@ fn call(name: &str, blocks: usize, buffers: &mut Buffers) -> Reply {
 /// The heap of `call`, with anything in its waiting list.
 fn lent_to_calls(blocks: usize) -> Buffers {
     let mut heap = fresh(blocks);
-    assert_eq!(heap.allocate(1, 0), Ok(0));
+    assert_eq!(heap.allocate(1, 0).map(block), Ok(0));
     let mut buffers = heap.into_buffers();
     buffers.waiting.fill(99);
     buffers
@@ -223,22 +225,22 @@ fn refusals_in_order() {
 #[test]
 fn where_an_allocation_goes() {
     let mut heap = fresh(512);
-    assert_eq!(heap.allocate(200, 0), Ok(0));
+    assert_eq!(heap.allocate(200, 0).map(block), Ok(0));
     assert_eq!(heap.sections(), [32, 256]);
-    assert_eq!(heap.allocate(33, 1), Ok(256));
+    assert_eq!(heap.allocate(33, 1).map(block), Ok(256));
     assert_eq!(heap.sections(), [32, 128]);
-    assert_eq!(heap.allocate(17, 2), Ok(224));
+    assert_eq!(heap.allocate(17, 2).map(block), Ok(224));
     assert_eq!(heap.sections(), [16, 128]);
     assert_eq!(heap.allocate(300, 3), Err(Refusal::NoChunk));
     assert_eq!(heap.allocate(129, 3), Err(Refusal::NoChunk));
     assert_eq!(heap.return_roots(7), Ok(250));
-    assert_eq!(heap.allocate(300, 3), Ok(0));
+    assert_eq!(heap.allocate(300, 3).map(block), Ok(0));
     assert_eq!(heap.sections(), [0, 128]);
 
     // Longer than a section: the first two have no free chunk of 512 blocks together.
     let mut heap = fresh(1024);
-    assert_eq!(heap.allocate(1, 0), Ok(0));
-    assert_eq!(heap.allocate(257, 1), Ok(512));
+    assert_eq!(heap.allocate(1, 0).map(block), Ok(0));
+    assert_eq!(heap.allocate(257, 1).map(block), Ok(512));
     assert_eq!(heap.sections(), [128, 256, 0, 128]);
 }
 
@@ -261,14 +263,16 @@ fn true_after_every_call() {
             let size = 1 + next(1 << magnitude);
             let done = match next(8) {
                 0..=3 => heap.allocate(size, next(16)).map(|_| 0),
-                4 => heap.store_root(next(16), heap.roots()[next(16)].into()),
+                4 => heap
+                    .store_root(next(16), heap.roots()[next(16)].into())
+                    .map(|done| done.freed),
                 5 => heap.return_roots(1 << next(16) | 1 << next(16)),
-                6 => heap.store_root(next(16), 0),
+                6 => heap.store_root(next(16), 0).map(|done| done.freed),
                 _ => match heap.roots()[next(16)] {
                     0 => heap.collect(),
-                    owner => {
-                        heap.store_cell(usize::from(owner) - 1, 0, heap.roots()[next(16)].into())
-                    }
+                    owner => heap
+                        .store_cell(usize::from(owner) - 1, 0, heap.roots()[next(16)].into())
+                        .map(|done| done.freed),
                 },
             };
             assert_eq!(heap.check(), Ok(()));
