@@ -253,6 +253,6 @@ def _title(one: Course, narrow: bool) -> str:
     """The words above a panel. Figures of a run that stopped are not the history's: the words say where it did."""
     figures = one.run.figures
     if one.run.stopped:
-        return f"width {one.width}: STOPPED, {one.run.stop()}:" + ("\n" if narrow else " ") + one.run.stop_in_words()
+        return f"width {one.width}: STOPPED, {one.run.stop()}" + ("" if narrow else f": {one.run.stop_in_words()}")
     collections = f"{figures.collections:,} full collection{'' if figures.collections == 1 else 's'}"
     return f"width {one.width}: {collections}," + ("\n" if narrow else " ") + f"most blocks in use {figures.peak:,}"

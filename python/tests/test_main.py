@@ -2,19 +2,24 @@
 
 from __future__ import annotations
 
+import csv
+import json
 import os
 import pty
 import select
+import shlex
 import subprocess
 import sys
 import tempfile
 import time
 import unittest
 from pathlib import Path
+from unittest import mock
 
 import huwekapo
-from huwekapo import examples
-from huwekapo.__main__ import numbers
+from huwekapo import examples, measures
+from huwekapo.__main__ import STATUSES, blocks, main, several, widths
+from huwekapo.files import written
 
 from .records import allocate
 
@@ -48,9 +53,17 @@ class Commands(unittest.TestCase):
         named = self.start("report", self.three)[0]
         self.assertEqual(named.splitlines(keepends=True)[0], line)
         self.assertRegex(named, r"\n  most blocks in use +6\n")
-        self.assertEqual(len(named.splitlines()), 1 + len(huwekapo.Figures._fields))
-        stopped = self.start("report", self.three, "--blocks", 8, "--width", 1, "--roots", 2)[0]
+        self.assertRegex(named, r"\n  garbage held by stuck counts alone, in blocks +0\n")
+        self.assertEqual(len(named.splitlines()), 1 + len(measures.FIGURE_COLUMNS))
+        # A run that stopped has a status of its own.
+        small = ["--blocks", 8, "--width", 1, "--roots", 2]
+        stopped = self.start("report", self.three, *small, status=3)[0]
         self.assertTrue(stopped.startswith("refused 4 at record 2\n4: a root is not below the number of roots."), stopped)
+        self.assertEqual(self.start("report", "--line", self.three, *small, status=3), ("refused 4 at record 2\n", ""))
+        (row,) = csv.DictReader(self.start("report", self.three, *small, "--csv", status=3)[0].splitlines())
+        self.assertEqual((row["stopped"], row["peak"]), ("refused 4 at record 2", ""))
+        (row,) = json.loads(self.start("report", self.three, "--json")[0])
+        self.assertEqual((row["stopped"], row["peak"], list(row)), ("", 6, measures.COLUMNS))
 
     def test_report_of_sections(self) -> None:
         named = self.start("report", self.three)[0]
@@ -61,27 +74,62 @@ class Commands(unittest.TestCase):
         self.assertEqual(rows[0].split(), ["0:", "128", *(7 * ["256"])])
         self.assertEqual([row.split() for row in rows[1:]], [[f"{at:,}:", *(8 * ["256"])] for at in (2048, 4096, 6144)])
         # Beside the line alone, of a heap that is one section, where the run stopped.
-        shown = self.start("report", "--line", "--sections", self.three, "--blocks", 8, "--roots", 2)[0]
+        shown = self.start("report", "--line", "--sections", self.three, "--blocks", 8, "--roots", 2, status=3)[0]
         self.assertEqual(shown.splitlines()[0], "refused 4 at record 2")
         self.assertEqual(shown.splitlines()[1:], ["largest free chunk of each section of 8 blocks, from block:", "       0:    4"])
 
     def test_wrong_words(self) -> None:
+        table = self.folder / "table.csv"
         for words, part in [
-            (["report", self.three, "--blocks", "100"], "refused 1 MISSHAPEN"),
-            (["report", self.three, "--width", "5"], "refused 1 MISSHAPEN"),
-            (["report", self.three, "--width", "x"], "no number from 1 on"),
-            (["widths", self.three, "--widths", "1-"], "neither a number nor a range"),
+            (["report", self.three, "--blocks", "100"], "--blocks: 100: a power of two from 8 to 8,192"),
+            (["report", self.three, "--blocks", "4"], "--blocks: 4: a power of two from 8 to 8,192"),
+            (["report", self.three, "--blocks", "9" * 30], "9: a power of two from 8 to 8,192"),
+            (["report", self.three, "--blocks", "9" * 5000], "--blocks: "),
+            (["report", self.three, "--width", "5"], "--width: 5: 1 to 4"),
+            (["report", self.three, "--width", "x"], "--width: x: no number"),
+            (["report", self.three, "--width", "-1"], "--width: "),
+            (["report", self.three, "--roots", "65"], "--roots: 65: 1 to 64"),
+            (["report", self.three, "--csv", "--json"], "not allowed with"),
+            (["widths", self.three, "--widths", "1-"], "--widths: : no number"),
+            (["widths", self.three, "--widths", "1-999999999999"], "999999999999: 1 to 4"),
+            (["widths", self.three, "--widths", "3-2"], "3-2: no width"),
+            (["widths", self.three, "--blocks", "8,12"], "--blocks: 12: a power of two"),
+            (["sweep", self.folder, "-o", table, "--blocks", "1000"], "--blocks: 1000: a power of two from 8 to 8,192"),
+            (["sweep", self.folder, "-o", table, "--pattern", ""], "the pattern of a file's name"),
+            (["sweep", self.folder, "-o", table, "--jobs", "0"], "0: a number from 1 on"),
+            (["plot", self.three, "-o", self.folder / "x.xyz"], "x.xyz: the ending says which kind of picture it is: .svg, .pdf, .png"),
+            (["plot", self.three, "-o", self.folder / "x.svg", "--columns", "3"], "invalid choice"),
+            (["verify", table], "required"),
             (["example", "nothing", "-o", "-"], "invalid choice"),
             ([], "required"),
         ]:
             with self.subTest(words=words):
                 self.assertIn(part, self.start(*words, status=2)[1])
-        said = self.start("report", self.folder / "nowhere", status=1)[1]
-        self.assertRegex(said, r"^huwekapo: .*No such file")
+        self.assertEqual(sorted(path.name for path in self.folder.iterdir()), ["three.history"])
+
+    def test_statuses_are_documented(self) -> None:
+        for words in [["--help"], ["sweep", "--help"], ["report", "--help"]]:
+            self.assertIn(STATUSES, self.start(*words)[0])
+        readme = (PYTHON.parent / "README.md").read_text()
+        for part in ["3 where a run stopped", "1 where something failed", "2 for wrong use"]:
+            self.assertTrue(part in " ".join(readme.split()), part)
+
+    def test_files_that_are_not_there(self) -> None:
+        nowhere = self.folder / "nowhere"
+        self.assertEqual(self.start("report", nowhere, status=1)[1], f"huwekapo: {nowhere}: No such file or directory\n")
         self.assertIn("Is a directory", self.start("report", self.folder, status=1)[1])
+        self.assertEqual(self.start("sweep", nowhere, "-o", self.folder / "t", status=1)[1], f"huwekapo: {nowhere}: no such folder\n")
+        self.assertEqual(self.start("sweep", self.three, "-o", "t", status=1)[1], f"huwekapo: {self.three} is no folder\n")
+        said = self.start("sweep", self.folder, "-o", nowhere / "t", status=1)[1]
+        self.assertEqual(said, f"huwekapo: {nowhere / 't'}: No such file or directory\n")
+        for words in [["example", "trees"], ["plot", self.three]]:
+            said = self.start(*words, "-o", nowhere / "made.svg", status=1)[1]
+            if "needs matplotlib" not in said:
+                self.assertEqual(said, f"huwekapo: {nowhere / 'made.svg'}: there is no folder {nowhere}\n")
 
     def test_numbers(self) -> None:
-        self.assertEqual([numbers(words) for words in ["1-4", "1,3", "8192", "1,3-4"]], [[1, 2, 3, 4], [1, 3], [8192], [1, 3, 4]])
+        self.assertEqual([widths(words) for words in ["1-4", "1,3", "2", "1,3-4,3"]], [[1, 2, 3, 4], [1, 3], [2], [1, 3, 4]])
+        self.assertEqual([several(blocks)(words) for words in ["8192", "8,16,8"]], [[8192], [8, 16]])
 
     def test_missing_library(self) -> None:
         self.environment["HUWEKAPO_LIBRARY"] = "/nowhere"
@@ -97,8 +145,14 @@ class Commands(unittest.TestCase):
         # A pipe is run again too.
         self.assertEqual(self.start("widths", "-", "--blocks", "1024,8192", given=history)[0], shown)
         table = self.start("widths", path, "--blocks", "1024,8192", "--widths", "2-3", "--csv")[0].splitlines()
-        self.assertEqual(table[0], ",".join(huwekapo.measures.COLUMNS))
+        self.assertEqual(table[0], ",".join(measures.COLUMNS))
         self.assertEqual([row.split(",")[:3] for row in table[1:]], [[n, w, "64"] for n in ("1024", "8192") for w in ("2", "3")])
+        rows = json.loads(self.start("widths", path, "--blocks", "1024", "--widths", "2-3", "--json")[0])
+        self.assertEqual([[str(row[name]) for name in measures.COLUMNS[:3]] for row in rows], [["1024", w, "64"] for w in ("2", "3")])
+        # Where runs stop: said, with the file, and a status.
+        shown, said = self.start("widths", path, "--blocks", "128,8192", "--widths", "1,4", status=3)
+        self.assertEqual(len(shown.splitlines()), 2 + 4)
+        self.assertRegex(said, rf"^2 runs ended, 2 stopped\n  2 refused 5 \(no chunk is free, .*\): {path}\n$")
 
     def test_example(self) -> None:
         path = self.folder / "made.history"
@@ -118,15 +172,84 @@ class Commands(unittest.TestCase):
             self.skipTest("matplotlib can't be imported: the message says how to install it")
         self.start("plot", self.three, "-o", figure, "--widths", "1,3", "--step", 1)
         self.assertIn("three.history", figure.read_text())
-        self.start("plot", "-", "-o", figure, given=THREE)
+        self.start("plot", "-", "-o", figure, "--step", 10**30, given=THREE)
         self.assertIn("width 4: ", figure.read_text())
+        self.start("plot", self.three, "-o", figure, "--no-title", "--columns", 1)
+        self.assertNotIn("three.history", figure.read_text())
+        # A run that stops, and one of nothing: in the picture and in words.
+        said = self.start("plot", self.three, "-o", figure, "--roots", 2, "--widths", 2, status=3)[1]
+        words = "refused 4 at record 2: a root is not below the number of roots"
+        self.assertEqual(said, f"{self.three}, width 2: {words}: the picture ends there\n")
+        self.assertIn(f"STOPPED, {words}", figure.read_text())
+        said = self.start("plot", os.devnull, "-o", figure, "--widths", 2)[1]
+        self.assertEqual(said, "/dev/null: no record was run: the picture is empty, and says so\n")
+        self.assertIn("an empty history: no record was run", figure.read_text())
+
+    def test_names(self) -> None:
+        try:
+            import matplotlib
+        except ImportError:
+            self.skipTest("matplotlib can't be imported")
+        figure = self.folder / "figure.svg"
+        for name in [b"a$b$c_d^2.history", b"\xff\xfe.history", b"caf\xc3\xa9 \\$x$.history"]:
+            path = os.fsencode(self.folder) + b"/" + name
+            Path(os.fsdecode(path)).write_bytes(THREE)
+            self.start("plot", os.fsdecode(path), "-o", figure, "--widths", 1)
+            self.assertIn(name.decode("utf-8", "backslashreplace"), figure.read_text(encoding="utf-8"))
+            self.start("report", os.fsdecode(path))
+        table = self.folder / "table.csv"
+        self.start("sweep", self.folder, "-o", table, "--widths", 1, "--jobs", 1)
+        self.assertIn("4 rows were run again", self.start("verify", table, self.folder, "--jobs", 1)[0].replace(" of 4", ""))
 
     def test_sweep(self) -> None:
         table = self.folder / "table.csv"
         said = self.start("sweep", self.folder, "-o", table, "--widths", "1-2", "--jobs", 1)[1]
-        self.assertEqual(said, f"{table}: 2 rows, 2 of them run now\n")
+        self.assertEqual(said, f"{table}: 2 rows, 2 of them run now\n2 runs ended, 0 stopped\n")
         self.assertIn("which is not asked for", self.start("sweep", self.folder, "-o", table, "--jobs", 1, "--widths", 3, status=1)[1])
         self.assertIn("has no file", self.start("sweep", self.folder, "-o", table, "--pattern", "*.x", status=1)[1])
+
+    def test_nothing_is_torn(self) -> None:
+        # What stood there stands where the writing fails, and nothing is left beside it.
+        made = self.folder / "made.history"
+        made.write_bytes(b"before")
+        with mock.patch("huwekapo.examples.example", side_effect=MemoryError):
+            self.assertEqual(main(["example", "trees", "-o", str(made)]), 1)
+        with self.assertRaises(OSError), written(made) as file:
+            file.write(b"half")
+            raise OSError
+        self.assertEqual(made.read_bytes(), b"before")
+        self.assertEqual(sorted(path.name for path in self.folder.iterdir()), ["made.history", "three.history"])
+        # A link is written through, and what is no regular file as it is.
+        link = self.folder / "link"
+        link.symlink_to(made)
+        self.start("example", "trees", "--records", 5, "-o", link)
+        self.assertTrue(link.is_symlink())
+        self.assertEqual(len(made.read_bytes()), 40)
+        self.start("example", "trees", "--records", 5, "-o", "/dev/null")
+        self.assertFalse(Path("/dev/null").is_file())
+
+    def test_closed_streams(self) -> None:
+        for words, closed, status, part in [
+            (["report", self.three], ">&-", 1, "standard output is closed"),
+            (["widths", self.three], ">&-", 1, "standard output is closed"),
+            (["example", "trees", "-o", "-"], ">&-", 1, "standard output is closed"),
+            (["report", "-"], "<&-", 1, "standard input is closed"),
+            (["report", self.three], ">/dev/full", 1, "No space left on device"),
+            (["widths", self.three], ">/dev/full", 1, "No space left on device"),
+        ]:
+            with self.subTest(words=words, closed=closed):
+                command = f"exec {shlex.join(self.command(*words))} {closed}"
+                done = subprocess.run(["sh", "-c", command], env=self.environment, capture_output=True, text=True, check=False)
+                self.assertEqual(done.returncode, status, done.stderr)
+                self.assertEqual(len(done.stderr.splitlines()), 1, done.stderr)
+                self.assertIn(part, done.stderr)
+        # Without standard error nothing goes to standard output instead.
+        command = f"exec {shlex.join(self.command('report', '--line', self.folder / 'nowhere'))} 2>&-"
+        done = subprocess.run(["sh", "-c", command], env=self.environment, capture_output=True, text=True, check=False)
+        self.assertEqual((done.returncode, done.stdout), (1, ""))
+        command = f"exec {shlex.join(self.command('report', '--line', self.three))} 2>&-"
+        done = subprocess.run(["sh", "-c", command], env=self.environment, capture_output=True, text=True, check=False)
+        self.assertEqual((done.returncode, done.stdout), (0, huwekapo.run(self.three).line()))
 
     def test_nobody_reads(self) -> None:
         reading, writing = os.pipe()
