@@ -5,6 +5,11 @@ mod output;
 mod run;
 
 fn main() {
+    // A history is not asked for by name: a line would be that of another one. The program's own name is the first.
+    if os::arg_count() > 1 {
+        output::refuse_arguments();
+        return;
+    }
     let outcome = run::run_input();
     output::tell(outcome);
 }

@@ -10,6 +10,12 @@ fn complain(text: &[u8]) {
     io::write_all(STDERR_FILENO, text);
 }
 
+pub fn refuse_arguments() {
+    complain(
+        b"report: it takes no argument, and reads a history from standard input: report <FILE\n",
+    );
+}
+
 // Writes a text to standard output: nothing but the line of a history gets there.
 fn print(text: &[u8])
     requires { ⌜ ReportLine (now text) ⌝ }

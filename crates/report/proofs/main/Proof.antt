@@ -7,4 +7,6 @@ tell-requires : tie.Need-tell-requires
 tell-requires c κs = search needs
 
 pub main-spec : {M : Type 1} → statement M
-main-spec = tie.close (tie.spec (λ c κs. search needs) tell-requires (λ c. search needs))
+main-spec =
+    tie.close
+    (tie.spec (λ c. search needs) (λ c. search needs) (λ c. search needs) (λ c κs. search needs) tell-requires (λ c. search needs))
