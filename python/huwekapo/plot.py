@@ -146,7 +146,7 @@ def draw(courses: Sequence[Course], blocks: int, title: Optional[str], columns: 
     parts = _parts(courses)
     # Above and below the panels, in inches, whatever their number: a title, then the axis, its name and the legend.
     rows = -(-len(parts) // (1 if narrow else 3))
-    above, below = (0.42 if title else 0.22) + 0.12 * narrow, 0.42 + 0.17 * rows
+    above, below = (0.42 if title else 0.22) + 0.12 * narrow, 0.46 + 0.13 * rows
     height = above + below + 1.3 * len(courses) + (0.12 * narrow) * (len(courses) - 1)
     figure, panels = pyplot.subplots(len(courses), 1, sharex=True, sharey=True, figsize=(breadth, height), squeeze=False)
     for panel, one in zip(panels[:, 0], courses):
@@ -175,7 +175,7 @@ def draw(courses: Sequence[Course], blocks: int, title: Optional[str], columns: 
             *zip(*legend), loc="lower center", ncol=1 if narrow else 3, frameon=False, fontsize=7, labelspacing=0.25, borderaxespad=0.1
         )
     gap = (0.24 + 0.12 * narrow) / 1.3
-    figure.subplots_adjust(left=left, right=1 - 0.16 / breadth, top=1 - above / height, bottom=below / height, hspace=gap)
+    figure.subplots_adjust(left=left, right=1 - 0.34 / breadth, top=1 - above / height, bottom=below / height, hspace=gap)
     return figure
 
 
@@ -239,13 +239,15 @@ def _draw(panel: Any, one: Course, narrow: bool) -> None:
             label=_MARK,
         )
     if one.run.stopped:
-        panel.axvline(one.run.records, color="tab:red", linewidth=1.2, linestyle="--", label=_STOP)
+        panel.axvline(one.run.records, color="tab:red", linewidth=1.2, linestyle="--", clip_on=False, label=_STOP)
     panel.set_title(_title(one, narrow), fontsize=7, loc="left", pad=3)
     if one.run.records == 0:
         words = f"no record was run: {one.run.stop()}" if one.run.stopped else "an empty history: no record was run"
-        panel.text(0.5, 0.5, words, transform=panel.transAxes, ha="center", va="center", fontsize=8)
+        box = {"facecolor": "white", "edgecolor": "none"}
+        panel.text(0.5, 0.5, words, transform=panel.transAxes, ha="center", va="center", fontsize=8, bbox=box)
     panel.grid(True, linewidth=0.3, color="0.8")
-    panel.set_axisbelow(False)
+    # Over the bands, below the line.
+    panel.set_axisbelow("line")
     panel.tick_params(labelsize=7)
 
 

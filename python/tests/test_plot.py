@@ -156,8 +156,9 @@ class Pictures(unittest.TestCase):
     def test_nothing_overlaps(self) -> None:
         # Titles, legend and axes keep clear of each other and inside the picture.
         for columns in (1, 2):
-            for widths in ([1], [1, 2, 3, 4]):
-                figure = self.drawn(HISTORY + COLLECT + b"1", 16, widths, columns=columns)
+            # The first axis ends in a long number.
+            for widths, history in ([1], HISTORY + 9_999_990 * clear(0)), ([1, 2, 3, 4], HISTORY + COLLECT + b"1"):
+                figure = self.drawn(history, 16, widths, columns=columns, step=1 + len(history) // 80)
                 boxes = [figure._suptitle.get_window_extent(), *(legend.get_window_extent() for legend in figure.legends)]
                 boxes += [panel.get_tightbbox() for panel in figure.axes]
                 for k, box in enumerate(boxes):
