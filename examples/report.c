@@ -1,5 +1,5 @@
 /* Runs a recorded history from standard input, and prints its line: what the program `report` does, through the C interface, on
- * the heap that it has. */
+ * the heap that it has. The status is 3 where the run stopped, 1 where something failed. */
 #include "huwekapo_heap.h"
 
 #include <inttypes.h>
@@ -53,5 +53,5 @@ int main(void) {
         perror("report: writing");
         return 1;
     }
-    return 0;
+    return run.number == 0 ? 0 : 3;
 }

@@ -225,9 +225,9 @@ class _Table:
         self._file.close()
 
     def rows(self) -> list[Row]:
-        """The rows, up to the first that is not whole."""
+        """The rows, without a last one that is torn."""
         self._file.seek(0)
-        return whole_rows(self._file.read(), self._path)
+        return whole_rows(self._file.read(), self._path)[0]
 
     def append(self, row: Row) -> None:
         """Adds a row, and sees it to the disk."""
@@ -255,32 +255,32 @@ def standing(table: Place) -> int:
     """How many whole rows a table has."""
     try:
         with open(table, "rb") as file:
-            return len(whole_rows(file.read(), table))
+            return len(whole_rows(file.read(), table)[0])
     except (OSError, SweepError):
         return 0
 
 
-def whole_rows(content: bytes, path: Place) -> list[Row]:
-    """The rows of a table, up to the first that is not whole. A spreadsheet's line ends and byte order mark are read over."""
+def whole_rows(content: bytes, path: Place) -> tuple[list[Row], bool]:
+    """The rows of a table, and whether a last one behind them is torn, as a sweep that is killed may leave it. A spreadsheet's line
+    ends and byte order mark are read over."""
     text = content.decode("utf-8", "surrogateescape")
     if text.startswith("\ufeff"):
         text = text[1:]
     if _line(TABLE_COLUMNS).startswith(text):
-        return []
+        return [], False
     rows = list(csv.reader(io.StringIO(text, newline="")))
-    if not rows or rows[0] != TABLE_COLUMNS:
+    if not rows or rows.pop(0) != TABLE_COLUMNS:
         raise SweepError(
             f"{shown(path)} is no table of a sweep, or one of another version: its first line is another. Name another table, or "
             "delete this one"
         )
-    if not text.endswith("\n"):
+    torn = bool(rows) and not (text.endswith("\n") and _is_whole(rows[-1]))
+    if torn:
         rows.pop()
-    whole = []
-    for row in rows[1:]:
+    for number, row in enumerate(rows, 1):
         if not _is_whole(row):
-            break
-        whole.append(row)
-    return whole
+            raise SweepError(f"{shown(path)}: row {number}, `{shown(','.join(row))}`, is none of a sweep: put it right, or take it out")
+    return rows, torn
 
 
 def _is_whole(row: Row) -> bool:
@@ -412,7 +412,13 @@ def finished(
         if not running:
             return
         for future in concurrent.futures.wait(running, return_when=concurrent.futures.FIRST_COMPLETED).done:
-            task, error = running.pop(future), future.exception()
+            task = running.pop(future)
+            error: Optional[BaseException]
+            try:
+                error = future.exception()
+            except concurrent.futures.CancelledError as cancelled:
+                # A cluster that is gone leaves what it had been given.
+                error = cancelled
             if error is None:
                 yield task, future.result(), ""
             elif isinstance(error, BrokenExecutor):

@@ -2,8 +2,6 @@
 
 from __future__ import annotations
 
-import csv
-import io
 import os
 import subprocess
 from collections import Counter
@@ -61,14 +59,12 @@ def verify(
     """Runs the rows of a table again, or so many of them, taken by the seed, and compares every column but the library's. Rows of the
     shape of the program `report` are held against it too, where one is named."""
     with open(table, "rb") as file:
-        content = file.read()
-    rows = whole_rows(content, table)
+        rows, torn = whole_rows(file.read(), table)
     if not rows:
         raise SweepError(f"{shown(table)} has no row")
     paths, differences = histories(folder, pattern, table)
-    lines = _records(content)
-    if lines != len(rows):
-        differences.append(f"row {len(rows) + 1} of {lines} is not whole: what follows it was not looked at")
+    if torn:
+        differences.append(f"row {len(rows) + 1}, the last, is not whole")
     differences += list(_incomplete(rows, paths))
     due = [row for row in rows if row[0] in paths]
     if sample is not None and sample < len(due):
@@ -92,11 +88,6 @@ def verify(
                 progress(done, len(by_task))
     other = sum(cell(row, "library") != library.build() for row in rows)
     return Verified(len(rows), len(by_task), by_report, other, differences)
-
-
-def _records(content: bytes) -> int:
-    """The rows of a table, whole or not."""
-    return sum(1 for row in csv.reader(io.StringIO(content.decode("utf-8", "surrogateescape"), newline="")) if row) - 1
 
 
 def _incomplete(rows: list[Row], paths: dict[str, Path]) -> Iterator[str]:

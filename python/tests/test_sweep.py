@@ -139,6 +139,19 @@ class Sweeps(Case):
         sweep(self.histories, self.table, [1, 2], [1024])
         self.assertEqual(resumed, self.table.read_bytes())
 
+    def test_a_row_that_is_none(self) -> None:
+        # Nothing behind it is lost: the table is refused, and stays.
+        self.put_examples(500)
+        sweep(self.histories, self.table, [1], [1024])
+        lines = self.table.read_text().splitlines(keepends=True)
+        for wrong in ["\n", "leak/2.history,5\n", lines[7].replace(",1024,", ",many,"), lines[7].rstrip() + ",7\n"]:
+            self.table.write_text("".join([*lines[:7], wrong, *lines[8:]]))
+            before = self.table.read_bytes()
+            for act in [lambda: sweep(self.histories, self.table, [1], [1024]), lambda: verify(self.table, self.histories)]:
+                with self.assertRaisesRegex(SweepError, "table.csv: row 7, .* is none of a sweep"):
+                    act()
+            self.assertEqual(self.table.read_bytes(), before)
+
     def test_rows_of_another_library(self) -> None:
         self.put_examples(500)
         sweep(self.histories, self.table, [1], [1024])
@@ -348,7 +361,7 @@ class Verified(Case):
                 word = row[column]
                 stopped = row["stopped"] != ""
                 # A row that is none any more is another fault.
-                if (word == "" and (stopped or column == "stopped")) or column == "number":
+                if word == "" and (stopped or column == "stopped"):
                     continue
                 row[column] = str(int(word) + 1) if word.isdigit() else word[:-1] + ("0" if word[-1] != "0" else "1")
                 with open(self.table, "w", newline="") as file:
@@ -391,7 +404,7 @@ class Verified(Case):
             ],
         )
         self.table.write_text("".join(lines)[:-20])
-        self.assertIn("row 36 of 36 is not whole: what follows it was not looked at", verify(self.table, self.histories).differences)
+        self.assertIn("row 36, the last, is not whole", verify(self.table, self.histories).differences)
         self.table.write_text("".join(lines))
         (self.histories / "leak/1.history").unlink()
         self.put("new.history", b"")

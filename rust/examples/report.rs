@@ -1,10 +1,11 @@
 //! The program `report` once more, by way of this crate: runs the history on standard input and prints its line. Blocks,
-//! width and roots may be given; without them they are the program's 8192, 3 and 64.
+//! width and roots may be given; without them they are the program's 8192, 3 and 64. Its status is 3 where the run stopped.
 
 use huwekapo::{Heap, Run};
 use std::error::Error;
+use std::process::ExitCode;
 
-fn main() -> Result<(), Box<dyn Error>> {
+fn main() -> Result<ExitCode, Box<dyn Error>> {
     let mut numbers = Vec::new();
     for argument in std::env::args().skip(1) {
         numbers.push(argument.parse()?);
@@ -15,6 +16,7 @@ fn main() -> Result<(), Box<dyn Error>> {
         _ => return Err("usage: report [BLOCKS WIDTH ROOTS] < HISTORY".into()),
     };
     let mut run = Run::new(Heap::new(blocks, width, roots)?);
-    println!("{}", run.read(std::io::stdin().lock())?);
-    Ok(())
+    let so_far = run.read(std::io::stdin().lock())?;
+    println!("{so_far}");
+    Ok(ExitCode::from(if so_far.number == 0 { 0 } else { 3 }))
 }
