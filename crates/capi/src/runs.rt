@@ -1,8 +1,8 @@
 // Runs of records for C, under the name of include/huwekapo.h. The run so far goes in and out by value.
 ghost use Rattle.rules.specs.Lent.{before, after};
-ghost use Rattle.history.specs.Promised.{Promised};
+ghost use Rattle.history_runs.specs.Promised.{Promised};
 use figures::tally::Run;
-use history::Ran;
+use history_runs::Ran;
 use types::Ref;
 
 #[no_mangle]

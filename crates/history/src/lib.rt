@@ -2,22 +2,16 @@
 // calls keep a heap undamaged, so no record tests it.
 ghost use mathlib.Core.Path.{_≡_};
 ghost use Rattle.rules.specs.Lent.{before, after};
-ghost use Rattle.history.specs.Promised.{runReply, refusal, Promised};
+ghost use Rattle.history_runs.specs.Promised.{runReply, refusal, Promised};
 use blocks::lists;
 use figures::tally;
 use figures::tally::Run;
+use history_runs::Ran;
 use types::Ref;
 use types::Reply;
 use types::replies;
 
 mod run;
-
-// The reply of a run of records, and where the run stands. Laid out as in C.
-#[repr(C)]
-pub struct Ran {
-    pub reply: Reply,
-    pub run: Run,
-}
 
 // A refusal.
 fn refused(reply: Reply) -> Ran

@@ -20,12 +20,12 @@ use Rattle.records.specs.Records.{recordLength}
 use Rattle.figures.specs.declared.tally.Run.{Run}
 use Rattle.figures.specs.Figures.{newRun, inRange, mostRecords, mostCollections}
 use Rattle.figures.proofs.Ranges.{in-range-within}
-use Rattle.history.specs.declared.Ran.{Ran}
-use Rattle.history.specs.Runs.{ranFrom, ended, ran}
-use Rattle.history.specs.Promised.{runReply, cleared, Promised}
-use Rattle.history.proofs.CallsMade.{runs-are-calls}
-use Rattle.history.proofs.Pieces.{accepted, reply-passed}
-use Rattle.history.proofs.TwoCalls.{calls-are-one}
+use Rattle.history_runs.specs.declared.Ran.{Ran}
+use Rattle.history_runs.specs.Runs.{ranFrom, ended, ran}
+use Rattle.history_runs.specs.Promised.{runReply, cleared, Promised}
+use Rattle.history_runs.proofs.CallsMade.{runs-are-calls}
+use Rattle.history_runs.proofs.Pieces.{accepted, reply-passed}
+use Rattle.history_runs.proofs.TwoCalls.{calls-are-one}
 use Rattle.report.specs.declared.run.Outcome.{Outcome}
 use Rattle.report.specs.declared.run.Outcome.the-variants.{Ran as ran-to, ReadFailed, HeapRefused}
 use Rattle.report.specs.declared.run.PieceOutcome.{PieceOutcome}

@@ -10,10 +10,10 @@ use Rattle.rules.specs.Heap.{Memory}
 use Rattle.types.specs.declared.Reply.{Reply}
 use Rattle.figures.specs.declared.tally.Run.{Run}
 use Rattle.records.specs.Records.{recordLength}
-use Rattle.history.specs.declared.Ran.{Ran}
+use Rattle.history_runs.specs.declared.Ran.{Ran}
 use Rattle.turns.specs.Turns.{afterTurn}
-use Rattle.history.specs.Runs.{recordAt, ranFrom, wholeRecords, ended, ran}
-use Rattle.history.specs.Promised.{runReply, cleared, Promised}
+use Rattle.history_runs.specs.Runs.{recordAt, ranFrom, wholeRecords, ended, ran}
+use Rattle.history_runs.specs.Promised.{runReply, cleared, Promised}
 
 -- n records that leave the run going are n records more
 all-counted :

@@ -9,9 +9,9 @@ use Rattle.rules.specs.Heap.{Memory}
 use Rattle.rules.specs.Calls.{reply}
 use Rattle.figures.specs.declared.tally.Run.{Run}
 use Rattle.line.specs.Line.{line}
-use Rattle.history.specs.declared.Ran.{Ran}
-use Rattle.history.specs.Runs.{Came, history}
-use Rattle.history.specs.Promised.{Promised}
+use Rattle.history_runs.specs.declared.Ran.{Ran}
+use Rattle.history_runs.specs.Runs.{Came, history}
+use Rattle.history_runs.specs.Promised.{Promised}
 use Rattle.report.specs.declared.run.Outcome.{Outcome}
 use Rattle.report.specs.declared.run.Outcome.the-variants.{Ran as ran-to, ReadFailed, HeapRefused}
 use Rattle.report.specs.declared.run.PieceOutcome.{PieceOutcome}

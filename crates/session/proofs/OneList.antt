@@ -23,12 +23,12 @@ use Rattle.replay.specs.Replay.{Replayed}
 use Rattle.replay.proofs.Theorems.{replay-theory}
 use Rattle.figures.specs.declared.tally.Run.{Run}
 use Rattle.figures.specs.Figures.{newRun, mostCollections, inRange}
-use Rattle.history.specs.declared.Ran.{Ran}
-use Rattle.history.specs.Runs.{ran}
-use Rattle.history.specs.Promised.{cleared, Promised}
-use Rattle.history.proofs.CallsMade.{left-append}
-use Rattle.history.proofs.Pieces.{undamaged-accepted}
-use Rattle.history.proofs.Theorems.{history-theory}
+use Rattle.history_runs.specs.declared.Ran.{Ran}
+use Rattle.history_runs.specs.Runs.{ran}
+use Rattle.history_runs.specs.Promised.{cleared, Promised}
+use Rattle.history_runs.proofs.CallsMade.{left-append}
+use Rattle.history_runs.proofs.Pieces.{undamaged-accepted}
+use Rattle.history_runs.proofs.Theorems.{history-theory}
 use Rattle.session.specs.Mixed.{replayCalls, Mixed}
 
 calls-append : (made more : List Made) → callsOf (made ++ more) ≡ callsOf made ++ callsOf more

@@ -14,9 +14,9 @@ use Rattle.theory.specs.Demand.{Chain, Claim}
 use Rattle.encoding.specs.Encoding.{callsIn}
 use Rattle.replay.specs.Replay.{Replayed}
 use Rattle.figures.specs.Figures.{newRun}
-use Rattle.history.specs.declared.Ran.{Ran}
-use Rattle.history.specs.Runs.{ran}
-use Rattle.history.specs.Promised.{cleared, Promised}
+use Rattle.history_runs.specs.declared.Ran.{Ran}
+use Rattle.history_runs.specs.Runs.{ran}
+use Rattle.history_runs.specs.Promised.{cleared, Promised}
 
 -- the calls that a run of all records of the bytes, found on memory h, counts as
 abbrev pub runCalls : ℕ → ℕ → List ℕ → Memory → List Call

@@ -1,7 +1,7 @@
 -- `run_records` meets its contract: all tests first, and then the run on the cleared heap.
 use mathlib.Core.Path.{refl, _∙_}
 use borrow.Author.Needs.{needs}
-use Rattle.history.proofs.Pieces.{refused-promised, accepted, cleared-usable, run-promised}
+use Rattle.history_runs.proofs.Pieces.{refused-promised, accepted, cleared-usable, run-promised}
 use Rattle.history.proofs.run_records.Statement.{statement}
 use Rattle.history.proofs.run_records.Tie as tie
 

@@ -2,7 +2,7 @@
 use mathlib.Core.Path.{sym, _∙_}
 use borrow.Author.Tests.{not-true, not-false}
 use borrow.Author.Needs.{needs}
-use Rattle.history.proofs.Pieces.{reply-unsound, reply-range, reply-passed}
+use Rattle.history_runs.proofs.Pieces.{reply-unsound, reply-range, reply-passed}
 use Rattle.history.proofs.run_reply.Statement.{statement}
 use Rattle.history.proofs.run_reply.Tie as tie
 

@@ -1,6 +1,6 @@
 -- `run::end_piece` meets its contract.
 use borrow.Author.Tests.{eq-eqb, ne-eqb}
-use Rattle.history.specs.Runs.{ended}
+use Rattle.history_runs.specs.Runs.{ended}
 use borrow.Author.Needs.{needs}
 use Rattle.history.proofs.run.end_piece.Statement.{statement}
 use Rattle.history.proofs.run.end_piece.Tie as tie

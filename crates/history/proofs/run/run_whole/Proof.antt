@@ -5,7 +5,7 @@ use native.Mathlib.Omega.{arith}
 use Rattle.rules.specs.Heap.{lentMemory}
 use Rattle.rules.proofs.Shape.{Shaped}
 use Rattle.theory.proofs.Usable.UsableHeap.{usable-healthy}
-use Rattle.history.proofs.Progress.{Progress, progress-start, step-going, next-usable, progress-next, progress-stop, progress-done}
+use Rattle.history_runs.proofs.Progress.{Progress, progress-start, step-going, next-usable, progress-next, progress-stop, progress-done}
 use Rattle.history.proofs.run.run_whole.Statement.{statement}
 use Rattle.history.proofs.run.run_whole.Tie as tie
 

@@ -24,9 +24,9 @@ use Rattle.figures.specs.declared.tally.Run.{Run}
 use Rattle.figures.specs.Figures.{countedIn, momentIn, toldStuck, noted, notedAll, run}
 use Rattle.turns.specs.Turns.{madeOn, Turn, triedAgain, turnOf, afterTurn}
 use Rattle.turns.proofs.Turns.{turn-once, turn-again}
-use Rattle.history.specs.Runs.{Came, came, recordAt, ranFrom, wholeRecords, ran}
-use Rattle.history.specs.Claims.{withPeak, RunsAreCalls}
-use Rattle.history.proofs.Ends.{ended-figures}
+use Rattle.history_runs.specs.Runs.{Came, came, recordAt, ranFrom, wholeRecords, ran}
+use Rattle.history_runs.specs.Claims.{withPeak, RunsAreCalls}
+use Rattle.history_runs.proofs.Ends.{ended-figures}
 
 -- ---- lists of calls, one behind the other
 

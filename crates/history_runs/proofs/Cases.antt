@@ -8,8 +8,8 @@ use Rattle.text.specs.Text.{decimalIn, decimal}
 use Rattle.figures.specs.Figures.{countedIn, toldStuck, momentIn, noted, notedAll}
 use Rattle.line.specs.Line.{figuresLine, refusalLine, line}
 use Rattle.turns.specs.Turns.{triedAgain, turnOf, afterTurn}
-use Rattle.history.specs.Runs.{ranFrom, ended, ran}
-use Rattle.history.specs.Cases.{cases, given, bytesOf, expected}
+use Rattle.history_runs.specs.Runs.{ranFrom, ended, ran}
+use Rattle.history_runs.specs.Cases.{cases, given, bytesOf, expected}
 
 pub cases-hold : map given cases ≡ map expected cases
 unfolding computed fieldsAt unnamed unless onRoots allocating copying writing reading clearing operation asked decimalIn decimal countedIn toldStuck momentIn noted notedAll figuresLine refusalLine line triedAgain turnOf afterTurn ranFrom ended ran given bytesOf expected cases

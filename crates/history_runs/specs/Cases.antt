@@ -8,7 +8,7 @@ use lib.ListN.{getD}
 use Rattle.rules.specs.Store.{formatted}
 use Rattle.figures.specs.Figures.{noFigures, run}
 use Rattle.line.specs.Line.{line}
-use Rattle.history.specs.Runs.{ran}
+use Rattle.history_runs.specs.Runs.{ran}
 
 -- ---- records
 

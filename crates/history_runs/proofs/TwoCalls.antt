@@ -17,12 +17,12 @@ use Rattle.theory.proofs.Usable.UsableHeap.{cleared-usable, cleared-same}
 use Rattle.records.specs.Records.{recordLength}
 use Rattle.figures.specs.declared.tally.Run.{Run}
 use Rattle.figures.specs.Figures.{inRange}
-use Rattle.history.specs.declared.Ran.{Ran}
-use Rattle.history.specs.Runs.{Came, came, ran}
-use Rattle.history.specs.Promised.{runReply, cleared, Promised, CallsAreOne}
-use Rattle.history.proofs.CallsMade.{run-undamaged, runs-are-calls}
-use Rattle.history.proofs.Pieces.{Accepted, accepted, undamaged-accepted}
-use Rattle.history.proofs.WholeRecords.{pieces-are-whole}
+use Rattle.history_runs.specs.declared.Ran.{Ran}
+use Rattle.history_runs.specs.Runs.{Came, came, ran}
+use Rattle.history_runs.specs.Promised.{runReply, cleared, Promised, CallsAreOne}
+use Rattle.history_runs.proofs.CallsMade.{run-undamaged, runs-are-calls}
+use Rattle.history_runs.proofs.Pieces.{Accepted, accepted, undamaged-accepted}
+use Rattle.history_runs.proofs.WholeRecords.{pieces-are-whole}
 
 -- ---- an accepted call
 

@@ -15,8 +15,8 @@ use Rattle.turns.specs.declared.noting.Running.{Running}
 use Rattle.turns.specs.Turns.{Turn, turnOf, afterTurn}
 use Rattle.turns.specs.Steps.{Going, Stepped}
 use Rattle.turns.proofs.UsableAfterRecord.{turn-usable, after-number}
-use Rattle.history.specs.Runs.{recordAt, ranFrom}
-use Rattle.history.specs.RunBy.{RunBy}
+use Rattle.history_runs.specs.Runs.{recordAt, ranFrom}
+use Rattle.history_runs.specs.RunBy.{RunBy}
 
 -- ---- the records left
 

@@ -6,7 +6,7 @@ use Rattle.rules.specs.Heap.{Memory}
 use Rattle.theory.specs.Usable.{Usable}
 use Rattle.figures.specs.declared.tally.Run.{Run}
 use Rattle.figures.specs.Figures.{inRange}
-use Rattle.history.specs.Runs.{Came}
+use Rattle.history_runs.specs.Runs.{Came}
 
 -- records were run: the run and the memory are what came of them, the run is in range, and the heap can be used again
 pub record RunBy (N w : ℕ) (x : Came) (r : Run) (g : Memory) : Type 0 where

@@ -14,7 +14,7 @@ use Rattle.records.specs.Records.{recordLength}
 use Rattle.figures.specs.declared.tally.Tally.{Tally}
 use Rattle.figures.specs.declared.tally.Run.{Run}
 use Rattle.figures.specs.Figures.{tally, notedAll}
-use Rattle.history.specs.Runs.{Came, came, ran, history}
+use Rattle.history_runs.specs.Runs.{Came, came, ran, history}
 
 -- figures with another peak
 abbrev pub withPeak : (peak : ℕ) → Tally → Tally

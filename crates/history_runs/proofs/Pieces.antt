@@ -25,12 +25,12 @@ use Rattle.figures.specs.Figures.{inRange}
 use Rattle.figures.proofs.Ranges.{in-range-within}
 use Rattle.turns.specs.Outcomes.{running}
 use Rattle.turns.specs.Steps.{Going}
-use Rattle.history.specs.declared.Ran.{Ran}
-use Rattle.history.specs.Runs.{wholeRecords, ended, ranFrom, ran}
-use Rattle.history.specs.RunBy.{RunBy}
-use Rattle.history.specs.Promised.{runReply, refusal, cleared, Promised}
-use Rattle.history.proofs.Ends.{ended-range}
-use Rattle.history.proofs.CallsMade.{runs-are-calls}
+use Rattle.history_runs.specs.declared.Ran.{Ran}
+use Rattle.history_runs.specs.Runs.{wholeRecords, ended, ranFrom, ran}
+use Rattle.history_runs.specs.RunBy.{RunBy}
+use Rattle.history_runs.specs.Promised.{runReply, refusal, cleared, Promised}
+use Rattle.history_runs.proofs.Ends.{ended-range}
+use Rattle.history_runs.proofs.CallsMade.{runs-are-calls}
 
 -- ---- a piece
 

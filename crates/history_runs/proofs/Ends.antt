@@ -10,7 +10,7 @@ use Rattle.records.specs.Records.{recordLength}
 use Rattle.figures.specs.declared.tally.Run.{Run}
 use Rattle.figures.specs.Figures.{run, inRange}
 use Rattle.figures.proofs.Ranges.{in-range-within, within-in-range, going-collections, stopped-collections}
-use Rattle.history.specs.Runs.{ended}
+use Rattle.history_runs.specs.Runs.{ended}
 
 pub ended-stopped : (size n : ℕ) (r : Run) → r .number ≢ 0 → ended size n r ≡ r
 unfolding ended

@@ -14,9 +14,9 @@ use Rattle.theory.specs.Demand.{Finds, Chain}
 use Rattle.records.specs.Records.{recordLength}
 use Rattle.figures.specs.declared.tally.Run.{Run}
 use Rattle.figures.specs.Figures.{newRun, inRange}
-use Rattle.history.specs.declared.Ran.{Ran}
-use Rattle.history.specs.Runs.{ran}
-use Rattle.history.specs.Claims.{AsCalls}
+use Rattle.history_runs.specs.declared.Ran.{Ran}
+use Rattle.history_runs.specs.Runs.{ran}
+use Rattle.history_runs.specs.Claims.{AsCalls}
 
 -- "1 as before; 2 if the heap is damaged"; "11, the list doesn't match the maps, next after 2": as the check; then 19 for a run out of
 -- range: five bounds that every run keeps are tested, so a run within them may still be one that no run leaves

@@ -16,13 +16,13 @@ use Rattle.theory.specs.Statements.{Undamaged}
 use Rattle.theory.proofs.Theorems.{theory}
 use Rattle.figures.specs.Figures.{newRun}
 use Rattle.turns.proofs.Stopped.{stands-as-before}
-use Rattle.history.specs.Runs.{ran}
-use Rattle.history.specs.Claims.{NewHeapUnused, HistoryBalances}
-use Rattle.history.specs.Promised.{cleared, RunIsCalls}
-use Rattle.history.specs.Theory.{HistoryTheory}
-use Rattle.history.proofs.CallsMade.{runs-are-calls}
-use Rattle.history.proofs.WholeRecords.{pieces-are-whole}
-use Rattle.history.proofs.TwoCalls.{left as run-left, calls-are-one}
+use Rattle.history_runs.specs.Runs.{ran}
+use Rattle.history_runs.specs.Claims.{NewHeapUnused, HistoryBalances}
+use Rattle.history_runs.specs.Promised.{cleared, RunIsCalls}
+use Rattle.history_runs.specs.Theory.{HistoryTheory}
+use Rattle.history_runs.proofs.CallsMade.{runs-are-calls}
+use Rattle.history_runs.proofs.WholeRecords.{pieces-are-whole}
+use Rattle.history_runs.proofs.TwoCalls.{left as run-left, calls-are-one}
 
 -- ---- on a new heap
 

@@ -1,8 +1,8 @@
 -- All that is stated of runs of records, as one record, which has one proof (`history-theory`,
 -- proofs/Theorems.antt): no statement can be dropped unnoticed.
 use Rattle.turns.specs.Stopped.{StandsAsBefore}
-use Rattle.history.specs.Claims.{RunsAreCalls, PiecesAreWhole, NewHeapUnused, HistoryBalances}
-use Rattle.history.specs.Promised.{CallsAreOne, RunIsCalls}
+use Rattle.history_runs.specs.Claims.{RunsAreCalls, PiecesAreWhole, NewHeapUnused, HistoryBalances}
+use Rattle.history_runs.specs.Promised.{CallsAreOne, RunIsCalls}
 
 pub record HistoryTheory : Type 0 where
   -- a run as a list of calls

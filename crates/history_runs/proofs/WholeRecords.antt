@@ -19,9 +19,9 @@ use Rattle.figures.specs.declared.tally.Run.{Run}
 use Rattle.figures.specs.Figures.{run, mostRecords}
 use Rattle.turns.specs.Turns.{Turn, turnOf, afterTurn}
 use Rattle.turns.proofs.UsableAfterRecord.{after-number}
-use Rattle.history.specs.Runs.{Came, came, recordAt, ranFrom, wholeRecords, ended, ran}
-use Rattle.history.specs.Claims.{PiecesAreWhole}
-use Rattle.history.proofs.Ends.{ended-stopped, ended-whole, ended-past, ended-alike}
+use Rattle.history_runs.specs.Runs.{Came, came, recordAt, ranFrom, wholeRecords, ended, ran}
+use Rattle.history_runs.specs.Claims.{PiecesAreWhole}
+use Rattle.history_runs.proofs.Ends.{ended-stopped, ended-whole, ended-past, ended-alike}
 
 -- ---- records of two pieces
 
