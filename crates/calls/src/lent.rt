@@ -3,7 +3,7 @@ ghost use mathlib.Core.Path.{_≡_};
 ghost use mathlib.Core.Bool.{false};
 ghost use Prim.Native.Nat.{_≤_};
 ghost use Rattle.calls.specs.Within.{Within};
-use entries::Entry;
+use calls_entries::Entry;
 use types::MAX_BLOCKS;
 
 // The largest width and number of roots, one more than a heap may have; the longest section; the largest length of each buffer.

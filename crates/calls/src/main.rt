@@ -6,9 +6,9 @@ mod run;
 fn main() {
     let heap = reading::read_entry(8);
     if heap.bytes < 24 {
-        output::say(b"header: cut off\n");
+        calls_output::say(b"header: cut off\n");
     } else if lent::is_too_large(heap) {
-        output::say(b"header: too large\n");
+        calls_output::say(b"header: too large\n");
     } else {
         run::run(heap);
     }

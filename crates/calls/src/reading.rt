@@ -1,6 +1,6 @@
 // Entries read from standard input: four little-endian words of eight bytes each.
 ghost use Prim.Native.Nat.{_+_, _^_, _<_, _≤_};
-use entries::Entry;
+use calls_entries::Entry;
 use libc::STDIN_FILENO;
 
 // The number of four bytes, the lowest first.
@@ -8,10 +8,10 @@ fn half(bytes: &[u8; 32], at: usize) -> usize
     requires { ⌜ at + 4 ≤ 32 ⌝ }
     ensures { λ r. ⌜ r < 2 ^ 32 ⌝ }
 {
-    output::wide(bytes[at])
-        + output::wide(bytes[at + 1]) * 256
-        + output::wide(bytes[at + 2]) * 65536
-        + output::wide(bytes[at + 3]) * 16777216
+    calls_output::wide(bytes[at])
+        + calls_output::wide(bytes[at + 1]) * 256
+        + calls_output::wide(bytes[at + 2]) * 65536
+        + calls_output::wide(bytes[at + 3]) * 16777216
 }
 
 // The word at a place.

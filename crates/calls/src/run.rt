@@ -2,7 +2,7 @@
 ghost use Rattle.calls.specs.Within.{Within};
 use crate::lent;
 use crate::reading;
-use entries::Entry;
+use calls_entries::Entry;
 use types::MAX_BLOCKS;
 use types::Ref;
 use types::Reply;
@@ -12,10 +12,10 @@ const MOST: usize = 1152921504606846976;
 
 // What is wrong with an entry.
 fn say_wrong(call: usize, text: &[u8]) -> bool {
-    output::say(b"call ");
-    output::say_number(call);
-    output::say(b": ");
-    output::say(text)
+    calls_output::say(b"call ");
+    calls_output::say_number(call);
+    calls_output::say(b": ");
+    calls_output::say(text)
 }
 
 // Entry number k. A length is set here, and what is wrong with an entry is said here: then nothing is left to do, as of a length.
@@ -29,29 +29,32 @@ fn next_entry(lengths: &mut [usize; lent::BUFFERS], k: usize) -> Entry
         if e.bytes > 0 {
             say_wrong(k, b"cut off\n");
         }
-        e.kind = entries::END;
-    } else if kind == entries::LENGTH {
+        e.kind = calls_entries::END;
+    } else if kind == calls_entries::LENGTH {
         if !lent::set_length(lengths, e.x, e.y) {
             say_wrong(k, b"length out of range\n");
         }
-    } else if kind == entries::NEW && lent::is_too_large(e) {
+    } else if kind == calls_entries::NEW && lent::is_too_large(e) {
         say_wrong(k, b"too large\n");
-        e.kind = entries::LENGTH;
-    } else if kind > entries::LAST_CALL && kind != entries::LOAD && kind != entries::NEW {
+        e.kind = calls_entries::LENGTH;
+    } else if kind > calls_entries::LAST_CALL
+        && kind != calls_entries::LOAD
+        && kind != calls_entries::NEW
+    {
         say_wrong(k, b"unknown call ");
-        output::say_number(kind);
-        output::end_line();
-        e.kind = entries::LENGTH;
+        calls_output::say_number(kind);
+        calls_output::end_line();
+        e.kind = calls_entries::LENGTH;
     }
     e
 }
 
 // Says what came of entry number k; false where the last write failed.
 fn say_outcome(kind: usize, reply: Reply, k: usize) -> bool {
-    if kind <= entries::LAST_CALL {
-        return output::say_reply(reply);
+    if kind <= calls_entries::LAST_CALL {
+        return calls_output::say_reply(reply);
     }
-    if kind == entries::LOAD && reply.number != 0 {
+    if kind == calls_entries::LOAD && reply.number != 0 {
         return say_wrong(k, b"load out of range\n");
     }
     reply.number == 0
@@ -78,7 +81,7 @@ pub fn run(first: Entry) {
         let lroots = lengths[4];
         let lwaiting = lengths[5];
         let lsections = lengths[6];
-        let reply = entries::perform::perform(
+        let reply = calls_entries::perform::perform(
             heap,
             &mut a[..la],
             &mut b[..lb],
@@ -89,11 +92,11 @@ pub fn run(first: Entry) {
             &mut sections[..lsections],
             e,
         );
-        if !say_outcome(e.kind, reply, k) || e.kind == entries::END {
+        if !say_outcome(e.kind, reply, k) || e.kind == calls_entries::END {
             return;
         }
         k += 1;
-        if e.kind == entries::NEW {
+        if e.kind == calls_entries::NEW {
             heap = e;
             a = [0u8; lent::MAX_BYTES];
             b = [0u8; lent::MAX_BYTES];

@@ -26,7 +26,7 @@ pub extern "C" fn huwekapo_format(
         ⌜ Promise blocks width Call.format (before a b counts cells roots waiting sections) reply
         (after a b counts cells roots waiting sections) ⌝ }
 {
-    mutate::format(blocks, width, a, b, counts, cells, roots, waiting, sections)
+    public_heap::format(blocks, width, a, b, counts, cells, roots, waiting, sections)
 }
 
 #[no_mangle]
@@ -47,7 +47,7 @@ pub extern "C" fn huwekapo_allocate(
         ⌜ Promise blocks width (Call.allocate n r) (before a b counts cells roots waiting sections) reply
         (after a b counts cells roots waiting sections) ⌝ }
 {
-    mutate::allocate(
+    public_heap::allocate(
         blocks,
         width,
         a,
@@ -80,7 +80,7 @@ pub extern "C" fn huwekapo_store_root(
         ⌜ Promise blocks width (Call.storeRoot r v) (before a b counts cells roots waiting sections) reply
         (after a b counts cells roots waiting sections) ⌝ }
 {
-    assignment::store_root(
+    public_store::store_root(
         blocks,
         width,
         a,
@@ -114,7 +114,7 @@ pub extern "C" fn huwekapo_store_cell(
         ⌜ Promise blocks width (Call.storeCell at j v) (before a b counts cells roots waiting sections) reply
         (after a b counts cells roots waiting sections) ⌝ }
 {
-    assignment::store_cell(
+    public_store::store_cell(
         blocks,
         width,
         a,
@@ -147,7 +147,7 @@ pub extern "C" fn huwekapo_return_roots(
         ⌜ Promise blocks width (Call.returnRoots chosen) (before a b counts cells roots waiting sections) reply
         (after a b counts cells roots waiting sections) ⌝ }
 {
-    assignment::return_roots(
+    public_store::return_roots(
         blocks,
         width,
         a,
@@ -177,7 +177,7 @@ pub extern "C" fn huwekapo_collect(
         ⌜ Promise blocks width Call.collect (before a b counts cells roots waiting sections) reply
         (after a b counts cells roots waiting sections) ⌝ }
 {
-    mutate::collect(blocks, width, a, b, counts, cells, roots, waiting, sections)
+    public_heap::collect(blocks, width, a, b, counts, cells, roots, waiting, sections)
 }
 
 #[no_mangle]
@@ -196,7 +196,7 @@ pub extern "C" fn huwekapo_check(
         ⌜ Promise blocks width Call.check (before a b counts cells roots waiting sections) reply
         (after a b counts cells roots waiting sections) ⌝ }
 {
-    inspect::check(blocks, width, a, b, counts, cells, roots, waiting, sections)
+    public_read::check(blocks, width, a, b, counts, cells, roots, waiting, sections)
 }
 
 #[no_mangle]
@@ -215,7 +215,7 @@ pub extern "C" fn huwekapo_free_blocks(
         ⌜ Promise blocks width Call.freeBlocks (before a b counts cells roots waiting sections) reply
         (after a b counts cells roots waiting sections) ⌝ }
 {
-    inspect::free_blocks(blocks, width, a, b, counts, cells, roots, waiting, sections)
+    public_read::free_blocks(blocks, width, a, b, counts, cells, roots, waiting, sections)
 }
 
 #[no_mangle]
@@ -235,7 +235,7 @@ pub extern "C" fn huwekapo_look(
         ⌜ Promise blocks width (Call.look at) (before a b counts cells roots waiting sections) reply
         (after a b counts cells roots waiting sections) ⌝ }
 {
-    inspect::look(
+    public_read::look(
         blocks,
         width,
         a,

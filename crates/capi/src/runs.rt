@@ -1,7 +1,7 @@
 // Runs of records for C, under the name of include/huwekapo.h. The run so far goes in and out by value.
 ghost use Rattle.rules.specs.Lent.{before, after};
 ghost use Rattle.history_runs.specs.Promised.{Promised};
-use figures::tally::Run;
+use history_figures::tally::Run;
 use history_runs::Ran;
 use types::Ref;
 

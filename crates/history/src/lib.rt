@@ -3,10 +3,10 @@
 ghost use mathlib.Core.Path.{_≡_};
 ghost use Rattle.rules.specs.Lent.{before, after};
 ghost use Rattle.history_runs.specs.Promised.{runReply, refusal, Promised};
-use blocks::lists;
-use figures::tally;
-use figures::tally::Run;
+use history_figures::tally;
+use history_figures::tally::Run;
 use history_runs::Ran;
+use map_objects::lists;
 use types::Ref;
 use types::Reply;
 use types::replies;
@@ -40,7 +40,7 @@ fn run_reply(
 ) -> Reply
     ensures { λ reply. ⌜ reply ≡ runReply blocks width (before a b counts cells roots waiting sections) run ⌝ }
 {
-    let checked = inspect::check(blocks, width, a, b, counts, cells, roots, waiting, sections);
+    let checked = public_read::check(blocks, width, a, b, counts, cells, roots, waiting, sections);
     let number = checked.number;
     if number != 0 {
         return checked;

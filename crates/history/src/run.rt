@@ -5,13 +5,13 @@ ghost use Prim.Native.Nat.{_+_, _*_, _/_, _-_, _≤_, min};
 ghost use lib.ListN.{length};
 ghost use Rattle.rules.specs.Lent.{before, after, lent};
 ghost use Rattle.theory.specs.Usable.{Usable};
-ghost use Rattle.figures.specs.Figures.{mostRecords, inRange};
-ghost use Rattle.turns.specs.Steps.{Going};
+ghost use Rattle.history_figures.specs.Figures.{mostRecords, inRange};
+ghost use Rattle.history_turns.specs.Steps.{Going};
 ghost use Rattle.history_runs.specs.Runs.{ranFrom, ended, ran};
 ghost use Rattle.history_runs.specs.RunBy.{RunBy};
-use figures::tally::MAX_RECORDS;
-use figures::tally::Run;
-use turns::noting::Running;
+use history_figures::tally::MAX_RECORDS;
+use history_figures::tally::Run;
+use history_turns::noting::Running;
 use types::Ref;
 
 // Runs n records, from the start of the bytes, until one is refused.
@@ -40,8 +40,8 @@ fn run_whole(
     let mut state = start;
     let mut i = 0;
     while i < n {
-        let f = records::fields_at(bytes, 8 * i);
-        state = execution::step(
+        let f = history_records::fields_at(bytes, 8 * i);
+        state = history_execution::step(
             blocks,
             width,
             a,

@@ -17,13 +17,13 @@ use Rattle.theory.specs.Demand.{Chain}
 use Rattle.theory.specs.Statements.{Undamaged}
 use Rattle.theory.specs.Balance.{allocates, allocatedBy, blocksAllocated}
 use Rattle.theory.proofs.Theorems.{theory}
-use Rattle.records.specs.Records.{fieldsAt, recordLength}
-use Rattle.plans.specs.Asked.{Asked, makes, stops, asked}
-use Rattle.figures.specs.declared.tally.Tally.{Tally}
-use Rattle.figures.specs.declared.tally.Run.{Run}
-use Rattle.figures.specs.Figures.{countedIn, momentIn, toldStuck, noted, notedAll, run}
-use Rattle.turns.specs.Turns.{madeOn, Turn, triedAgain, turnOf, afterTurn}
-use Rattle.turns.proofs.Turns.{turn-once, turn-again}
+use Rattle.history_records.specs.Records.{fieldsAt, recordLength}
+use Rattle.history_plans.specs.Asked.{Asked, makes, stops, asked}
+use Rattle.history_figures.specs.declared.tally.Tally.{Tally}
+use Rattle.history_figures.specs.declared.tally.Run.{Run}
+use Rattle.history_figures.specs.Figures.{countedIn, momentIn, toldStuck, noted, notedAll, run}
+use Rattle.history_turns.specs.Turns.{madeOn, Turn, triedAgain, turnOf, afterTurn}
+use Rattle.history_turns.proofs.Turns.{turn-once, turn-again}
 use Rattle.history_runs.specs.Runs.{Came, came, recordAt, ranFrom, wholeRecords, ran}
 use Rattle.history_runs.specs.Claims.{withPeak, RunsAreCalls}
 use Rattle.history_runs.proofs.Ends.{ended-figures}

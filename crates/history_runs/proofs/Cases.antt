@@ -2,12 +2,12 @@
 use mathlib.Core.Path.{_≡_, refl}
 use mathlib.Core.List.{map}
 use Rattle.rules.proofs.Cases.{computed}
-use Rattle.records.specs.Records.{fieldsAt, unnamed}
-use Rattle.plans.specs.Asked.{unless, onRoots, allocating, copying, writing, reading, clearing, operation, asked}
+use Rattle.history_records.specs.Records.{fieldsAt, unnamed}
+use Rattle.history_plans.specs.Asked.{unless, onRoots, allocating, copying, writing, reading, clearing, operation, asked}
 use Rattle.text.specs.Text.{decimalIn, decimal}
-use Rattle.figures.specs.Figures.{countedIn, toldStuck, momentIn, noted, notedAll}
-use Rattle.line.specs.Line.{figuresLine, refusalLine, line}
-use Rattle.turns.specs.Turns.{triedAgain, turnOf, afterTurn}
+use Rattle.history_figures.specs.Figures.{countedIn, toldStuck, momentIn, noted, notedAll}
+use Rattle.history_line.specs.Line.{figuresLine, refusalLine, line}
+use Rattle.history_turns.specs.Turns.{triedAgain, turnOf, afterTurn}
 use Rattle.history_runs.specs.Runs.{ranFrom, ended, ran}
 use Rattle.history_runs.specs.Cases.{cases, given, bytesOf, expected}
 

@@ -6,10 +6,10 @@ use Prim.Native.Nat.{ℕ, _*_}
 use native.Mathlib.Decide.{ℕ-discrete}
 use native.Mathlib.Omega.{arith}
 use borrow.Author.Tests.{eq-eqb, ne-eqb}
-use Rattle.records.specs.Records.{recordLength}
-use Rattle.figures.specs.declared.tally.Run.{Run}
-use Rattle.figures.specs.Figures.{run, inRange}
-use Rattle.figures.proofs.Ranges.{in-range-within, within-in-range, going-collections, stopped-collections}
+use Rattle.history_records.specs.Records.{recordLength}
+use Rattle.history_figures.specs.declared.tally.Run.{Run}
+use Rattle.history_figures.specs.Figures.{run, inRange}
+use Rattle.history_figures.proofs.Ranges.{in-range-within, within-in-range, going-collections, stopped-collections}
 use Rattle.history_runs.specs.Runs.{ended}
 
 pub ended-stopped : (size n : ℕ) (r : Run) → r .number ≢ 0 → ended size n r ≡ r

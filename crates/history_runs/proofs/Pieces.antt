@@ -19,12 +19,12 @@ use Rattle.theory.specs.Statements.{Undamaged}
 use Rattle.theory.specs.Balance.{inUse}
 use Rattle.theory.specs.Usable.{Usable}
 use Rattle.theory.proofs.Usable.UsableHeap.{cleared-usable as UsableHeap·cleared-usable, usable-fit}
-use Rattle.inspect.proofs.CheckReply.{check-passed}
-use Rattle.figures.specs.declared.tally.Run.{Run}
-use Rattle.figures.specs.Figures.{inRange}
-use Rattle.figures.proofs.Ranges.{in-range-within}
-use Rattle.turns.specs.Outcomes.{running}
-use Rattle.turns.specs.Steps.{Going}
+use Rattle.public_read.proofs.CheckReply.{check-passed}
+use Rattle.history_figures.specs.declared.tally.Run.{Run}
+use Rattle.history_figures.specs.Figures.{inRange}
+use Rattle.history_figures.proofs.Ranges.{in-range-within}
+use Rattle.history_turns.specs.Outcomes.{running}
+use Rattle.history_turns.specs.Steps.{Going}
 use Rattle.history_runs.specs.declared.Ran.{Ran}
 use Rattle.history_runs.specs.Runs.{wholeRecords, ended, ranFrom, ran}
 use Rattle.history_runs.specs.RunBy.{RunBy}

@@ -7,14 +7,14 @@ use lib.ListN.{length}
 use borrow.Author.Tests.{eq-eqb, ne-eqb}
 use Rattle.rules.specs.Heap.{Memory}
 use Rattle.theory.specs.Usable.{Usable}
-use Rattle.records.specs.Records.{recordLength, fieldsAt}
-use Rattle.plans.specs.Asked.{asked}
-use Rattle.records.specs.declared.Fields.{Fields}
-use Rattle.figures.specs.declared.tally.Run.{Run}
-use Rattle.turns.specs.declared.noting.Running.{Running}
-use Rattle.turns.specs.Turns.{Turn, turnOf, afterTurn}
-use Rattle.turns.specs.Steps.{Going, Stepped}
-use Rattle.turns.proofs.UsableAfterRecord.{turn-usable, after-number}
+use Rattle.history_records.specs.Records.{recordLength, fieldsAt}
+use Rattle.history_plans.specs.Asked.{asked}
+use Rattle.history_records.specs.declared.Fields.{Fields}
+use Rattle.history_figures.specs.declared.tally.Run.{Run}
+use Rattle.history_turns.specs.declared.noting.Running.{Running}
+use Rattle.history_turns.specs.Turns.{Turn, turnOf, afterTurn}
+use Rattle.history_turns.specs.Steps.{Going, Stepped}
+use Rattle.history_turns.proofs.UsableAfterRecord.{turn-usable, after-number}
 use Rattle.history_runs.specs.Runs.{recordAt, ranFrom}
 use Rattle.history_runs.specs.RunBy.{RunBy}
 

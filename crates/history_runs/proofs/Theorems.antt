@@ -14,8 +14,8 @@ use Rattle.theory.specs.Words.{heapOf, Made, leftBy}
 use Rattle.theory.specs.Demand.{Chain}
 use Rattle.theory.specs.Statements.{Undamaged}
 use Rattle.theory.proofs.Theorems.{theory}
-use Rattle.figures.specs.Figures.{newRun}
-use Rattle.turns.proofs.Stopped.{stands-as-before}
+use Rattle.history_figures.specs.Figures.{newRun}
+use Rattle.history_turns.proofs.Stopped.{stands-as-before}
 use Rattle.history_runs.specs.Runs.{ran}
 use Rattle.history_runs.specs.Claims.{NewHeapUnused, HistoryBalances}
 use Rattle.history_runs.specs.Promised.{cleared, RunIsCalls}

@@ -14,9 +14,9 @@ use Rattle.theory.specs.Demand.{Finds}
 use Rattle.theory.proofs.Memories.ViewRelease.{reshaped}
 use Rattle.theory.specs.Usable.{Usable}
 use Rattle.theory.proofs.Usable.UsableHeap.{cleared-usable, cleared-same}
-use Rattle.records.specs.Records.{recordLength}
-use Rattle.figures.specs.declared.tally.Run.{Run}
-use Rattle.figures.specs.Figures.{inRange}
+use Rattle.history_records.specs.Records.{recordLength}
+use Rattle.history_figures.specs.declared.tally.Run.{Run}
+use Rattle.history_figures.specs.Figures.{inRange}
 use Rattle.history_runs.specs.declared.Ran.{Ran}
 use Rattle.history_runs.specs.Runs.{Came, came, ran}
 use Rattle.history_runs.specs.Promised.{runReply, cleared, Promised, CallsAreOne}

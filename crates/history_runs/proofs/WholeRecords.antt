@@ -12,13 +12,13 @@ use lib.Seq.{getD-append-add}
 use borrow.Author.Tests.{eq-eqb, ne-eqb}
 use Rattle.rules.specs.Heap.{Memory}
 use Rattle.theory.specs.Words.{Made}
-use Rattle.records.specs.declared.Fields.{Fields}
-use Rattle.records.specs.Records.{recordLength, fieldsAt}
-use Rattle.plans.specs.Asked.{asked}
-use Rattle.figures.specs.declared.tally.Run.{Run}
-use Rattle.figures.specs.Figures.{run, mostRecords}
-use Rattle.turns.specs.Turns.{Turn, turnOf, afterTurn}
-use Rattle.turns.proofs.UsableAfterRecord.{after-number}
+use Rattle.history_records.specs.declared.Fields.{Fields}
+use Rattle.history_records.specs.Records.{recordLength, fieldsAt}
+use Rattle.history_plans.specs.Asked.{asked}
+use Rattle.history_figures.specs.declared.tally.Run.{Run}
+use Rattle.history_figures.specs.Figures.{run, mostRecords}
+use Rattle.history_turns.specs.Turns.{Turn, turnOf, afterTurn}
+use Rattle.history_turns.proofs.UsableAfterRecord.{after-number}
 use Rattle.history_runs.specs.Runs.{Came, came, recordAt, ranFrom, wholeRecords, ended, ran}
 use Rattle.history_runs.specs.Claims.{PiecesAreWhole}
 use Rattle.history_runs.proofs.Ends.{ended-stopped, ended-whole, ended-past, ended-alike}

@@ -6,8 +6,8 @@ use Prim.Native.String.{String, [] as none, _∷_ as _then_}
 use mathlib.Core.List.{List, [], _∷_, _++_}
 use lib.ListN.{getD}
 use Rattle.rules.specs.Store.{formatted}
-use Rattle.figures.specs.Figures.{noFigures, run}
-use Rattle.line.specs.Line.{line}
+use Rattle.history_figures.specs.Figures.{noFigures, run}
+use Rattle.history_line.specs.Line.{line}
 use Rattle.history_runs.specs.Runs.{ran}
 
 -- ---- records

@@ -10,10 +10,10 @@ use Rattle.theory.specs.Words.{leftBy}
 use Rattle.theory.specs.Demand.{Chain, Claim}
 use Rattle.theory.specs.Statements.{Undamaged}
 use Rattle.theory.specs.Balance.{inUse, blocksAllocated, blocksFreed}
-use Rattle.records.specs.Records.{recordLength}
-use Rattle.figures.specs.declared.tally.Tally.{Tally}
-use Rattle.figures.specs.declared.tally.Run.{Run}
-use Rattle.figures.specs.Figures.{tally, notedAll}
+use Rattle.history_records.specs.Records.{recordLength}
+use Rattle.history_figures.specs.declared.tally.Tally.{Tally}
+use Rattle.history_figures.specs.declared.tally.Run.{Run}
+use Rattle.history_figures.specs.Figures.{tally, notedAll}
 use Rattle.history_runs.specs.Runs.{Came, came, ran, history}
 
 -- figures with another peak

@@ -11,9 +11,9 @@ use Rattle.rules.specs.Calls.{check, reply, answer}
 use Rattle.types.specs.declared.Reply.{Reply}
 use Rattle.theory.specs.Words.{leftBy}
 use Rattle.theory.specs.Demand.{Finds, Chain}
-use Rattle.records.specs.Records.{recordLength}
-use Rattle.figures.specs.declared.tally.Run.{Run}
-use Rattle.figures.specs.Figures.{newRun, inRange}
+use Rattle.history_records.specs.Records.{recordLength}
+use Rattle.history_figures.specs.declared.tally.Run.{Run}
+use Rattle.history_figures.specs.Figures.{newRun, inRange}
 use Rattle.history_runs.specs.declared.Ran.{Ran}
 use Rattle.history_runs.specs.Runs.{ran}
 use Rattle.history_runs.specs.Claims.{AsCalls}

@@ -4,8 +4,8 @@ use mathlib.Core.Path.{_≡_}
 use mathlib.Core.Bool.{true}
 use Rattle.rules.specs.Heap.{Memory}
 use Rattle.theory.specs.Usable.{Usable}
-use Rattle.figures.specs.declared.tally.Run.{Run}
-use Rattle.figures.specs.Figures.{inRange}
+use Rattle.history_figures.specs.declared.tally.Run.{Run}
+use Rattle.history_figures.specs.Figures.{inRange}
 use Rattle.history_runs.specs.Runs.{Came}
 
 -- records were run: the run and the memory are what came of them, the run is in range, and the heap can be used again

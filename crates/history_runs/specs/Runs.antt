@@ -8,11 +8,11 @@ use lib.Dec.{eqb}
 use Rattle.rules.specs.Heap.{Memory}
 use Rattle.rules.specs.Store.{formatted}
 use Rattle.theory.specs.Words.{Made}
-use Rattle.records.specs.Records.{recordLength, fieldsAt}
-use Rattle.plans.specs.Asked.{asked}
-use Rattle.figures.specs.declared.tally.Run.{Run}
-use Rattle.figures.specs.Figures.{run, newRun, mostRecords}
-use Rattle.turns.specs.Turns.{Turn, turnOf, afterTurn}
+use Rattle.history_records.specs.Records.{recordLength, fieldsAt}
+use Rattle.history_plans.specs.Asked.{asked}
+use Rattle.history_figures.specs.declared.tally.Run.{Run}
+use Rattle.history_figures.specs.Figures.{run, newRun, mostRecords}
+use Rattle.history_turns.specs.Turns.{Turn, turnOf, afterTurn}
 
 -- what comes of records: where the run stands, the memory, and the calls that were made on the way
 pub record Came : Type 0 where

@@ -1,6 +1,6 @@
 -- All that is stated of runs of records, as one record, which has one proof (`history-theory`,
 -- proofs/Theorems.antt): no statement can be dropped unnoticed.
-use Rattle.turns.specs.Stopped.{StandsAsBefore}
+use Rattle.history_turns.specs.Stopped.{StandsAsBefore}
 use Rattle.history_runs.specs.Claims.{RunsAreCalls, PiecesAreWhole, NewHeapUnused, HistoryBalances}
 use Rattle.history_runs.specs.Promised.{CallsAreOne, RunIsCalls}
 

@@ -8,7 +8,7 @@ use Rattle.rules.specs.Heap.{Memory, memory, withA, withB, withCounts, withCell
 use Rattle.rules.specs.Store.{Work, work, countDown, freed, workAfter, memoryAfter, release, letGo}
 use Rattle.rules.proofs.Unread as unread
 use Rattle.rules.proofs.Unread.{beside, release-beside}
-use Rattle.counting.specs.Stack.{topFirst}
+use Rattle.count_up.specs.Stack.{topFirst}
 use Rattle.release.specs.Blocks.{releasedBlocks, letGoBlocks}
 
 released-beside : (N w : ℕ) (other : Memory → Memory) (f : ℕ) (h : Memory) (stack : List ℕ)

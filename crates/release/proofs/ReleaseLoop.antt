@@ -10,11 +10,11 @@ use Rattle.planes.specs.Plane.{setCount}
 use Rattle.planes.proofs.Counts.{set-count-there}
 use Rattle.rules.specs.Heap.{Memory, memory, withCounts, sizeFrom, maxBlocks}
 use Rattle.rules.specs.Store.{Work, work, countDownEach, clearCells, freed, release}
-use Rattle.counting.specs.Ready.{Planes, Extents}
-use Rattle.counting.specs.Stack.{topFirst, counted, remaining, Stack, Worked}
+use Rattle.count_up.specs.Ready.{Planes, Extents}
+use Rattle.count_up.specs.Stack.{topFirst, counted, remaining, Stack, Worked}
 use Rattle.release.specs.Blocks.{releasedBlocks}
-use Rattle.counting.proofs.Shapes.{extents-written}
-use Rattle.counting.proofs.Stack.{top-first-kept, top-first-pop, stack-emptied}
+use Rattle.count_up.proofs.Shapes.{extents-written}
+use Rattle.count_up.proofs.Stack.{top-first-kept, top-first-pop, stack-emptied}
 
 -- ---- one object freed
 

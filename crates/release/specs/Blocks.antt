@@ -1,5 +1,5 @@
 -- The number of blocks that a release frees, counted as it goes. That this is the growth of the A-map's zeros, as the rules have it, is
--- shown on undamaged heaps in crate `bridge` (FreedBlocks).
+-- shown on undamaged heaps in crate `refinement` (FreedBlocks).
 use Prim.Native.Nat.{ℕ, zero, suc, _+_}
 use mathlib.Core.List.{List, [], _∷_}
 use Rattle.rules.specs.Heap.{Memory, withCounts, sizeAt}

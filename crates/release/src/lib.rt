@@ -5,9 +5,9 @@ ghost use mathlib.Core.List.{[]};
 ghost use lib.ListN.{replicate};
 ghost use Rattle.rules.specs.Heap.{memory};
 ghost use Rattle.rules.specs.Store.{release, letGo};
-ghost use Rattle.sections.specs.Figures.{Coherent, Upkeep};
-ghost use Rattle.counting.specs.Ready.{Planes, Extents};
-ghost use Rattle.counting.specs.Stack.{topFirst, counted, Stack};
+ghost use Rattle.section_figures.specs.Figures.{Coherent, Upkeep};
+ghost use Rattle.count_up.specs.Ready.{Planes, Extents};
+ghost use Rattle.count_up.specs.Stack.{topFirst, counted, Stack};
 ghost use Rattle.release.specs.Blocks.{releasedBlocks, letGoBlocks};
 use types::Ref;
 
@@ -43,9 +43,9 @@ fn release_all(
         t -= 1;
         let i = waiting[t] as usize;
         waiting[t] = 0;
-        let n = blocks::objects::object_size(blocks, b, i);
+        let n = map_objects::objects::object_size(blocks, b, i);
         section_extents::clear_extent(blocks, a, b, sections, i, n);
-        t = dropping::drop_cells(blocks, width, counts, cells, waiting, 4 * i, 4 * n, t);
+        t = count_down::drop_cells(blocks, width, counts, cells, waiting, 4 * i, 4 * n, t);
         freed += n;
     }
     freed
@@ -74,6 +74,6 @@ pub fn let_go(
         (memory (now (a .entry)) (now (b .entry)) (now (counts .entry)) (now (cells .entry)) [] (now (waiting .entry))) v)
         × Upkeep blocks r (now (a .entry)) (now (sections .entry)) (now (a .exit)) (now (sections .exit)) ⌝ }
 {
-    let top = dropping::count_down(blocks, width, counts, waiting, v, 0);
+    let top = count_down::count_down(blocks, width, counts, waiting, v, 0);
     release_all(blocks, width, a, b, counts, cells, waiting, sections, top)
 }

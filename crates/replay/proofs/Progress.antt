@@ -12,11 +12,11 @@ use Rattle.rules.specs.Promise.{Promise}
 use Rattle.types.specs.declared.Reply.{Reply}
 use Rattle.theory.specs.Usable.{Usable}
 use Rattle.theory.proofs.Usable.UsableAfterCalls.{usable-kept}
-use Rattle.encoding.specs.Encoding.{callAt, callsFrom, callsIn, replyWords, isCallAt}
-use Rattle.encoding.specs.Words.{wordsAt, withReply}
-use Rattle.encoding.specs.declared.words.Words.{Words}
-use Rattle.encoding.proofs.Replies.{taken-with-reply, dropped-with-reply, length-with-reply}
-use Rattle.dispatch.specs.Dispatched.{Dispatched}
+use Rattle.replay_words.specs.Encoding.{callAt, callsFrom, callsIn, replyWords, isCallAt}
+use Rattle.replay_words.specs.Words.{wordsAt, withReply}
+use Rattle.replay_words.specs.declared.words.Words.{Words}
+use Rattle.replay_words.proofs.Replies.{taken-with-reply, dropped-with-reply, length-with-reply}
+use Rattle.replay_call.specs.Dispatched.{Dispatched}
 use Rattle.replay.specs.Run.{AsRun}
 
 -- ---- the calls left

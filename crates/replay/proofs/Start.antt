@@ -16,9 +16,9 @@ use Rattle.rules.proofs.Replies.{format-accepted}
 use Rattle.rules.proofs.Shape.{shape-facts}
 use Rattle.theory.proofs.Theorems.{calls-keep-undamaged, format-makes-undamaged, demand-3}
 use Rattle.theory.specs.Usable.{Usable}
-use Rattle.encoding.specs.Encoding.{callsIn, replyWords}
+use Rattle.replay_words.specs.Encoding.{callsIn, replyWords}
 use Rattle.replay.specs.Run.{AsRun}
-use Rattle.encoding.proofs.Calls.{accepted-passed}
+use Rattle.replay_words.proofs.Calls.{accepted-passed}
 use Rattle.replay.specs.Replay.{Ran, ReplayIsCalls}
 
 module _ (N w : ℕ) (lent : Memory) (fits : shaped N w lent ≡ true) where

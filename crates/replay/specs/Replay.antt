@@ -9,8 +9,8 @@ use Rattle.rules.specs.Calls.{format, run, lastMemory}
 use Rattle.theory.specs.Words.{Made, callsOf, answersOf, leftBy}
 use Rattle.theory.specs.Demand.{Finds, Chain, Claim}
 use Rattle.types.specs.declared.Reply.{Reply}
-use Rattle.encoding.specs.Encoding.{callsIn, replyWords}
-use Rattle.encoding.specs.Refusals.{replyOn}
+use Rattle.replay_words.specs.Encoding.{callsIn, replyWords}
+use Rattle.replay_words.specs.Refusals.{replyOn}
 
 -- the reply, from the lent memory
 abbrev pub replayReply : ℕ → ℕ → Memory → List ℕ → (room : ℕ) → Reply

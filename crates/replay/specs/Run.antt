@@ -5,7 +5,7 @@ use mathlib.Core.List.{List, _++_}
 use lib.ListN.{length, drop}
 use Rattle.rules.specs.Heap.{Memory}
 use Rattle.rules.specs.Calls.{run, lastMemory}
-use Rattle.encoding.specs.Encoding.{callsIn, replyWords}
+use Rattle.replay_words.specs.Encoding.{callsIn, replyWords}
 
 -- all calls were made: the buffers and the replies are the plain machine's, and behind the replies nothing is changed
 pub record AsRun (N w : ℕ) (start : Memory) (words replies : List ℕ) (after : Memory) (replies′ : List ℕ) : Type 0 where

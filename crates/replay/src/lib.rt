@@ -2,7 +2,7 @@
 // here, so it is undamaged and its list of sections true, and calls keep it so: no call of the list tests it.
 ghost use Rattle.rules.specs.Lent.{before, after};
 ghost use Rattle.replay.specs.Replay.{Replayed};
-use encoding::tests;
+use replay_words::tests;
 use types::Ref;
 use types::Reply;
 
@@ -47,7 +47,7 @@ pub fn replay(
     if number != 0 {
         return test;
     }
-    formatter::format(blocks, width, a, b, counts, cells, roots, waiting, sections);
+    work_format::format(blocks, width, a, b, counts, cells, roots, waiting, sections);
     run::run_all(
         blocks,
         width,

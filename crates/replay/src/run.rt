@@ -5,9 +5,9 @@ ghost use Prim.Native.Nat.{_*_, _/_, _≤_};
 ghost use lib.ListN.{length};
 ghost use Rattle.rules.specs.Lent.{before, after, lent};
 ghost use Rattle.theory.specs.Usable.{Usable};
-ghost use Rattle.encoding.specs.Encoding.{areCalls};
+ghost use Rattle.replay_words.specs.Encoding.{areCalls};
 ghost use Rattle.replay.specs.Run.{AsRun};
-use encoding::words;
+use replay_words::words;
 use types::Ref;
 
 // Makes every call, and writes every reply.
@@ -37,7 +37,7 @@ pub(crate) fn run_all(
     let mut i = 0;
     while i < n {
         let call = words::call_at(calls, i);
-        let reply = dispatch::step(
+        let reply = replay_call::step(
             blocks,
             width,
             a,

@@ -15,11 +15,11 @@ use Rattle.rules.specs.Sections.{figures}
 use Rattle.rules.specs.Calls.{reply}
 use Rattle.types.specs.declared.Reply.{Reply}
 use Rattle.theory.specs.Statements.{Undamaged}
-use Rattle.inspect.proofs.CheckReply.{check-passed}
-use Rattle.records.specs.Records.{recordLength}
-use Rattle.figures.specs.declared.tally.Run.{Run}
-use Rattle.figures.specs.Figures.{newRun, inRange, mostRecords, mostCollections}
-use Rattle.figures.proofs.Ranges.{in-range-within}
+use Rattle.public_read.proofs.CheckReply.{check-passed}
+use Rattle.history_records.specs.Records.{recordLength}
+use Rattle.history_figures.specs.declared.tally.Run.{Run}
+use Rattle.history_figures.specs.Figures.{newRun, inRange, mostRecords, mostCollections}
+use Rattle.history_figures.proofs.Ranges.{in-range-within}
 use Rattle.history_runs.specs.declared.Ran.{Ran}
 use Rattle.history_runs.specs.Runs.{ranFrom, ended, ran}
 use Rattle.history_runs.specs.Promised.{runReply, cleared, Promised}

@@ -8,10 +8,10 @@ use lib.ListN.{length}
 use borrow.Author.Tests.{eq-eqb, ne-eqb}
 use Rattle.rules.specs.Heap.{Memory}
 use Rattle.types.specs.declared.Reply.{Reply}
-use Rattle.figures.specs.declared.tally.Run.{Run}
-use Rattle.records.specs.Records.{recordLength}
+use Rattle.history_figures.specs.declared.tally.Run.{Run}
+use Rattle.history_records.specs.Records.{recordLength}
 use Rattle.history_runs.specs.declared.Ran.{Ran}
-use Rattle.turns.specs.Turns.{afterTurn}
+use Rattle.history_turns.specs.Turns.{afterTurn}
 use Rattle.history_runs.specs.Runs.{recordAt, ranFrom, wholeRecords, ended, ran}
 use Rattle.history_runs.specs.Promised.{runReply, cleared, Promised}
 

@@ -7,8 +7,8 @@ use lib.ListN.{length}
 use Rattle.bitmap.specs.Bit.{Bytes}
 use Rattle.rules.specs.Heap.{Memory}
 use Rattle.rules.specs.Calls.{reply}
-use Rattle.figures.specs.declared.tally.Run.{Run}
-use Rattle.line.specs.Line.{line}
+use Rattle.history_figures.specs.declared.tally.Run.{Run}
+use Rattle.history_line.specs.Line.{line}
 use Rattle.history_runs.specs.declared.Ran.{Ran}
 use Rattle.history_runs.specs.Runs.{Came, history}
 use Rattle.history_runs.specs.Promised.{Promised}

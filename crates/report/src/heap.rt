@@ -31,5 +31,5 @@ pub fn format(
 )
     ensures { λ _. ⌜ after a b counts cells roots waiting sections ≡ formatted 8192 3 64 ⌝ }
 {
-    mutate::format(BLOCKS, WIDTH, a, b, counts, cells, roots, waiting, sections);
+    public_heap::format(BLOCKS, WIDTH, a, b, counts, cells, roots, waiting, sections);
 }

@@ -7,9 +7,9 @@ mod run;
 fn main() {
     // A history is not asked for by name: a line would be that of another one. The program's own name is the first.
     if os::arg_count() > 1 {
-        output::refuse_arguments();
+        calls_output::refuse_arguments();
         return;
     }
     let outcome = run::run_input();
-    output::tell(outcome);
+    calls_output::tell(outcome);
 }

@@ -1,10 +1,10 @@
 // What is printed: the line of a run to standard output, what went wrong to standard error.
 ghost use Rattle.report.specs.Meaning.{Reported, ReportedRun, ReportLine};
 use crate::run::Outcome;
-use figures::tally::Run;
+use history_figures::tally::Run;
+use history_line::MAX_LINE;
 use libc::STDERR_FILENO;
 use libc::STDOUT_FILENO;
-use line::MAX_LINE;
 
 fn complain(text: &[u8]) {
     io::write_all(STDERR_FILENO, text);
@@ -29,7 +29,7 @@ fn print_line(run: Run)
     requires { ⌜ ReportedRun run ⌝ }
 {
     let mut out = [0u8; MAX_LINE];
-    let n = line::write_line(run, &mut out);
+    let n = history_line::write_line(run, &mut out);
     print(&out[..n]);
 }
 

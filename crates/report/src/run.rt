@@ -12,8 +12,8 @@ use crate::heap::SECTIONS;
 use crate::heap::WIDTH;
 use crate::input;
 use crate::input::PIECE;
-use figures::tally;
-use figures::tally::Run;
+use history_figures::tally;
+use history_figures::tally::Run;
 use types::Ref;
 
 // What came of the input: the run at its end; a read that failed; a heap that was refused, which a formatted one never is.

@@ -16,8 +16,8 @@ use Rattle.rules.specs.Heap.{isBlocks, sectionLength, sectionCount, exponent, c
 use Rattle.rules.specs.Sections.{figure, largestFree}
 use Rattle.rules.proofs.Shape.{blocks-facts, blocks-le}
 use Rattle.rules.proofs.Sections.{divided}
-use Rattle.sections.specs.Figures.{Coherent}
-use Rattle.sections.proofs.SectionPlaces.{section-size}
+use Rattle.section_figures.specs.Figures.{Coherent}
+use Rattle.section_figures.proofs.SectionPlaces.{section-size}
 use Rattle.section_extents.specs.Forgotten.{Forgotten}
 
 -- ---- the figure depends on the blocks' bits alone

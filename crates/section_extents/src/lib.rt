@@ -6,10 +6,10 @@ ghost use Prim.Native.Nat.{_+_, _-_, _/_, _<_, _≤_};
 ghost use lib.ListN.{length};
 ghost use Rattle.bitmap.specs.Bit.{setBit, fillBits};
 ghost use Rattle.rules.specs.Heap.{isBlocks, sectionLength, sectionCount};
-ghost use Rattle.sections.specs.Figures.{Coherent};
+ghost use Rattle.section_figures.specs.Figures.{Coherent};
 ghost use Rattle.section_extents.specs.Forgotten.{Forgotten};
-use sections::MAX_SECTION;
-use sections::UNKNOWN;
+use section_figures::MAX_SECTION;
+use section_figures::UNKNOWN;
 use types::Ref;
 
 // The number of the section that block i lies in.
@@ -52,7 +52,7 @@ pub fn mark_extent(
         × Coherent blocks (now (a .exit)) (now (sections .exit)) ⌝ }
 {
     forget(blocks, sections, i, n);
-    object_extents::mark_extent(a, b, i, n);
+    map_extents::mark_extent(a, b, i, n);
 }
 
 // The n blocks from block i on, an object's, become free.
@@ -71,5 +71,5 @@ pub fn clear_extent(
         × Coherent blocks (now (a .exit)) (now (sections .exit)) ⌝ }
 {
     forget(blocks, sections, i, n);
-    object_extents::clear_extent(a, b, i, n);
+    map_extents::clear_extent(a, b, i, n);
 }

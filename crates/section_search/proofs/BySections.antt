@@ -13,8 +13,8 @@ use Rattle.rules.specs.Heap.{isBlocks, lowestFrom, lowestFree, sectionLength, s
 use Rattle.rules.specs.Sections.{figure, figures, sufficesFrom, lowestInSection, lowestBySections}
 use Rattle.rules.proofs.Tabulate.{length-tabulate}
 use Rattle.rules.proofs.Sections.{sections-find-lowest, section-has, suffices-facts}
-use Rattle.chunk_walk.specs.Search.{orElse, looksFor, lowestIn, Search}
-use Rattle.chunk_walk.proofs.LowestChunk.{lowest-whole}
+use Rattle.search_walk.specs.Search.{orElse, looksFor, lowestIn, Search}
+use Rattle.search_walk.proofs.LowestChunk.{lowest-whole}
 use Rattle.section_search.specs.Search.{looksInSection, looksBySections, Found}
 
 -- ---- the lowest section, as the loop goes: number s is tried, and n - s more

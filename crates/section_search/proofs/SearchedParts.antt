@@ -8,8 +8,8 @@ use native.Mathlib.Omega.{arith}
 use lib.Pow.{pow-lt, pow-add}
 use Rattle.rules.specs.Heap.{isBlocks}
 use Rattle.rules.proofs.Shape.{blocks-facts, blocks-power}
-use Rattle.chunk_walk.specs.Search.{Part}
-use Rattle.sections.proofs.SectionPlaces.{Place}
+use Rattle.search_walk.specs.Search.{Part}
+use Rattle.section_figures.proofs.SectionPlaces.{Place}
 
 -- a multiple of a power of two is one of every power that is not larger
 multiple : (j k m : ℕ) → 2 ^ k ≤ 2 ^ j → m * 2 ^ j % 2 ^ k ≡ 0

@@ -7,7 +7,7 @@ use mathlib.Core.Option.{Option, none, some}
 use lib.Dec.{leb}
 use Rattle.rules.specs.Heap.{lowestFree, sectionLength, sectionCount}
 use Rattle.rules.specs.Sections.{figures, sufficesFrom, lowestInSection}
-use Rattle.chunk_walk.specs.Search.{orElse, looksFor}
+use Rattle.search_walk.specs.Search.{orElse, looksFor}
 
 -- in a section the count begins at its first block; where no figure suffices nothing is searched
 unfoldable pub looksInSection : (N k : ℕ) → List ℕ → Option ℕ → ℕ

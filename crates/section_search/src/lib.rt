@@ -6,10 +6,10 @@ ghost use Prim.Native.Nat.{ℕ, _*_, _^_, _≤_};
 ghost use lib.ListN.{length};
 ghost use Rattle.rules.specs.Heap.{isBlocks};
 ghost use Rattle.rules.specs.Sections.{figures, sufficesFrom};
-ghost use Rattle.chunk_walk.specs.Search.{orElse};
+ghost use Rattle.search_walk.specs.Search.{orElse};
 ghost use Rattle.section_search.specs.Search.{Found};
-use chunks::Searched;
-use sections::section_length;
+use search_chunk::Searched;
+use section_figures::section_length;
 use types::Ref;
 
 // The lowest section whose figure is `size` or more, or the number of sections.
@@ -36,7 +36,7 @@ pub fn find_chunk(blocks: usize, a: &[u8], sections: &[Ref], size: usize) -> Sea
 {
     let length = section_length(blocks);
     if length < size {
-        return chunks::lowest_chunk(a, 0, blocks, size);
+        return search_chunk::lowest_chunk(a, 0, blocks, size);
     }
     let s = lowest_section(sections, size);
     if s == sections.len() {
@@ -45,5 +45,5 @@ pub fn find_chunk(blocks: usize, a: &[u8], sections: &[Ref], size: usize) -> Sea
             looks: 0,
         };
     }
-    chunks::lowest_chunk(a, s * length, s * length + length, size)
+    search_chunk::lowest_chunk(a, s * length, s * length + length, size)
 }

@@ -44,7 +44,7 @@ RefusedAsCheck =
     → answer N w h call ≡ answer N w h check
 
 -- 5 is given to allocations alone: so a run that collects and tries again "When allocation gives 5" has to look at the number only
--- (`turnOf`, turns/specs/Turns.antt)
+-- (`turnOf`, history_turns/specs/Turns.antt)
 abbrev pub FiveToAllocations : Type 0
 FiveToAllocations = (N w : ℕ) (h : Memory) (call : Call) → answer N w h call .0 .number ≡ 5 → (n : ℕ) × (r : ℕ) × (call ≡ allocate n r)
 

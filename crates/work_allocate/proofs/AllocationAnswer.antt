@@ -16,7 +16,7 @@ use Rattle.rules.proofs.Promised.{promised}
 use Rattle.rules.proofs.Unread.{allocate-beside}
 use Rattle.theory.proofs.Memories.Fit.{Fit}
 use Rattle.theory.proofs.EachCall.Accepted.{fit-accepted}
-use Rattle.allocation_tests.proofs.AllocationReply.{AllocationPassed}
+use Rattle.test_allocation.proofs.AllocationReply.{AllocationPassed}
 use Rattle.theory.specs.Usable.{Usable}
 use Rattle.theory.proofs.Usable.UsableHeap.{usable-fit, left-settled}
 

@@ -17,9 +17,9 @@ use Rattle.theory.proofs.Maps.Totals.{free-and-sizes}
 use Rattle.theory.proofs.Usable.UsableHeap.{usable-fit, usable-healthy}
 use Rattle.theory.proofs.Usable.UsableAfterCalls.{usable-kept}
 use Rattle.theory.proofs.Usable.WorkDone.{accepted-allocates, call-balance}
-use Rattle.bridge.proofs.StoreBlocks.{putRootBlocks}
-use Rattle.bridge.proofs.PlacedBlocks.{allocate-freed}
-use Rattle.allocation_tests.proofs.AllocationReply.{AllocationPassed}
+use Rattle.refinement.proofs.StoreBlocks.{putRootBlocks}
+use Rattle.refinement.proofs.PlacedBlocks.{allocate-freed}
+use Rattle.test_allocation.proofs.AllocationReply.{AllocationPassed}
 use Rattle.work_allocate.proofs.AllocationAnswer.{allocate-promised}
 
 -- the blocks that an accepted one frees, from the zeros of the A-map

@@ -6,10 +6,10 @@ use Prim.Native.Nat.{ℕ, _+_}
 use lib.ListN.{length, getD, set}
 use Rattle.rules.specs.Heap.{Memory, memory, withA, withB, withCounts, withCells, withRoots}
 use Rattle.rules.specs.Store.{letGo, putRoot, placed, allocateIn}
-use Rattle.counting.specs.Ready.{Extents}
+use Rattle.count_up.specs.Ready.{Extents}
 use Rattle.release.specs.Blocks.{letGoBlocks}
 use Rattle.release.proofs.OtherBuffers.{unlent, lentAgain, let-go-beside, let-go-blocks-beside}
-use Rattle.bridge.proofs.StoreBlocks.{putRootBlocks}
+use Rattle.refinement.proofs.StoreBlocks.{putRootBlocks}
 
 -- the two maps and the cells, of the same lengths
 pub extents-same :

@@ -5,7 +5,7 @@ ghost use lib.ListN.{length};
 ghost use Rattle.rules.specs.Lent.{before, after, lent};
 ghost use Rattle.rules.specs.Calls.{Call, reply};
 ghost use Rattle.theory.specs.Usable.{Usable, Worked};
-ghost use Rattle.allocation_tests.specs.Replies.{allocateReply};
+ghost use Rattle.test_allocation.specs.Replies.{allocateReply};
 use types::Outcome;
 use types::Ref;
 
@@ -31,11 +31,11 @@ pub fn allocate(
         (after a b counts cells roots waiting sections) ⌝ }
 {
     let stuck = types::capacity_of(width) == 1;
-    placement::place(blocks, width, a, b, counts, cells, sections, at, n);
+    work_place::place(blocks, width, a, b, counts, cells, sections, at, n);
     let old = roots[r];
     roots[r] = (at + 1) as Ref;
     let freed = release::let_go(blocks, width, a, b, counts, cells, waiting, sections, old);
-    sections::renew(blocks, a, sections);
+    section_figures::renew(blocks, a, sections);
     Outcome {
         number: 0,
         value: at,

@@ -16,9 +16,9 @@ use Rattle.theory.proofs.EachCall.Accepted.{fit-accepted}
 use Rattle.theory.proofs.EachCall.Balance.{blocks-add-up}
 use Rattle.theory.proofs.Usable.UsableHeap.{usable-fit, usable-healthy, left-settled}
 use Rattle.theory.proofs.Usable.WorkDone.{worked-freeing}
-use Rattle.bridge.proofs.StoreBlocks.{storeCellBlocks}
-use Rattle.bridge.proofs.FreedBlocks.{store-cell-freed}
-use Rattle.arguments.proofs.ArgumentTests.{CellPassed}
+use Rattle.refinement.proofs.StoreBlocks.{storeCellBlocks}
+use Rattle.refinement.proofs.FreedBlocks.{store-cell-freed}
+use Rattle.test_arguments.proofs.ArgumentTests.{CellPassed}
 
 -- whether the store makes an object stuck
 abbrev pub cellSticks : (N w : ℕ) → Memory → (a j v : ℕ) → Bool

@@ -8,8 +8,8 @@ use Rattle.rules.specs.Heap.{Memory, withCounts, withCells}
 use Rattle.rules.specs.Store.{countUp, letGo, putCell, changeCell, storeCellIn}
 use Rattle.release.specs.Blocks.{letGoBlocks}
 use Rattle.release.proofs.OtherBuffers.{unlent, lentAgain, let-go-beside, let-go-blocks-beside}
-use Rattle.bridge.proofs.StoreBlocks.{storeCellBlocks}
-use Rattle.bridge.proofs.Presence.{present, changed}
+use Rattle.refinement.proofs.StoreBlocks.{storeCellBlocks}
+use Rattle.refinement.proofs.Presence.{present, changed}
 
 module _ (N w : ℕ) (h : Memory) (c : ℕ) where
   abbrev old : ℕ

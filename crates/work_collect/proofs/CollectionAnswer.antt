@@ -11,9 +11,9 @@ use Rattle.theory.specs.Usable.{Usable, outcomeOf, Worked}
 use Rattle.theory.proofs.EachCall.Balance.{blocks-add-up}
 use Rattle.theory.proofs.Usable.UsableHeap.{usable-fit, usable-healthy, left-settled}
 use Rattle.theory.proofs.Usable.WorkDone.{worked-freeing, collect-answered}
-use Rattle.bridge.proofs.Collection.{collectBy, collectBlocks}
-use Rattle.bridge.proofs.Bytewise.{Bytewise}
-use Rattle.bridge.proofs.CollectorProcedure.{collect-by-is, collect-blocks-is}
+use Rattle.refinement.proofs.Collection.{collectBy, collectBlocks}
+use Rattle.refinement.proofs.Bytewise.{Bytewise}
+use Rattle.refinement.proofs.CollectorProcedure.{collect-by-is, collect-blocks-is}
 
 pub collect-worked :
     {N w : ℕ} {h : Memory} → Usable N w h → Bytewise h → {freed : ℕ} {g : Memory} → withSections (h .sections) g ≡ collectBy N w h

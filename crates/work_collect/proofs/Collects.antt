@@ -7,10 +7,10 @@ use Rattle.rules.specs.Heap.{Memory, memory, withA, withB, withCounts, withCell
 use Rattle.rules.specs.Store.{freed}
 use Rattle.rules.proofs.Tests.{choose-both}
 use Rattle.rules.proofs.Unread.{beside}
-use Rattle.marking.specs.Mark.{markCounts}
-use Rattle.marking.proofs.Scans.{mark-reads}
-use Rattle.sweeping.specs.Sweep.{isUnmarked, sweepOne, sweepOneBlocks, sweep, sweepBlocks}
-use Rattle.bridge.proofs.Collection.{collectBy, collectBlocks}
+use Rattle.collect_mark.specs.Mark.{markCounts}
+use Rattle.collect_mark.proofs.Scans.{mark-reads}
+use Rattle.collect_sweep.specs.Sweep.{isUnmarked, sweepOne, sweepOneBlocks, sweep, sweepBlocks}
+use Rattle.refinement.proofs.Collection.{collectBy, collectBlocks}
 
 -- a sweep carries other roots, another waiting list and another list of sections along
 module _ (N w : ℕ) (other : Memory → Memory) where

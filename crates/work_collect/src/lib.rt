@@ -23,9 +23,9 @@ pub fn collect(
         ⌜ Worked blocks width Call.collect (before a b counts cells roots waiting sections) done
         (after a b counts cells roots waiting sections) ⌝ }
 {
-    marking::mark(blocks, width, b, counts, cells, roots, waiting);
-    let freed = sweeping::sweep(blocks, width, a, b, counts, cells, sections);
-    sections::renew(blocks, a, sections);
+    collect_mark::mark(blocks, width, b, counts, cells, roots, waiting);
+    let freed = collect_sweep::sweep(blocks, width, a, b, counts, cells, sections);
+    section_figures::renew(blocks, a, sections);
     Outcome {
         number: 0,
         value: freed,

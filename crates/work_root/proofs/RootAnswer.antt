@@ -17,9 +17,9 @@ use Rattle.theory.proofs.EachCall.Accepted.{fit-accepted}
 use Rattle.theory.proofs.EachCall.Balance.{blocks-add-up}
 use Rattle.theory.proofs.Usable.UsableHeap.{usable-fit, usable-healthy, left-settled}
 use Rattle.theory.proofs.Usable.WorkDone.{worked-freeing}
-use Rattle.bridge.proofs.StoreBlocks.{storeRootBlocks}
-use Rattle.bridge.proofs.FreedBlocks.{store-root-freed}
-use Rattle.arguments.proofs.ArgumentTests.{RootPassed}
+use Rattle.refinement.proofs.StoreBlocks.{storeRootBlocks}
+use Rattle.refinement.proofs.FreedBlocks.{store-root-freed}
+use Rattle.test_arguments.proofs.ArgumentTests.{RootPassed}
 
 -- whether the store makes an object stuck
 abbrev pub rootSticks : (N w : ℕ) → Memory → (r v : ℕ) → Bool

@@ -8,8 +8,8 @@ use Rattle.rules.specs.Heap.{Memory, withCounts, withRoots}
 use Rattle.rules.specs.Store.{countUp, letGo, putRoot, changeRoot, storeRootIn}
 use Rattle.release.specs.Blocks.{letGoBlocks}
 use Rattle.release.proofs.OtherBuffers.{unlent, lentAgain, let-go-beside, let-go-blocks-beside}
-use Rattle.bridge.proofs.StoreBlocks.{putRootBlocks, storeRootBlocks}
-use Rattle.bridge.proofs.Presence.{present, changed}
+use Rattle.refinement.proofs.StoreBlocks.{putRootBlocks, storeRootBlocks}
+use Rattle.refinement.proofs.Presence.{present, changed}
 
 module _ (N w : ℕ) (h : Memory) (r : ℕ) where
   abbrev old : ℕ

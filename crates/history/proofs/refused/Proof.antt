@@ -1,7 +1,7 @@
 -- `refused` meets its contract: the run answered is a new one.
 use mathlib.Core.Path.{ap}
 use borrow.Author.Needs.{needs}
-use Rattle.figures.specs.declared.tally.Run.{Run}
+use Rattle.history_figures.specs.declared.tally.Run.{Run}
 use Rattle.history.proofs.refused.Statement.{statement}
 use Rattle.history.proofs.refused.Tie as tie
 

@@ -1,7 +1,7 @@
 -- `release::let_go` meets its contract: v is counted down on an empty stack, and what waits is freed.
 use mathlib.Core.Path.{_∙_}
 use borrow.Author.Needs.{needs}
-use Rattle.counting.proofs.Stack.{stack-empty}
+use Rattle.count_up.proofs.Stack.{stack-empty}
 use Rattle.release.proofs.OtherBuffers.{let-go-done, let-go-blocks-done}
 use Rattle.release.proofs.let_go.Statement.{statement}
 use Rattle.release.proofs.let_go.Tie as tie

@@ -6,10 +6,10 @@ use Prim.Native.Nat.{_-_}
 use native.Mathlib.Omega.{arith}
 use Rattle.rules.specs.Heap.{memory}
 use Rattle.rules.specs.Store.{release}
-use Rattle.sections.specs.Figures.{Upkeep}
-use Rattle.counting.specs.Stack.{topFirst, counted, remaining}
+use Rattle.section_figures.specs.Figures.{Upkeep}
+use Rattle.count_up.specs.Stack.{topFirst, counted, remaining}
 use Rattle.release.specs.Blocks.{releasedBlocks}
-use Rattle.counting.proofs.Stack.{stack-pop}
+use Rattle.count_up.proofs.Stack.{stack-pop}
 use Rattle.release.proofs.ReleaseLoop.{ReleaseUnderWay, releasing-start, releasing-step, releasing-done, blocks-done, waiting-done}
 use Rattle.release.proofs.release_all.Statement.{statement}
 use Rattle.release.proofs.release_all.Tie as tie

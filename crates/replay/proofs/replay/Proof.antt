@@ -3,7 +3,7 @@ use mathlib.Core.Path.{refl, sym, ap, _∙_}
 use lib.ListN.{length}
 use Rattle.rules.specs.Heap.{lentMemory, shaped}
 use Rattle.types.specs.declared.Reply.{Reply}
-use Rattle.encoding.proofs.Calls.{Passed, accepted-passed}
+use Rattle.replay_words.proofs.Calls.{Passed, accepted-passed}
 use Rattle.replay.proofs.Start.{started-usable, replayed}
 use Rattle.replay.proofs.replay.Statement.{statement}
 use Rattle.replay.proofs.replay.Tie as tie

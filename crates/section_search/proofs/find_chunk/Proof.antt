@@ -5,9 +5,9 @@ use native.Mathlib.Omega.{arith}
 use lib.ListN.{length}
 use Rattle.rules.specs.Heap.{sectionLength, sectionCount}
 use Rattle.rules.proofs.Shape.{blocks-le}
-use Rattle.chunk_walk.specs.Search.{lowestIn, Search}
+use Rattle.search_walk.specs.Search.{lowestIn, Search}
 use Rattle.section_search.proofs.BySections.{found-longer, found-none, found-within, chosen-none, chosen-some, figures-length, on-figures}
-use Rattle.sections.proofs.SectionPlaces.{Place, place}
+use Rattle.section_figures.proofs.SectionPlaces.{Place, place}
 use Rattle.section_search.proofs.SearchedParts.{whole-heap, whole-section}
 use borrow.Author.Needs.{needs}
 use Rattle.section_search.proofs.find_chunk.Statement.{statement}

@@ -4,7 +4,7 @@ use Prim.Native.Nat.{ℕ, _-_, _≤_}
 use native.Mathlib.Omega.{arith}
 use lib.ListN.{length}
 use Rattle.rules.specs.Sections.{sufficesFrom}
-use Rattle.chunk_walk.specs.Search.{orElse}
+use Rattle.search_walk.specs.Search.{orElse}
 use Rattle.section_search.proofs.BySections.{suffices-start, suffices-here, suffices-next, suffices-none}
 use Rattle.section_search.proofs.lowest_section.Statement.{statement}
 use Rattle.section_search.proofs.lowest_section.Tie as tie

@@ -5,10 +5,10 @@ use Prim.Native.Nat.{ℕ}
 use native.Mathlib.Omega.{arith}
 use lib.Dec.{eqb}
 use borrow.Author.Needs.{needs}
-use Rattle.allocation_tests.proofs.AllocationReply.{allocate-passed}
-use Rattle.counting.proofs.Shapes.{memoryOf, planes-same}
+use Rattle.test_allocation.proofs.AllocationReply.{allocate-passed}
+use Rattle.count_up.proofs.Shapes.{memoryOf, planes-same}
 use Rattle.theory.proofs.Usable.UsableHeap.{usable-healthy}
-use Rattle.bridge.proofs.ReadyHeap.{usable-ready}
+use Rattle.refinement.proofs.ReadyHeap.{usable-ready}
 use Rattle.work_allocate.proofs.AllocationSteps.{extents-same, allocate-done, allocate-blocks}
 use Rattle.work_allocate.proofs.AllocationBlocks.{allocate-worked}
 use Rattle.work_allocate.proofs.allocate.Statement.{statement}

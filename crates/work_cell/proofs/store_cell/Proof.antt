@@ -4,11 +4,11 @@ use mathlib.Core.Path.{_∙_}
 use native.Mathlib.Omega.{arith}
 use lib.ListN.{length-set}
 use borrow.Author.Needs.{needs}
-use Rattle.arguments.proofs.ArgumentTests.{cell-passed}
-use Rattle.counting.proofs.Shapes.{memoryOf, planes-same, extents-cell}
+use Rattle.test_arguments.proofs.ArgumentTests.{cell-passed}
+use Rattle.count_up.proofs.Shapes.{memoryOf, planes-same, extents-cell}
 use Rattle.theory.proofs.Usable.UsableHeap.{usable-fit, usable-healthy}
-use Rattle.bridge.proofs.Presence.{sticks-present, sticks-changed}
-use Rattle.bridge.proofs.ReadyHeap.{usable-ready, list-untouched}
+use Rattle.refinement.proofs.Presence.{sticks-present, sticks-changed}
+use Rattle.refinement.proofs.ReadyHeap.{usable-ready, list-untouched}
 use Rattle.work_cell.proofs.CellSteps.{cell-present, cell-present-blocks, cell-changed, cell-changed-blocks}
 use Rattle.work_cell.proofs.CellAnswer.{cell-worked}
 use Rattle.work_cell.proofs.store_cell.Statement.{statement}

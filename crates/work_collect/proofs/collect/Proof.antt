@@ -4,9 +4,9 @@ use mathlib.Core.Path.{_∙_}
 use native.Mathlib.Omega.{arith}
 use borrow.Author.Needs.{needs}
 use Rattle.bitmap.proofs.Maps.{bytes-given}
-use Rattle.counting.proofs.Shapes.{memoryOf, planes-same}
+use Rattle.count_up.proofs.Shapes.{memoryOf, planes-same}
 use Rattle.theory.proofs.Usable.UsableHeap.{usable-healthy}
-use Rattle.bridge.proofs.ReadyHeap.{usable-ready}
+use Rattle.refinement.proofs.ReadyHeap.{usable-ready}
 use Rattle.work_collect.proofs.Collects.{collected-memory, collected-blocks}
 use Rattle.work_collect.proofs.CollectionAnswer.{collect-worked}
 use Rattle.work_collect.proofs.collect.Statement.{statement}

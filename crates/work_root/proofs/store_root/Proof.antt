@@ -3,11 +3,11 @@
 use mathlib.Core.Path.{_∙_}
 use native.Mathlib.Omega.{arith}
 use borrow.Author.Needs.{needs}
-use Rattle.arguments.proofs.ArgumentTests.{root-passed}
-use Rattle.counting.proofs.Shapes.{memoryOf, planes-same}
+use Rattle.test_arguments.proofs.ArgumentTests.{root-passed}
+use Rattle.count_up.proofs.Shapes.{memoryOf, planes-same}
 use Rattle.theory.proofs.Usable.UsableHeap.{usable-fit, usable-healthy}
-use Rattle.bridge.proofs.Presence.{sticks-present, sticks-changed}
-use Rattle.bridge.proofs.ReadyHeap.{usable-ready, list-untouched}
+use Rattle.refinement.proofs.Presence.{sticks-present, sticks-changed}
+use Rattle.refinement.proofs.ReadyHeap.{usable-ready, list-untouched}
 use Rattle.work_root.proofs.RootSteps.{root-present, root-present-blocks, root-changed, root-changed-blocks}
 use Rattle.work_root.proofs.RootAnswer.{root-worked}
 use Rattle.work_root.proofs.store_root.Statement.{statement}

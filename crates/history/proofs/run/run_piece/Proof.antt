@@ -4,7 +4,7 @@ use Prim.Native.Nat.{ℕ, _-_}
 use native.Mathlib.Omega.{arith}
 use borrow.Author.Needs.{needs}
 use Rattle.theory.proofs.Usable.UsableHeap.{usable-healthy}
-use Rattle.figures.proofs.Ranges.{in-range-within}
+use Rattle.history_figures.proofs.Ranges.{in-range-within}
 use Rattle.history_runs.proofs.Pieces.{whole-room, whole-going, piece-stopped, piece-ran}
 use Rattle.history.proofs.run.run_piece.Statement.{statement}
 use Rattle.history.proofs.run.run_piece.Tie as tie

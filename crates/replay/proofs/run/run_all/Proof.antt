@@ -6,7 +6,7 @@ use lib.ListN.{length}
 use Rattle.rules.specs.Heap.{lentMemory}
 use Rattle.rules.proofs.Shape.{Shaped}
 use Rattle.theory.proofs.Usable.UsableHeap.{usable-healthy}
-use Rattle.encoding.proofs.Calls.{call-at}
+use Rattle.replay_words.proofs.Calls.{call-at}
 use Rattle.replay.proofs.Progress.{call-made, Progress, progress-start, progress-next, progress-done}
 use Rattle.replay.proofs.run.run_all.Statement.{statement}
 use Rattle.replay.proofs.run.run_all.Tie as tie

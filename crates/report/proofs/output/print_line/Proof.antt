@@ -6,7 +6,7 @@ use native.Mathlib.Omega.{arith}
 use lib.ListN.{length, take, length-append}
 use lib.Seq.{length-take-le, take-at}
 use borrow.Author.Needs.{needs}
-use Rattle.line.specs.Line.{line}
+use Rattle.history_line.specs.Line.{line}
 use Rattle.report.proofs.output.print_line.Statement.{statement}
 use Rattle.report.proofs.output.print_line.Tie as tie
 

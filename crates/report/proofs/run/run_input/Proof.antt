@@ -7,7 +7,7 @@ use native.Mathlib.Omega.{arith}
 use lib.ListN.{length}
 use borrow.Author.Needs.{needs}
 use Rattle.rules.specs.Heap.{lentMemory}
-use Rattle.figures.specs.Figures.{mostRecords}
+use Rattle.history_figures.specs.Figures.{mostRecords}
 use Rattle.report.proofs.Pieces.{Kept, kept-start, kept-few, kept-next, kept-ends, no-bytes}
 use Rattle.report.proofs.run.run_input.Statement.{statement}
 use Rattle.report.proofs.run.run_input.Tie as tie

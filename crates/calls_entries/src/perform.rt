@@ -1,0 +1,115 @@
+// What is done with the lent buffers. Here alone they are all lent on.
+use crate::Entry;
+use types::Ref;
+use types::Reply;
+use types::replies;
+
+// What came of an entry that is no call, as a reply: the number is 0 where it was done.
+fn outcome(done: bool) -> Reply {
+    if done {
+        return replies::acceptance(0);
+    }
+    replies::refusal(1)
+}
+
+// What only reads: check, look and free blocks; of a length nothing is left to do; at the end of a heap its buffers, a line each.
+fn read(
+    n: usize,
+    w: usize,
+    a: &[u8],
+    b: &[u8],
+    counts: &[u8],
+    cells: &[Ref],
+    roots: &[Ref],
+    waiting: &[Ref],
+    sections: &[Ref],
+    e: Entry,
+) -> Reply {
+    let kind = e.kind;
+    match kind {
+        1 => public_read::check(n, w, a, b, counts, cells, roots, waiting, sections),
+        6 => public_read::look(n, w, a, b, counts, cells, roots, waiting, sections, e.x),
+        7 => public_read::free_blocks(n, w, a, b, counts, cells, roots, waiting, sections),
+        254 => outcome(true),
+        _ => {
+            calls_output::say_bytes(a);
+            calls_output::say_bytes(b);
+            calls_output::say_bytes(counts);
+            calls_output::say_refs(cells);
+            calls_output::say_refs(roots);
+            calls_output::say_refs(waiting);
+            outcome(calls_output::say_refs(sections))
+        }
+    }
+}
+
+// A load into a buffer of bytes.
+fn load_byte(list: &mut [u8], i: usize, value: usize) -> Reply {
+    if i < list.len() && value < 256 {
+        list[i] = (value % 256) as u8;
+        return outcome(true);
+    }
+    outcome(false)
+}
+
+// A load into a buffer of references.
+fn load_ref(list: &mut [Ref], i: usize, value: usize) -> Reply {
+    if i < list.len() && value < 65536 {
+        list[i] = (value % 65536) as Ref;
+        return outcome(true);
+    }
+    outcome(false)
+}
+
+// A load, a call that writes, or what only reads.
+pub fn perform(
+    heap: Entry,
+    a: &mut [u8],
+    b: &mut [u8],
+    counts: &mut [u8],
+    cells: &mut [Ref],
+    roots: &mut [Ref],
+    waiting: &mut [Ref],
+    sections: &mut [Ref],
+    e: Entry,
+) -> Reply {
+    let n = heap.x;
+    let w = heap.y;
+    let kind = e.kind;
+    let x = e.x;
+    let y = e.y;
+    let z = e.z;
+    if kind == crate::LOAD {
+        return match x {
+            0 => load_byte(a, y, z),
+            1 => load_byte(b, y, z),
+            2 => load_byte(counts, y, z),
+            3 => load_ref(cells, y, z),
+            4 => load_ref(roots, y, z),
+            5 => load_ref(waiting, y, z),
+            6 => load_ref(sections, y, z),
+            _ => outcome(false),
+        };
+    }
+    let chosen = x as u64;
+    match kind {
+        0 => public_heap::format(n, w, a, b, counts, cells, roots, waiting, sections),
+        2 => public_heap::allocate(n, w, a, b, counts, cells, roots, waiting, sections, x, y),
+        3 => public_store::store_root(n, w, a, b, counts, cells, roots, waiting, sections, x, y),
+        4 => public_store::store_cell(n, w, a, b, counts, cells, roots, waiting, sections, x, y, z),
+        5 => public_heap::collect(n, w, a, b, counts, cells, roots, waiting, sections),
+        8 => public_store::return_roots(
+            n,
+            w,
+            a,
+            b,
+            counts,
+            cells,
+            roots,
+            waiting,
+            sections,
+            chosen,
+        ),
+        _ => read(n, w, a, b, counts, cells, roots, waiting, sections, e),
+    }
+}

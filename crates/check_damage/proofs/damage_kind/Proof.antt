@@ -1,0 +1,224 @@
+-- `check_damage::damage_kind` meets its contract: a kind is reported where its test passes and those before it fail.
+use mathlib.Core.Path.{_≡_, sym, _∙_}
+use mathlib.Core.Bool.{Bool, false}
+use mathlib.Core.List.{List}
+use Prim.Native.Nat.{ℕ, _*_}
+use native.Mathlib.Omega.{arith}
+use lib.ListN.{length}
+use Rattle.rules.specs.Heap.{Memory, lentMemory}
+use Rattle.rules.specs.Tools.{someBelow, firstNumber}
+use Rattle.rules.specs.Damage.{endOnFree, openEnd, unaligned, badCell, badRoot, badCount, damage}
+use Rattle.check_damage.proofs.References.{cells-within, roots-within}
+use Rattle.rules.proofs.Shape.{Shaped, shape-facts}
+use Rattle.check_damage.proofs.damage_kind.Statement.{statement}
+use Rattle.check_damage.proofs.damage_kind.Tie as tie
+
+-- ---- the six tests, in the code's order; kind 4 has two. No test reads the waiting list or the sections.
+
+module _ (waiting sections : List ℕ) where
+  -- the seven buffers
+  abbrev whole : tie.Start → Memory
+  whole s =
+      lentMemory (s .args .a .now) (s .args .b .now) (s .args .counts .now) (s .args .cells .now) (s .args .roots .now) waiting sections
+
+  -- the rule's tests
+  abbrev rule-1 : tie.Start → Bool
+  rule-1 s = someBelow (endOnFree (whole s)) (s .args .blocks)
+
+  abbrev rule-2 : tie.Start → Bool
+  rule-2 s = someBelow (openEnd (s .args .blocks) (whole s)) (s .args .blocks)
+
+  abbrev rule-3 : tie.Start → Bool
+  rule-3 s = someBelow (unaligned (s .args .blocks) (whole s)) (s .args .blocks)
+
+  abbrev rule-4 : tie.Start → Bool
+  rule-4 s = someBelow (badCell (s .args .blocks) (whole s)) (4 * s .args .blocks)
+
+  abbrev rule-5 : tie.Start → Bool
+  rule-5 s = someBelow (badRoot (s .args .blocks) (whole s)) (length (s .args .roots .now))
+
+  abbrev rule-6 : tie.Start → Bool
+  rule-6 s = someBelow (badCount (s .args .blocks) (s .args .width) (whole s)) (s .args .blocks)
+
+-- the seven buffers of right shape
+abbrev found : tie.Start → Memory
+found s = whole (s .pre .0) (s .pre .1) s
+
+right : (s : tie.Start) → Shaped (s .args .blocks) (s .args .width) (found s)
+right s = shape-facts (s .args .blocks) (s .args .width) (found s) (s .pre .2)
+
+-- where the code starts from
+abbrev entry : tie.After-shared-slice-known5 → tie.Start
+entry c = search
+
+abbrev start-1 : tie.After-has-end-on-free → tie.Start
+start-1 c = entry (c .before)
+
+abbrev start-2 : tie.After-has-open-end → tie.Start
+start-2 c = start-1 (c .before .before)
+
+abbrev start-3 : tie.After-has-unaligned → tie.Start
+start-3 c = start-2 (c .before .before)
+
+abbrev start-4 : tie.After-has-bad-cell → tie.Start
+start-4 c = start-3 (c .before .before)
+
+abbrev start-5 : tie.After-has-bad-root → tie.Start
+start-5 c = start-4 (c .before .before)
+
+abbrev start-6 : tie.After-has-bad-count → tie.Start
+start-6 c = start-5 (c .before .before)
+
+module _ (waiting sections : List ℕ) where
+  -- what each call returns
+  test-1 : (c : tie.After-has-end-on-free) → c .has-end-on-free .result ≡ rule-1 waiting sections (start-1 c)
+  unfolding endOnFree
+  test-1 c = c .has-end-on-free .ensures
+
+  test-2 : (c : tie.After-has-open-end) → c .has-open-end .result ≡ rule-2 waiting sections (start-2 c)
+  unfolding openEnd
+  test-2 c = c .has-open-end .ensures
+
+  test-3 : (c : tie.After-has-unaligned) → c .has-unaligned .result ≡ rule-3 waiting sections (start-3 c)
+  unfolding unaligned
+  test-3 c = c .has-unaligned .ensures
+
+  test-4 : (c : tie.After-has-bad-cell) → c .has-bad-cell .result ≡ rule-4 waiting sections (start-4 c)
+  unfolding badCell
+  test-4 c = c .has-bad-cell .ensures
+
+  test-5 : (c : tie.After-has-bad-root) → c .has-bad-root .result ≡ rule-5 waiting sections (start-5 c)
+  unfolding badRoot
+  test-5 c = c .has-bad-root .ensures
+
+  test-6 : (c : tie.After-has-bad-count) → c .has-bad-count .result ≡ rule-6 waiting sections (start-6 c)
+  unfolding badCount
+  test-6 c = c .has-bad-count .ensures
+
+  -- past the test
+  fails-1 : (c : tie.Else1) → rule-1 waiting sections (start-1 (c .before)) ≡ false
+  fails-1 c = sym (test-1 (c .before)) ∙ c .if1 .left
+
+  fails-2 : (c : tie.Else2) → rule-2 waiting sections (start-2 (c .before)) ≡ false
+  fails-2 c = sym (test-2 (c .before)) ∙ c .if2 .left
+
+  fails-3 : (c : tie.Else3) → rule-3 waiting sections (start-3 (c .before)) ≡ false
+  fails-3 c = sym (test-3 (c .before)) ∙ c .if3 .left
+
+  fails-4 : (c : tie.Else4) → rule-4 waiting sections (start-4 (c .before)) ≡ false
+  fails-4 c = sym (test-4 (c .before)) ∙ c .if4 .left
+
+  fails-5 : (c : tie.Else5) → rule-5 waiting sections (start-5 (c .before)) ≡ false
+  fails-5 c = sym (test-5 (c .before)) ∙ c .if5 .left
+
+  fails-6 : (c : tie.Else6) → rule-6 waiting sections (start-6 (c .before)) ≡ false
+  fails-6 c = sym (test-6 (c .before)) ∙ c .if6 .left
+
+-- ---- the needs
+
+has-end-on-free-requires : tie.Need-has-end-on-free-requires
+has-end-on-free-requires c κs = let len = right (entry c) in omega arith
+
+returns : tie.Need-returns
+unfolding damage firstNumber
+returns c = λ w x.
+    rw (sym (test-1 w x (c .before)) ∙ c .if1 .taken, damage, firstNumber)
+
+has-open-end-requires : tie.Need-has-open-end-requires
+has-open-end-requires c κs = let len = right (start-1 (c .before)) in omega arith
+
+returns-2 : tie.Need-returns-2
+unfolding damage firstNumber
+returns-2 c = λ w x.
+    let c1 = c .before .before in
+    rw (fails-1 w x c1, sym (test-2 w x (c .before)) ∙ c .if2 .taken, damage, firstNumber)
+
+has-unaligned-requires : tie.Need-has-unaligned-requires
+has-unaligned-requires c κs = let len = right (start-2 (c .before)) in omega arith
+
+returns-3 : tie.Need-returns-3
+unfolding damage firstNumber
+returns-3 c = λ w x.
+    let c2 = c .before .before in
+    let c1 = c2 .before .before in
+    rw (fails-1 w x c1, fails-2 w x c2, sym (test-3 w x (c .before)) ∙ c .if3 .taken, damage, firstNumber)
+
+has-bad-cell-requires : tie.Need-has-bad-cell-requires
+has-bad-cell-requires c κs = let len = right (start-3 (c .before)) in omega arith
+
+returns-4 : tie.Need-returns-4
+unfolding damage firstNumber
+returns-4 c = λ w x.
+    let c3 = c .before .before in
+    let c2 = c3 .before .before in
+    let c1 = c2 .before .before in
+    rw (fails-1 w x c1, fails-2 w x c2, fails-3 w x c3, sym (test-4 w x (c .before)) ∙ c .if4 .taken, damage, firstNumber)
+
+has-bad-root-requires : tie.Need-has-bad-root-requires
+has-bad-root-requires c κs = let len = right (start-4 (c .before)) in omega arith
+
+returns-5 : tie.Need-returns-5
+unfolding damage firstNumber
+returns-5 c = λ w x.
+    let c4 = c .before .before in
+    let c3 = c4 .before .before in
+    let c2 = c3 .before .before in
+    let c1 = c2 .before .before in
+    rw (fails-1 w x c1, fails-2 w x c2, fails-3 w x c3, fails-4 w x c4, sym (test-5 w x (c .before)) ∙ c .if5 .taken, damage, firstNumber)
+
+has-bad-count-requires : tie.Need-has-bad-count-requires
+has-bad-count-requires c κs =
+    let s = start-5 (c .before) in
+    let len = right s in
+    let cells = cells-within (s .args .blocks) (found s) (omega arith) (fails-4 (s .pre .0) (s .pre .1) (c .before .before)) in
+    let roots = roots-within (s .args .blocks) (found s) (fails-5 (s .pre .0) (s .pre .1) c) in (
+      sym (len .whole-bytes),
+      len .blocks-max,
+      len .width-min,
+      len .width-max,
+      omega arith,
+      omega arith,
+      len .length-counts,
+      len .length-cells,
+      len .roots-max,
+      cells,
+      roots,
+    )
+
+returns-6 : tie.Need-returns-6
+unfolding damage firstNumber
+returns-6 c = λ w x.
+    let c5 = c .before .before in
+    let c4 = c5 .before .before in
+    let c3 = c4 .before .before in
+    let c2 = c3 .before .before in
+    let c1 = c2 .before .before in
+    rw (fails-1 w x c1, fails-2 w x c2, fails-3 w x c3, fails-4 w x c4, fails-5 w x c5, sym (test-6 w x (c .before)) ∙ c .if6 .taken, damage, firstNumber)
+
+returns-7 : tie.Need-returns-7
+unfolding damage firstNumber
+returns-7 c = λ w x.
+    let c5 = c .before .before in
+    let c4 = c5 .before .before in
+    let c3 = c4 .before .before in
+    let c2 = c3 .before .before in
+    let c1 = c2 .before .before in
+    rw (fails-1 w x c1, fails-2 w x c2, fails-3 w x c3, fails-4 w x c4, fails-5 w x c5, fails-6 w x c, damage, firstNumber)
+
+pub damage-kind-spec : {M : Type 1} → statement M
+damage-kind-spec =
+    tie.close
+    (tie.spec
+    has-end-on-free-requires
+    returns
+    has-open-end-requires
+    returns-2
+    has-unaligned-requires
+    returns-3
+    has-bad-cell-requires
+    returns-4
+    has-bad-root-requires
+    returns-5
+    has-bad-count-requires
+    returns-6
+    returns-7)

@@ -1,0 +1,49 @@
+// Number 2: the first damage kind that applies.
+ghost use mathlib.Core.Path.{_≡_};
+ghost use mathlib.Core.Bool.{true};
+ghost use mathlib.Core.List.{List};
+ghost use Prim.Native.Nat.{ℕ};
+ghost use Rattle.rules.specs.Heap.{shaped, lentMemory};
+ghost use Rattle.rules.specs.Damage.{damage};
+use types::Ref;
+
+// The damage kind of a heap of right shape, or 0. Each kind is tested over the whole heap before the next. No kind reads the waiting list
+// or the sections: the answer is the same whatever they hold.
+pub fn damage_kind(
+    blocks: usize,
+    width: usize,
+    a: &[u8],
+    b: &[u8],
+    counts: &[u8],
+    cells: &[Ref],
+    roots: &[Ref],
+) -> usize
+    requires { ⌜ ((waiting : List ℕ) × (sections : List ℕ)
+        × (shaped blocks width
+        (lentMemory (now a) (now b) (now counts) (now cells) (now roots) waiting sections) ≡ true)) ⌝ }
+    ensures { λ r.
+        ⌜ ((waiting sections : List ℕ)
+        → r ≡ damage blocks width
+        (lentMemory (now (a .entry)) (now (b .entry)) (now (counts .entry)) (now (cells .entry)) (now (roots .entry))
+        waiting sections)) ⌝ }
+{
+    if check_maps::has_end_on_free(blocks, a, b) {
+        return 1;
+    }
+    if check_maps::has_open_end(blocks, a, b) {
+        return 2;
+    }
+    if check_maps::has_unaligned(blocks, a, b) {
+        return 3;
+    }
+    if check_references::has_bad_cell(blocks, a, b, cells) {
+        return 4;
+    }
+    if check_references::has_bad_root(blocks, a, b, roots) {
+        return 4;
+    }
+    if check_counts::has_bad_count(blocks, width, a, b, counts, cells, roots) {
+        return 5;
+    }
+    0
+}

@@ -1,0 +1,87 @@
+-- Laws of `scan`: what is left of one as its loop goes on, and which buffers it reads.
+use mathlib.Core.Path.{_≡_, refl, sym, ap, ap₂, _∙_}
+use mathlib.Core.List.{List, [], _∷_}
+use Prim.Native.Nat.{ℕ, zero, suc, _-_, _*_, _/_, _≤_, _<_}
+use native.Mathlib.Omega.{arith}
+use lib.ListN.{length, getD, set, replicate}
+use Rattle.rules.specs.Heap.{Memory, withB, withCells, withRoots, sizeAt}
+use Rattle.rules.specs.Store.{Work, work}
+use Rattle.count_up.specs.Stack.{topFirst, uncounted, remaining, Stack, Worked}
+use Rattle.count_up.proofs.Stack.{top-first-kept, top-first-pop}
+use Rattle.collect_visit.specs.Visit.{visitEach}
+use Rattle.collect_mark.specs.Mark.{scan, markCounts}
+
+-- a scan with an empty stack is at its end
+scan-empty : (steps N w : ℕ) (h : Memory) (counts : List ℕ) → scan steps N w h counts [] ≡ counts
+unfolding scan
+scan-empty zero N w h counts = refl
+scan-empty (suc f) N w h counts = refl
+
+scan-next : (steps N w : ℕ) (h : Memory) (counts : List ℕ) (i : ℕ) (rest : List ℕ) → 0 < steps →
+    let s = visitEach N w (work counts rest) (h .cells) (4 * i) (4 * sizeAt N h i) in
+    scan steps N w h counts (i ∷ rest) ≡ scan (steps - 1) N w h (s .counts) (s .stack)
+unfolding scan
+scan-next steps N w h counts i rest some =
+    let one-more : steps ≡ suc (steps - 1) = omega arith in
+    ap (λ (f : ℕ). scan f N w h counts (i ∷ rest)) one-more
+
+-- Counts and stack lead to the result, in `steps` steps, which are enough.
+pub record Leading (N w : ℕ) (h : Memory) (result counts waiting : List ℕ) (top : ℕ) : Type 0 where
+  pub steps : ℕ
+  pub enough : remaining uncounted N w counts top ≤ steps
+  pub leads : scan steps N w h counts (topFirst waiting top) ≡ result
+
+module _ {N w : ℕ} {h : Memory} {counts waiting : List ℕ} {top : ℕ} where
+  pub leading-start : Stack uncounted N w counts waiting top → Leading N w h (scan N N w h counts (topFirst waiting top)) counts waiting top
+  leading-start s = record { steps = N; enough = s .room; leads = refl }
+
+  module _ {result : List ℕ} (before : Leading N w h result counts waiting top) where
+    -- the object on top of the stack is scanned
+    pub leading-next : 0 < top → {n : ℕ} → n ≡ sizeAt N h (getD waiting (top - 1) 0) → {counts′ waiting′ : List ℕ} {top′ : ℕ}
+        → Worked uncounted N w
+        (visitEach N w (work counts (topFirst (set waiting (top - 1) 0) (top - 1))) (h .cells) (4 * getD waiting (top - 1) 0) (4 * n))
+        (remaining uncounted N w counts (top - 1)) counts′ waiting′ top′
+        → Leading N w h result counts′ waiting′ top′
+    leading-next some size next =
+        let i : ℕ = getD waiting (top - 1) 0 in
+        let after : List ℕ → ℕ → Work = λ rest k. visitEach N w (work counts rest) (h .cells) (4 * i) (4 * k) in
+        let popped = top-first-kept waiting (top - 1) (top - 1) 0 (omega arith) in
+        record {
+          steps = before .steps - 1;
+          enough = omega (arith, next .left-is, before .enough);
+          leads =
+              ap (λ (s : Work). scan (before .steps - 1) N w h (s .counts) (s .stack)) (next .result ∙ ap₂ after popped size)
+              ∙ sym (scan-next (before .steps) N w h counts i (topFirst waiting (top - 1)) (omega (arith, before .enough)))
+              ∙ ap (λ (l : List ℕ). scan (before .steps) N w h counts l) (sym (top-first-pop waiting top some))
+              ∙ before .leads;
+        }
+
+    pub leading-done : top ≡ 0 → counts ≡ result
+    unfolding topFirst
+    leading-done e =
+        sym (scan-empty (before .steps) N w h counts)
+        ∙ ap (λ (k : ℕ). scan (before .steps) N w h counts (topFirst waiting k)) (sym e)
+        ∙ before .leads
+
+-- a scan reads the B-map and the cells alone: all other lists may be those of g
+scan-reads : (steps N w : ℕ) (h g : Memory) (counts stack : List ℕ)
+    → scan steps N w h counts stack ≡ scan steps N w (withB (h .b) (withCells (h .cells) g)) counts stack
+unfolding scan
+scan-reads zero N w h g counts stack = refl
+scan-reads (suc f) N w h g counts [] = refl
+scan-reads (suc f) N w h g counts (i ∷ rest) = scan-reads f N w h g _ _
+
+-- and the marking reads the roots besides
+pub mark-reads : (N w : ℕ) (h g : Memory) → markCounts N w h ≡ markCounts N w (withB (h .b) (withCells (h .cells) (withRoots (h .roots) g)))
+unfolding markCounts
+mark-reads N w h g = scan-reads N N w h (withRoots (h .roots) g) _ _
+
+-- the marking in two parts, with counts and stack in between
+pub mark-parts : (N w : ℕ) (h : Memory) {cleared counts stack : List ℕ} → cleared ≡ replicate (w * (N / 8)) 0
+    → work counts stack ≡ visitEach N w (work cleared []) (h .roots) 0 (length (h .roots))
+    → scan N N w (withRoots [] h) counts stack ≡ markCounts N w h
+unfolding markCounts
+mark-parts N w h e visited =
+    scan-reads N N w (withRoots [] h) h _ _
+    ∙ ap (λ (s : Work). scan N N w h (s .counts) (s .stack))
+    (visited ∙ ap (λ (c : List ℕ). visitEach N w (work c []) (h .roots) 0 (length (h .roots))) e)

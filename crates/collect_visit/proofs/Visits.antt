@@ -1,0 +1,90 @@
+-- What `visit` gives on each way through the code, and a run of visits.
+use mathlib.Core.Path.{_≡_, refl, sym, ap, _∙_}
+use mathlib.Core.Logic.{_≢_}
+use mathlib.Core.Bool.{true}
+use mathlib.Core.List.{List, _∷_}
+use Prim.Native.Nat.{ℕ, _+_, _-_, _/_, _^_, _≤_, _<_}
+use native.Mathlib.Numerals.{add-one}
+use native.Mathlib.Omega.{arith}
+use lib.ListN.{getD, set}
+use lib.Pow.{pow-mono}
+use borrow.Author.Tests.{lt-ltb, le-ltb, eq-eqb, ne-eqb}
+use Rattle.planes.specs.Plane.{countAt, setCount}
+use Rattle.rules.specs.Heap.{capacity}
+use Rattle.rules.specs.Store.{Work, work, countUp}
+use Rattle.count_up.specs.Ready.{Planes}
+use Rattle.count_up.specs.Stack.{topFirst, uncounted, remaining, Stack, Worked}
+use Rattle.count_up.proofs.Worked.{unchanged, kept, push-room, pushed, worked-next}
+use Rattle.collect_visit.specs.Visit.{visit, visitEach}
+
+-- what a visit of v has to leave
+abbrev Visited : (N w : ℕ) → (counts waiting : List ℕ) → (top v : ℕ) → (counts′ waiting′ : List ℕ) → (top′ : ℕ) → Type 0
+Visited N w counts waiting top v counts′ waiting′ top′ =
+    Worked uncounted N w (visit N w (work counts (topFirst waiting top)) v) (remaining uncounted N w counts top) counts′ waiting′ top′
+
+module _ {N w : ℕ} {counts waiting : List ℕ} {top v : ℕ} (p : Planes N w counts) (s : Stack uncounted N w counts waiting top) where
+  pub visit-none : v ≡ 0 → Visited N w counts waiting top v counts waiting top
+  unfolding visit
+  visit-none e = unchanged p s (rw (eq-eqb v 0 e, visit))
+
+  pub visit-past : v ≢ 0 → N < v → Visited N w counts waiting top v counts waiting top
+  unfolding visit
+  visit-past named past = unchanged p s (rw (ne-eqb v 0 named, lt-ltb N v past, visit))
+
+  module _ (within : v ≤ N) (named : v ≢ 0) {count : ℕ} (reads : count ≡ countAt (N / 8) w counts (v - 1)) where
+    count-goes-up : count ≢ capacity w → countUp N w counts v ≡ setCount (N / 8) w counts (v - 1) (count + 1)
+    unfolding countUp
+    count-goes-up d = rw (ne-eqb v 0 named, ← reads, ne-eqb count (capacity w) d, countUp, ← reads)
+
+    count-stays : count ≡ capacity w → countUp N w counts v ≡ counts
+    unfolding countUp
+    count-stays e = rw (ne-eqb v 0 named, ← reads, eq-eqb count (capacity w) e, countUp)
+
+    pushes : (stack : List ℕ) → count ≡ 0 → visit N w (work counts stack) v ≡ work (countUp N w counts v) ((v - 1) ∷ stack)
+    unfolding visit
+    pushes stack z = rw (ne-eqb v 0 named, le-ltb N v within, ← reads, eq-eqb count 0 z, visit)
+
+    keeps : (stack : List ℕ) → count ≢ 0 → visit N w (work counts stack) v ≡ work (countUp N w counts v) stack
+    unfolding visit
+    keeps stack n = rw (ne-eqb v 0 named, le-ltb N v within, ← reads, ne-eqb count 0 n, visit)
+
+    -- the block's count leaves 0
+    module _ (z : count ≡ 0) where
+      none : uncounted (countAt (N / 8) w counts (v - 1)) ≡ true
+      none = eq-eqb _ 0 (sym reads ∙ z)
+
+      fits : 1 < 2 ^ w
+      fits = omega (arith, pow-mono {i = 1} {j = w} (p .some))
+
+      pub room-to-push : top < N
+      room-to-push = omega (arith, push-room p s (v - 1) 1 (omega arith) fits refl none refl, s .length-is)
+
+      pub visit-first : {counts′ : List ℕ} → counts′ ≡ setCount (N / 8) w counts (v - 1) 1
+          → Visited N w counts waiting top v counts′ (set waiting top (v - 1)) (top + 1)
+      visit-first e =
+          let up = count-goes-up (λ full. omega (arith, fits)) in
+          let one-is : count + 1 ≡ 1 = omega arith in
+          pushed p s (v - 1) 1 (omega arith) fits e none refl (cc (pushes (topFirst waiting top) z))
+
+    pub visit-again : count ≢ 0 → {most : ℕ} → most ≡ capacity w → count < most → {counts′ : List ℕ} → counts′ ≡ setCount (N / 8) w counts (v - 1) (count + 1)
+        → Visited N w counts waiting top v counts′ waiting top
+    visit-again n most-is below e =
+        let up = count-goes-up (λ full. omega arith) in
+        let some = ne-eqb (count + 1) 0 (λ d. omega arith) ∙ sym (ne-eqb (countAt (N / 8) w counts (v - 1)) 0 (λ d. n (reads ∙ d))) in
+        kept p s (v - 1) (count + 1) (omega arith) (omega arith) e some (cc (keeps (topFirst waiting top) n))
+
+    pub visit-stuck : count ≢ 0 → {most : ℕ} → most ≡ capacity w → most ≤ count → count < 2 ^ w
+        → Visited N w counts waiting top v counts waiting top
+    visit-stuck n most-is full fits =
+        let stays = count-stays (omega arith) in
+        unchanged p s (cc (keeps (topFirst waiting top) n))
+
+-- one visit more
+pub marking-more : {N w left top top′ : ℕ} {counts waiting counts′ waiting′ : List ℕ} (s : Work) (refs : List ℕ) (j n : ℕ)
+    → Worked uncounted N w (visitEach N w s refs j n) left counts waiting top
+    → Visited N w counts waiting top (getD refs (j + n) 0) counts′ waiting′ top′
+    → Worked uncounted N w (visitEach N w s refs j (n + 1)) left counts′ waiting′ top′
+unfolding visitEach
+marking-more {N} {w} s refs j n =
+    worked-next (λ x. visit N w x (getD refs (j + n) 0))
+    (sym (ap (λ (k : ℕ). visitEach N w s refs j k) (add-one n)))

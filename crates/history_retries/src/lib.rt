@@ -1,0 +1,75 @@
+// An allocation of a record, on an undamaged heap with a cleared waiting list: its try, and where no chunk is free a collection and a
+// second one.
+ghost use Rattle.rules.specs.Lent.{before, after, lent};
+ghost use Rattle.rules.specs.Calls.{Call};
+ghost use Rattle.theory.specs.Usable.{Usable};
+ghost use Rattle.history_plans.specs.Asked.{makes};
+ghost use Rattle.history_turns.specs.Turns.{turnOf};
+ghost use Rattle.history_turns.specs.Steps.{Acted};
+use history_turns::outcome;
+use history_turns::outcome::Done;
+use types::Ref;
+
+// Allocates n blocks into root r; where no chunk is free, collects and tries once more.
+pub fn allocate(
+    blocks: usize,
+    width: usize,
+    a: &mut [u8],
+    b: &mut [u8],
+    counts: &mut [u8],
+    cells: &mut [Ref],
+    roots: &mut [Ref],
+    waiting: &mut [Ref],
+    sections: &mut [Ref],
+    n: usize,
+    r: usize,
+) -> Done
+    requires { ⌜ Usable blocks width (lent a b counts cells roots waiting sections) ⌝ }
+    ensures { λ done.
+        ⌜ Acted blocks (before a b counts cells roots waiting sections)
+        (turnOf blocks width (before a b counts cells roots waiting sections) (makes (Call.allocate n r))) done
+        (after a b counts cells roots waiting sections) ⌝ }
+{
+    let first = work_tested::allocate(
+        blocks,
+        width,
+        a,
+        b,
+        counts,
+        cells,
+        roots,
+        waiting,
+        sections,
+        n,
+        r,
+    );
+    let number = first.number;
+    if number != 5 {
+        return outcome::done_after(first, n, false, 0);
+    }
+    let forced = work_collect::collect(
+        blocks,
+        width,
+        a,
+        b,
+        counts,
+        cells,
+        roots,
+        waiting,
+        sections,
+    );
+    let second = work_tested::allocate(
+        blocks,
+        width,
+        a,
+        b,
+        counts,
+        cells,
+        roots,
+        waiting,
+        sections,
+        n,
+        r,
+    );
+    outcome::done_after(second, n, true, forced.freed)
+}

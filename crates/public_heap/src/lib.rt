@@ -1,0 +1,121 @@
+// The public calls that make and free objects: format, allocate, collect. Each has all its tests on shared slices first, and only then writes,
+// so that a refusal can't write.
+ghost use Rattle.rules.specs.Lent.{before, after};
+ghost use Rattle.rules.specs.Calls.{Call};
+ghost use Rattle.rules.specs.Promise.{Promise};
+use map_objects::lists;
+use types::Ref;
+use types::Reply;
+use types::replies;
+
+// Makes an empty heap of whatever the buffers held.
+pub fn format(
+    blocks: usize,
+    width: usize,
+    a: &mut [u8],
+    b: &mut [u8],
+    counts: &mut [u8],
+    cells: &mut [Ref],
+    roots: &mut [Ref],
+    waiting: &mut [Ref],
+    sections: &mut [Ref],
+) -> Reply
+    ensures { λ reply.
+        ⌜ Promise blocks width Call.format (before a b counts cells roots waiting sections) reply
+        (after a b counts cells roots waiting sections) ⌝ }
+{
+    if !check_shape::is_shaped(
+        blocks,
+        width,
+        a.len(),
+        b.len(),
+        counts.len(),
+        cells.len(),
+        roots.len(),
+        waiting.len(),
+        sections.len(),
+    ) {
+        return replies::refusal(1);
+    }
+    work_format::format(blocks, width, a, b, counts, cells, roots, waiting, sections)
+}
+
+// Allocates n blocks into root r. The value is the first block.
+pub fn allocate(
+    blocks: usize,
+    width: usize,
+    a: &mut [u8],
+    b: &mut [u8],
+    counts: &mut [u8],
+    cells: &mut [Ref],
+    roots: &mut [Ref],
+    waiting: &mut [Ref],
+    sections: &mut [Ref],
+    n: usize,
+    r: usize,
+) -> Reply
+    ensures { λ reply.
+        ⌜ Promise blocks width (Call.allocate n r) (before a b counts cells roots waiting sections) reply
+        (after a b counts cells roots waiting sections) ⌝ }
+{
+    let found = test_calls::allocate(
+        blocks,
+        width,
+        a,
+        b,
+        counts,
+        cells,
+        roots,
+        waiting,
+        sections,
+        n,
+        r,
+    );
+    let number = found.number;
+    if number != 0 {
+        return found;
+    }
+    let at = found.value;
+    lists::clear_all(waiting);
+    let done = work_allocate::allocate(
+        blocks,
+        width,
+        a,
+        b,
+        counts,
+        cells,
+        roots,
+        waiting,
+        sections,
+        n,
+        r,
+        at,
+    );
+    done.reply()
+}
+
+// Frees what no root reaches, and counts the rest anew. The value is the number of blocks freed.
+pub fn collect(
+    blocks: usize,
+    width: usize,
+    a: &mut [u8],
+    b: &mut [u8],
+    counts: &mut [u8],
+    cells: &mut [Ref],
+    roots: &[Ref],
+    waiting: &mut [Ref],
+    sections: &mut [Ref],
+) -> Reply
+    ensures { λ reply.
+        ⌜ Promise blocks width Call.collect (before a b counts cells roots waiting sections) reply
+        (after a b counts cells roots waiting sections) ⌝ }
+{
+    let checked = public_read::check(blocks, width, a, b, counts, cells, roots, waiting, sections);
+    let number = checked.number;
+    if number != 0 {
+        return checked;
+    }
+    lists::clear_all(waiting);
+    let done = work_collect::collect(blocks, width, a, b, counts, cells, roots, waiting, sections);
+    done.reply()
+}

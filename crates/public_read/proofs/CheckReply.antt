@@ -1,0 +1,85 @@
+-- Laws of the check: what its reply says of a heap, and what every call that makes the check first promises by it.
+use mathlib.Core.Path.{_≡_, refl, sym, ap, _∙_}
+use mathlib.Core.Bool.{true, false, not}
+use mathlib.Core.List.{[]}
+use Prim.Native.Nat.{ℕ}
+use native.Mathlib.Omega.{arith}
+use lib.Dec.{eqb}
+use borrow.Author.Tests.{eq-eqb, ne-eqb}
+use Rattle.bitmap.specs.Bit.{zeros}
+use Rattle.rules.specs.Heap.{Memory, memory, shaped}
+use Rattle.rules.specs.Damage.{damage}
+use Rattle.rules.specs.Sections.{staleFigures}
+use Rattle.rules.specs.Calls.{Call, check, freeBlocks, look, reply, accepted, testsHeap, refusals, refusedWith, outcome, answer}
+use Rattle.rules.specs.Promise.{Promise}
+use Rattle.types.specs.declared.Reply.{Reply}
+use Rattle.rules.proofs.Tests.{first-past, first-found}
+use Rattle.rules.proofs.Replies.{refused-with, accepted-none, Passed, undamaged-passed, refused-as-check}
+use Rattle.theory.specs.Statements.{Undamaged}
+use Rattle.theory.proofs.Memories.Fit.{undamaged-fit}
+use Rattle.theory.proofs.EachCall.Accepted.{fit-accepted}
+use Rattle.rules.proofs.Promised.{promised}
+use Rattle.test_arguments.specs.Replies.{lookReply}
+use Rattle.test_arguments.proofs.ArgumentTests.{look-answered}
+
+module _ {N w : ℕ} {h : Memory} where
+  -- ---- the check itself
+
+  pub check-unshaped : {x : Reply} → shaped N w h ≡ false → x ≡ reply 1 0 0 → Promise N w check h x h
+  unfolding refusedWith refusals
+  check-unshaped {x} e x-is =
+      promised N w h check _ (refused-with N w h check 1 (omega arith) (first-found 1 (not (shaped N w h)) _ (ap not e))) x h x-is refl
+
+  pub check-damaged : {kind : ℕ} → shaped N w h ≡ true → kind ≡ damage N w h → (kind ≡ 0 → ⊥) → Promise N w check h (reply 2 kind 0) h
+  unfolding refusedWith refusals
+  check-damaged {kind} e is-kind some =
+      let damaged = ne-eqb (damage N w h) 0 (λ none. some (is-kind ∙ none)) in
+      let two =
+      first-past 1 (not (shaped N w h)) _ (ap not e) ∙ first-found 2 (not (eqb (damage N w h) 0)) _ (ap not damaged) in
+      promised N w h check _ (refused-with N w h check 2 (omega arith) two) (reply 2 kind 0) h (ap (λ (k : ℕ). reply 2 k 0) is-kind) refl
+
+  pub check-stale :
+      {x : Reply} → shaped N w h ≡ true → damage N w h ≡ 0 → staleFigures N (h .a) (h .sections) ≡ true → x ≡ reply 11 0 0 → Promise N w check h x h
+  unfolding refusedWith refusals
+  check-stale {x} e undamaged stale x-is =
+      let eleven =
+      first-past 1 (not (shaped N w h)) _ (ap not e)
+      ∙ first-past 2 (not (eqb (damage N w h) 0)) _ (ap not (eq-eqb (damage N w h) 0 undamaged))
+      ∙ first-found 11 (staleFigures N (h .a) (h .sections)) _ stale in
+      promised N w h check _ (refused-with N w h check 11 (omega arith) eleven) x h x-is refl
+
+  -- ---- where it refuses, every call that tests the heap is refused alike
+
+  pub refused-alike :
+      {call : Call} → testsHeap call ≡ true → {x : Reply} → Promise N w check h x h → (x .number ≡ 0 → ⊥) → Promise N w call h x h
+  refused-alike {call} tests {x} checked fails =
+      promised N w h call (answer N w h check)
+      (refused-as-check N w h call tests (λ e. fails (ap (λ (y : Reply). y .number) (checked .reply-is) ∙ e)))
+      x h (checked .reply-is) (checked .after-is)
+
+  -- ---- what passes the check
+
+  pub checked-fit : {x : Reply} → Promise N w check h x h → x .number ≡ 0 → Undamaged N w h
+  checked-fit checked accepts =
+      let none = accepted-none N w h check (ap (λ (y : Reply). y .number) (sym (checked .reply-is)) ∙ accepts) in
+      let all = undamaged-passed N w h check refl none in
+      record { intact = record { right-shape = all .0; no-damage = all .1 }; true-list = all .2 }
+
+  -- ---- the calls that read
+
+  pub check-passed : {x : Reply} → Undamaged N w h → x ≡ reply 0 0 0 → Promise N w check h x h
+  unfolding outcome Passed
+  check-passed {x} fit x-is = promised N w h check (accepted h 0) (fit-accepted N w h (undamaged-fit N w h fit) check tt) x h x-is refl
+
+  module _ {y : Reply} (checked : Promise N w check h y h) (accepts : y .number ≡ 0) where
+    pub free-blocks-passed : {x : Reply} {n : ℕ} → x ≡ reply 0 n 0 → n ≡ zeros (h .a) → Promise N w freeBlocks h x h
+    unfolding outcome Passed
+    free-blocks-passed {x} x-is counted =
+        promised N w h freeBlocks (accepted h (zeros (h .a)))
+        (fit-accepted N w h (undamaged-fit N w h (checked-fit checked accepts)) freeBlocks tt)
+        x h (x-is ∙ ap (λ (v : ℕ). reply 0 v 0) counted) refl
+
+    -- the maps and the counts alone are read
+    pub look-passed : {at : ℕ} {x : Reply} → x ≡ lookReply N w (memory (h .a) (h .b) (h .counts) [] [] []) at → Promise N w (look at) h x h
+    look-passed {at} {x} x-is =
+        promised N w h (look at) _ (look-answered N w h (undamaged-fit N w h (checked-fit checked accepts)) at) x h x-is refl

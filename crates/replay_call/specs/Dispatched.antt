@@ -1,0 +1,14 @@
+-- What one call of the list does: for the contract of an inner function.
+use Prim.Native.Nat.{ℕ}
+use mathlib.Core.Path.{_≡_}
+use mathlib.Core.Bool.{true, false}
+use Rattle.rules.specs.Heap.{Memory}
+use Rattle.rules.specs.Calls.{reply}
+use Rattle.rules.specs.Promise.{Promise}
+use Rattle.types.specs.declared.Reply.{Reply}
+use Rattle.replay_words.specs.Encoding.{decoded, isCall}
+
+-- the call of a known code keeps its promise; every other code is answered 9, and nothing changes
+pub record Dispatched (N w code x y z : ℕ) (h : Memory) (answered : Reply) (after : Memory) : Type 0 where
+  pub known : isCall code ≡ true → Promise N w (decoded code x y z) h answered after
+  pub unknown : isCall code ≡ false → (answered ≡ reply 9 0 0) × (after ≡ h)

@@ -1,0 +1,116 @@
+// One call of the list, on an undamaged heap.
+ghost use Rattle.rules.specs.Lent.{before, after, lent};
+ghost use Rattle.theory.specs.Usable.{Usable};
+ghost use Rattle.replay_call.specs.Dispatched.{Dispatched};
+use test_arguments::looking;
+use types::Ref;
+use types::Reply;
+use types::replies;
+
+// The call that the four words stand for. All other codes are answered 9.
+pub fn step(
+    blocks: usize,
+    width: usize,
+    a: &mut [u8],
+    b: &mut [u8],
+    counts: &mut [u8],
+    cells: &mut [Ref],
+    roots: &mut [Ref],
+    waiting: &mut [Ref],
+    sections: &mut [Ref],
+    code: u64,
+    x: u64,
+    y: u64,
+    z: u64,
+) -> Reply
+    requires { ⌜ Usable blocks width (lent a b counts cells roots waiting sections) ⌝ }
+    ensures { λ reply.
+        ⌜ Dispatched blocks width code x y z (before a b counts cells roots waiting sections) reply
+        (after a b counts cells roots waiting sections) ⌝ }
+{
+    match code {
+        0 => work_format::format(blocks, width, a, b, counts, cells, roots, waiting, sections),
+        1 => replies::acceptance(0),
+        2 => {
+            let done = work_tested::allocate(
+                blocks,
+                width,
+                a,
+                b,
+                counts,
+                cells,
+                roots,
+                waiting,
+                sections,
+                x as usize,
+                y as usize,
+            );
+            done.reply()
+        }
+        3 => {
+            let done = work_tested::store_root(
+                blocks,
+                width,
+                a,
+                b,
+                counts,
+                cells,
+                roots,
+                waiting,
+                sections,
+                x as usize,
+                y as usize,
+            );
+            done.reply()
+        }
+        4 => {
+            let done = work_tested::store_cell(
+                blocks,
+                width,
+                a,
+                b,
+                counts,
+                cells,
+                roots,
+                waiting,
+                sections,
+                x as usize,
+                y as usize,
+                z as usize,
+            );
+            done.reply()
+        }
+        5 => {
+            let done = work_collect::collect(
+                blocks,
+                width,
+                a,
+                b,
+                counts,
+                cells,
+                roots,
+                waiting,
+                sections,
+            );
+            done.reply()
+        }
+        6 => looking::look_reply(blocks, width, a, b, counts, x as usize),
+        7 => replies::acceptance(bitmap::count_zeros(a)),
+        8 => {
+            let done = work_return::return_roots(
+                blocks,
+                width,
+                a,
+                b,
+                counts,
+                cells,
+                roots,
+                waiting,
+                sections,
+                x,
+            );
+            done.reply()
+        }
+        _ => replies::refusal(9),
+    }
+}

@@ -1,0 +1,67 @@
+// The search of the A-map for the lowest free chunk.
+ghost use mathlib.Core.Path.{_≡_};
+ghost use Prim.Native.Nat.{ℕ, _*_, _^_, _≤_};
+ghost use lib.ListN.{length};
+ghost use Rattle.search_walk.specs.Search.{Part, lowestIn, Search};
+use search_walk::is_judged_free;
+
+// What a search found: the first block of a chunk, or the end of the part searched, and how many blocks it looked at.
+pub struct Searched {
+    pub at: usize,
+    pub looks: usize,
+}
+
+// The first block of the lowest free chunk of `size` blocks from block `from` up to block `to`, or `to` where none is free. The walk
+// has come to block `from + looks`, and `stretch` is the length of the free stretch that ends there: a chunk is judged from it where
+// it ends. Each byte is read once, and its value judges its blocks: chunk by chunk where chunks have less than eight, else, and where
+// all are used, eight at once. A used block ends the stretch; the free ones after it begin the next.
+pub fn lowest_chunk(a: &[u8], from: usize, to: usize, size: usize) -> Searched
+    requires { ⌜ Part from to size ⌝ }
+    requires { ⌜ (to ≤ 8 * length (now a)) × (to ≤ 65536) ⌝ }
+    ensures { λ r. ⌜ ((k : ℕ) → size ≡ 2 ^ k → Search from to k (lowestIn from to k (now (a .entry))) (r .at) (r .looks)) ⌝ }
+{
+    let mut looks = 0;
+    let mut stretch = 0;
+    let at = 'bytes: loop {
+        if from + looks == to {
+            break to;
+        }
+        let byte = a[(from + looks) / 8];
+        if size < 8 {
+            if byte != 255 {
+                let mut i: usize = 0;
+                'stretches: loop {
+                    loop {
+                        if i == 8 {
+                            continue 'bytes;
+                        }
+                        let chunk = (byte >> i) << (8 - size);
+                        i += size;
+                        looks += size;
+                        if chunk != 0 {
+                            stretch = u8::leading_zeros(chunk) as usize;
+                            continue 'stretches;
+                        }
+                        stretch += size;
+                        if is_judged_free(from + looks, size, stretch) {
+                            break 'bytes from + looks - size;
+                        }
+                    }
+                }
+            }
+        }
+        looks += 8;
+        if byte != 0 {
+            stretch = u8::leading_zeros(byte) as usize;
+            continue 'bytes;
+        }
+        stretch += 8;
+        if is_judged_free(from + looks, size, stretch) {
+            break from + looks - size;
+        }
+    };
+    Searched {
+        at: at,
+        looks: looks,
+    }
+}

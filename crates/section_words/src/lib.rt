@@ -1,0 +1,101 @@
+// The figure of 64 blocks, found in one word: block n of them is its bit n.
+ghost use mathlib.Core.Path.{_≡_};
+ghost use mathlib.Core.Logic.{_≢_};
+ghost use mathlib.Core.List.{List};
+ghost use Prim.Native.Nat.{ℕ, suc, _+_, _*_, _^_, _<_, _≤_};
+ghost use lib.ListN.{length};
+ghost use Rattle.rules.specs.Sections.{largestFree};
+ghost use Rattle.section_words.specs.Words.{Digits, Starts, FreeChunks};
+
+// A 1 at the first block of each chunk of 2, 4, 8, 16, 32 and 64 blocks.
+const TWOS: u64 = 0x5555_5555_5555_5555;
+
+const FOURS: u64 = 0x1111_1111_1111_1111;
+
+const EIGHTS: u64 = 0x0101_0101_0101_0101;
+
+const SIXTEENS: u64 = 0x0001_0001_0001_0001;
+
+const HALVES: u64 = 0x0000_0001_0000_0001;
+
+const WHOLE: u64 = 1;
+
+// Two, four and eight bytes of a map as one number.
+fn two_bytes(a: &[u8], i: usize) -> u64
+    requires { ⌜ (i + 2 ≤ length (now a)) × (i + 2 < 2 ^ 64) ⌝ }
+    ensures { λ r. ⌜ Digits 16 (now (a .entry)) (8 * i) r ⌝ }
+{
+    let lower = a[i] as u64;
+    let upper = a[i + 1] as u64;
+    lower + upper * 256
+}
+
+fn four_bytes(a: &[u8], i: usize) -> u64
+    requires { ⌜ (i + 4 ≤ length (now a)) × (i + 4 < 2 ^ 64) ⌝ }
+    ensures { λ r. ⌜ Digits 32 (now (a .entry)) (8 * i) r ⌝ }
+{
+    let lower = two_bytes(a, i);
+    let upper = two_bytes(a, i + 2);
+    lower + upper * 65536
+}
+
+pub fn eight_bytes(a: &[u8], i: usize) -> u64
+    requires { ⌜ (i + 8 ≤ length (now a)) × (i + 8 < 2 ^ 64) ⌝ }
+    ensures { λ r. ⌜ Digits 64 (now (a .entry)) (8 * i) r ⌝ }
+{
+    let lower = four_bytes(a, i);
+    let upper = four_bytes(a, i + 4);
+    lower + upper * 4294967296
+}
+
+// From the free chunks of `size` blocks those of twice the size: both halves of such a chunk are free.
+fn joined(free: u64, size: u64, starts: u64) -> u64
+    requires { ⌜ size < 64 ⌝ }
+    ensures { λ r.
+        ⌜ ((k : ℕ) (a : List ℕ) (i : ℕ) → k < 6 → size ≡ 2 ^ k → Starts (suc k) starts → FreeChunks k a i free
+        → FreeChunks (suc k) a i r) ⌝ }
+{
+    free & (free >> size) & starts
+}
+
+// The largest free chunk of 64 blocks, from their free chunks of eight, of which there are some.
+fn of_eights(eights: u64) -> usize
+    ensures { λ r. ⌜ ((a : List ℕ) (i : ℕ) → FreeChunks 3 a i eights → eights ≢ 0 → r ≡ largestFree 6 a i) ⌝ }
+{
+    let sixteens = joined(eights, 8, SIXTEENS);
+    if sixteens == 0 {
+        return 8;
+    }
+    let halves = joined(sixteens, 16, HALVES);
+    if halves == 0 {
+        return 16;
+    }
+    let whole = joined(halves, 32, WHOLE);
+    if whole == 0 {
+        return 32;
+    }
+    64
+}
+
+// The largest free chunk of 64 blocks, of which those are used whose bit is 1.
+pub fn figure(used: u64) -> usize
+    ensures { λ r. ⌜ ((a : List ℕ) (i : ℕ) → Digits 64 a i used → r ≡ largestFree 6 a i) ⌝ }
+{
+    let free = !used;
+    if free == 0 {
+        return 0;
+    }
+    let twos = joined(free, 1, TWOS);
+    if twos == 0 {
+        return 1;
+    }
+    let fours = joined(twos, 2, FOURS);
+    if fours == 0 {
+        return 2;
+    }
+    let eights = joined(fours, 4, EIGHTS);
+    if eights == 0 {
+        return 4;
+    }
+    of_eights(eights)
+}

@@ -1,0 +1,125 @@
+-- The reply of an allocation before it writes: where it accepts, what was found; where not, the answer of the call, with nothing written.
+use mathlib.Core.Path.{_≡_, refl, sym, ap, _∙_}
+use mathlib.Core.Bool.{Bool, true, false, not, _&&_}
+use mathlib.Core.List.{List, [], _∷_}
+use mathlib.Core.Option.{Option, none, some}
+use Prim.Native.Nat.{ℕ, _+_, _≤_, _<_}
+use native.Mathlib.Omega.{arith}
+use lib.Dec.{leb, ltb}
+use lib.ListN.{length}
+use borrow.Author.Tests.{leb-true, ltb-true}
+use Rattle.rules.specs.Tools.{isSome, firstNumber}
+use Rattle.rules.specs.Heap.{Memory, exponent, lowestFree}
+use Rattle.rules.specs.Calls.{allocate, Answer, reply, ownRefusals, answer}
+use Rattle.rules.specs.Promise.{Promise}
+use Rattle.types.specs.declared.Reply.{Reply}
+use Rattle.rules.proofs.Tests.{and-true}
+use Rattle.rules.proofs.Promised.{promised}
+use Rattle.theory.proofs.Maps.LowestChunk.{room}
+use Rattle.theory.proofs.Memories.Fit.{Fit}
+use Rattle.theory.proofs.EachCall.Accepted.{fit-refused}
+use Rattle.test_arguments.specs.Replies.{ownTest}
+use Rattle.test_allocation.specs.Replies.{found, allocateReply}
+
+-- ---- the reply, over its two tests and its search
+
+abbrev tested : Bool → Bool → Option ℕ → Reply
+tested size place o = elim size [ true ↦ elim place [ true ↦ found o | false ↦ reply 4 0 0 ] | false ↦ reply 3 0 0 ]
+
+tested-passed : (s p : Bool) (o : Option ℕ) (at : ℕ) → tested s p o ≡ reply 0 at 0 → (s ≡ true) × (p ≡ true) × (o ≡ some at)
+unfolding found
+tested-passed true true none at e = absurd (omega (arith, ap (λ (x : Reply). x .number) e))
+tested-passed true true (some i) at e = (refl, refl, ap some (ap (λ (x : Reply). x .value) e))
+tested-passed true false o at e = absurd (omega (arith, ap (λ (x : Reply). x .number) e))
+tested-passed false p o at e = absurd (omega (arith, ap (λ (x : Reply). x .number) e))
+
+tested-accepts : (s p : Bool) (o : Option ℕ) → tested s p o .number ≡ 0 → tested s p o ≡ reply 0 (tested s p o .value) 0
+unfolding found
+tested-accepts true true none e = absurd (omega arith)
+tested-accepts true true (some i) e = refl
+tested-accepts true false o e = absurd (omega arith)
+tested-accepts false p o e = absurd (omega arith)
+
+-- its number is the first of the rules' that applies, and a refusal has no value
+tested-number :
+    (s p : Bool) (o : Option ℕ) → firstNumber ((3, not s) ∷ (4, not p) ∷ (5, not (isSome o)) ∷ []) ≡ tested s p o .number
+unfolding found firstNumber isSome
+tested-number true true none = refl
+tested-number true true (some i) = refl
+tested-number true false o = refl
+tested-number false p o = refl
+
+tested-plain : (s p : Bool) (o : Option ℕ) → (tested s p o .number ≡ 0 → ⊥) → reply (tested s p o .number) 0 0 ≡ tested s p o
+unfolding found
+tested-plain true true none fails = refl
+tested-plain true true (some i) fails = absurd (fails refl)
+tested-plain true false o fails = refl
+tested-plain false p o fails = refl
+
+-- ---- the call
+
+-- the tests of an allocation are passed: n and r are in range, and the lowest free chunk is at block `at`
+pub record AllocationPassed (N : ℕ) (a : List ℕ) (roots n r at : ℕ) : Type 0 where
+  pub lowest : lowestFree N (exponent n) a ≡ some at
+  pub some-blocks : 1 ≤ n
+  pub not-more : n ≤ N
+  pub place : r < roots
+  pub inside : at + n ≤ N
+
+pub allocate-passed :
+    {N : ℕ} {a : List ℕ} {roots n r at : ℕ} → allocateReply N a roots n r ≡ reply 0 at 0 → AllocationPassed N a roots n r at
+unfolding allocateReply
+allocate-passed {N} {a} {roots} {n} {r} {at} e =
+    let parts = tested-passed (leb 1 n && leb n N) (ltb r roots) (lowestFree N (exponent n) a) at e in
+    let sizes = and-true (leb 1 n) (leb n N) (parts .0) in
+    record {
+      lowest = parts .2;
+      some-blocks = leb-true 1 n (sizes .0);
+      not-more = leb-true n N (sizes .1);
+      place = ltb-true r roots (parts .1);
+      inside = room N a n at (parts .2) .inside;
+    }
+
+-- x is the reply of an allocation before it writes
+pub record Replied (N : ℕ) (a : List ℕ) (roots n r : ℕ) (x : Reply) : Type 0 where
+  pub is-reply : x ≡ allocateReply N a roots n r
+
+pub replied : {N : ℕ} {a : List ℕ} {roots n r : ℕ} {x : Reply} → x ≡ allocateReply N a roots n r → Replied N a roots n r x
+replied e = record { is-reply = e }
+
+pub allocate-accepts :
+    {N : ℕ} {a : List ℕ} {roots n r : ℕ} {x : Reply} → Replied N a roots n r x → x .number ≡ 0
+    → allocateReply N a roots n r ≡ reply 0 (x .value) 0
+unfolding allocateReply
+allocate-accepts {N} {a} {roots} {n} {r} tested accepts =
+    let e = tested .is-reply in
+    tested-accepts (leb 1 n && leb n N) (ltb r roots) (lowestFree N (exponent n) a) (ap (λ (y : Reply). y .number) (sym e) ∙ accepts)
+    ∙ ap (λ (y : Reply). reply 0 (y .value) 0) (sym e)
+
+pub allocate-goes-on :
+    (h : Memory) {N n r : ℕ} {x : Reply} → Replied N (h .a) (length (h .roots)) n r x → x .number ≡ 0
+    → ownTest N h (allocate n r) .number ≡ 0
+unfolding ownTest ownRefusals allocateReply
+allocate-goes-on h {N} {n} {r} tested accepts =
+    tested-number (leb 1 n && leb n N) (ltb r (length (h .roots))) (lowestFree N (exponent n) (h .a))
+    ∙ ap (λ (y : Reply). y .number) (sym (tested .is-reply)) ∙ accepts
+
+allocate-stopped :
+    (N w : ℕ) (h : Memory) (n r : ℕ) → Fit N w h → (allocateReply N (h .a) (length (h .roots)) n r .number ≡ 0 → ⊥)
+    → answer N w h (allocate n r) ≡ (allocateReply N (h .a) (length (h .roots)) n r, h)
+unfolding ownRefusals allocateReply
+allocate-stopped N w h n r fit fails =
+    let size : Bool = leb 1 n && leb n N in
+    let place : Bool = ltb r (length (h .roots)) in
+    let search : Option ℕ = lowestFree N (exponent n) (h .a) in
+    let number = tested-number size place search in
+    fit-refused N w h fit (allocate n r) (λ e. fails (sym number ∙ e))
+    ∙ ap {B = Answer} (λ k. (reply k 0 0, h)) number ∙ ap {B = Answer} (λ x. (x, h)) (tested-plain size place search fails)
+
+pub allocate-refused :
+    {N w : ℕ} {h : Memory} {n r : ℕ} {x : Reply} → x ≡ allocateReply N (h .a) (length (h .roots)) n r → Fit N w h → (x .number ≡ 0 → ⊥)
+    → Promise N w (allocate n r) h x h
+allocate-refused {N} {w} {h} {n} {r} {x} tested fit fails =
+    promised N w h (allocate n r) (allocateReply N (h .a) (length (h .roots)) n r, h)
+    (allocate-stopped N w h n r fit (λ e. fails (ap (λ (y : Reply). y .number) tested ∙ e)))
+    x h tested refl

@@ -1,0 +1,118 @@
+// The gates of the calls that write: all tests of a call, those of the heap and those of its own arguments, on shared slices. A gate can't
+// write, and a call that is refused has done nothing but pass its gate.
+ghost use mathlib.Core.List.{[]};
+ghost use lib.ListN.{length};
+ghost use Rattle.rules.specs.Heap.{memory};
+ghost use Rattle.rules.specs.Lent.{before};
+ghost use Rattle.rules.specs.Calls.{Call};
+ghost use Rattle.test_arguments.specs.Replies.{storeRootTest, storeCellTest, returnTest};
+ghost use Rattle.test_allocation.specs.Replies.{allocateReply};
+ghost use Rattle.test_calls.specs.Gated.{Gated};
+use test_arguments::returning;
+use test_arguments::storing;
+use types::Ref;
+use types::Reply;
+
+// The tests of an allocation of n blocks into root r. The value is the block where the object can start.
+pub fn allocate(
+    blocks: usize,
+    width: usize,
+    a: &[u8],
+    b: &[u8],
+    counts: &[u8],
+    cells: &[Ref],
+    roots: &[Ref],
+    waiting: &[Ref],
+    sections: &[Ref],
+    n: usize,
+    r: usize,
+) -> Reply
+    ensures { λ reply.
+        ⌜ Gated blocks width (Call.allocate n r) (before a b counts cells roots waiting sections) reply
+        (allocateReply blocks (now (a .entry)) (length (now (roots .entry))) n r) ⌝ }
+{
+    let checked = public_read::check(blocks, width, a, b, counts, cells, roots, waiting, sections);
+    let number = checked.number;
+    if number != 0 {
+        return checked;
+    }
+    test_allocation::allocate_reply(blocks, a, sections, roots.len(), n, r)
+}
+
+// The tests of a store in root r.
+pub fn store_root(
+    blocks: usize,
+    width: usize,
+    a: &[u8],
+    b: &[u8],
+    counts: &[u8],
+    cells: &[Ref],
+    roots: &[Ref],
+    waiting: &[Ref],
+    sections: &[Ref],
+    r: usize,
+    v: usize,
+) -> Reply
+    ensures { λ reply.
+        ⌜ Gated blocks width (Call.storeRoot r v) (before a b counts cells roots waiting sections) reply
+        (storeRootTest blocks (memory (now (a .entry)) (now (b .entry)) [] [] (now (roots .entry)) []) r v) ⌝ }
+{
+    let checked = public_read::check(blocks, width, a, b, counts, cells, roots, waiting, sections);
+    let number = checked.number;
+    if number != 0 {
+        return checked;
+    }
+    storing::store_root_test(blocks, a, b, roots, r, v)
+}
+
+// The tests of a store in cell j of the object at block `at`.
+pub fn store_cell(
+    blocks: usize,
+    width: usize,
+    a: &[u8],
+    b: &[u8],
+    counts: &[u8],
+    cells: &[Ref],
+    roots: &[Ref],
+    waiting: &[Ref],
+    sections: &[Ref],
+    at: usize,
+    j: usize,
+    v: usize,
+) -> Reply
+    ensures { λ reply.
+        ⌜ Gated blocks width (Call.storeCell at j v) (before a b counts cells roots waiting sections) reply
+        (storeCellTest blocks (memory (now (a .entry)) (now (b .entry)) [] [] [] []) at j v) ⌝ }
+{
+    let checked = public_read::check(blocks, width, a, b, counts, cells, roots, waiting, sections);
+    let number = checked.number;
+    if number != 0 {
+        return checked;
+    }
+    storing::store_cell_test(blocks, a, b, at, j, v)
+}
+
+// The tests of a return of the roots of a set.
+pub fn return_roots(
+    blocks: usize,
+    width: usize,
+    a: &[u8],
+    b: &[u8],
+    counts: &[u8],
+    cells: &[Ref],
+    roots: &[Ref],
+    waiting: &[Ref],
+    sections: &[Ref],
+    chosen: u64,
+) -> Reply
+    ensures { λ reply.
+        ⌜ Gated blocks width (Call.returnRoots chosen) (before a b counts cells roots waiting sections) reply
+        (returnTest (length (now (roots .entry))) chosen) ⌝ }
+{
+    let checked = public_read::check(blocks, width, a, b, counts, cells, roots, waiting, sections);
+    let number = checked.number;
+    if number != 0 {
+        return checked;
+    }
+    returning::return_test(roots.len(), chosen)
+}

@@ -1,0 +1,95 @@
+-- `work_format::format` meets its contract: every buffer filled.
+use borrow.Author.Needs.{needs}
+use Rattle.rules.specs.Heap.{Memory, lentMemory}
+use Rattle.rules.proofs.Shape.{shape-facts, shaped-blocks}
+use Rattle.work_format.proofs.FormatPromise.{format-done}
+use Rattle.work_format.proofs.format.Statement.{statement}
+use Rattle.work_format.proofs.format.Tie as tie
+
+-- the places, from the end back to the entry: each buffer filled
+abbrev sections : tie.After-acceptance → tie.After-fill-free
+sections c = c .before .before .before
+
+abbrev waiting : tie.After-acceptance → tie.After-clear-all3
+waiting c = sections c .before .before .before .before
+
+abbrev roots : tie.After-clear-all3 → tie.After-clear-all2
+roots w = w .before .before .before .before
+
+abbrev cells : tie.After-clear-all3 → tie.After-clear-all
+cells w = roots w .before .before .before .before
+
+abbrev counts : tie.After-clear-all3 → tie.After-fill-bytes3
+counts w = cells w .before .before .before .before
+
+abbrev b : tie.After-clear-all3 → tie.After-fill-bytes2
+b w = counts w .before .before .before .before
+
+abbrev a : tie.After-clear-all3 → tie.After-fill-bytes
+a w = b w .before .before .before .before
+
+abbrev start : tie.After-clear-all3 → tie.Start
+start w = a w .before .before .before .before .before .before .before .before .before
+
+fill-bytes-requires : tie.Need-fill-bytes-requires
+fill-bytes-requires c κs = search needs
+
+fill-bytes-requires-2 : tie.Need-fill-bytes-requires-2
+fill-bytes-requires-2 c κs = search needs
+
+fill-bytes-requires-3 : tie.Need-fill-bytes-requires-3
+fill-bytes-requires-3 c κs = search needs
+
+clear-all-requires : tie.Need-clear-all-requires
+clear-all-requires c κs = search needs
+
+clear-all-requires-2 : tie.Need-clear-all-requires-2
+clear-all-requires-2 c κs = search needs
+
+clear-all-requires-3 : tie.Need-clear-all-requires-3
+clear-all-requires-3 c κs = search needs
+
+fill-free-requires : tie.Need-fill-free-requires
+fill-free-requires c κs =
+    let s = start (c .before .before .before) in
+    let lent : Memory =
+    lentMemory (s .args .a .now) (s .args .b .now) (s .args .counts .now) (s .args .cells .now) (s .args .roots .now) (s .args .waiting .now)
+    (s .args .sections .now) in
+    let shape = shape-facts _ _ lent (s .pre) in
+    (shaped-blocks _ _ lent shape, shape .length-sections)
+
+acceptance-requires : tie.Need-acceptance-requires
+acceptance-requires c κs = search needs
+
+returns : tie.Need-returns
+returns c =
+    let w = waiting c in
+    format-done (start w .pre) (c .acceptance .ensures)
+    (a w .fill-bytes .ensures)
+    (b w .fill-bytes2 .ensures)
+    (counts w .fill-bytes3 .ensures)
+    (cells w .clear-all .ensures)
+    (roots w .clear-all2 .ensures)
+    (w .clear-all3 .ensures)
+    (sections c .fill-free .ensures)
+
+pub format-spec : {M : Type 1} → statement M
+format-spec =
+    tie.close
+    (tie.spec
+    fill-bytes-requires
+    fill-bytes-requires-2
+    fill-bytes-requires-3
+    clear-all-requires
+    clear-all-requires-2
+    clear-all-requires-3
+    fill-free-requires
+    acceptance-requires
+    (λ c. a (waiting c) .fill-bytes .kept .0)
+    (λ c. b (waiting c) .fill-bytes2 .kept .0)
+    (λ c. counts (waiting c) .fill-bytes3 .kept .0)
+    (λ c. cells (waiting c) .clear-all .kept .0)
+    (λ c. roots (waiting c) .clear-all2 .kept .0)
+    (λ c. waiting c .clear-all3 .kept .0)
+    (λ c. sections c .fill-free .kept .1 .0)
+    returns)

@@ -1,0 +1,38 @@
+// The writing of an empty heap over whatever the buffers held: what format does once its shape is tested, and what a run of calls starts from.
+ghost use mathlib.Core.Path.{_≡_};
+ghost use mathlib.Core.Bool.{true};
+ghost use Rattle.rules.specs.Heap.{shaped};
+ghost use Rattle.rules.specs.Lent.{before, after, lent};
+ghost use Rattle.rules.specs.Calls.{Call};
+ghost use Rattle.rules.specs.Promise.{Promise};
+use map_objects::lists;
+use types::Ref;
+use types::Reply;
+use types::replies;
+
+// Makes an empty heap of buffers of the right shape.
+pub fn format(
+    blocks: usize,
+    width: usize,
+    a: &mut [u8],
+    b: &mut [u8],
+    counts: &mut [u8],
+    cells: &mut [Ref],
+    roots: &mut [Ref],
+    waiting: &mut [Ref],
+    sections: &mut [Ref],
+) -> Reply
+    requires { ⌜ shaped blocks width (lent a b counts cells roots waiting sections) ≡ true ⌝ }
+    ensures { λ reply.
+        ⌜ Promise blocks width Call.format (before a b counts cells roots waiting sections) reply
+        (after a b counts cells roots waiting sections) ⌝ }
+{
+    bitmap::fill_bytes(a, 0);
+    bitmap::fill_bytes(b, 255);
+    bitmap::fill_bytes(counts, 0);
+    lists::clear_all(cells);
+    lists::clear_all(roots);
+    lists::clear_all(waiting);
+    section_figures::fill_free(blocks, sections);
+    replies::acceptance(0)
+}

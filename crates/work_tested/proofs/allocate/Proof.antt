@@ -1,0 +1,56 @@
+-- `work_tested::allocate` meets its contract.
+use mathlib.Core.Path.{refl}
+use native.Mathlib.Omega.{arith}
+use Rattle.rules.proofs.Shape.{shaped-blocks}
+use Rattle.test_allocation.proofs.AllocationReply.{replied, allocate-accepts, allocate-refused}
+use Rattle.theory.proofs.Usable.UsableHeap.{usable-fit}
+use Rattle.theory.proofs.Usable.WorkDone.{worked-refused}
+use borrow.Author.Needs.{needs}
+use Rattle.work_tested.proofs.allocate.Statement.{statement}
+use Rattle.work_tested.proofs.allocate.Tie as tie
+
+-- the places: the start, and the work done
+abbrev start : tie.After-allocate-reply-arg2 → tie.Start
+start c = search
+
+abbrev done : tie.After-slice-known14 → tie.After-allocate
+done c = search
+
+allocate-reply-requires : tie.Need-allocate-reply-requires
+allocate-reply-requires c κs =
+    let fit = usable-fit (start c .pre) in
+    let shape = fit .healthy .shape in
+    (shaped-blocks _ _ _ shape, omega (arith, shape .length-a, shape .whole-bytes), fit .listed)
+
+returns : tie.Need-returns
+returns c =
+    let start : tie.Start = search in
+    worked-refused (start .pre) (allocate-refused (c .before .allocate-reply .ensures) (usable-fit (start .pre)) (c .if1 .taken))
+    (c .if1 .taken)
+
+allocate-requires : tie.Need-allocate-requires
+allocate-requires c κs =
+    let tested : tie.Else1 = search in
+    let start : tie.Start = search in
+    (start .pre, allocate-accepts (replied (tested .before .allocate-reply .ensures)) (tested .if1 .left))
+
+returns-2 : tie.Need-returns-2
+returns-2 c = search needs
+
+pub allocate-spec : {M : Type 1} → statement M
+allocate-spec =
+    tie.close
+    (tie.spec
+    allocate-reply-requires
+    (λ _. refl)
+    (λ _. refl)
+    returns
+    allocate-requires
+    (λ c. done c .allocate .kept .1 .1 .0)
+    (λ c. done c .allocate .kept .1 .1 .1 .0)
+    (λ c. done c .allocate .kept .1 .1 .1 .1 .0)
+    (λ c. done c .allocate .kept .1 .1 .1 .1 .1 .0)
+    (λ c. done c .allocate .kept .1 .1 .1 .1 .1 .1 .0)
+    (λ c. done c .allocate .kept .1 .1 .1 .1 .1 .1 .1 .0)
+    (λ c. done c .allocate .kept .1 .1 .1 .1 .1 .1 .1 .1 .0)
+    returns-2)

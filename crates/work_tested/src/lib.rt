@@ -1,0 +1,143 @@
+// The calls that write, on an undamaged heap with a cleared waiting list: their tests, and their work where these pass.
+ghost use Rattle.rules.specs.Lent.{before, after, lent};
+ghost use Rattle.rules.specs.Calls.{Call};
+ghost use Rattle.theory.specs.Usable.{Usable, Worked};
+use test_arguments::storing;
+use types::Outcome;
+use types::Ref;
+
+// Allocates n blocks into root r; a refused allocation frees nothing.
+pub fn allocate(
+    blocks: usize,
+    width: usize,
+    a: &mut [u8],
+    b: &mut [u8],
+    counts: &mut [u8],
+    cells: &mut [Ref],
+    roots: &mut [Ref],
+    waiting: &mut [Ref],
+    sections: &mut [Ref],
+    n: usize,
+    r: usize,
+) -> Outcome
+    requires { ⌜ Usable blocks width (lent a b counts cells roots waiting sections) ⌝ }
+    ensures { λ done.
+        ⌜ Worked blocks width (Call.allocate n r) (before a b counts cells roots waiting sections) done
+        (after a b counts cells roots waiting sections) ⌝ }
+{
+    let test = test_allocation::allocate_reply(blocks, a, sections, roots.len(), n, r);
+    let number = test.number;
+    if number != 0 {
+        return Outcome {
+            number: number,
+            value: 0,
+            freed: 0,
+            stuck: false,
+        };
+    }
+    let at = test.value;
+    work_allocate::allocate(
+        blocks,
+        width,
+        a,
+        b,
+        counts,
+        cells,
+        roots,
+        waiting,
+        sections,
+        n,
+        r,
+        at,
+    )
+}
+
+// Stores v in root r.
+pub fn store_root(
+    blocks: usize,
+    width: usize,
+    a: &mut [u8],
+    b: &mut [u8],
+    counts: &mut [u8],
+    cells: &mut [Ref],
+    roots: &mut [Ref],
+    waiting: &mut [Ref],
+    sections: &mut [Ref],
+    r: usize,
+    v: usize,
+) -> Outcome
+    requires { ⌜ Usable blocks width (lent a b counts cells roots waiting sections) ⌝ }
+    ensures { λ done.
+        ⌜ Worked blocks width (Call.storeRoot r v) (before a b counts cells roots waiting sections) done
+        (after a b counts cells roots waiting sections) ⌝ }
+{
+    let test = storing::store_root_test(blocks, a, b, roots, r, v);
+    let number = test.number;
+    if number != 0 {
+        return Outcome {
+            number: number,
+            value: 0,
+            freed: 0,
+            stuck: false,
+        };
+    }
+    work_root::store_root(
+        blocks,
+        width,
+        a,
+        b,
+        counts,
+        cells,
+        roots,
+        waiting,
+        sections,
+        r,
+        v,
+    )
+}
+
+// Stores v in cell j of the object at block `at`.
+pub fn store_cell(
+    blocks: usize,
+    width: usize,
+    a: &mut [u8],
+    b: &mut [u8],
+    counts: &mut [u8],
+    cells: &mut [Ref],
+    roots: &[Ref],
+    waiting: &mut [Ref],
+    sections: &mut [Ref],
+    at: usize,
+    j: usize,
+    v: usize,
+) -> Outcome
+    requires { ⌜ Usable blocks width (lent a b counts cells roots waiting sections) ⌝ }
+    ensures { λ done.
+        ⌜ Worked blocks width (Call.storeCell at j v) (before a b counts cells roots waiting sections) done
+        (after a b counts cells roots waiting sections) ⌝ }
+{
+    let test = storing::store_cell_test(blocks, a, b, at, j, v);
+    let number = test.number;
+    if number != 0 {
+        return Outcome {
+            number: number,
+            value: 0,
+            freed: 0,
+            stuck: false,
+        };
+    }
+    work_cell::store_cell(
+        blocks,
+        width,
+        a,
+        b,
+        counts,
+        cells,
+        roots,
+        waiting,
+        sections,
+        at,
+        j,
+        v,
+    )
+}
