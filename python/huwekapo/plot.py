@@ -187,7 +187,7 @@ _BANDS = {
     GARBAGE_WORDS["cycles"]: {"facecolor": "#a9a9a9", "edgecolor": "0.35", "hatch": "...."},
 }
 _LINE = "most in use in each step"
-_MARK = "full collection"
+_MARK = "step with a full collection"
 _STOP = "the run stopped"
 
 

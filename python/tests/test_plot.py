@@ -130,7 +130,7 @@ class Pictures(unittest.TestCase):
         line = "most in use in each step"
         self.assertEqual(self.legend(self.drawn(allocate(1, 0), 16, [3])), ["reached by a root", line])
         every = self.legend(self.drawn(HISTORY + COLLECT + b"1", 16, [1, 2]))
-        self.assertEqual(sorted(every), sorted(["reached by a root", *GARBAGE_WORDS.values(), line, "full collection", "the run stopped"]))
+        self.assertEqual(sorted(every), sorted(["reached by a root", *GARBAGE_WORDS.values(), line, "step with a full collection", "the run stopped"]))
         self.assertEqual(self.legend(self.drawn(b"", 16, [1])), [])
 
     def test_stopped_and_empty(self) -> None:
