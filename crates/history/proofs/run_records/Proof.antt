@@ -7,10 +7,10 @@ use Rattle.history.proofs.run_records.Tie as tie
 
 -- the places, from the last back: the records run, the waiting list cleared, all tests passed
 abbrev ran : tie.After-slice-known15 → tie.After-run-piece
-ran c = c .before .before .before .before .before .before .before .before .before .before .before .before .before .before
+ran c = search
 
 abbrev cleared : tie.After-run-piece-arg7 → tie.After-clear-all
-cleared c = c .before .before .before .before .before .before .before .before .before
+cleared c = search
 
 abbrev passed : tie.After-clear-all → tie.Else1
 passed c = c .before .before

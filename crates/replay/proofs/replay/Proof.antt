@@ -10,13 +10,13 @@ use Rattle.replay.proofs.replay.Tie as tie
 
 -- the places: past the test, the heap formatted, the list run
 abbrev tested : tie.After-format-arg7 → tie.Else1
-tested c = c .before .before .before .before .before .before .before
+tested c = search
 
 abbrev formatted : tie.After-run-all-arg8 → tie.After-format
-formatted c = c .before .before .before .before .before .before .before .before .before .before .before .before .before .before .before .before .before .before .before .before .before .before
+formatted c = search
 
 abbrev done : tie.After-slice-known23 → tie.After-run-all
-done c = c .before .before .before .before .before .before .before .before .before .before .before .before .before .before .before .before
+done c = search
 
 -- what an accepted list has passed
 passed : (c : tie.Else1) →

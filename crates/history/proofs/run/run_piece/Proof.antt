@@ -11,16 +11,16 @@ use Rattle.history.proofs.run.run_piece.Tie as tie
 
 -- the places, from the last back: the whole records run, the blocks in use counted, the number of whole records known, a run that goes on
 abbrev ran : tie.After-slice-known14 → tie.After-run-whole
-ran c = c .before .before .before .before .before .before .before .before .before .before .before .before .before .before
+ran c = search
 
 abbrev counted : tie.After-run-whole-arg7 → tie.After-count-zeros
-counted c = c .before .before .before .before .before .before .before
+counted c = search
 
 abbrev measured : tie.After-count-zeros → tie.After-whole-records
 measured c = c .before .before
 
 abbrev start : tie.Else1 → tie.Start
-start c = c .before .before .before .before .before .before .before .before .before
+start c = search
 
 returns : tie.Need-returns
 returns c =

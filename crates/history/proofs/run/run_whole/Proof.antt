@@ -20,16 +20,16 @@ abbrev μ-loop : tie.MeasureT-loop
 
 -- the places, from the last back: the record run (it stopped the run, or the loop goes on), the record read, the loop's test, the start
 abbrev stopped : tie.After-result Inv-loop μ-loop → tie.After-step Inv-loop μ-loop
-stopped c = c .before .before .before .before .before .before .before .before .before .before .before .before .before .before .before .before
+stopped c = search
 
 abbrev went-on : tie.Else1 Inv-loop μ-loop → tie.After-step Inv-loop μ-loop
-went-on c = c .before .before .before .before .before .before .before .before .before .before .before .before .before .before .before
+went-on c = search
 
 abbrev record-read : tie.After-step-arg7 Inv-loop μ-loop → tie.After-fields-at Inv-loop μ-loop
-record-read c = c .before .before .before .before .before .before .before
+record-read c = search
 
 abbrev start : tie.At-loop Inv-loop μ-loop → tie.Start Inv-loop μ-loop
-start c = c .before .before .before .before .before .before .before .before .before
+start c = search
 
 -- the shape before the loop, at a record that stops the run, and after the loop
 shaped-at : (c : tie.At-loop Inv-loop μ-loop) →

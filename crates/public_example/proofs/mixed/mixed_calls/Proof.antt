@@ -8,7 +8,7 @@ use Rattle.public_example.proofs.mixed.mixed_calls.Tie as tie
 
 -- the places at which the calls have just returned, from the end back
 abbrev collected : tie.After-slice-known43 → tie.After-collect
-collected c = c .before .before .before .before .before .before .before .before .before .before .before .before
+collected c = search
 
 abbrev replayed : tie.After-slice-known43 → tie.After-replay
 replayed c = collected c .before .before .before .before .before .before .before .before .before .before .before .before .before .before .before .before .before .before .before .before .before .before .before .before
@@ -30,7 +30,7 @@ formatted c = accepted c .before .before .before .before .before .before .before
 
 -- .. and where the format refuses
 abbrev refused : tie.Then1 → tie.After-format
-refused c = c .before .before .before .before .before .before .before .before .before .before .before .before .before .before .before
+refused c = search
 
 format-requires : tie.Need-format-requires
 format-requires c κs = search needs

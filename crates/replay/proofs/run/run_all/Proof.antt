@@ -22,13 +22,13 @@ abbrev μ-loop : tie.MeasureT-loop
 
 -- the places: the entry, the turn of the loop, the call made, its reply written
 abbrev entry : tie.At-loop Inv-loop μ-loop → tie.Start Inv-loop μ-loop
-entry c = c .before .before .before .before .before .before .before .before .before .before
+entry c = search
 
 abbrev turn : tie.After-step-arg7 Inv-loop μ-loop → tie.In-loop Inv-loop μ-loop
-turn c = c .before .before .before .before .before .before .before .before
+turn c = search
 
 abbrev made : tie.After-put-reply-arg Inv-loop μ-loop → tie.After-step Inv-loop μ-loop
-made c = c .before .before .before .before .before .before .before .before .before .before .before .before .before .before .before
+made c = search
 
 abbrev put : tie.After-slice-known16 Inv-loop μ-loop → tie.After-put-reply Inv-loop μ-loop
 put c = c .before .before

@@ -22,7 +22,7 @@ abbrev μ-loop : tie.MeasureT-loop
 
 -- the places, from the last back
 abbrev read : tie.After-run-piece Inv-loop μ-loop → tie.After-read-piece Inv-loop μ-loop
-read c = c .before .before .before .before .before .before .before .before .before .before .before
+read c = search
 
 abbrev looped : tie.After-read-piece Inv-loop μ-loop → tie.At-loop Inv-loop μ-loop
 looped c = c .before .before

@@ -8,7 +8,7 @@ use Rattle.report.proofs.run.run_piece.Tie as tie
 
 -- what is lent is bytes
 abbrev entry : tie.After-run-records-arg7 → tie.After-shared-slice-known
-entry c = c .before .before .before .before .before .before .before
+entry c = search
 
 of-bytes : (c : tie.After-run-records-arg7) → Bytes (entry c .before .args .bytes .now)
 unfolding Bytes
