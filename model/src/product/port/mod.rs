@@ -11,11 +11,11 @@ mod two_passes;
 
 use crate::rules::heap::Memory;
 
-pub use map_objects::{lowest_chunk, Searched};
-pub use check_damage::check;
+pub use blocks::{lowest_chunk, Searched};
+pub use damage::check;
 pub use history::{report, run_records, SoFar, Tally};
 pub use replay::{full_collection, replay, replay_without_list, search_in_one_walk, step};
-pub use section_figures::{find_chunk, renew, section_length, UNKNOWN};
+pub use sections::{find_chunk, renew, section_length, UNKNOWN};
 pub use two_passes::search_in_two_passes;
 
 /// The seven lent buffers.
