@@ -23,7 +23,7 @@ from .refused import Refused
 ENDED, FAILED, WRONG_USE, STOPPED, INTERRUPTED = 0, 1, 2, 3, 130
 
 STATUSES = """exit status:
-  0  all was run to its end
+  0  all was run to its end; of verify: all is as the table has it
   3  a run stopped: a record was refused, or the file was cut off (the records before it were run)
   1  something failed: a file that can't be read, a row that is not as it must be
   2  wrong use

@@ -242,17 +242,28 @@ class Library(unittest.TestCase):
         path = next(word for word in maps.split() if "/libc.so" in word)
         self.assertIn("is no libhuwekapo of version 0.3.0 or later", self.start(HUWEKAPO_LIBRARY=path).stderr)
 
+    def test_the_library_says_its_version(self) -> None:
+        loaded = library.ctypes.CDLL(library.path())
+        major, minor, patch = map(int, library.VERSION.split("."))
+        self.assertEqual(loaded.huwekapo_version(), 1_000_000 * major + 1000 * minor + patch)
+        self.assertEqual(loaded.huwekapo_buffers(), len(library.BUFFERS))
+        # The shared library has the minor version in its name.
+        self.assertTrue(os.path.realpath(library.path()).endswith(f"libhuwekapo.so.{major}.{minor}"))
+
     def test_other_libraries_are_asked(self) -> None:
         compiler = shutil.which(os.environ.get("CC", "cc"))
         if not compiler:
             self.skipTest("there is no C compiler")
         number = "size_t huwekapo_version(void) {{ return {}; }} size_t huwekapo_buffers(void) {{ return {}; }}"
+        buffers = len(library.BUFFERS)
+        major, minor, patch = map(int, library.VERSION.split("."))
+        own = 1_000_000 * major + 1000 * minor + patch
         for code, words in [
             # Version 0.2.0 has its version as a text, and can't be asked.
             ('const char huwekapo_version[] = "0.2.0";', "is no libhuwekapo of version 0.3.0 or later; this package is for"),
-            (number.format(2000, 7), "is version 0.2.0; this package is for"),
-            (number.format(1003000, 7), "is version 1.3.0; this package is for"),
-            (number.format(3000, 8), "takes 8 buffers; this package lends 7"),
+            (number.format(own - 1000, buffers), f"is version {major}.{minor - 1}.{patch}; this package is for"),
+            (number.format(own + 1_000_000, buffers), f"is version {major + 1}.{minor}.{patch}; this package is for"),
+            (number.format(own, buffers + 1), f"takes {buffers + 1} buffers; this package lends {buffers}"),
         ]:
             with self.subTest(code=code), tempfile.TemporaryDirectory() as folder:
                 source, made = Path(folder) / "other.c", Path(folder) / "libhuwekapo.so"
