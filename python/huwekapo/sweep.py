@@ -378,9 +378,10 @@ def workers_for(jobs: int, dask: Optional[str]) -> Iterator[_Workers]:
     try:
         yield _Workers(executor, 2 * jobs)
     except BaseException:
-        # What they are at would be waited for.
+        # What they are at would be waited for. They are the executor's own, and none of a caller's.
+        own = list((getattr(executor, "_processes", None) or {}).values())
         executor.shutdown(wait=False, cancel_futures=True)
-        for process in multiprocessing.active_children():
+        for process in own:
             process.terminate()
         raise
     executor.shutdown()
@@ -402,7 +403,16 @@ def _end_after(sentinel: int) -> None:
 def finished(
     workers: _Workers, paths: dict[str, Path], tasks: Iterator[Task]
 ) -> Iterator[tuple[Task, Optional[Row], str]]:
-    """Each task with its row, or with what went wrong, as they are finished."""
+    """Each task with its row, or with what went wrong, as they are finished. A worker process that dies ends it all."""
+    try:
+        yield from _finished(workers, paths, tasks)
+    except BrokenExecutor as error:
+        raise SweepError("a worker process died, as one does that is killed for want of memory") from error
+
+
+def _finished(
+    workers: _Workers, paths: dict[str, Path], tasks: Iterator[Task]
+) -> Iterator[tuple[Task, Optional[Row], str]]:
     running: dict[Future[Row], Task] = {}
     while True:
         for task in tasks:
@@ -422,7 +432,7 @@ def finished(
             if error is None:
                 yield task, future.result(), ""
             elif isinstance(error, BrokenExecutor):
-                raise SweepError("a worker process died, as one does that is killed for want of memory") from error
+                raise error
             elif isinstance(error, OSError):
                 yield task, None, str(error)
             else:

@@ -55,13 +55,11 @@ _HEADS = [
 
 
 def text(measures: Iterable[Measured]) -> str:
-    """The table for reading. A run that stopped has no figures. The column of stops is left out where nothing stopped."""
+    """The table for reading. A run that stopped has no figures."""
     rows: list[tuple[str, ...]] = [tuple(head[line] for head in _HEADS) for line in range(2)]
     for measured in measures:
         columns = measured.columns()
         rows.append(tuple(_word(columns[head[2]]) for head in _HEADS))
-    if not any(row[-1] for row in rows[2:]):
-        rows = [row[:-1] for row in rows]
     breadths = [max(map(len, column)) for column in zip(*rows)]
     lines = ["  ".join(word.rjust(breadth) for word, breadth in zip(row, breadths)).rstrip() for row in rows]
     return "\n".join(lines) + "\n"

@@ -40,8 +40,8 @@ class Widths(unittest.TestCase):
         self.assertEqual(shown[1].split()[:4], ["blocks", "width", "collections", "in"])
         rows = [list(map(int, line.split())) for line in shown[2:]]
         self.assertEqual(rows, [[16, 1, 0, 7, 3, 2, 0, 1], [16, 2, 0, 7, 1, 2, 1, 0], [16, 3, 0, 5, 0, 0, 1, 0]])
-        # A column for where runs stopped, where one did.
-        self.assertNotIn("stopped", shown[1])
+        # The last column, for where runs stopped, is empty.
+        self.assertEqual(shown[1].split()[-1], "stopped")
         stopped = text(widths(io.BytesIO(HISTORY + b"\x09"), [16], [2, 3], 4)).splitlines()
         self.assertEqual(stopped[1].split()[-1], "stopped")
         # A run that stopped has no figures.
