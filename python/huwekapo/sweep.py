@@ -94,7 +94,7 @@ def sweep(
             # What the library refuses, it refuses here.
             Heap(n, width, roots)
     tasks = [Task(history, n, width, roots) for history in sorted(paths) for n in blocks for width in widths]
-    with workers_for(min(jobs, len(tasks)), dask) as workers, _Table(Path(table)) as file:
+    with workers_for(min(jobs, len(tasks)), dask) as workers, _Table(Path(os.path.realpath(table))) as file:
         rows, anew, lost = _still_true(file.rows(), tasks, paths)
         if lost and not prune:
             names = ", ".join(map(shown, sorted(set(lost))))
@@ -126,7 +126,7 @@ def histories(folder: Place, pattern: str, left_out: Optional[Place] = None) -> 
         raise SweepError(f"{shown(folder)}: no such folder")
     if not top.is_dir():
         raise SweepError(f"{shown(folder)} is no folder")
-    out = {str(_real(left_out)), f"{_real(left_out)}.new"} if left_out is not None else set()
+    out = {os.path.realpath(left_out), os.path.realpath(left_out) + ".new"} if left_out is not None else set()
     found: dict[str, Path] = {}
     passed_over: list[str] = []
 
@@ -155,12 +155,6 @@ def histories(folder: Place, pattern: str, left_out: Optional[Place] = None) -> 
             else:
                 pass_over(path, "no regular file")
     return found, sorted(passed_over)
-
-
-def _real(place: Place) -> Path:
-    """The place with the links of its folder resolved, whether or not there is a file."""
-    path = Path(place)
-    return path.parent.resolve() / path.name
 
 
 def cell(row: Row, column: str) -> str:

@@ -182,6 +182,10 @@ class Sweeps(Case):
         link.symlink_to(self.histories)
         self.assertEqual(sweep(self.histories, link / "table.history", [1], [1024]).kept, 15)
         self.assertEqual(verify(link / "table.history", self.histories).differences, [])
+        # By a link to the file too, which stays one.
+        other = self.top / "other.csv"
+        other.symlink_to(self.table)
+        self.assertEqual((sweep(self.histories, other, [1], [1024]).kept, other.is_symlink()), (15, True))
 
     def test_nothing_is_passed_over_in_silence(self) -> None:
         self.put_examples(500, [1])
