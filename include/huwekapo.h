@@ -51,7 +51,7 @@
 #define HUWEKAPO_VERSION_NUMBER (1000000 * HUWEKAPO_VERSION_MAJOR + 1000 * HUWEKAPO_VERSION_MINOR + HUWEKAPO_VERSION_PATCH)
 
 /* The number of buffers that every call takes. */
-#define HUWEKAPO_BUFFERS 7
+#define HUWEKAPO_BUFFER_COUNT 7
 
 /* The limits. */
 #define HUWEKAPO_MIN_BLOCKS 8
@@ -97,7 +97,7 @@ size_t huwekapo_buffers(void);
 /* Whether the library that is linked is the one that this header declares, to be asked before anything is lent: to another one the
  * arguments mean something else. */
 #define HUWEKAPO_IS_THIS_LIBRARY() \
-    (huwekapo_version() / 1000 == HUWEKAPO_VERSION_NUMBER / 1000 && huwekapo_buffers() == HUWEKAPO_BUFFERS)
+    (huwekapo_version() / 1000 == HUWEKAPO_VERSION_NUMBER / 1000 && huwekapo_buffers() == HUWEKAPO_BUFFER_COUNT)
 
 /* A number and its values. `number` is 0 where the call was accepted, else the first that applies of the refusals that the
  * call names, in the order in which it names them. A refusal carries value 0, or the damage kind for number 2. `second` is the
