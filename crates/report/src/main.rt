@@ -7,9 +7,9 @@ mod run;
 fn main() {
     // A history is not asked for by name: a line would be that of another one. The program's own name is the first.
     if os::arg_count() > 1 {
-        calls_output::refuse_arguments();
+        output::refuse_arguments();
         return;
     }
     let outcome = run::run_input();
-    calls_output::tell(outcome);
+    output::tell(outcome);
 }
