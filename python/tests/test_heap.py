@@ -297,7 +297,7 @@ class Header(unittest.TestCase):
         self.assertEqual(macros["VERSION"], f'"{huwekapo.__version__}"')
         parts = [macros[f"VERSION_{part}"] for part in ("MAJOR", "MINOR", "PATCH")]
         self.assertEqual(".".join(parts), huwekapo.__version__)
-        self.assertEqual(int(macros["BUFFERS"]), len(library.BUFFERS))
+        self.assertEqual(int(macros["BUFFER_COUNT"]), len(library.BUFFERS))
         limits = [library.MAX_BLOCKS, library.MAX_WIDTH, library.MAX_ROOTS]
         self.assertEqual([int(macros[f"MAX_{name}"]) for name in ("BLOCKS", "WIDTH", "ROOTS")], limits)
 
