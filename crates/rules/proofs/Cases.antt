@@ -6,21 +6,21 @@ use Rattle.bitmap.specs.Bit.{bitAt, setBit, fillBits, countBelow, zeros}
 use Rattle.planes.specs.Plane.{countAt, setCount}
 use Rattle.rules.specs.Tools.{all, holding, someBelow, firstNumber, isSome, tabulate}
 use Rattle.rules.specs.Heap.{isPowerFrom, shape, firstIn, sizeFrom, exponentFrom, exponent, chunkFree, lowestFrom}
-use Rattle.rules.specs.Heap.{lowestFree, refIn}
-use Rattle.rules.specs.Damage.{endOnFree, openEnd, unaligned, badCell, badRoot, badCount, damage}
+use Rattle.rules.specs.Heap.{lowestFree, refIn, firstAt, inData, refAt}
+use Rattle.rules.specs.Damage.{endOnFree, openEnd, unaligned, badCell, badRoot, badCount, strayData, damage}
 use Rattle.rules.specs.Sections.{largestFree, figure, figures, staleFigures}
-use Rattle.rules.specs.Store.{formatted, countUp, sticks, countDown, countDownEach, clearCells, freed, release, letGo, putRoot, putCell}
+use Rattle.rules.specs.Store.{formatted, countUp, sticks, countDown, countDownEach, clearCells, freed, namingCells, release, letGo, putRoot, putCell}
 use Rattle.rules.specs.Store.{changeRoot, changeCell, storeRootIn, storeCellIn, storeSticks, clearChosen, returnIn, placed, allocateIn}
 use Rattle.rules.specs.Collection.{isCellOf, cellOfChosen, referencesFrom, reachedNext, reachedIn, reached, swept}
 use Rattle.rules.specs.Collection.{recounted, collected}
 use Rattle.rules.specs.Calls.{ownRefusals, refusals, refusedWith, freeing, outcome, answer, run, lastMemory}
-use Rattle.rules.specs.Cases.{Case, fresh, freshBut, cases, readings, returns, moments, given, expected, figuresOfBytes, figuresOfSections, expectedOfSections}
+use Rattle.rules.specs.Cases.{Case, fresh, freshBut, cases, readings, returns, moments, numbers, given, expected, figuresOfBytes, figuresOfSections, expectedOfSections}
 use Rattle.rules.specs.Distinctions.{eightBlocks, cellHolding, rootHolding, distinctions}
 use Rattle.types.specs.declared.Reply.{Reply}
 
 -- what the rules give for a case: to unfold this is to open every rule
 unfoldable pub computed : Case → List Reply × ℕ × ℕ
-unfolding bitAt setBit fillBits countBelow zeros countAt setCount isPowerFrom all shape firstIn sizeFrom exponentFrom exponent chunkFree lowestFrom lowestFree refIn holding someBelow endOnFree openEnd unaligned badCell badRoot badCount firstNumber damage largestFree figure figures staleFigures formatted countUp sticks countDown countDownEach clearCells freed release letGo putRoot putCell changeRoot changeCell storeRootIn storeCellIn storeSticks clearChosen returnIn placed allocateIn isCellOf cellOfChosen referencesFrom tabulate reachedNext reachedIn reached swept recounted collected isSome ownRefusals refusals refusedWith freeing outcome answer run fresh freshBut lastMemory given expected
+unfolding bitAt setBit fillBits countBelow zeros countAt setCount isPowerFrom all shape firstIn sizeFrom exponentFrom exponent chunkFree lowestFrom lowestFree refIn firstAt inData refAt holding someBelow endOnFree openEnd unaligned badCell badRoot badCount strayData firstNumber damage largestFree figure figures staleFigures formatted countUp sticks countDown countDownEach clearCells freed namingCells release letGo putRoot putCell changeRoot changeCell storeRootIn storeCellIn storeSticks clearChosen returnIn placed allocateIn isCellOf cellOfChosen referencesFrom tabulate reachedNext reachedIn reached swept recounted collected isSome ownRefusals refusals refusedWith freeing outcome answer run fresh freshBut lastMemory given expected
 computed c = given c
 
 pub cases-hold : map given cases ≡ map expected cases
@@ -41,6 +41,11 @@ returns-hold = refl
 pub moments-hold : map given moments ≡ map expected moments
 unfolding computed moments
 moments-hold = refl
+
+-- and those of request U6
+pub numbers-hold : map given numbers ≡ map expected numbers
+unfolding computed numbers
+numbers-hold = refl
 
 -- and those that tell further wrong rules from the right ones
 pub distinctions-hold : map given distinctions ≡ map expected distinctions

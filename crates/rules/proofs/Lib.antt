@@ -6,6 +6,7 @@ pub mod Tabulate
 pub mod TrueList
 pub mod Shape
 pub mod Objects
+pub mod Reading
 pub mod Chunks
 pub mod Figures
 pub mod Sections

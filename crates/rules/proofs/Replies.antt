@@ -12,12 +12,12 @@ use lib.Dec.{leb, ltb, eqb}
 use lib.ListN.{length}
 use borrow.Author.Tests.{eq-eqb, ne-eqb, eqb-true, leb-true, le-leb, ltb-true, lt-ltb}
 use Rattle.rules.specs.Tools.{isSome, firstNumber}
-use Rattle.rules.specs.Heap.{Memory, shaped, isFirst, sizeAt, exponent, lowestFree, isRef}
+use Rattle.rules.specs.Heap.{Memory, shaped, isFirst, sizeAt, exponent, lowestFree, isRef, isData}
 use Rattle.rules.specs.Damage.{damage}
 use Rattle.rules.specs.Sections.{staleFigures}
 use Rattle.rules.specs.Store.{chosenBelow}
-use Rattle.rules.specs.Calls.{Call, format, check, collect, freeBlocks, allocate, storeRoot, storeCell, look, returnRoots, Answer}
-use Rattle.rules.specs.Calls.{testsHeap, ownRefusals, refusals, refusedWith, refused, freeing, outcome, answer}
+use Rattle.rules.specs.Calls.{Call, format, check, collect, freeBlocks, allocate, storeRoot, storeCell, look, returnRoots, allocateData, writeNumber, readNumber, Answer}
+use Rattle.rules.specs.Calls.{testsHeap, allocationRefusals, cellRefusals, ownRefusals, refusals, refusedWith, refused, freeing, outcome, answer}
 use Rattle.rules.proofs.Tests.{and-true, true-and, and-false, false-and, first-past, first-no, first-not}
 
 -- ---- accepted or refused
@@ -35,6 +35,9 @@ module _ (N w : ℕ) (h : Memory) where
   outcome-accepts (storeCell a j v) = refl
   outcome-accepts (look a) = refl
   outcome-accepts (returnRoots chosen) = refl
+  outcome-accepts (allocateData n r) = refl
+  outcome-accepts (writeNumber a j x) = refl
+  outcome-accepts (readNumber a j) = refl
 
   module _ (c : Call) where
     pub none-applies : refusedWith N w h c ≡ 0 → answer N w h c ≡ outcome N w h c
@@ -72,14 +75,21 @@ module _ (N w : ℕ) (h : Memory) where
 
 -- ---- the call's own numbers
 
+-- what an allocation asks for where its numbers don't apply
+abbrev pub AllocationPassed : ℕ → Memory → (n r : ℕ) → Type 0
+AllocationPassed N h n r =
+    let o = lowestFree N (exponent n) (h .a) in (1 ≤ n) × (n ≤ N) × (r < length (h .roots)) × (o ≡ some (Option·getD o 0))
+
 -- what a call asks for where its own numbers don't apply
 unfoldable pub Passed : ℕ → Memory → Call → Type 0
-Passed N h (allocate n r) =
-    let o = lowestFree N (exponent n) (h .a) in (1 ≤ n) × (n ≤ N) × (r < length (h .roots)) × (o ≡ some (Option·getD o 0))
+Passed N h (allocate n r) = AllocationPassed N h n r
 Passed N h (storeRoot r v) = (r < length (h .roots)) × (isRef N h v ≡ true)
-Passed N h (storeCell a j v) = (isFirst N h a ≡ true) × (j < 4 * sizeAt N h a) × (isRef N h v ≡ true)
+Passed N h (storeCell a j v) = (isFirst N h a ≡ true) × (j < 4 * sizeAt N h a) × (isData (h .d) a ≡ false) × (isRef N h v ≡ true)
 Passed N h (look a) = isFirst N h a ≡ true
 Passed N h (returnRoots chosen) = chosenBelow chosen (length (h .roots)) ≡ true
+Passed N h (allocateData n r) = AllocationPassed N h n r
+Passed N h (writeNumber a j x) = (isFirst N h a ≡ true) × (j < 4 * sizeAt N h a) × (isData (h .d) a ≡ true)
+Passed N h (readNumber a j) = (isFirst N h a ≡ true) × (j < 4 * sizeAt N h a) × (isData (h .d) a ≡ true)
 Passed N h format = Unit {0}
 Passed N h check = Unit {0}
 Passed N h collect = Unit {0}
@@ -91,9 +101,8 @@ some-found none e = absurd (false≢true e)
 some-found (some i) e = refl
 
 module _ (N : ℕ) (h : Memory) where
-  pub own-passed : (c : Call) → firstNumber (ownRefusals N h c) ≡ 0 → Passed N h c
-  unfolding ownRefusals Passed
-  own-passed (allocate n r) e =
+  allocation-passed : (n r : ℕ) → firstNumber (allocationRefusals N h n r) ≡ 0 → AllocationPassed N h n r
+  allocation-passed n r e =
       let size = first-not 3 (leb 1 n && leb n N) _ (omega arith) e in
       let place = first-not 4 (ltb r (length (h .roots))) _ (omega arith) (size .1) in
       let found = first-not 5 (isSome (lowestFree N (exponent n) (h .a))) _ (omega arith) (place .1) in
@@ -103,15 +112,35 @@ module _ (N : ℕ) (h : Memory) where
         ltb-true r (length (h .roots)) (place .0),
         some-found (lowestFree N (exponent n) (h .a)) (found .0),
       )
+
+  -- of a cell, and of the numbers that come then
+  cell-passed :
+      (a j : ℕ) (more : List (ℕ × Bool)) → firstNumber (cellRefusals N h a j more) ≡ 0
+      → (isFirst N h a ≡ true) × (j < 4 * sizeAt N h a) × (firstNumber more ≡ 0)
+  cell-passed a j more e =
+      let first = first-not 6 (isFirst N h a) _ (omega arith) e in
+      let place = first-not 7 (ltb j (4 * sizeAt N h a)) _ (omega arith) (first .1) in
+      (first .0, ltb-true j (4 * sizeAt N h a) (place .0), place .1)
+
+  pub own-passed : (c : Call) → firstNumber (ownRefusals N h c) ≡ 0 → Passed N h c
+  unfolding ownRefusals Passed
+  own-passed (allocate n r) e = allocation-passed n r e
   own-passed (storeRoot r v) e =
       let place = first-not 4 (ltb r (length (h .roots))) _ (omega arith) e in
       (ltb-true r (length (h .roots)) (place .0), first-not 8 (isRef N h v) _ (omega arith) (place .1) .0)
   own-passed (storeCell a j v) e =
-      let first = first-not 6 (isFirst N h a) _ (omega arith) e in
-      let place = first-not 7 (ltb j (4 * sizeAt N h a)) _ (omega arith) (first .1) in
-      (first .0, ltb-true j (4 * sizeAt N h a) (place .0), first-not 8 (isRef N h v) _ (omega arith) (place .1) .0)
+      let cell = cell-passed a j _ e in
+      let ordinary = first-no 12 (isData (h .d) a) _ (omega arith) (cell .2) in
+      (cell .0, cell .1, ordinary .0, first-not 8 (isRef N h v) _ (omega arith) (ordinary .1) .0)
   own-passed (look a) e = first-not 6 (isFirst N h a) _ (omega arith) e .0
   own-passed (returnRoots chosen) e = first-not 4 (chosenBelow chosen (length (h .roots))) _ (omega arith) e .0
+  own-passed (allocateData n r) e = allocation-passed n r e
+  own-passed (writeNumber a j x) e =
+      let cell = cell-passed a j _ e in
+      (cell .0, cell .1, first-not 12 (isData (h .d) a) _ (omega arith) (cell .2) .0)
+  own-passed (readNumber a j) e =
+      let cell = cell-passed a j _ e in
+      (cell .0, cell .1, first-not 12 (isData (h .d) a) _ (omega arith) (cell .2) .0)
   own-passed format e = tt
   own-passed check e = tt
   own-passed collect e = tt
@@ -122,9 +151,13 @@ module _ (N : ℕ) (h : Memory) where
   passed-own (allocate n r) (low, high, place, found) =
       rw (true-and (leb 1 n) (leb n N) (le-leb 1 n low) (le-leb n N high), lt-ltb r (length (h .roots)) place, found)
   passed-own (storeRoot r v) (place, ref) = rw (lt-ltb r (length (h .roots)) place, ref)
-  passed-own (storeCell a j v) (first, place, ref) = rw (first, lt-ltb j (4 * sizeAt N h a) place, ref)
+  passed-own (storeCell a j v) (first, place, ordinary, ref) = rw (first, lt-ltb j (4 * sizeAt N h a) place, ordinary, ref)
   passed-own (look a) first = rw first
   passed-own (returnRoots chosen) below = rw below
+  passed-own (allocateData n r) (low, high, place, found) =
+      rw (true-and (leb 1 n) (leb n N) (le-leb 1 n low) (le-leb n N high), lt-ltb r (length (h .roots)) place, found)
+  passed-own (writeNumber a j x) (first, place, made) = rw (first, lt-ltb j (4 * sizeAt N h a) place, made)
+  passed-own (readNumber a j) (first, place, made) = rw (first, lt-ltb j (4 * sizeAt N h a) place, made)
   passed-own format p = refl
   passed-own check p = refl
   passed-own collect p = refl

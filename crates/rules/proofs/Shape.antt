@@ -31,6 +31,7 @@ pub record Shaped (N w : ℕ) (h : Memory) : Type 0 where
   pub length-cells : length (h .cells) ≡ 4 * N
   pub length-waiting : length (h .waiting) ≡ N
   pub length-sections : length (h .sections) ≡ sectionCount N
+  pub length-d : length (h .d) ≡ N / 8
 
 -- ---- a power of two
 
@@ -85,7 +86,8 @@ abbrev tests : ℕ → ℕ → Memory → List Bool
 tests N w h =
     isBlocks N ∷ leb 1 w ∷ leb w 4 ∷ leb 1 (length (h .roots)) ∷ leb (length (h .roots)) 64
     ∷ eqb (length (h .a)) (N / 8) ∷ eqb (length (h .b)) (N / 8) ∷ eqb (length (h .counts)) (w * (N / 8))
-    ∷ eqb (length (h .cells)) (4 * N) ∷ eqb (length (h .waiting)) N ∷ eqb (length (h .sections)) (sectionCount N) ∷ []
+    ∷ eqb (length (h .cells)) (4 * N) ∷ eqb (length (h .waiting)) N ∷ eqb (length (h .sections)) (sectionCount N)
+    ∷ eqb (length (h .d)) (N / 8) ∷ []
 
 pub shape-facts : (N w : ℕ) (h : Memory) → shaped N w h ≡ true → Shaped N w h
 unfolding shape
@@ -104,6 +106,7 @@ shape-facts N w h e = record {
   length-cells = eqb-true (length (h .cells)) (4 * N) (at 8);
   length-waiting = eqb-true (length (h .waiting)) N (at 9);
   length-sections = eqb-true (length (h .sections)) (sectionCount N) (at 10);
+  length-d = eqb-true (length (h .d)) (N / 8) (at 11);
 }
   where
     at : (i : ℕ) → getD (tests N w h) i true ≡ true
@@ -132,7 +135,8 @@ shape-test N w h s =
     (also (eq-eqb (length (h .counts)) (w * (N / 8)) (s .length-counts))
     (also (eq-eqb (length (h .cells)) (4 * N) (s .length-cells))
     (also (eq-eqb (length (h .waiting)) N (s .length-waiting))
-    (also (eq-eqb (length (h .sections)) (sectionCount N) (s .length-sections)) done)))))))))))
+    (also (eq-eqb (length (h .sections)) (sectionCount N) (s .length-sections))
+    (also (eq-eqb (length (h .d)) (N / 8) (s .length-d)) done))))))))))))
 
 pub shaped-blocks : (N w : ℕ) (h : Memory) → Shaped N w h → isBlocks N ≡ true
 shaped-blocks N w h s = blocks-test N (s .power .0) (s .power .1) (s .blocks-min) (s .blocks-max)
@@ -155,4 +159,5 @@ formatted-shaped N w h s = record {
   length-cells = length-replicate (4 * N) 0;
   length-waiting = length-replicate N 0;
   length-sections = length-figures N (replicate (N / 8) 0);
+  length-d = length-replicate (N / 8) 0;
 }

@@ -7,7 +7,7 @@ use Prim.Native.Nat.{ℕ, zero, suc, _+_, _/_, min}
 use lib.Dec.{eqb}
 use lib.ListN.{getD, set}
 use Rattle.planes.specs.Plane.{setCount}
-use Rattle.rules.specs.Heap.{Memory, withA, withB, withCounts, withCells, withRoots, withWaiting, withSections, capacity, isFirst, sizeAt}
+use Rattle.rules.specs.Heap.{Memory, withA, withB, withCounts, withCells, withRoots, withWaiting, withSections, withD, capacity, isFirst, sizeAt}
 use Rattle.rules.specs.Store.{work, countUp, countDown, freed, workAfter, memoryAfter, release, letGo, putRoot, putCell, placed}
 use Rattle.rules.specs.Store.{changeRoot, changeCell, storeRootIn, storeCellIn, isChosen, clearChosen, returnIn, allocateIn}
 use Rattle.rules.specs.Collection.{isCellOf, cellOfChosen, referencesFrom, marked, reachedNext, reachedIn, reached, swept, recounted, collected}
@@ -15,7 +15,7 @@ use Rattle.rules.proofs.Tests.{choose-both}
 
 -- the lists that letting go does not read, with the others empty
 abbrev unread : Memory → Memory
-unread h = withA [] (withB [] (withCounts [] (withCells [] h)))
+unread h = withA [] (withB [] (withCounts [] (withCells [] (withD [] h))))
 
 -- the memory with these lists as `other` makes them, which sees no others: beside another waiting list x, `other` is `withWaiting x`
 abbrev pub beside : (other : Memory → Memory) → Memory → Memory
@@ -62,9 +62,9 @@ module _ (N w : ℕ) (others : Memory → Memory) where
         choose-both other (eqb (getD (h .cells) c 0) v) h _ refl
         (let-go-other (withCells (set (h .cells) c v) (withCounts (countUp N w (h .counts) v) h)) (getD (h .cells) c 0))
 
-    pub allocate-beside : (n r i : ℕ) → allocateIn N w (other h) n r i ≡ other (allocateIn N w h n r i)
+    pub allocate-beside : (asData : Bool) (n r i : ℕ) → allocateIn N w asData (other h) n r i ≡ other (allocateIn N w asData h n r i)
     unfolding allocateIn putRoot placed
-    allocate-beside n r i = let-go-other (withRoots (set (h .roots) r (i + 1)) (placed N w h i n)) (getD (h .roots) r 0)
+    allocate-beside asData n r i = let-go-other (withRoots (set (h .roots) r (i + 1)) (placed N w asData h i n)) (getD (h .roots) r 0)
 
     -- ---- the collection
 

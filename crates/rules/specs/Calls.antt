@@ -3,11 +3,11 @@ use Prim.Native.Nat.{ℕ, _+_, _-_, _*_}
 use mathlib.Core.Bool.{Bool, true, false, not, _&&_}
 use mathlib.Core.List.{List, [], _∷_}
 use mathlib.Core.Option.{Option·getD}
-use lib.ListN.{length, getD, replicate}
+use lib.ListN.{length, getD, set, replicate}
 use lib.Dec.{leb, ltb, eqb}
 use Rattle.bitmap.specs.Bit.{one, zeros}
 use Rattle.rules.specs.Tools.{isSome, firstNumber}
-use Rattle.rules.specs.Heap.{Memory, withWaiting, withSections, shaped, countOf, isFirst, sizeAt, exponent, lowestFree, isRef}
+use Rattle.rules.specs.Heap.{Memory, withCells, withWaiting, withSections, shaped, countOf, isFirst, sizeAt, exponent, lowestFree, isRef, isData}
 use Rattle.rules.specs.Damage.{damage}
 use Rattle.rules.specs.Sections.{figures, staleFigures}
 use Rattle.rules.specs.Store.{formatted, storeRootIn, storeCellIn, storeSticks, chosenBelow, returnIn, birthSticks, allocateIn}
@@ -22,6 +22,15 @@ pub data Call : Type 0 where
   storeCell : (at j v : ℕ) → Call
   look : (at : ℕ) → Call
   returnRoots : (chosen : ℕ) → Call
+  -- request U6: "There are calls to allocate data and to write and read one of its cells."
+  allocateData : (n r : ℕ) → Call
+  writeNumber : (at j x : ℕ) → Call
+  readNumber : (at j : ℕ) → Call
+
+-- an allocation, of an object made as data or of an ordinary one
+abbrev pub allocateAs : (asData : Bool) → (n r : ℕ) → Call
+allocateAs true n r = allocateData n r
+allocateAs false n r = allocate n r
 
 -- a reply, and the memory after the call
 abbrev pub Answer : Type 0
@@ -47,19 +56,35 @@ testsHeap (storeRoot r v) = true
 testsHeap (storeCell at j v) = true
 testsHeap (look at) = true
 testsHeap (returnRoots chosen) = true
+testsHeap (allocateData n r) = true
+testsHeap (writeNumber at j x) = true
+testsHeap (readNumber at j) = true
+
+-- of an allocation: "3 if n is 0 or above N; 4 if r is not below the number of roots; 5 if no chunk of s
+-- blocks is free"
+abbrev pub allocationRefusals : ℕ → Memory → (n r : ℕ) → List (ℕ × Bool)
+allocationRefusals N h n r =
+    (3, not (leb 1 n && leb n N)) ∷ (4, not (ltb r (length (h .roots)))) ∷ (5, not (isSome (lowestFree N (exponent n) (h .a)))) ∷ []
+
+-- of a cell, with what comes then: "6 if a is not a first block (or not below N); 7 if j is not below 4 ×
+-- size"
+abbrev pub cellRefusals : ℕ → Memory → (at j : ℕ) → List (ℕ × Bool) → List (ℕ × Bool)
+cellRefusals N h at j more = (6, not (isFirst N h at)) ∷ (7, not (ltb j (4 * sizeAt N h at))) ∷ more
 
 -- the call's own numbers, each with whether it applies
 unfoldable pub ownRefusals : ℕ → Memory → Call → List (ℕ × Bool)
--- "3 if n is 0 or above N; 4 if r is not below the number of roots; 5 if no chunk of s blocks is free"
-ownRefusals N h (allocate n r) =
-    (3, not (leb 1 n && leb n N)) ∷ (4, not (ltb r (length (h .roots)))) ∷ (5, not (isSome (lowestFree N (exponent n) (h .a)))) ∷ []
+ownRefusals N h (allocate n r) = allocationRefusals N h n r
 -- "4; 8 if v is neither 0 nor 1 + a first block"
 ownRefusals N h (storeRoot r v) = (4, not (ltb r (length (h .roots)))) ∷ (8, not (isRef N h v)) ∷ []
--- "6 if a is not a first block (or not below N); 7 if j is not below 4 × size; 8"
-ownRefusals N h (storeCell at j v) = (6, not (isFirst N h at)) ∷ (7, not (ltb j (4 * sizeAt N h at))) ∷ (8, not (isRef N h v)) ∷ []
+-- "6 ..; 7 ..; 8". Request U6: "12, a reference store or read on data, or a number on an ordinary object,
+-- placed after 7"
+ownRefusals N h (storeCell at j v) = cellRefusals N h at j ((12, isData (h .d) at) ∷ (8, not (isRef N h v)) ∷ [])
 ownRefusals N h (look at) = (6, not (isFirst N h at)) ∷ []
 -- request U10: "refused with 4 if any bit is at or past the number of roots"
 ownRefusals N h (returnRoots chosen) = (4, not (chosenBelow chosen (length (h .roots)))) ∷ []
+ownRefusals N h (allocateData n r) = allocationRefusals N h n r
+ownRefusals N h (writeNumber at j x) = cellRefusals N h at j ((12, not (isData (h .d) at)) ∷ [])
+ownRefusals N h (readNumber at j) = cellRefusals N h at j ((12, not (isData (h .d) at)) ∷ [])
 ownRefusals N h format = []
 ownRefusals N h check = []
 ownRefusals N h collect = []
@@ -94,6 +119,13 @@ settled N h = withSections (figures N (h .a)) (withWaiting (replicate N 0) h)
 unfoldable pub freeing : ℕ → Memory → Memory → (second : ℕ) → Answer
 freeing N h g second = (reply 0 (zeros (g .a) - zeros (h .a)) second, settled N g)
 
+-- "The value is the first block." The second value is as in a store. Where no chunk is free the call is
+-- refused, whatever block is read here.
+abbrev pub allocated : ℕ → ℕ → (asData : Bool) → Memory → (n r : ℕ) → Answer
+allocated N w asData h n r =
+    let i = Option·getD (lowestFree N (exponent n) (h .a)) 0 in
+    (reply 0 i (one (birthSticks w)), settled N (allocateIn N w asData h n r i))
+
 -- "Cells of an object are numbered .. beginning with the first cell of its first block": cell j of the object at block `at` is number 4 * at + j
 -- of all cells.
 unfoldable pub outcome : ℕ → ℕ → Memory → Call → Answer
@@ -101,10 +133,7 @@ outcome N w h format = accepted (formatted N w (length (h .roots))) 0
 outcome N w h check = accepted h 0
 outcome N w h freeBlocks = accepted h (zeros (h .a))
 outcome N w h collect = freeing N h (collected N w h) 0
--- "The value is the first block." The second value is as in a store. Where no chunk is free the call is refused, whatever block is read here.
-outcome N w h (allocate n r) =
-    let i = Option·getD (lowestFree N (exponent n) (h .a)) 0 in
-    (reply 0 i (one (birthSticks w)), settled N (allocateIn N w h n r i))
+outcome N w h (allocate n r) = allocated N w false h n r
 outcome N w h (storeRoot r v) =
     freeing N h (storeRootIn N w h r v) (one (storeSticks N w (h .counts) (getD (h .roots) r 0) v))
 outcome N w h (storeCell at j v) =
@@ -112,6 +141,11 @@ outcome N w h (storeCell at j v) =
 outcome N w h (look at) = (reply 0 (sizeAt N h at) (countOf N w h at), h)
 -- request U10: "Its value is the blocks freed in all."
 outcome N w h (returnRoots chosen) = freeing N h (returnIn N w h chosen (length (h .roots))) 0
+outcome N w h (allocateData n r) = allocated N w true h n r
+-- A number write allocates nothing, stores no reference and frees nothing: the waiting list keeps its
+-- content, as every buffer but the cell.
+outcome N w h (writeNumber at j x) = accepted (withCells (set (h .cells) (4 * at + j) x) h) 0
+outcome N w h (readNumber at j) = accepted h (getD (h .cells) (4 * at + j) 0)
 
 -- ---- the answer
 

@@ -3,10 +3,11 @@
 use Prim.Native.Nat.{ℕ}
 use mathlib.Core.List.{List, [], _∷_, map}
 use lib.ListN.{getD, set, replicate}
-use Rattle.rules.specs.Heap.{Memory, withA, withB}
+use Rattle.rules.specs.Heap.{Memory, withA, withB, withD}
 use Rattle.rules.specs.Sections.{figures}
 use Rattle.rules.specs.Store.{formatted}
 use Rattle.rules.specs.Calls.{Call, check, collect, freeBlocks, allocate, storeRoot, storeCell, look, returnRoots, reply, run, lastMemory}
+use Rattle.rules.specs.Calls.{allocateData, writeNumber, readNumber}
 use Rattle.types.specs.declared.Reply.{Reply}
 
 -- calls on a heap of 8 blocks, each with the reply it is to get, and the bytes of the A-map and the B-map after the last
@@ -166,6 +167,49 @@ moments =
     ((allocate 1 0, gives 0) ∷ (storeRoot 1 1, gives 0) ∷ (storeRoot 4 1, refuses 4) ∷ (storeCell 1 0 1, refuses 6)
     ∷ (storeCell 0 4 1, refuses 7) ∷ (storeRoot 2 2, refuses 8) ∷ [])
     ∷ case 1 (fresh 1) 0 255 ((allocate 9 0, refuses 3) ∷ (allocate 1 4, refuses 4) ∷ [])
+    ∷ []
+
+-- Request U6, "Arrays of numbers"
+unfoldable pub numbers : List Case
+numbers =
+    -- "Its cells hold any 16-bit number": written, read, kept by a collection, and cleared with the D bit
+    -- when the object is freed: then an ordinary object at the same block has references in its cells
+    case 2 (fresh 2) 1 254
+    ((allocateData 2 0, gives 0) ∷ (readNumber 0 7, gives 0) ∷ (writeNumber 0 7 65535, gives 0) ∷ (writeNumber 0 4 2, gives 0)
+    ∷ (readNumber 0 7, gives 65535) ∷ (check, gives 0) ∷ (look 0, shows 2 1) ∷ (collect, gives 0) ∷ (readNumber 0 4, gives 2)
+    ∷ (storeRoot 0 0, gives 2) ∷ (check, gives 0) ∷ (allocate 1 0, gives 0) ∷ (storeCell 0 0 1, gives 0) ∷ (look 0, shows 1 2) ∷ [])
+    -- ".. are never followed, counted": a number that would name the object at block 1, by which it is not
+    -- kept
+    ∷ case 2 (fresh 2) 1 254
+    ((allocateData 1 0, gives 0) ∷ (allocate 1 1, gives 1) ∷ (writeNumber 0 0 2, gives 0) ∷ (look 1, shows 1 1) ∷ (storeRoot 1 0, gives 1)
+    ∷ (check, gives 0) ∷ (readNumber 0 0, gives 2) ∷ [])
+    -- .. nor let go when the data is freed
+    ∷ case 2 (fresh 2) 2 253
+    ((allocateData 1 0, gives 0) ∷ (allocate 1 1, gives 1) ∷ (writeNumber 0 0 2, gives 0) ∷ (storeRoot 0 0, gives 1) ∷ (look 1, shows 1 1) ∷ [])
+    -- .. nor does a collection reach by it, or count it
+    ∷ case 2 (fresh 2) 5 250
+    ((allocateData 1 0, gives 0) ∷ (allocate 1 1, gives 1) ∷ (allocate 1 2, gives 2) ∷ (storeCell 1 0 2, gives 0) ∷ (storeRoot 1 0, gives 0)
+    ∷ (writeNumber 0 0 2, gives 0) ∷ (writeNumber 0 1 3, gives 0) ∷ (collect, gives 1) ∷ (look 1, refuses 6) ∷ (look 2, shows 1 1) ∷ [])
+    -- a collection frees data, with its numbers and its D bit
+    ∷ case 1 (fresh 1) 1 254
+    ((allocateData 1 0, sticking 0) ∷ (writeNumber 0 0 9, gives 0) ∷ (storeRoot 0 0, gives 0) ∷ (collect, gives 1) ∷ (check, gives 0)
+    ∷ (allocate 1 0, sticking 0) ∷ (readNumber 0 0, refuses 12) ∷ (storeCell 0 0 1, gives 0) ∷ [])
+    -- data is named by roots and cells as any object is
+    ∷ case 2 (fresh 2) 0 255
+    ((allocate 1 0, gives 0) ∷ (allocateData 1 1, gives 1) ∷ (storeCell 0 0 2, gives 0) ∷ (look 1, shows 1 2) ∷ (storeRoot 1 0, gives 0)
+    ∷ (collect, gives 0) ∷ (look 1, shows 1 1) ∷ (storeRoot 0 0, gives 2) ∷ [])
+    -- "12 .. placed after 7": a reference store on data, a number on an ordinary object
+    ∷ case 2 (fresh 2) 3 252
+    ((allocateData 1 0, gives 0) ∷ (allocate 1 1, gives 1) ∷ (storeCell 2 4 9, refuses 6) ∷ (storeCell 0 4 9, refuses 7)
+    ∷ (storeCell 0 3 9, refuses 12) ∷ (storeCell 0 0 0, refuses 12) ∷ (storeCell 1 0 9, refuses 8)
+    ∷ (writeNumber 2 4 9, refuses 6) ∷ (writeNumber 1 4 9, refuses 7) ∷ (writeNumber 1 3 9, refuses 12)
+    ∷ (readNumber 2 4, refuses 6) ∷ (readNumber 1 4, refuses 7) ∷ (readNumber 1 3, refuses 12) ∷ (readNumber 0 4, refuses 7) ∷ [])
+    -- "allocate data into d as 1 does": 3, 4, 5; the second value
+    ∷ case 2 (fresh 2) 255 127
+    ((allocateData 0 4, refuses 3) ∷ (allocateData 9 0, refuses 3) ∷ (allocateData 8 4, refuses 4) ∷ (allocateData 8 0, gives 0)
+    ∷ (allocateData 1 1, refuses 5) ∷ [])
+    -- "damage kind 7 is a D bit where no object starts"
+    ∷ case 2 (withD (128 ∷ []) (fresh 2)) 0 255 ((check, damaged 7) ∷ [])
     ∷ []
 
 -- what the rules give for a case: the replies and the two bytes

@@ -7,7 +7,7 @@ use lib.Dec.{leb, ltb, eqb}
 use Rattle.bitmap.specs.Bit.{countBelow}
 use Rattle.planes.specs.Plane.{setCount}
 use Rattle.rules.specs.Tools.{holding, someBelow, tabulate}
-use Rattle.rules.specs.Heap.{Memory, withCounts, capacity, isFirst, sizeAt}
+use Rattle.rules.specs.Heap.{Memory, withCounts, capacity, isFirst, sizeAt, reference}
 use Rattle.rules.specs.Store.{freed}
 
 -- "cells 4i to 4i + 3 for block i": cell number j of all cells is one of the object at block i
@@ -18,10 +18,11 @@ isCellOf N h i j = leb (4 * i) j && ltb j (4 * (i + sizeAt N h i))
 unfoldable pub cellOfChosen : (N : ℕ) → Memory → (chosen : ℕ → Bool) → (j : ℕ) → Bool
 cellOfChosen N h chosen j = someBelow (λ i. isFirst N h i && chosen i && isCellOf N h i j) N
 
--- "the number of roots and cells of .. objects that name it": here the roots and the cells of chosen objects that name block i
+-- "the number of roots and cells of .. objects that name it": here the roots and the cells of chosen objects
+-- that name block i. Request U6: "Collections .. read the rest as before", and cells of data not at all.
 unfoldable pub referencesFrom : (N : ℕ) → Memory → (chosen : ℕ → Bool) → (i : ℕ) → ℕ
 referencesFrom N h chosen i =
-    holding (i + 1) (h .roots) + countBelow (λ j. elim (eqb (getD (h .cells) j 0) (i + 1)) [ true ↦ cellOfChosen N h chosen j | false ↦ false ]) (4 * N)
+    holding (i + 1) (h .roots) + countBelow (λ j. elim (eqb (reference N h j) (i + 1)) [ true ↦ cellOfChosen N h chosen j | false ↦ false ]) (4 * N)
 
 -- a set of blocks as a list of N marks
 abbrev pub marked : List Bool → ℕ → Bool

@@ -3,15 +3,16 @@
 use Prim.Native.Nat.{ℕ}
 use mathlib.Core.List.{List, [], _∷_}
 use lib.ListN.{set, replicate}
-use Rattle.rules.specs.Heap.{Memory, lentMemory, withRoots}
+use Rattle.rules.specs.Heap.{Memory, lentMemory, withRoots, withD}
 use Rattle.rules.specs.Sections.{figures}
 use Rattle.rules.specs.Calls.{format, check, collect, freeBlocks, allocate, storeRoot, storeCell, look}
 use Rattle.rules.specs.Cases.{Case, case, fresh, freshBut, gives, sticking, shows, refuses, damaged}
 
--- a heap of 8 blocks and width 2, its list of sections true: the byte of each of the four maps, the cells and the roots
+-- a heap of 8 blocks and width 2, its list of sections true: the byte of each of the four maps, the cells and
+-- the roots; no data
 unfoldable pub eightBlocks : (a b low high : ℕ) → (cells roots : List ℕ) → Memory
 eightBlocks a b low high cells roots =
-    lentMemory (a ∷ []) (b ∷ []) (low ∷ high ∷ []) cells roots (replicate 8 0) (figures 8 (a ∷ []))
+    lentMemory (a ∷ []) (b ∷ []) (low ∷ high ∷ []) cells roots (replicate 8 0) (figures 8 (a ∷ [])) (0 ∷ [])
 
 -- the 32 cells, all 0 but number j
 unfoldable pub cellHolding : (j v : ℕ) → List ℕ
@@ -68,4 +69,17 @@ distinctions =
     ∷ case 2 (freshBut 1 254) 1 254 ((check, damaged 5) ∷ [])
     -- "a count below capacity that differs from the number of all cells and roots naming the object": 2 with one reference
     ∷ case 2 (eightBlocks 1 254 0 1 (replicate 32 0) (rootHolding 0 1)) 1 254 ((check, damaged 5) ∷ [])
+    -- Request U6: numbers in the cells of data, in its last block too, are neither checked nor counted: 9
+    -- names no block, 1 the data itself
+    ∷ case 2 (withD (1 ∷ []) (eightBlocks 3 253 1 0 (set (cellHolding 7 9) 0 1) (rootHolding 0 1))) 3 253 ((check, gives 0) ∷ [])
+    -- kinds 4 and 5 read the rest as before: the object behind the data; the D-map is read at first blocks
+    -- alone
+    ∷ case 2 (withD (1 ∷ []) (eightBlocks 3 252 3 0 (cellHolding 4 9) (1 ∷ 2 ∷ 0 ∷ 0 ∷ []))) 3 252 ((check, damaged 4) ∷ [])
+    ∷ case 2 (withD (1 ∷ []) (eightBlocks 3 252 3 0 (cellHolding 4 1) (1 ∷ 2 ∷ 0 ∷ 0 ∷ []))) 3 252 ((check, damaged 5) ∷ [])
+    ∷ case 2 (withD (2 ∷ []) (eightBlocks 3 253 1 0 (cellHolding 4 9) (rootHolding 0 1))) 3 253 ((check, damaged 4) ∷ [])
+    -- "7 is a D bit where no object starts": on the second block of one; after 5
+    ∷ case 2 (withD (2 ∷ []) (eightBlocks 3 253 1 0 (replicate 32 0) (rootHolding 0 1))) 3 253 ((check, damaged 7) ∷ [])
+    ∷ case 2 (withD (2 ∷ []) (eightBlocks 3 253 2 0 (replicate 32 0) (rootHolding 0 1))) 3 253 ((check, damaged 5) ∷ [])
+    -- a cell of a free block behind data
+    ∷ case 2 (withD (1 ∷ []) (eightBlocks 1 254 1 0 (cellHolding 4 1) (rootHolding 0 1))) 1 254 ((check, damaged 4) ∷ [])
     ∷ []

@@ -4,14 +4,15 @@ use Prim.Native.Nat.{ℕ, zero, suc, _+_, _-_, _*_, _/_, _^_, min}
 use mathlib.Core.Bool.{Bool, true, false, not, _&&_, _||_}
 use mathlib.Core.List.{List, [], _∷_}
 use mathlib.Core.Option.{Option, none, some}
-use lib.ListN.{length}
+use lib.ListN.{length, getD}
 use lib.Dec.{leb, ltb, eqb}
-use Rattle.bitmap.specs.Bit.{bitAt}
+use Rattle.bitmap.specs.Bit.{bitAt, countBelow}
 use Rattle.planes.specs.Plane.{countAt}
 use Rattle.rules.specs.Tools.{all, holding}
 
--- the seven lent buffers; `waiting` is the "Waiting list: N unsigned 16-bit numbers of working space", `sections` request U4's "added lent
--- list of 16-bit numbers, one for each section"
+-- the eight lent buffers; `waiting` is the "Waiting list: N unsigned 16-bit numbers of working space",
+-- `sections` request U4's "added lent list of 16-bit numbers, one for each section", `d` request U6's "new
+-- D-map of N/8 bytes"
 pub record Memory : Type 0 where
   pub a : List ℕ
   pub b : List ℕ
@@ -20,36 +21,40 @@ pub record Memory : Type 0 where
   pub roots : List ℕ
   pub waiting : List ℕ
   pub sections : List ℕ
+  pub d : List ℕ
 
-abbrev pub lentMemory : (a b counts cells roots waiting sections : List ℕ) → Memory
-lentMemory a b counts cells roots waiting sections =
-    record { a = a; b = b; counts = counts; cells = cells; roots = roots; waiting = waiting; sections = sections }
+abbrev pub lentMemory : (a b counts cells roots waiting sections d : List ℕ) → Memory
+lentMemory a b counts cells roots waiting sections d =
+    record { a = a; b = b; counts = counts; cells = cells; roots = roots; waiting = waiting; sections = sections; d = d }
 
--- document 01's six lists, for contracts of code that leaves the list of sections alone
+-- document 01's six lists, for contracts of code that leaves the list of sections and the D-map alone
 abbrev pub memory : (a b counts cells roots waiting : List ℕ) → Memory
-memory a b counts cells roots waiting = lentMemory a b counts cells roots waiting []
+memory a b counts cells roots waiting = lentMemory a b counts cells roots waiting [] []
 
 -- a memory with one buffer replaced
 abbrev pub withA : List ℕ → Memory → Memory
-withA x h = lentMemory x (h .b) (h .counts) (h .cells) (h .roots) (h .waiting) (h .sections)
+withA x h = lentMemory x (h .b) (h .counts) (h .cells) (h .roots) (h .waiting) (h .sections) (h .d)
 
 abbrev pub withB : List ℕ → Memory → Memory
-withB x h = lentMemory (h .a) x (h .counts) (h .cells) (h .roots) (h .waiting) (h .sections)
+withB x h = lentMemory (h .a) x (h .counts) (h .cells) (h .roots) (h .waiting) (h .sections) (h .d)
 
 abbrev pub withCounts : List ℕ → Memory → Memory
-withCounts x h = lentMemory (h .a) (h .b) x (h .cells) (h .roots) (h .waiting) (h .sections)
+withCounts x h = lentMemory (h .a) (h .b) x (h .cells) (h .roots) (h .waiting) (h .sections) (h .d)
 
 abbrev pub withCells : List ℕ → Memory → Memory
-withCells x h = lentMemory (h .a) (h .b) (h .counts) x (h .roots) (h .waiting) (h .sections)
+withCells x h = lentMemory (h .a) (h .b) (h .counts) x (h .roots) (h .waiting) (h .sections) (h .d)
 
 abbrev pub withRoots : List ℕ → Memory → Memory
-withRoots x h = lentMemory (h .a) (h .b) (h .counts) (h .cells) x (h .waiting) (h .sections)
+withRoots x h = lentMemory (h .a) (h .b) (h .counts) (h .cells) x (h .waiting) (h .sections) (h .d)
 
 abbrev pub withWaiting : List ℕ → Memory → Memory
-withWaiting x h = lentMemory (h .a) (h .b) (h .counts) (h .cells) (h .roots) x (h .sections)
+withWaiting x h = lentMemory (h .a) (h .b) (h .counts) (h .cells) (h .roots) x (h .sections) (h .d)
 
 abbrev pub withSections : List ℕ → Memory → Memory
-withSections x h = lentMemory (h .a) (h .b) (h .counts) (h .cells) (h .roots) (h .waiting) x
+withSections x h = lentMemory (h .a) (h .b) (h .counts) (h .cells) (h .roots) (h .waiting) x (h .d)
+
+abbrev pub withD : List ℕ → Memory → Memory
+withD x h = lentMemory (h .a) (h .b) (h .counts) (h .cells) (h .roots) (h .waiting) (h .sections) x
 
 -- ---- sizes
 
@@ -78,16 +83,17 @@ abbrev pub sectionCount : ℕ → ℕ
 sectionCount N = N / sectionLength N
 
 -- N, w ("1 to 4 bits"), the number of roots ("1 to 64") and each buffer's length are as they have to be
-unfoldable pub shape : (N w a b counts cells roots waiting sections : ℕ) → Bool
-shape N w a b counts cells roots waiting sections =
+unfoldable pub shape : (N w a b counts cells roots waiting sections d : ℕ) → Bool
+shape N w a b counts cells roots waiting sections d =
     all
     (isBlocks N ∷ leb 1 w ∷ leb w 4 ∷ leb 1 roots ∷ leb roots 64
-    ∷ eqb a (N / 8) ∷ eqb b (N / 8) ∷ eqb counts (w * (N / 8)) ∷ eqb cells (4 * N) ∷ eqb waiting N ∷ eqb sections (sectionCount N) ∷ [])
+    ∷ eqb a (N / 8) ∷ eqb b (N / 8) ∷ eqb counts (w * (N / 8)) ∷ eqb cells (4 * N) ∷ eqb waiting N ∷ eqb sections (sectionCount N)
+    ∷ eqb d (N / 8) ∷ [])
 
 abbrev pub shaped : ℕ → ℕ → Memory → Bool
 shaped N w h =
     shape N w (length (h .a)) (length (h .b)) (length (h .counts)) (length (h .cells)) (length (h .roots)) (length (h .waiting))
-    (length (h .sections))
+    (length (h .sections)) (length (h .d))
 
 -- "The capacity is 2^w − 1."
 abbrev pub capacity : ℕ → ℕ
@@ -156,6 +162,29 @@ refIn N a b v = eqb v 0 || firstIn N a b (v - 1)
 abbrev pub isRef : ℕ → Memory → ℕ → Bool
 isRef N h v = refIn N (h .a) (h .b) v
 
+-- ---- arrays of numbers (request U6)
+
+-- "A new D-map of N/8 bytes has 1 on the first block of an object made as data."
+abbrev pub isData : List ℕ → ℕ → Bool
+isData d i = eqb (bitAt d i) 1
+
+-- the nearest first block at or below block i, or 0: that of the object that block i lies in, if it lies in one
+unfoldable pub firstAt : ℕ → List ℕ → List ℕ → ℕ → ℕ
+firstAt N a b zero = zero
+firstAt N a b (suc i) = elim (firstIn N a b (suc i)) [ true ↦ suc i | false ↦ firstAt N a b i ]
+
+-- block i is a block of data: a used one, of an object made as data. The D-map is read at first blocks alone.
+unfoldable pub inData : ℕ → (a b d : List ℕ) → ℕ → Bool
+inData N a b d i = elim (isFree a i) [ true ↦ false | false ↦ isData d (firstAt N a b i) ]
+
+-- "Its cells hold any 16-bit number, are never followed, counted or checked as references": what cell number
+-- j of all cells holds as a reference, which is 0 for a cell of data
+unfoldable pub refAt : ℕ → (a b d cells : List ℕ) → ℕ → ℕ
+refAt N a b d cells j = elim (inData N a b d (j / 4)) [ true ↦ 0 | false ↦ getD cells j 0 ]
+
+abbrev pub reference : ℕ → Memory → ℕ → ℕ
+reference N h j = refAt N (h .a) (h .b) (h .d) (h .cells) j
+
 -- "the number of all cells and roots naming the object" at block i
-abbrev pub references : Memory → ℕ → ℕ
-references h i = holding (i + 1) (h .roots) + holding (i + 1) (h .cells)
+abbrev pub references : ℕ → Memory → ℕ → ℕ
+references N h i = holding (i + 1) (h .roots) + countBelow (λ j. eqb (reference N h j) (i + 1)) (4 * N)

@@ -1,5 +1,6 @@
--- The lent memory as contracts name it: what the seven slices of a call hold before it and after it. The names of a contract stand for the kit's
--- records: `.entry` and `.exit` are a slice's two moments, and `now` is what it holds.
+-- The lent memory as contracts name it: what the eight slices of a call hold before it and after it. The
+-- names of a contract stand for the kit's records: `.entry` and `.exit` are a slice's two moments, and `now`
+-- is what it holds.
 use Prim.Native.Nat.{ℕ}
 use mathlib.Core.List.{List}
 use denote.Ref.{RefT, now}
@@ -10,17 +11,17 @@ use Rattle.rules.specs.Heap.{Memory, lentMemory}
 abbrev pub Lent : Type 0
 Lent = Both (RefT (List ℕ)) (RefT (List ℕ))
 
-abbrev pub before : (a b counts cells roots waiting sections : Lent) → Memory
-before a b counts cells roots waiting sections =
+abbrev pub before : (a b counts cells roots waiting sections d : Lent) → Memory
+before a b counts cells roots waiting sections d =
     lentMemory (now (a .entry)) (now (b .entry)) (now (counts .entry)) (now (cells .entry)) (now (roots .entry)) (now (waiting .entry))
-    (now (sections .entry))
+    (now (sections .entry)) (now (d .entry))
 
-abbrev pub after : (a b counts cells roots waiting sections : Lent) → Memory
-after a b counts cells roots waiting sections =
+abbrev pub after : (a b counts cells roots waiting sections d : Lent) → Memory
+after a b counts cells roots waiting sections d =
     lentMemory (now (a .exit)) (now (b .exit)) (now (counts .exit)) (now (cells .exit)) (now (roots .exit)) (now (waiting .exit))
-    (now (sections .exit))
+    (now (sections .exit)) (now (d .exit))
 
 -- in a `requires` a slice has one moment, the call's beginning
-abbrev pub lent : (a b counts cells roots waiting sections : RefT (List ℕ)) → Memory
-lent a b counts cells roots waiting sections =
-    lentMemory (now a) (now b) (now counts) (now cells) (now roots) (now waiting) (now sections)
+abbrev pub lent : (a b counts cells roots waiting sections d : RefT (List ℕ)) → Memory
+lent a b counts cells roots waiting sections d =
+    lentMemory (now a) (now b) (now counts) (now cells) (now roots) (now waiting) (now sections) (now d)

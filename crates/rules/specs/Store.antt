@@ -4,9 +4,9 @@ use mathlib.Core.Bool.{Bool, true, false, not, _&&_, _||_}
 use mathlib.Core.List.{List, [], _∷_}
 use lib.ListN.{getD, set, replicate}
 use lib.Dec.{ltb, eqb}
-use Rattle.bitmap.specs.Bit.{bitOf, setBit, fillBits}
+use Rattle.bitmap.specs.Bit.{bitOf, one, setBit, fillBits}
 use Rattle.planes.specs.Plane.{countAt, setCount}
-use Rattle.rules.specs.Heap.{Memory, lentMemory, withA, withB, withCounts, withCells, withRoots, capacity, sizeAt}
+use Rattle.rules.specs.Heap.{Memory, lentMemory, withA, withB, withCounts, withCells, withRoots, withD, capacity, sizeAt, isData}
 use Rattle.rules.specs.Sections.{figures}
 
 -- "A-map 0, B-map all ones, everything else 0." And request U4: "every accepted call, format too, leaves the list true".
@@ -14,7 +14,7 @@ unfoldable pub formatted : (N w roots : ℕ) → Memory
 formatted N w roots =
     let a : List ℕ = replicate (N / 8) 0 in
     lentMemory a (replicate (N / 8) 255) (replicate (w * (N / 8)) 0) (replicate (4 * N) 0) (replicate roots 0) (replicate N 0)
-    (figures N a)
+    (figures N a) (replicate (N / 8) 0)
 
 -- ---- counting
 
@@ -60,20 +60,27 @@ unfoldable pub clearCells : List ℕ → ℕ → ℕ → List ℕ
 clearCells cells j zero = cells
 clearCells cells j (suc n) = set (clearCells cells j n) (j + n) 0
 
--- the object of n blocks at i: "its A bits go to 0, its last B bit goes to 1 .., its count and cells go to 0"
+-- the object of n blocks at i: "its A bits go to 0, its last B bit goes to 1 .., its count and cells go to
+-- 0". Request U6: the cells of data, "with its D bit, are cleared when it is freed".
 unfoldable pub freed : ℕ → ℕ → Memory → ℕ → ℕ → Memory
 freed N w h i n =
     withA (fillBits (h .a) i n 0)
     (withB (setBit (h .b) (i + n - 1) 1)
     (withCounts (setCount (N / 8) w (h .counts) i 0)
-    (withCells (clearCells (h .cells) (4 * i) (4 * n)) h)))
+    (withCells (clearCells (h .cells) (4 * i) (4 * n))
+    (withD (setBit (h .d) i 0) h))))
+
+-- how many cells of the object of n blocks at i may name others: of data none, as its cells "are never
+-- followed, counted or checked as references"
+unfoldable pub namingCells : (d : List ℕ) → (i n : ℕ) → ℕ
+namingCells d i n = elim (isData d i) [ true ↦ 0 | false ↦ 4 * n ]
 
 -- One step: the object at i is taken off and freed while the objects of `rest` go on to wait, "and each object its cells named is counted
--- down likewise, once for each cell". The counts and what waits then,
+-- down likewise, once for each cell". Cells of data name none. The counts and what waits then,
 abbrev pub workAfter : ℕ → ℕ → Memory → (i : ℕ) → (rest : List ℕ) → Work
 workAfter N w h i rest =
     let n = sizeAt N h i in
-    countDownEach N w (work ((freed N w h i n) .counts) rest) (h .cells) (4 * i) (4 * n)
+    countDownEach N w (work ((freed N w h i n) .counts) rest) (h .cells) (4 * i) (namingCells (h .d) i n)
 
 -- and the memory
 abbrev pub memoryAfter : ℕ → ℕ → Memory → (i : ℕ) → (rest : List ℕ) → Memory
@@ -146,19 +153,21 @@ returnIn N w h chosen (suc n) = clearChosen N w (returnIn N w h chosen n) chosen
 
 -- ---- allocation
 
--- the new object of n blocks at i: "only its first n blocks become allocated .. The B bit of block n of the object goes to 0, the count
--- becomes 1, the cells are 0."
-unfoldable pub placed : ℕ → ℕ → Memory → ℕ → ℕ → Memory
-placed N w h i n =
+-- the new object of n blocks at i: "only its first n blocks become allocated .. The B bit of block n of the
+-- object goes to 0, the count becomes 1, the cells are 0." Request U6: the D-map has 1 on its first block
+-- where it is made as data, and 0 where it is not.
+unfoldable pub placed : ℕ → ℕ → (asData : Bool) → Memory → ℕ → ℕ → Memory
+placed N w asData h i n =
     withA (fillBits (h .a) i n 1)
     (withB (setBit (h .b) (i + n - 1) 0)
     (withCounts (setCount (N / 8) w (h .counts) i 1)
-    (withCells (clearCells (h .cells) (4 * i) (4 * n)) h)))
+    (withCells (clearCells (h .cells) (4 * i) (4 * n))
+    (withD (setBit (h .d) i (one asData)) h))))
 
 -- request U5: ".. a birth at width 1 included": the count of the new object, which is 1, is the capacity
 abbrev pub birthSticks : ℕ → Bool
 birthSticks w = eqb (capacity w) 1
 
 -- "Then the reference is stored in root r as below, except that the new object isn't counted up again."
-unfoldable pub allocateIn : ℕ → ℕ → Memory → ℕ → ℕ → ℕ → Memory
-allocateIn N w h n r i = putRoot N w (placed N w h i n) r (i + 1)
+unfoldable pub allocateIn : ℕ → ℕ → (asData : Bool) → Memory → ℕ → ℕ → ℕ → Memory
+allocateIn N w asData h n r i = putRoot N w (placed N w asData h i n) r (i + 1)

@@ -4,8 +4,9 @@
 use Prim.Native.Nat.{ℕ}
 use mathlib.Core.List.{List, [], _∷_}
 use lib.ListN.{set, replicate}
-use Rattle.rules.specs.Heap.{Memory, withA, withB, withCounts, withCells, withRoots, withWaiting, withSections}
+use Rattle.rules.specs.Heap.{Memory, withA, withB, withCounts, withCells, withRoots, withWaiting, withSections, withD}
 use Rattle.rules.specs.Calls.{Call, format, check, collect, freeBlocks, allocate, storeRoot, storeCell, look, returnRoots, Answer, reply}
+use Rattle.rules.specs.Calls.{allocateData, writeNumber, readNumber}
 use Rattle.rules.specs.Promise.{Promise}
 use Rattle.rules.specs.Cases.{fresh, freshBut, gives, sticking, shows, refuses, damaged}
 use Rattle.rules.specs.Distinctions.{eightBlocks, cellHolding, rootHolding}
@@ -79,6 +80,14 @@ allocatedOver = eightBlocks 48 223 16 0 (replicate 32 0) (rootHolding 0 5)
 unfoldable pub unreached : Memory
 unreached = eightBlocks 31 239 1 1 (replicate 32 0) (replicate 4 0)
 
+-- data of 2 blocks at 0, in root 0, whose cell 7 holds the number 9 (request U6)
+unfoldable pub numbered : Memory
+numbered = withD (1 ∷ []) (eightBlocks 3 253 1 0 (cellHolding 7 9) (rootHolding 0 1))
+
+-- the same with two numbers
+unfoldable pub numberedCells : (j x : ℕ) → Memory
+numberedCells j x = withCells (set (cellHolding 7 9) j x) numbered
+
 -- ---- the questions, call by call
 
 unfoldable pub wrongAnswers : List Question
@@ -123,6 +132,8 @@ wrongAnswers =
     ∷ (gives 4, withRoots (1 ∷ 4 ∷ 0 ∷ 0 ∷ []) allocatedTwo) ∷ (gives 4, used allocatedTwo)
     -- a birth at width 2 told as one that sticks
     ∷ (sticking 4, allocatedTwo)
+    -- made as data
+    ∷ (gives 4, withD (16 ∷ []) allocatedTwo)
     -- the list of sections left as it was, or a figure one too large, or unknown
     ∷ (gives 4, listed 4 allocatedTwo) ∷ (gives 4, listed 3 allocatedTwo) ∷ (gives 4, listed 65535 allocatedTwo) ∷ [])
     -- a birth at width 1
@@ -327,4 +338,59 @@ wrongAnswers =
     ∷ question 2 (listed 7 (freshBut 6 251)) check (damaged 3, listed 7 (freshBut 6 251)) ((refuses 11, listed 7 (freshBut 6 251)) ∷ [])
     ∷ question 2 (withSections (4 ∷ 4 ∷ []) chained) check (refuses 1, withSections (4 ∷ 4 ∷ []) chained)
     ((gives 0, withSections (4 ∷ 4 ∷ []) chained) ∷ (refuses 11, withSections (4 ∷ 4 ∷ []) chained) ∷ [])
+    -- request U6: data of 2 blocks
+    ∷ question 2 (used chained) (allocateData 2 1) (gives 4, withD (16 ∷ []) allocatedTwo)
+    -- the D bit forgotten, on both blocks, on the last; an ordinary object's number; no chunk without a
+    -- search; the waiting list left
+    ((gives 4, allocatedTwo) ∷ (gives 4, withD (48 ∷ []) allocatedTwo) ∷ (gives 4, withD (32 ∷ []) allocatedTwo) ∷ (refuses 12, used chained)
+    ∷ (refuses 5, used chained) ∷ (gives 4, used (withD (16 ∷ []) allocatedTwo)) ∷ (sticking 4, withD (16 ∷ []) allocatedTwo) ∷ [])
+    -- a number written: one cell, and nothing else
+    ∷ question 2 (used numbered) (writeNumber 0 0 5) (gives 0, used (numberedCells 0 5))
+    -- never writes; the waiting list cleared; the number for the value; the next cell; the block; taken for a
+    -- reference; refused
+    ((gives 0, used numbered) ∷ (gives 0, numberedCells 0 5) ∷ (gives 5, used (numberedCells 0 5)) ∷ (gives 0, used (numberedCells 1 5))
+    ∷ (gives 0, used (numberedCells 5 0)) ∷ (refuses 8, used numbered) ∷ (refuses 12, used numbered)
+    ∷ (gives 0, used (withD (0 ∷ []) (numberedCells 0 5))) ∷ [])
+    -- a number that would name the data itself
+    ∷ question 2 (used numbered) (writeNumber 0 0 1) (gives 0, used (numberedCells 0 1))
+    -- counted up; told as one that sticks
+    ((gives 0, used (withCounts (0 ∷ 1 ∷ []) (numberedCells 0 1))) ∷ (sticking 0, used (numberedCells 0 1)) ∷ [])
+    -- a number read
+    ∷ question 2 (used numbered) (readNumber 0 7) (gives 9, used numbered)
+    -- 0 always; the block that it would name; another cell's; as a second value; cleared; the waiting list
+    -- cleared; refused
+    ((gives 0, used numbered) ∷ (gives 8, used numbered) ∷ (gives 1, used numbered) ∷ (reply 0 0 9, used numbered)
+    ∷ (gives 9, used (withCells (replicate 32 0) numbered)) ∷ (gives 9, numbered) ∷ (refuses 8, used numbered) ∷ (refuses 12, used numbered) ∷ [])
+    -- a reference store on data
+    ∷ question 2 (used numbered) (storeCell 0 0 1) (refuses 12, used numbered)
+    -- stores it, and counts; writes it as a number; other numbers; writes in a refusal
+    ((gives 0, withCounts (0 ∷ 1 ∷ []) (numberedCells 0 1)) ∷ (gives 0, used (numberedCells 0 1)) ∷ (refuses 8, used numbered)
+    ∷ (refuses 7, used numbered) ∷ (refuses 12, numbered) ∷ (reply 12 0 1, used numbered) ∷ [])
+    -- numbers on an ordinary object
+    ∷ question 2 (used chained) (writeNumber 0 7 3) (refuses 12, used chained)
+    -- replies 0 always; writes; makes it data; another number
+    ((gives 0, used chained) ∷ (gives 0, used (withCells (cellHolding 7 5) chained)) ∷ (gives 0, used (withD (1 ∷ []) chained)) ∷ (refuses 7, used chained) ∷ [])
+    ∷ question 2 (used chained) (readNumber 0 7) (refuses 12, used chained)
+    -- reads the reference; in a refusal
+    ((gives 3, used chained) ∷ (reply 12 3 0, used chained) ∷ [])
+    -- data is let go
+    ∷ question 2 (used numbered) (storeRoot 0 0) (gives 2, fresh 2)
+    -- the D bit left; the numbers left; not freed
+    ((gives 2, withD (1 ∷ []) (fresh 2)) ∷ (gives 2, withCells (cellHolding 7 9) (fresh 2)) ∷ (gives 0, withRoots (replicate 4 0) numbered) ∷ [])
+    -- and reached by a collection
+    ∷ question 2 (used numbered) collect (gives 0, numbered)
+    -- freed; its numbers, or its D bit, cleared; refused for its number
+    ((gives 2, fresh 2) ∷ (gives 0, withCells (replicate 32 0) numbered) ∷ (gives 0, withD (0 ∷ []) numbered) ∷ (damaged 4, used numbered) ∷ [])
+    -- a D bit where no object starts: passed over; other kinds; repaired
+    ∷ question 2 (withD (128 ∷ []) chained) check (damaged 7, withD (128 ∷ []) chained)
+    ((gives 0, withD (128 ∷ []) chained) ∷ (damaged 6, withD (128 ∷ []) chained) ∷ (damaged 4, withD (128 ∷ []) chained) ∷ (refuses 11, withD (128 ∷ []) chained)
+    ∷ (damaged 7, chained) ∷ [])
+    -- before the list of sections; a D-map of another length; and a format clears it
+    ∷ question 2 (withD (128 ∷ []) stale) check (damaged 7, withD (128 ∷ []) stale) ((refuses 11, withD (128 ∷ []) stale) ∷ [])
+    ∷ question 2 (withD (0 ∷ 0 ∷ []) chained) check (refuses 1, withD (0 ∷ 0 ∷ []) chained) ((gives 0, withD (0 ∷ 0 ∷ []) chained) ∷ [])
+    ∷ question 2 (used numbered) format (gives 0, fresh 2) ((gives 0, withD (1 ∷ []) (fresh 2)) ∷ [])
+    -- the heap's numbers before a call's own
+    ∷ question 2 stale (allocateData 0 9) (refuses 11, stale) ((refuses 3, stale) ∷ (refuses 4, stale) ∷ [])
+    ∷ question 2 stale (writeNumber 1 9 9) (refuses 11, stale) ((refuses 6, stale) ∷ (refuses 7, stale) ∷ (refuses 12, stale) ∷ [])
+    ∷ question 2 stale (readNumber 1 9) (refuses 11, stale) ((refuses 6, stale) ∷ (refuses 7, stale) ∷ (refuses 12, stale) ∷ [])
     ∷ []

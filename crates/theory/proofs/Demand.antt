@@ -26,17 +26,18 @@ use Rattle.theory.proofs.EachCall.Answers.{answer-served, answer-fit}
 -- ---- one call
 
 -- what a call finds is fit if what the one before it left is
-finds-fit : (N w : ℕ) {h g : Memory} → Finds N h g → Fit N w h → Fit N w g
+pub finds-fit : (N w : ℕ) {h g : Memory} → Finds N h g → Fit N w h → Fit N w g
 finds-fit N w {h} {g} finds fit =
     let healthy = fit .healthy in
     subst (λ (k : Memory). Fit N w k) (ap (withWaiting (g .waiting)) (sym (finds .same-heap)))
     (record {
       healthy = record {
         shape = reshaped N w h (withWaiting (g .waiting) h) (healthy .shape) refl refl refl refl refl
-            (finds .space ∙ sym (healthy .shape .length-waiting)) refl;
+            (finds .space ∙ sym (healthy .shape .length-waiting)) refl refl;
         represents = healthy .represents;
         whole = healthy .whole;
         aligned = healthy .aligned;
+        bare = healthy .bare;
       };
       listed = fit .listed;
     })
@@ -56,7 +57,7 @@ serves N w fit m finds promise =
     (answer-served N w (m .before) (finds-fit N w finds fit) (m .call))
 
 -- and it leaves a fit memory
-stays-fit :
+pub stays-fit :
     (N w : ℕ) {h : Memory} → Fit N w h → (m : Made) → Finds N h (m .before) → Promise N w (m .call) (m .before) (m .reply) (m .after)
     → Fit N w (m .after)
 stays-fit N w fit m finds promise =
@@ -88,6 +89,22 @@ holds N w fit (Chain.next {h} {m} {ms} finds promise rest) =
     Holds.next (healthy-sound N w h (fit .healthy) (fit .listed)) (s .no-early-free) (s .collects)
     (holds N w (stays-fit N w fit m finds promise) rest)
 
+-- ---- an object that lives on
+
+-- what a call finds is what the one before it left, but for the waiting list ..
+as-left : (N : ℕ) {h g : Memory} → Finds N h g → h ≡ withWaiting (h .waiting) g
+as-left N {h} finds = ap (withWaiting (h .waiting)) (sym (finds .same-heap))
+
+-- .. so it finds the objects
+pub found : (N : ℕ) {h g : Memory} {b n : ℕ} → Finds N h g → Object N h b n → Object N g b n
+found N {h} {g} {b} {n} finds was =
+    let there = subst (λ (k : Memory). Object N k b n) (as-left N finds) was in
+    record { first = there .first; size = there .size }
+
+pub stands : (N : ℕ) {h : Memory} {b n : ℕ} {ms : List Made} → LivesOn N b n h ms → Object N h b n
+stands N (LivesOn.none object) = object
+stands N (LivesOn.next object rest) = object
+
 -- ---- request U2
 
 -- calls that were made after others were made on the memory that those left
@@ -110,22 +127,11 @@ some-wrote N w b n {h} (m ∷ between) others fit (Chain.next finds promise rest
       | yes l ↦ SomeWrote.later (some-wrote N w b n between others (stays-fit N w fit m finds promise) rest lives l top)
       | no l ↦
           SomeWrote.here
-          (served .sticks b n found (stands lives) still (omega (arith, count-lt (N / 8) w (m .after .counts) b)))
+          (served .sticks b n (found N finds was) (stands N lives) still (omega (arith, count-lt (N / 8) w (m .after .counts) b)))
     ]
   where
-    stands : {g : Memory} {ms : List Made} → LivesOn N b n g ms → Object N g b n
-    stands (LivesOn.none object) = object
-    stands (LivesOn.next object rest) = object
-
-    -- the call finds the object, and its count, as the one before it left them
-    same : h ≡ withWaiting (h .waiting) (m .before)
-    same = ap (withWaiting (h .waiting)) (sym (finds .same-heap))
-
-    found : Object N (m .before) b n
-    found = let there = subst (λ (k : Memory). Object N k b n) same was in record { first = there .first; size = there .size }
-
     still : countOf N w (m .before) b < capacity w
-    still = subst (λ (k : Memory). countOf N w k b < capacity w) same low
+    still = subst (λ (k : Memory). countOf N w k b < capacity w) (as-left N finds) low
 
 -- ---- the claim
 

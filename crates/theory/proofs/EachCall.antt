@@ -12,3 +12,6 @@ pub mod TrueList
 pub mod Answers
 pub mod Balance
 pub mod Moments
+pub mod Numbers
+pub mod Stay
+pub mod Makes

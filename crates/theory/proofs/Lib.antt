@@ -4,5 +4,6 @@ pub mod Memories
 pub mod EachCall
 pub mod Demand
 pub mod Spaces
+pub mod DataLives
 pub mod Theorems
 pub mod Usable

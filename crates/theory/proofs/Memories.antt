@@ -1,4 +1,5 @@
 -- The memory against its object graph: what the rules do to the one is what the machine does to the other.
+pub mod Reading
 pub mod View
 pub mod Slots
 pub mod Healthy
@@ -6,6 +7,7 @@ pub mod Formatted
 pub mod Fit
 pub mod Leads
 pub mod Soundness
+pub mod Keeping
 pub mod ViewMoves
 pub mod ViewRelease
 pub mod Fuel

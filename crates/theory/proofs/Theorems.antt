@@ -1,8 +1,8 @@
 -- The statements of specs/, proved.
-use mathlib.Core.Path.{_≡_, sym, ap, _∙_, subst}
+use mathlib.Core.Path.{_≡_, refl, sym, ap, _∙_, subst}
 use mathlib.Core.List.{List}
 use mathlib.Core.Logic.{_↔_}
-use mathlib.Core.Bool.{true, not, _&&_}
+use mathlib.Core.Bool.{Bool, true, false, not, _&&_}
 use Prim.Native.Nat.{ℕ, _+_, _<_}
 use native.Mathlib.Decide.{ℕ-discrete}
 use native.Mathlib.Omega.{arith}
@@ -11,11 +11,12 @@ use lib.Dec.{leb, ltb}
 use lib.Pow.{pow-mono}
 use borrow.Author.Tests.{le-leb, lt-ltb}
 use Rattle.bitmap.specs.Bit.{bitAt}
+use Rattle.rules.specs.Tools.{firstNumber}
 use Rattle.rules.specs.Heap.{Memory, shaped, exponent}
 use Rattle.rules.specs.Store.{formatted, letGo, putRoot, putCell, changeRoot, changeCell, placed, allocateIn}
 use Rattle.types.specs.declared.Reply.{Reply}
 use Rattle.rules.specs.Promise.{Promise}
-use Rattle.rules.specs.Calls.{Call, format, allocate, Answer, ownRefusals, outcome, answer}
+use Rattle.rules.specs.Calls.{Call, format, allocate, allocateData, allocateAs, Answer, allocationRefusals, ownRefusals, outcome, answer}
 use Rattle.theory.specs.Demand.{Demand3}
 use Rattle.rules.proofs.Replies.{number-is, accepted-none, accepted-outcome, Passed, shape-passed, passed, refused-as-check}
 use Rattle.rules.proofs.Tests.{true-and, first-past}
@@ -30,6 +31,7 @@ use Rattle.theory.specs.Orders.{OrderUnseen}
 use Rattle.theory.specs.Balance.{BlocksBalance}
 use Rattle.theory.specs.Returns.{ReturnInAnyOrder, ReturnRefusedExactly}
 use Rattle.theory.specs.Moments.{NoneUntold, CollectionSticksNone}
+use Rattle.theory.specs.Data.{DataNeverFollowed, TwelveExactly, NumbersStay}
 use Rattle.theory.specs.Theory.{Theory}
 use Rattle.theory.proofs.Maps.Extents.{Represents, sizesOf, inner, represents-delimited}
 use Rattle.rules.proofs.Sections.{sections-find-lowest}
@@ -53,7 +55,11 @@ use Rattle.theory.proofs.EachCall.AnyWaiting.{waiting-unread}
 use Rattle.theory.proofs.EachCall.ReturnOrders.{same-as-singly, return-refused}
 use Rattle.theory.proofs.Demand.{every-list, chains-append, claim, demand3, balance}
 use Rattle.theory.proofs.Spaces.{claim-of-all, every-list-with-any-spaces}
+use Rattle.theory.proofs.DataLives.{data-while-it-lives}
 use Rattle.theory.proofs.EachCall.Balance.{blocks-add-up}
+use Rattle.theory.proofs.EachCall.Numbers.{cells-read, numbers-written, twelve}
+use Rattle.theory.proofs.EachCall.Stay.{answer-stays}
+use Rattle.theory.proofs.EachCall.Makes.{allocations-make}
 use Rattle.theory.proofs.EachCall.Moments as moments
 
 intact-healthy : (N w : ℕ) (h : Memory) → Intact N w h → Healthy N w h
@@ -68,14 +74,19 @@ format-makes-undamaged N w h fits = fit-undamaged N w _ (formatted-fit N w h (sh
 pub least-power : LeastPower
 least-power n = (exponent-covers n, λ k l. pow-mono {i = exponent n} {j = k} (exponent-least n k l))
 
+-- an allocation of either kind has the same refusals
+allocation-own : (N : ℕ) (h : Memory) (asData : Bool) (n r : ℕ) → ownRefusals N h (allocateAs asData n r) ≡ allocationRefusals N h n r
+unfolding ownRefusals
+allocation-own N h true n r = refl
+allocation-own N h false n r = refl
+
 -- an allocation that passes its other tests
 pub refused-exactly : RefusedExactly
-unfolding ownRefusals
-refused-exactly N w h u n r low high inside =
-    let c : Call = allocate n r in
+refused-exactly N w h u asData n r low high inside =
+    let c : Call = allocateAs asData n r in
     let size = true-and (leb 1 n) (leb n N) (le-leb 1 n low) (le-leb n N high) in
     let number =
-    number-is N w h c ∙ fit-number N w h (undamaged-fit N w h u) c
+    number-is N w h c ∙ fit-number N w h (undamaged-fit N w h u) c ∙ ap firstNumber (allocation-own N h asData n r)
     ∙ first-past 3 (not (leb 1 n && leb n N)) _ (ap not size)
     ∙ first-past 4 (not (ltb r (length (h .roots)))) _ (ap not (lt-ltb r (length (h .roots)) inside)) in
     rw number
@@ -83,7 +94,11 @@ refused-exactly N w h u n r low high inside =
 
 pub lowest-taken : LowestTaken
 unfolding outcome Passed
-lowest-taken N w h n r accepted =
+lowest-taken N w h true n r accepted =
+    let c : Call = allocateData n r in
+    subst (λ (x : Answer). Lowest N (exponent n) (h .a) (x .0 .value)) (sym (accepted-outcome N w h c accepted))
+    (lowest-some N (exponent n) (h .a) _ (passed N w h c (accepted-none N w h c accepted) .3))
+lowest-taken N w h false n r accepted =
     let c : Call = allocate n r in
     subst (λ (x : Answer). Lowest N (exponent n) (h .a) (x .0 .value)) (sym (accepted-outcome N w h c accepted))
     (lowest-some N (exponent n) (h .a) _ (passed N w h c (accepted-none N w h c accepted) .3))
@@ -97,10 +112,11 @@ n-steps-suffice N w h u steps enough =
     let fine = intact-healthy N w h u in
     record {
       in-root = λ r v l ref. steps-suffice N w steps _ _ (store-root N w h fine v ref r l .releasing) enough;
-      in-cell = λ a j v first l ref. steps-suffice N w steps _ _ (store-cell N w h fine v ref a j first l .releasing) enough;
-      new = λ n r i some-blocks l found.
+      in-cell = λ a j v first l ordinary ref.
+          steps-suffice N w steps _ _ (store-cell N w h fine v ref a j first l ordinary .releasing) enough;
+      new = λ asData n r i some-blocks l found.
           steps-suffice N w steps _ _
-          (allocate-root N w h fine n i (omega arith) (room N (h .a) n i found) r l .releasing) enough;
+          (allocate-root N w h fine n i (omega arith) (room N (h .a) n i found) asData r l .releasing) enough;
     }
 
 -- request U7
@@ -110,9 +126,9 @@ order-unseen N w h u =
     let fine = intact-healthy N w h u in
     record {
       in-root = λ r v l ref. one-end N w _ _ (store-root N w h fine v ref r l .releasing);
-      in-cell = λ a j v first l ref. one-end N w _ _ (store-cell N w h fine v ref a j first l .releasing);
-      new = λ n r i some-blocks l found.
-          one-end N w _ _ (allocate-root N w h fine n i (omega arith) (room N (h .a) n i found) r l .releasing);
+      in-cell = λ a j v first l ordinary ref. one-end N w _ _ (store-cell N w h fine v ref a j first l ordinary .releasing);
+      new = λ asData n r i some-blocks l found.
+          one-end N w _ _ (allocate-root N w h fine n i (omega arith) (room N (h .a) n i found) asData r l .releasing);
     }
 
 -- request U10
@@ -199,6 +215,17 @@ none-untold N w h u call b n = moments.none-untold N w h (undamaged-fit N w h u)
 pub collection-sticks-none : CollectionSticksNone
 collection-sticks-none N w h u = moments.collection-sticks-none N w h (undamaged-fit N w h u)
 
+-- request U6
+pub data-never-followed : DataNeverFollowed
+data-never-followed N w h u = cells-read N w h (intact-healthy N w h u)
+
+pub twelve-exactly : TwelveExactly
+twelve-exactly N w h u at n j object l =
+    twelve N w h (undamaged-fit N w h u) at j (object .first) (rw (object .size) l)
+
+pub numbers-stay : NumbersStay
+numbers-stay N w h u call b n = answer-stays N w h (undamaged-fit N w h u) call b n
+
 pub theory : Theory
 theory =
     record {
@@ -233,4 +260,10 @@ theory =
       stuck-told = moments.stuck-told;
       none-untold = none-untold;
       collection-sticks-none = collection-sticks-none;
+      data-never-followed = data-never-followed;
+      allocations-make = allocations-make;
+      numbers-written = numbers-written;
+      twelve-exactly = twelve-exactly;
+      numbers-stay = numbers-stay;
+      data-while-it-lives = data-while-it-lives;
     }

@@ -2,12 +2,13 @@
 -- are the blocks in use."
 use Prim.Native.Nat.{ℕ, zero, suc, _+_, _-_}
 use mathlib.Core.Path.{_≡_}
-use mathlib.Core.Bool.{true, false, not, _&&_}
+use mathlib.Core.Bool.{Bool, true, false, not, _&&_}
 use mathlib.Core.List.{List, [], _∷_}
 use lib.Dec.{eqb}
 use Rattle.bitmap.specs.Bit.{zeros}
 use Rattle.rules.specs.Heap.{Memory, isFirst, sizeAt}
 use Rattle.rules.specs.Calls.{Call, format, check, collect, freeBlocks, allocate, storeRoot, storeCell, look, returnRoots, answer}
+use Rattle.rules.specs.Calls.{allocateData, writeNumber, readNumber, allocateAs}
 use Rattle.types.specs.declared.Reply.{Reply}
 use Rattle.theory.specs.Words.{Made, leftBy}
 use Rattle.theory.specs.Demand.{Chain}
@@ -43,6 +44,9 @@ allocates (storeRoot r v) = 0
 allocates (storeCell at j v) = 0
 allocates (look at) = 0
 allocates (returnRoots chosen) = 0
+allocates (allocateData n r) = n
+allocates (writeNumber at j x) = 0
+allocates (readNumber at j) = 0
 
 -- a refused call allocates nothing
 unfoldable pub allocatedBy : Call → Reply → ℕ
@@ -71,15 +75,15 @@ pub record FreedValue (N : ℕ) (h : Memory) (x : Reply) (g : Memory) : Type 0 w
   pub by-objects : x .value ≡ freedBlocks N h g
   pub by-zeros : zeros (h .a) + x .value ≡ zeros (g .a)
 
--- of accepted calls: stores, returns and the collection give the number as their value; an allocation of n blocks frees so many blocks that its n are
--- the rest
+-- of accepted calls: stores, returns and the collection give the number as their value; an allocation of n
+-- blocks, of data too, frees so many blocks that its n are the rest
 pub record FreedAddUp (N w : ℕ) (h : Memory) : Type 0 where
   pub store-root : (r v : ℕ) → let x = answer N w h (storeRoot r v) in x .0 .number ≡ 0 → FreedValue N h (x .0) (x .1)
   pub store-cell : (at j v : ℕ) → let x = answer N w h (storeCell at j v) in x .0 .number ≡ 0 → FreedValue N h (x .0) (x .1)
   pub return-roots : (chosen : ℕ) → let x = answer N w h (returnRoots chosen) in x .0 .number ≡ 0 → FreedValue N h (x .0) (x .1)
   pub collection : let x = answer N w h collect in x .0 .number ≡ 0 → FreedValue N h (x .0) (x .1)
   pub allocation :
-      (n r : ℕ) → let x = answer N w h (allocate n r) in
+      (asData : Bool) (n r : ℕ) → let x = answer N w h (allocateAs asData n r) in
       x .0 .number ≡ 0 → zeros (h .a) + freedBlocks N h (x .1) ≡ zeros (x .1 .a) + n
 
 -- no hypothesis: only an undamaged heap is accepted

@@ -33,6 +33,8 @@ pub record Sound (N w : ℕ) (h : Memory) : Type 0 where
   pub cleared : (j : ℕ) → j < 4 * N → bitAt (h .a) (j / 4) ≡ 0 → getD (h .cells) j 0 ≡ 0
   -- request U4: "every accepted call, format too, leaves the list true"
   pub listed : h .sections ≡ figures N (h .a)
+  -- request U6: the D-map "has 1 on the first block of an object made as data", and nowhere else
+  pub data-first : (i : ℕ) → i < N → bitAt (h .d) i ≡ 1 → isFirst N h i ≡ true
 
 -- ---- at each call
 

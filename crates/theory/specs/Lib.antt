@@ -9,4 +9,5 @@ pub mod Returns
 pub mod Sections
 pub mod Moments
 pub mod Usable
+pub mod Data
 pub mod Theory

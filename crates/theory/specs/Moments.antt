@@ -3,12 +3,13 @@
 use Prim.Native.Nat.{ℕ, _+_, _*_, _<_}
 use mathlib.Core.Path.{_≡_}
 use mathlib.Core.Logic.{_⊎_, _↔_}
-use mathlib.Core.Bool.{true, false}
+use mathlib.Core.Bool.{Bool, true, false}
 use lib.ListN.{getD}
 use lib.Dec.{eqb}
 use Rattle.rules.specs.Heap.{Memory, withCounts, capacity, countOf, isFirst}
 use Rattle.rules.specs.Store.{countUp, placed}
 use Rattle.rules.specs.Calls.{Call, format, check, collect, freeBlocks, allocate, storeRoot, storeCell, look, returnRoots, answer}
+use Rattle.rules.specs.Calls.{allocateData, writeNumber, readNumber, allocateAs}
 use Rattle.types.specs.declared.Reply.{Reply}
 use Rattle.theory.specs.Words.{Object}
 use Rattle.theory.specs.Stuck.{writes}
@@ -17,7 +18,8 @@ use Rattle.theory.specs.Statements.{Undamaged}
 -- The heap once the call's own reference is counted, nothing let go yet: an allocation's object stands with its count, a store has counted
 -- up what it stores. A store of the value present counts nothing up (request U2).
 unfoldable pub counted : ℕ → ℕ → Call → Memory → Reply → Memory
-counted N w (allocate n r) h x = placed N w h (x .value) n
+counted N w (allocate n r) h x = placed N w false h (x .value) n
+counted N w (allocateData n r) h x = placed N w true h (x .value) n
 counted N w (storeRoot r v) h x = elim (eqb (getD (h .roots) r 0) v) [ true ↦ h | false ↦ withCounts (countUp N w (h .counts) v) h ]
 counted N w (storeCell at j v) h x =
     elim (eqb (getD (h .cells) (4 * at + j) 0) v) [ true ↦ h | false ↦ withCounts (countUp N w (h .counts) v) h ]
@@ -27,6 +29,8 @@ counted N w collect h x = h
 counted N w freeBlocks h x = h
 counted N w (look at) h x = h
 counted N w (returnRoots chosen) h x = h
+counted N w (writeNumber at j v) h x = h
+counted N w (readNumber at j) h x = h
 
 -- "this very step brought the count to the capacity, a birth at width 1 included": the object at b, between the heap h before the call and
 -- a heap g with the reference counted
@@ -47,7 +51,9 @@ pub record Tells (N w : ℕ) (call : Call) (h : Memory) (x : Reply) (g : Memory)
   pub yes-or-no : (x .second ≡ 1) ⊎ (x .second ≡ 0)
 
 pub record EachTells (N w : ℕ) (h : Memory) : Type 0 where
-  pub allocation : (n r : ℕ) → let x = answer N w h (allocate n r) in x .0 .number ≡ 0 → Tells N w (allocate n r) h (x .0) (x .1)
+  pub allocation :
+      (asData : Bool) (n r : ℕ) → let x = answer N w h (allocateAs asData n r) in
+      x .0 .number ≡ 0 → Tells N w (allocateAs asData n r) h (x .0) (x .1)
   pub store-root : (r v : ℕ) → let x = answer N w h (storeRoot r v) in x .0 .number ≡ 0 → Tells N w (storeRoot r v) h (x .0) (x .1)
   pub store-cell :
       (at j v : ℕ) → let x = answer N w h (storeCell at j v) in x .0 .number ≡ 0 → Tells N w (storeCell at j v) h (x .0) (x .1)

@@ -2,12 +2,12 @@
 -- in the same maps, cells, counts and freed blocks."
 use Prim.Native.Nat.{ℕ, suc, _+_, _*_, _≤_, _<_}
 use mathlib.Core.Path.{_≡_}
-use mathlib.Core.Bool.{true}
+use mathlib.Core.Bool.{Bool, true, false}
 use mathlib.Core.List.{List, [], _∷_, _++_}
 use mathlib.Core.Option.{some}
 use lib.ListN.{length, getD, set}
 use Rattle.bitmap.specs.Bit.{zeros}
-use Rattle.rules.specs.Heap.{Memory, withCounts, withCells, withRoots, isFirst, sizeAt, isRef, exponent, lowestFree}
+use Rattle.rules.specs.Heap.{Memory, withCounts, withCells, withRoots, isFirst, sizeAt, isRef, isData, exponent, lowestFree}
 use Rattle.rules.specs.Store.{work, countUp, countDown, workAfter, memoryAfter, changeRoot, changeCell, placed, allocateIn}
 use Rattle.theory.specs.Statements.{Intact}
 
@@ -44,12 +44,12 @@ pub record AnyOrder (N w : ℕ) (h : Memory) : Type 0 where
   pub in-root : (r v : ℕ) → r < length (h .roots) → isRef N h v ≡ true
       → let written : Memory = withRoots (set (h .roots) r v) (withCounts (countUp N w (h .counts) v) h) in
       LetGoAlike N w written (getD (h .roots) r 0) (changeRoot N w h r v)
-  pub in-cell : (a j v : ℕ) → isFirst N h a ≡ true → j < 4 * sizeAt N h a → isRef N h v ≡ true
+  pub in-cell : (a j v : ℕ) → isFirst N h a ≡ true → j < 4 * sizeAt N h a → isData (h .d) a ≡ false → isRef N h v ≡ true
       → let written : Memory = withCells (set (h .cells) (4 * a + j) v) (withCounts (countUp N w (h .counts) v) h) in
       LetGoAlike N w written (getD (h .cells) (4 * a + j) 0) (changeCell N w h (4 * a + j) v)
-  pub new : (n r i : ℕ) → 1 ≤ n → r < length (h .roots) → lowestFree N (exponent n) (h .a) ≡ some i
-      → let written : Memory = withRoots (set (h .roots) r (i + 1)) (placed N w h i n) in
-      LetGoAlike N w written (getD (h .roots) r 0) (allocateIn N w h n r i)
+  pub new : (asData : Bool) (n r i : ℕ) → 1 ≤ n → r < length (h .roots) → lowestFree N (exponent n) (h .a) ≡ some i
+      → let written : Memory = withRoots (set (h .roots) r (i + 1)) (placed N w asData h i n) in
+      LetGoAlike N w written (getD (h .roots) r 0) (allocateIn N w asData h n r i)
 
 -- the order can't be seen
 abbrev pub OrderUnseen : Type 0

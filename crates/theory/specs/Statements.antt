@@ -2,17 +2,17 @@
 use Prim.Native.Nat.{ℕ, _+_, _*_, _%_, _^_, _≤_, _<_}
 use mathlib.Core.Path.{_≡_}
 use mathlib.Core.Logic.{_↔_}
-use mathlib.Core.Bool.{true, false}
+use mathlib.Core.Bool.{Bool, true, false}
 use mathlib.Core.List.{List, _++_, map}
 use mathlib.Core.Option.{some}
 use lib.ListN.{length, getD, set}
 use Rattle.bitmap.specs.Bit.{bitAt, countBelow, zeros}
-use Rattle.rules.specs.Heap.{Memory, withCounts, withCells, withRoots, shaped, isFirst, sizeAt, isRef, exponent, lowestFree}
+use Rattle.rules.specs.Heap.{Memory, withCounts, withCells, withRoots, shaped, isFirst, sizeAt, isRef, isData, exponent, lowestFree}
 use Rattle.rules.specs.Tools.{someBelow}
 use Rattle.rules.specs.Damage.{endOnFree, openEnd, damage}
 use Rattle.rules.specs.Sections.{staleFigures}
 use Rattle.rules.specs.Store.{formatted, countUp, letGoIn, changeRoot, changeCell, placed, allocateIn}
-use Rattle.rules.specs.Calls.{Call, format, check, allocate, testsHeap, answer}
+use Rattle.rules.specs.Calls.{Call, format, check, allocateAs, testsHeap, answer}
 use Rattle.rules.specs.Collection.{marked, reached}
 use Rattle.rules.specs.Promise.{Promise}
 use Rattle.types.specs.declared.Reply.{Reply}
@@ -43,10 +43,12 @@ RefusedAsCheck =
     (N w : ℕ) (h : Memory) (call : Call) → testsHeap call ≡ true → (answer N w h check .0 .number ≡ 0 → ⊥)
     → answer N w h call ≡ answer N w h check
 
--- 5 is given to allocations alone: so a run that collects and tries again "When allocation gives 5" has to look at the number only
--- (`turnOf`, history_turns/specs/Turns.antt)
+-- 5 is given to allocations alone, of data too: so a run that collects and tries again "When allocation gives
+-- 5" has to look at the number only (`turnOf`, history_turns/specs/Turns.antt)
 abbrev pub FiveToAllocations : Type 0
-FiveToAllocations = (N w : ℕ) (h : Memory) (call : Call) → answer N w h call .0 .number ≡ 5 → (n : ℕ) × (r : ℕ) × (call ≡ allocate n r)
+FiveToAllocations =
+    (N w : ℕ) (h : Memory) (call : Call) → answer N w h call .0 .number ≡ 5
+    → (asData : Bool) × (n : ℕ) × (r : ℕ) × (call ≡ allocateAs asData n r)
 
 -- "0 stands on the last block of each object and 1 everywhere else": of every heap without damage. A bit is 0 or 1.
 abbrev pub EndsOnLast : Type 0
@@ -69,8 +71,8 @@ NoneFree N k a = (c : ℕ) → (c + 1) * 2 ^ k ≤ N → UsedChunk a k (c * 2 ^ 
 -- "5 if no chunk of s blocks is free", and only then
 abbrev pub RefusedExactly : Type 0
 RefusedExactly =
-    (N w : ℕ) (h : Memory) → Undamaged N w h → (n r : ℕ) → 1 ≤ n → n ≤ N → r < length (h .roots)
-    → (answer N w h (allocate n r) .0 .number ≡ 5) ↔ NoneFree N (exponent n) (h .a)
+    (N w : ℕ) (h : Memory) → Undamaged N w h → (asData : Bool) (n r : ℕ) → 1 ≤ n → n ≤ N → r < length (h .roots)
+    → (answer N w h (allocateAs asData n r) .0 .number ≡ 5) ↔ NoneFree N (exponent n) (h .a)
 
 -- The lowest free chunk of s = 2 ^ k blocks starts at block i: i is a multiple of s, the s blocks from it lie in the heap and are free, and
 -- every lower chunk has a used block.
@@ -83,8 +85,8 @@ pub record Lowest (N k : ℕ) (a : List ℕ) (i : ℕ) : Type 0 where
 -- "The lowest free chunk of s blocks is taken": its first block is the value. Extents stay aligned and disjoint (`Sound`, in demand 3).
 abbrev pub LowestTaken : Type 0
 LowestTaken =
-    (N w : ℕ) (h : Memory) (n r : ℕ) → answer N w h (allocate n r) .0 .number ≡ 0
-    → Lowest N (exponent n) (h .a) (answer N w h (allocate n r) .0 .value)
+    (N w : ℕ) (h : Memory) (asData : Bool) (n r : ℕ) → answer N w h (allocateAs asData n r) .0 .number ≡ 0
+    → Lowest N (exponent n) (h .a) (answer N w h (allocateAs asData n r) .0 .value)
 
 -- The N rounds of `reached` are enough: what they mark is exactly what a root leads to.
 abbrev pub ReachedIsLed : Type 0
@@ -122,12 +124,12 @@ pub record StepsSuffice (N w : ℕ) (h : Memory) (steps : ℕ) : Type 0 where
   pub in-root : (r v : ℕ) → r < length (h .roots) → isRef N h v ≡ true
       → let written : Memory = withRoots (set (h .roots) r v) (withCounts (countUp N w (h .counts) v) h) in
       letGoIn steps N w written (getD (h .roots) r 0) ≡ changeRoot N w h r v
-  pub in-cell : (a j v : ℕ) → isFirst N h a ≡ true → j < 4 * sizeAt N h a → isRef N h v ≡ true
+  pub in-cell : (a j v : ℕ) → isFirst N h a ≡ true → j < 4 * sizeAt N h a → isData (h .d) a ≡ false → isRef N h v ≡ true
       → let written : Memory = withCells (set (h .cells) (4 * a + j) v) (withCounts (countUp N w (h .counts) v) h) in
       letGoIn steps N w written (getD (h .cells) (4 * a + j) 0) ≡ changeCell N w h (4 * a + j) v
-  pub new : (n r i : ℕ) → 1 ≤ n → r < length (h .roots) → lowestFree N (exponent n) (h .a) ≡ some i
-      → let written : Memory = withRoots (set (h .roots) r (i + 1)) (placed N w h i n) in
-      letGoIn steps N w written (getD (h .roots) r 0) ≡ allocateIn N w h n r i
+  pub new : (asData : Bool) (n r i : ℕ) → 1 ≤ n → r < length (h .roots) → lowestFree N (exponent n) (h .a) ≡ some i
+      → let written : Memory = withRoots (set (h .roots) r (i + 1)) (placed N w asData h i n) in
+      letGoIn steps N w written (getD (h .roots) r 0) ≡ allocateIn N w asData h n r i
 
 abbrev pub NStepsSuffice : Type 0
 NStepsSuffice = (N w : ℕ) (h : Memory) → Intact N w h → (steps : ℕ) → N ≤ steps → StepsSuffice N w h steps

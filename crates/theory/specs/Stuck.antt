@@ -4,11 +4,12 @@ use mathlib.Core.Path.{_≡_}
 use mathlib.Core.List.{List, [], _∷_, _++_}
 use Rattle.rules.specs.Heap.{Memory, capacity, countOf}
 use Rattle.rules.specs.Calls.{Call, format, check, collect, freeBlocks, allocate, storeRoot, storeCell, look, returnRoots}
+use Rattle.rules.specs.Calls.{allocateData, writeNumber, readNumber}
 use Rattle.types.specs.declared.Reply.{Reply}
 use Rattle.theory.specs.Words.{Object, numberOfReferences, stored, Made, leftBy}
 
--- what an accepted call writes into a root or a cell, 0 where it writes nothing. An allocation writes the reference to the block that its
--- reply gives.
+-- what an accepted call writes into a root or a cell as a reference, 0 where it writes none. An allocation
+-- writes the reference to the block that its reply gives.
 unfoldable pub writes : Call → Reply → ℕ
 writes (allocate n r) x = 1 + x .value
 writes (storeRoot r v) x = v
@@ -19,6 +20,9 @@ writes collect x = 0
 writes freeBlocks x = 0
 writes (look at) x = 0
 writes (returnRoots chosen) x = 0
+writes (allocateData n r) x = 1 + x .value
+writes (writeNumber at j v) x = 0
+writes (readNumber at j) x = 0
 
 -- "wrote a reference after which, before that call let anything go, the object had at least that many references": what the call wrote
 -- names the object at b, and with it written the object has as many references as the capacity, or more

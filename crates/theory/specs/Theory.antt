@@ -9,6 +9,7 @@ use Rattle.theory.specs.Balance.{BlocksBalance, BlocksAddUp}
 use Rattle.theory.specs.Returns.{ReturnInAnyOrder, ReturnRefusedExactly}
 use Rattle.theory.specs.Sections.{SectionsFindLowest, FiguresAreLargest, StaleExactly, ListLeftTrue}
 use Rattle.theory.specs.Moments.{StuckTold, NoneUntold, CollectionSticksNone}
+use Rattle.theory.specs.Data.{DataNeverFollowed, AllocationsMake, NumbersWritten, TwelveExactly, NumbersStay, DataWhileItLives}
 
 pub record Theory : Type 0 where
   -- demand 3, and what makes it usable
@@ -49,3 +50,9 @@ pub record Theory : Type 0 where
   pub stuck-told : StuckTold
   pub none-untold : NoneUntold
   pub collection-sticks-none : CollectionSticksNone
+  pub data-never-followed : DataNeverFollowed
+  pub allocations-make : AllocationsMake
+  pub numbers-written : NumbersWritten
+  pub twelve-exactly : TwelveExactly
+  pub numbers-stay : NumbersStay
+  pub data-while-it-lives : DataWhileItLives

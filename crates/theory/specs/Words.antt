@@ -5,11 +5,12 @@ use mathlib.Core.Bool.{true, false}
 use mathlib.Core.List.{List, [], map}
 use lib.ListN.{length, getD, set, replicate}
 use lib.Dec.{eqb}
-use Rattle.rules.specs.Heap.{Memory, withCells, withRoots, withWaiting, isFirst, sizeAt}
+use Rattle.rules.specs.Heap.{Memory, withCells, withRoots, withWaiting, isFirst, sizeAt, reference}
 use Rattle.rules.specs.Store.{isChosen}
 use Rattle.rules.specs.Tools.{tabulate}
 use Rattle.rules.specs.Collection.{referencesFrom}
 use Rattle.rules.specs.Calls.{Call, format, check, collect, freeBlocks, allocate, storeRoot, storeCell, look, returnRoots, Answer, lastMemory}
+use Rattle.rules.specs.Calls.{allocateData, writeNumber, readNumber}
 use Rattle.types.specs.declared.Reply.{Reply}
 
 -- an object of n blocks whose first block is b
@@ -17,17 +18,19 @@ pub record Object (N : ℕ) (h : Memory) (b n : ℕ) : Type 0 where
   pub first : isFirst N h b ≡ true
   pub size : sizeAt N h b ≡ n
 
--- "A reference is a root, or a cell of an object, that isn't 0. Holding 1 + b, it names the object whose first block is b."
+-- "A reference is a root, or a cell of an object, that isn't 0. Holding 1 + b, it names the object whose
+-- first block is b." Cells of data are no references (request U6): `reference` reads them as 0 (`CellsRead`,
+-- Data.antt).
 pub data Names (N : ℕ) (h : Memory) (b : ℕ) : Type 0 where
   by-root : (r : ℕ) → r < length (h .roots) → getD (h .roots) r 0 ≡ 1 + b → Names N h b
-  by-cell : (a n j : ℕ) → Object N h a n → j < 4 * n → getD (h .cells) (4 * a + j) 0 ≡ 1 + b → Names N h b
+  by-cell : (a n j : ℕ) → Object N h a n → j < 4 * n → reference N h (4 * a + j) ≡ 1 + b → Names N h b
 
 -- "A root leads to an object, or reaches it, if it names it, or if a cell of an object that it leads to does, over finitely many
 -- references."
 pub data Leads (N : ℕ) (h : Memory) : ℕ → Type 0 where
   root : (b n r : ℕ) → Object N h b n → r < length (h .roots) → getD (h .roots) r 0 ≡ 1 + b → Leads N h b
   cell :
-      (b n a m j : ℕ) → Object N h b n → Leads N h a → Object N h a m → j < 4 * m → getD (h .cells) (4 * a + j) 0 ≡ 1 + b → Leads N h b
+      (b n a m j : ℕ) → Object N h b n → Leads N h a → Object N h a m → j < 4 * m → reference N h (4 * a + j) ≡ 1 + b → Leads N h b
 
 -- "An object's number of references counts each such root and each such cell once."
 abbrev pub numberOfReferences : ℕ → Memory → ℕ → ℕ
@@ -55,6 +58,9 @@ written h collect x = h
 written h freeBlocks x = h
 written h (look at) x = h
 written h (returnRoots chosen) x = withRoots (rootsWithout chosen (h .roots)) h
+written h (allocateData n r) x = withRoots (set (h .roots) r (1 + x .value)) h
+written h (writeNumber at j v) x = withCells (set (h .cells) (4 * at + j) v) h
+written h (readNumber at j) x = h
 
 -- a refused call stores nothing
 unfoldable pub stored : Memory → Call → Reply → Memory

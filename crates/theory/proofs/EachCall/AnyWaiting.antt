@@ -6,13 +6,14 @@ use mathlib.Core.List.{List}
 use mathlib.Core.Option.{Option·getD}
 use Prim.Native.Nat.{ℕ, _+_, _*_}
 use lib.Dec.{eqb}
-use lib.ListN.{length}
+use lib.ListN.{length, getD}
 use Rattle.bitmap.specs.Bit.{one, zeros}
 use Rattle.rules.specs.Heap.{Memory, withWaiting, shape, shaped, countOf, sizeAt, exponent, lowestFree}
-use Rattle.rules.specs.Damage.{endOnFree, openEnd, unaligned, badCell, badRoot, badCount, damage}
+use Rattle.rules.specs.Damage.{endOnFree, openEnd, unaligned, badCell, badRoot, badCount, strayData, damage}
 use Rattle.rules.specs.Store.{storeRootIn, storeCellIn, returnIn, birthSticks, allocateIn}
 use Rattle.rules.specs.Collection.{collected}
 use Rattle.rules.specs.Calls.{Call, format, check, collect, freeBlocks, allocate, storeRoot, storeCell, look, returnRoots, Answer}
+use Rattle.rules.specs.Calls.{allocateData, writeNumber, readNumber, allocated}
 use Rattle.rules.specs.Calls.{reply, ownRefusals, refusals, refusedWith, refused, settled, freeing, outcome, answer}
 use Rattle.types.specs.declared.Reply.{Reply}
 use Rattle.rules.proofs.Unread.{store-root-beside, store-cell-beside, return-beside, allocate-beside, collect-beside}
@@ -30,10 +31,14 @@ module _ (N w : ℕ) (h : Memory) (x : List ℕ) (same-length : length x ≡ len
 
   same-shape : shaped N w g ≡ shaped N w h
   same-shape =
-      ap (λ (n : ℕ). shape N w (length (h .a)) (length (h .b)) (length (h .counts)) (length (h .cells)) (length (h .roots)) n (length (h .sections))) same-length
+      ap
+      (λ (n : ℕ).
+      shape N w (length (h .a)) (length (h .b)) (length (h .counts)) (length (h .cells)) (length (h .roots)) n (length (h .sections))
+      (length (h .d)))
+      same-length
 
   same-damage : damage N w g ≡ damage N w h
-  unfolding damage endOnFree openEnd unaligned badCell badRoot badCount
+  unfolding damage endOnFree openEnd unaligned badCell badRoot badCount strayData
   same-damage = refl
 
   -- with the same reply, and nothing done
@@ -51,13 +56,16 @@ module _ (N w : ℕ) (h : Memory) (x : List ℕ) (same-length : length x ≡ len
   same-own (storeCell a j v) = refl
   same-own (look a) = refl
   same-own (returnRoots chosen) = refl
+  same-own (allocateData n r) = refl
+  same-own (writeNumber a j v) = refl
+  same-own (readNumber a j) = refl
 
   same-number : (c : Call) → refusedWith N w g c ≡ refusedWith N w h c
   unfolding refusedWith refusals
   same-number c = rw (same-shape, same-damage, same-own c)
 
   refused-alike : (number : ℕ) → Alike (refused N w g number) (refused N w h number)
-  unfolding damage endOnFree openEnd unaligned badCell badRoot badCount
+  unfolding damage endOnFree openEnd unaligned badCell badRoot badCount strayData
   refused-alike number = record { reply-is = refl; heap-is = refl }
 
   freeing-alike : (p q : Memory) (second : ℕ) → p ≡ withWaiting x q → Alike (freeing N g p second) (freeing N h q second)
@@ -65,17 +73,23 @@ module _ (N w : ℕ) (h : Memory) (x : List ℕ) (same-length : length x ≡ len
   freeing-alike p q second e =
       subst (λ (k : Memory). Alike (freeing N g k second) (freeing N h q second)) (sym e) (record { reply-is = refl; heap-is = refl })
 
+  allocation-alike : (asData : Bool) (n r : ℕ) → Alike (allocated N w asData g n r) (allocated N w asData h n r)
+  allocation-alike asData n r =
+      let i = Option·getD (lowestFree N (exponent n) (h .a)) 0 in
+      let said : Reply = reply 0 i (one (birthSticks w)) in
+      subst (λ (k : Memory). Alike (said, settled N k) (said, settled N (allocateIn N w asData h n r i)))
+      (sym (allocate-beside N w (withWaiting x) h asData n r i)) (record { reply-is = refl; heap-is = refl })
+
   outcome-alike : (c : Call) → Alike (outcome N w g c) (outcome N w h c)
   unfolding outcome
   outcome-alike format = record { reply-is = refl; heap-is = refl }
   outcome-alike check = unchanged-alike (reply 0 0 0)
   outcome-alike freeBlocks = unchanged-alike (reply 0 (zeros (h .a)) 0)
   outcome-alike collect = freeing-alike (collected N w g) (collected N w h) 0 (collect-beside N w (withWaiting x) h)
-  outcome-alike (allocate n r) =
-      let i = Option·getD (lowestFree N (exponent n) (h .a)) 0 in
-      let said : Reply = reply 0 i (one (birthSticks w)) in
-      subst (λ (k : Memory). Alike (said, settled N k) (said, settled N (allocateIn N w h n r i)))
-      (sym (allocate-beside N w (withWaiting x) h n r i)) (record { reply-is = refl; heap-is = refl })
+  outcome-alike (allocate n r) = allocation-alike false n r
+  outcome-alike (allocateData n r) = allocation-alike true n r
+  outcome-alike (writeNumber a j v) = record { reply-is = refl; heap-is = refl }
+  outcome-alike (readNumber a j) = unchanged-alike (reply 0 (getD (h .cells) (4 * a + j) 0) 0)
   outcome-alike (storeRoot r v) =
       freeing-alike (storeRootIn N w g r v) (storeRootIn N w h r v) _ (store-root-beside N w (withWaiting x) h r v)
   outcome-alike (storeCell a j v) =

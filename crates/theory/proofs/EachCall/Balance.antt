@@ -12,11 +12,12 @@ use lib.Seq.{getD-set-same, getD-set-other}
 use lib.Dec.{eqb}
 use borrow.Author.Tests.{eq-eqb, ne-eqb}
 use Rattle.bitmap.specs.Bit.{zeros}
-use Rattle.rules.specs.Heap.{Memory, capacity, isFirst, sizeAt, exponent, lowestFree, isRef}
+use Rattle.rules.specs.Heap.{Memory, withCells, capacity, isFirst, sizeAt, exponent, lowestFree, isRef, isData}
 use Rattle.rules.specs.Store.{formatted, placed, putRoot, putCell, changeRoot, changeCell, storeRootIn, storeCellIn, allocateIn}
 use Rattle.rules.specs.Store.{returnIn}
 use Rattle.rules.specs.Collection.{collected}
 use Rattle.rules.specs.Calls.{Call, format, check, collect, freeBlocks, allocate, storeRoot, storeCell, look, returnRoots, Answer, reply, accepted, refused}
+use Rattle.rules.specs.Calls.{allocateData, writeNumber, readNumber, allocateAs}
 use Rattle.rules.specs.Calls.{testsHeap, freeing, settled, outcome, answer}
 use Rattle.types.specs.declared.Reply.{Reply}
 use Rattle.rules.proofs.Replies.{answer-either, accepted-outcome, Passed, passed}
@@ -226,13 +227,13 @@ module _ (N w : ℕ) (h : Memory) (fit : Fit N w h) where
       (λ e. shown-even (length (h .roots)) (changeRoot N w h r v) _ (store-root N w h healthy v ref r l .shows) (store-leaves v ref r (inl l)))
 
   store-cell-even :
-      (a j v second : ℕ) → isFirst N h a ≡ true → j < 4 * sizeAt N h a → isRef N h v ≡ true
+      (a j v second : ℕ) → isFirst N h a ≡ true → j < 4 * sizeAt N h a → isData (h .d) a ≡ false → isRef N h v ≡ true
       → Even N (storeCell a j v) h (freeing N h (storeCellIn N w h (4 * a + j) v) second)
   unfolding storeCellIn changeCell putCell allocates
-  store-cell-even a j v second first l ref =
+  store-cell-even a j v second first l ordinary ref =
       unless-present (storeCell a j v) (eqb (getD (h .cells) (4 * a + j) 0) v) (changeCell N w h (4 * a + j) v) second refl
       (λ e.
-      shown-even (length (h .roots)) (changeCell N w h (4 * a + j) v) _ (store-cell N w h healthy v ref a j first l .shows)
+      shown-even (length (h .roots)) (changeCell N w h (4 * a + j) v) _ (store-cell N w h healthy v ref a j first l ordinary .shows)
       (store-leaves v ref (length (h .roots) + (4 * a + j)) (cell-place N w h healthy a j first l)))
 
   return-even : (chosen : ℕ) → Even N (returnRoots chosen) h (freeing N h (returnIn N w h chosen (length (h .roots))) 0)
@@ -273,15 +274,22 @@ module _ (N w : ℕ) (h : Memory) (fit : Fit N w h) where
     inside : i < N
     inside = omega (arith, space .inside)
 
-    allocate-even : (second : ℕ) → Even N (allocate n r) h (reply 0 i second, settled N (allocateIn N w h n r i))
-    unfolding allocateIn putRoot placed graph.allocate allocatedBy allocates
-    allocate-even second =
+    -- of either kind
+    allocates-so : (asData : Bool) → allocates (allocateAs asData n r) ≡ n
+    unfolding allocates
+    allocates-so true = refl
+    allocates-so false = refl
+
+    allocate-even :
+        (asData : Bool) (second : ℕ) → Even N (allocateAs asData n r) h (reply 0 i second, settled N (allocateIn N w asData h n r i))
+    unfolding allocateIn putRoot placed graph.allocate allocatedBy
+    allocate-even asData second =
         let cap : ℕ = capacity w in
         let roots : ℕ = length (h .roots) in
         let pos = positive N w h healthy in
         let nonzero : n ≢ 0 = omega arith in
         let free = room-vacant N w h healthy n i nonzero space in
-        let shows = allocate-root N w h healthy n i nonzero space r l .shows in
+        let shows = allocate-root N w h healthy n i nonzero space asData r l .shows in
         let held = placed-balanced cap pos roots (view N w h) (healthy .whole) i n r free l in
         let waits = placed-waits cap pos roots (view N w h) (healthy .whole) i n r free l in
         let shape = placed-shape cap pos roots (view N w h) (healthy .whole) i n r free l in
@@ -290,7 +298,8 @@ module _ (N w : ℕ) (h : Memory) (fit : Fit N w h) where
         (root r l (getD-set-same (view N w h .slots) r (suc i) 0 (omega (arith, shape .slots-length)))) in
         let placed-size = getD-set-same sizes i n 0 (omega (arith, length-sizes-of N (h .a) (h .b), inside)) in
         record {
-          kept = balance-new N h (settled N (allocateIn N w h n r i)) sizes (sizesOf N ((allocateIn N w h n r i) .a) ((allocateIn N w h n r i) .b))
+          kept = ap (λ (m : ℕ). inUse N h + m) (allocates-so asData)
+              ∙ balance-new N h (settled N (allocateIn N w asData h n r i)) sizes (sizesOf N ((allocateIn N w asData h n r i) .a) ((allocateIn N w asData h n r i) .b))
               (healthy .represents) (shows .represents) i n inside fresh
               (ap (λ (m : Graph). size m i) (shows .view-is) ∙ new ∙ placed-size)
               (λ b d.
@@ -305,9 +314,14 @@ module _ (N w : ℕ) (h : Memory) (fit : Fit N w h) where
   outcome-even check p = plain check _ h refl (same-blocks h refl refl)
   outcome-even freeBlocks p = plain freeBlocks _ h refl (same-blocks h refl refl)
   outcome-even collect p = collect-even
-  outcome-even (allocate n r) (low, high, place, found) = allocate-even n r _ low place found _
+  outcome-even (allocate n r) (low, high, place, found) = allocate-even n r _ low place found false _
+  outcome-even (allocateData n r) (low, high, place, found) = allocate-even n r _ low place found true _
+  outcome-even (writeNumber a j x) p =
+      let g : Memory = withCells (set (h .cells) (4 * a + j) x) h in
+      plain (writeNumber a j x) (reply 0 0 0) g refl (same-blocks g refl refl)
+  outcome-even (readNumber a j) p = plain (readNumber a j) _ h refl (same-blocks h refl refl)
   outcome-even (storeRoot r v) (place, ref) = store-root-even r v _ place ref
-  outcome-even (storeCell a j v) (first, place, ref) = store-cell-even a j v _ first place ref
+  outcome-even (storeCell a j v) (first, place, ordinary, ref) = store-cell-even a j v _ first place ordinary ref
   outcome-even (look a) p = plain (look a) _ h refl (same-blocks h refl refl)
   outcome-even (returnRoots chosen) p = return-even chosen
 
@@ -346,5 +360,10 @@ blocks-add-up N w h =
       store-cell = λ a j v. freed-value N w h (storeCell a j v) refl refl refl;
       return-roots = λ chosen. freed-value N w h (returnRoots chosen) refl refl refl;
       collection = freed-value N w h collect refl refl refl;
-      allocation = λ n r e. even-zeros N w h (allocate n r) (accepted-fit N w h (allocate n r) refl e) e;
+      allocation = allocation;
     }
+  where
+    allocation : (asData : Bool) (n r : ℕ) → let x = answer N w h (allocateAs asData n r) in
+        x .0 .number ≡ 0 → zeros (h .a) + freedBlocks N h (x .1) ≡ zeros (x .1 .a) + n
+    allocation true n r e = even-zeros N w h (allocateData n r) (accepted-fit N w h (allocateData n r) refl e) e
+    allocation false n r e = even-zeros N w h (allocate n r) (accepted-fit N w h (allocate n r) refl e) e

@@ -8,11 +8,11 @@ use Prim.Native.Nat.{ℕ, zero, suc, _≤_, _<_}
 use native.Mathlib.Decide.{ℕ-discrete}
 use native.Mathlib.Omega.{arith}
 use lib.Dec.{eqb}
-use lib.ListN.{length, getD}
+use lib.ListN.{length, getD, set}
 use borrow.Author.Tests.{eqb-true, eqb-false}
 use Rattle.bitmap.specs.Bit.{bitOf, zeros}
 use Rattle.bitmap.proofs.Rewrites.{same}
-use Rattle.rules.specs.Heap.{Memory, capacity, isRef}
+use Rattle.rules.specs.Heap.{Memory, withRoots, capacity, isRef}
 use Rattle.rules.specs.Store.{work, countUp, letGo, putRoot, changeRoot, storeRootIn, isChosen, clearChosen, returnIn}
 use Rattle.rules.specs.Calls.{settled}
 use Rattle.rules.proofs.Objects.{ref-test}
@@ -26,7 +26,7 @@ use Rattle.theory.proofs.Memories.Healthy.{Healthy}
 use Rattle.theory.proofs.Memories.ViewRelease.{Shows}
 use Rattle.theory.proofs.Memories.SameView.{Rewrites, rewrites-trans, rewrites-same, down-rewritten}
 use Rattle.theory.proofs.Memories.Orders.{release-rewrites}
-use Rattle.theory.proofs.Memories.Stores.{positive, store-root}
+use Rattle.theory.proofs.Memories.Stores.{memoryLeft, positive, store-root}
 use Rattle.theory.proofs.EachCall.Served.{settled-healthy}
 use Rattle.theory.proofs.EachCall.StoresServed.{store-root-healthy}
 
@@ -40,14 +40,14 @@ pub record Cleared (N w : ℕ) (S T : ℕ → Type 0) (h g : Memory) : Type 0 wh
   pub roots-are : length (g .roots) ≡ length (h .roots)
   pub runs : Runs (capacity w) (length (h .roots)) S (view N w h) (view N w g)
   pub clear : (i : ℕ) → T i → slot (view N w g) i ≡ 0
-  pub rewrites : Rewrites h g
+  pub rewrites : Rewrites N h g
   pub grows : zeros (h .a) ≤ zeros (g .a)
 
 -- ---- none, and some after others
 
 pub cleared-none : (N w : ℕ) (S : ℕ → Type 0) (h : Memory) → Healthy N w h → Cleared N w S (λ i. ⊥) h h
 cleared-none N w S h healthy =
-    record { healthy = healthy; roots-are = refl; runs = done; clear = λ i z. absurd z; rewrites = rewrites-same h; grows = omega arith }
+    record { healthy = healthy; roots-are = refl; runs = done; clear = λ i z. absurd z; rewrites = rewrites-same N h; grows = omega arith }
 
 pub cleared-then :
     (N w : ℕ) (S T U Both : ℕ → Type 0) (h g k : Memory) → Cleared N w S T h g → Cleared N w S U g k → ((i : ℕ) → Both i → T i ⊎ U i)
@@ -73,7 +73,13 @@ cleared-settled N w S T h g p =
       roots-are = p .roots-are;
       runs = p .runs;
       clear = p .clear;
-      rewrites = record { a = p .rewrites .a; b = p .rewrites .b; counts = p .rewrites .counts };
+      rewrites = record {
+        a = p .rewrites .a;
+        b = p .rewrites .b;
+        counts = p .rewrites .counts;
+        d = p .rewrites .d;
+        keeps = λ x some. let kept = p .rewrites .keeps x some in record { size = kept .size; kind = kept .kind; cells = kept .cells };
+      };
       grows = p .grows;
     }
 
@@ -84,15 +90,20 @@ module _ (N w : ℕ) (S : ℕ → Type 0) (h : Memory) (healthy : Healthy N w h)
   unfolding changeRoot putRoot
   shows = store-root N w h healthy 0 (none-ref N h) r l .shows
 
-  changed-rewrites : Rewrites h (changeRoot N w h r 0) × (zeros (h .a) ≤ zeros ((changeRoot N w h r 0) .a))
+  changed-rewrites : Rewrites N h (changeRoot N w h r 0) × (zeros (h .a) ≤ zeros ((changeRoot N w h r 0) .a))
   unfolding changeRoot putRoot letGo countUp
   changed-rewrites =
-      let released = release-rewrites N w _ _ (store-root N w h healthy 0 (none-ref N h) r l .releasing) in (
-        rewrites-trans
-            (record { a = same; b = same; counts = down-rewritten N w (work (h .counts) []) (getD (h .roots) r 0) })
-            (released .0),
-        released .1,
-      )
+      let released = release-rewrites N w _ _ (store-root N w h healthy 0 (none-ref N h) r l .releasing) in
+      let dropped : Memory = memoryLeft N w (withRoots (set (h .roots) r 0) h) (getD (h .roots) r 0) in
+      let first : Rewrites N h dropped =
+      record {
+        a = same;
+        b = same;
+        counts = down-rewritten N w (work (h .counts) []) (getD (h .roots) r 0);
+        d = same;
+        keeps = λ x some. record { size = refl; kind = refl; cells = λ j inside. refl };
+      } in
+      (rewrites-trans first (released .0), released .1)
 
   pub root-cleared : Cleared N w S (λ i. i ≡ r) h (storeRootIn N w h r 0)
   unfolding storeRootIn
@@ -105,8 +116,8 @@ module _ (N w : ℕ) (S : ℕ → Type 0) (h : Memory) (healthy : Healthy N w h)
             healthy = fine;
             roots-are = refl;
             runs = done;
-            clear = λ i q. rw q (root-slot h r l ∙ eqb-true (getD (h .roots) r 0) 0 e);
-            rewrites = rewrites-same h;
+            clear = λ i q. rw q (root-slot N h r l ∙ eqb-true (getD (h .roots) r 0) 0 e);
+            rewrites = rewrites-same N h;
             grows = omega arith;
           }
       go false e fine =

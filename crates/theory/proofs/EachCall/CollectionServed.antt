@@ -6,9 +6,9 @@ use mathlib.Core.Bool.{Bool, true, false, _&&_, false≢true}
 use Prim.Native.Nat.{ℕ, zero, suc, _+_, _*_, _≤_, _<_, min}
 use native.Mathlib.Omega.{arith}
 use lib.Dec.{eqb}
-use lib.ListN.{length, getD}
+use lib.ListN.{length}
 use Rattle.bitmap.specs.Bit.{one, countBelow}
-use Rattle.rules.specs.Heap.{Memory, capacity, countOf, isFirst}
+use Rattle.rules.specs.Heap.{Memory, capacity, countOf, isFirst, reference}
 use Rattle.rules.specs.Collection.{isCellOf, cellOfChosen, referencesFrom, marked, reached, collected}
 use Rattle.rules.specs.Calls.{collect, settled, freeing}
 use Rattle.theory.specs.Words.{Object, Leads, numberOfReferences, written, stored}
@@ -46,9 +46,9 @@ references-le N h chosen b =
     omega (
       arith,
       count-mono
-          (λ j. elim (eqb (getD (h .cells) j 0) (b + 1)) [ true ↦ cellOfChosen N h chosen j | false ↦ false ])
-          (λ j. elim (eqb (getD (h .cells) j 0) (b + 1)) [ true ↦ cellOfChosen N h (isFirst N h) j | false ↦ false ])
-          (4 * N) (λ j. both (eqb (getD (h .cells) j 0) (b + 1)) (cellOfChosen N h chosen j) (cellOfChosen N h (isFirst N h) j) (among j)),
+          (λ j. elim (eqb (reference N h j) (b + 1)) [ true ↦ cellOfChosen N h chosen j | false ↦ false ])
+          (λ j. elim (eqb (reference N h j) (b + 1)) [ true ↦ cellOfChosen N h (isFirst N h) j | false ↦ false ])
+          (4 * N) (λ j. both (eqb (reference N h j) (b + 1)) (cellOfChosen N h chosen j) (cellOfChosen N h (isFirst N h) j) (among j)),
     )
   where
     both : (s t u : Bool) → (t ≡ true → u ≡ true) → elim s [ true ↦ t | false ↦ false ] ≡ true → elim s [ true ↦ u | false ↦ false ] ≡ true

@@ -1,10 +1,11 @@
 -- Number 5 is given to allocations alone: no other call has it in its list of refusals.
 use mathlib.Core.Path.{_≡_, refl, sym, _∙_}
 use mathlib.Core.Logic.{_≢_}
+use mathlib.Core.Bool.{true, false}
 use Prim.Native.Nat.{ℕ}
 use native.Mathlib.Omega.{arith}
 use Rattle.rules.specs.Heap.{Memory}
-use Rattle.rules.specs.Calls.{format, check, collect, freeBlocks, allocate, storeRoot, storeCell, look, returnRoots}
+use Rattle.rules.specs.Calls.{format, check, collect, freeBlocks, allocate, storeRoot, storeCell, look, returnRoots, allocateData, writeNumber, readNumber}
 use Rattle.rules.specs.Calls.{Call, ownRefusals, refusals, refusedWith, answer}
 use Rattle.rules.proofs.Tests.{Each, done, also, first-other}
 use Rattle.rules.proofs.Replies.{number-is}
@@ -22,11 +23,16 @@ store-root-not-five N w h r v = not-five N w h (storeRoot r v) (also (omega arit
 
 pub store-cell-not-five : (N w : ℕ) (h : Memory) (at j v : ℕ) → answer N w h (storeCell at j v) .0 .number ≢ 5
 unfolding ownRefusals
-store-cell-not-five N w h at j v = not-five N w h (storeCell at j v) (also (omega arith) (also (omega arith) (also (omega arith) done)))
+store-cell-not-five N w h at j v = not-five N w h (storeCell at j v) (also (omega arith) (also (omega arith) (also (omega arith) (also (omega arith) done))))
 
 pub five-to-allocations : FiveToAllocations
 unfolding ownRefusals
-five-to-allocations N w h (allocate n r) e = (n, r, refl)
+five-to-allocations N w h (allocate n r) e = (false, n, r, refl)
+five-to-allocations N w h (allocateData n r) e = (true, n, r, refl)
+five-to-allocations N w h (writeNumber at j x) e =
+    absurd (not-five N w h (writeNumber at j x) (also (omega arith) (also (omega arith) (also (omega arith) done))) e)
+five-to-allocations N w h (readNumber at j) e =
+    absurd (not-five N w h (readNumber at j) (also (omega arith) (also (omega arith) (also (omega arith) done))) e)
 five-to-allocations N w h (storeRoot r v) e = absurd (store-root-not-five N w h r v e)
 five-to-allocations N w h (storeCell at j v) e = absurd (store-cell-not-five N w h at j v e)
 five-to-allocations N w h (look at) e = absurd (not-five N w h (look at) (also (omega arith) done) e)

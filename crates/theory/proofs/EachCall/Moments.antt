@@ -13,11 +13,12 @@ use lib.Dec.{eqb}
 use borrow.Author.Tests.{ne-eqb, eqb-true, eqb-false}
 use Rattle.bitmap.specs.Bit.{one, zeros}
 use Rattle.planes.proofs.Counts.{count-lt}
-use Rattle.rules.specs.Heap.{Memory, withCounts, capacity, countOf, isFirst, sizeAt, exponent, lowestFree, isRef}
+use Rattle.rules.specs.Heap.{Memory, withCounts, capacity, countOf, isFirst, sizeAt, exponent, lowestFree, isRef, isData}
 use Rattle.rules.specs.Store.{countUp, sticks, putRoot, putCell, changeRoot, changeCell, storeRootIn, storeCellIn, storeSticks, birthSticks}
 use Rattle.rules.specs.Store.{placed, allocateIn}
 use Rattle.rules.specs.Collection.{collected}
 use Rattle.rules.specs.Calls.{Call, format, check, collect, freeBlocks, allocate, storeRoot, storeCell, look, returnRoots, Answer, reply}
+use Rattle.rules.specs.Calls.{allocateData, writeNumber, readNumber, allocateAs}
 use Rattle.rules.specs.Calls.{testsHeap, settled, freeing, outcome, answer}
 use Rattle.types.specs.declared.Reply.{Reply}
 use Rattle.rules.proofs.Tests.{test-cases}
@@ -204,13 +205,13 @@ module _ (N w : ℕ) (h : Memory) (healthy : Healthy N w h) where
       record { once-counted = both .0; afterwards = both .1; yes-or-no = one-or-none (storeSticks N w (h .counts) (getD (h .roots) r 0) v) }
 
   cell-tells :
-      (a j v : ℕ) → isFirst N h a ≡ true → j < 4 * sizeAt N h a → isRef N h v ≡ true
+      (a j v : ℕ) → isFirst N h a ≡ true → j < 4 * sizeAt N h a → isData (h .d) a ≡ false → isRef N h v ≡ true
       → let x = freeing N h (storeCellIn N w h (4 * a + j) v) (one (storeSticks N w (h .counts) (getD (h .cells) (4 * a + j) 0) v)) in
       Tells N w (storeCell a j v) h (x .0) (x .1)
   unfolding storeCellIn storeSticks changeCell putCell freeing counted writes
-  cell-tells a j v owner l ref =
+  cell-tells a j v owner l ordinary ref =
       let old : ℕ = getD (h .cells) (4 * a + j) 0 in
-      let shows = store-cell N w h healthy v ref a j owner l .shows in
+      let shows = store-cell N w h healthy v ref a j owner l ordinary .shows in
       let both =
       store-exactly v ref (length (h .roots) + (4 * a + j)) (cell-place N w h healthy a j owner l) (changeCell N w h (4 * a + j) v) shows
       (storeCell a j v) (λ x. refl) (eqb old v) in
@@ -218,7 +219,7 @@ module _ (N w : ℕ) (h : Memory) (healthy : Healthy N w h) where
 
   -- ---- the new object of an allocation, of n blocks at i
 
-  module _ (n r i : ℕ) (some-blocks : 1 ≤ n) (not-more : n ≤ N) (l : r < length (h .roots))
+  module _ (asData : Bool) (n r i : ℕ) (some-blocks : 1 ≤ n) (not-more : n ≤ N) (l : r < length (h .roots))
       (found : lowestFree N (exponent n) (h .a) ≡ some i) where
     nonzero : n ≢ 0
     nonzero = omega arith
@@ -237,56 +238,72 @@ module _ (N w : ℕ) (h : Memory) (healthy : Healthy N w h) where
     abbrev said : Reply
     said = reply 0 i (one (birthSticks w))
 
+    writes-new : writes (allocateAs asData n r) said ≡ 1 + i
+    unfolding writes
+    writes-new = go asData
+      where
+        go : (t : Bool) → writes (allocateAs t n r) said ≡ 1 + i
+        go true = refl
+        go false = refl
+
+    counted-new : counted N w (allocateAs asData n r) h said ≡ placed N w asData h i n
+    unfolding counted
+    counted-new = go asData
+      where
+        go : (t : Bool) → counted N w (allocateAs t n r) h said ≡ placed N w t h i n
+        go true = refl
+        go false = refl
+
     -- in k its count is at the capacity exactly where that is 1
     born-exactly : (k : Memory) → (capacity w ≡ 1) ↔ (countOf N w k i ≡ capacity w) → (countOf N w k i ≡ capacity w → isFirst N k i ≡ true)
-        → Exactly (allocate n r) said k
-    unfolding writes
+        → Exactly (allocateAs asData n r) said k
     born-exactly k same stands = go (birthSticks w) refl
       where
-        go : (t : Bool) → birthSticks w ≡ t → Exactly (allocate n r) said k
+        go : (t : Bool) → birthSticks w ≡ t → Exactly (allocateAs asData n r) said k
         go true e =
             let full = same .0 (eqb-true (capacity w) 1 e) in (
-              λ yes. (i, record { reference = refl; below = inl new; stands = stands full; full = full }),
+              λ yes. (i, record { reference = writes-new; below = inl new; stands = stands full; full = full }),
               λ stuck. ap one e,
             )
         go false e =
             let no : said .second ≡ 0 = ap one e in (
               λ yes. absurd (omega arith),
               λ stuck.
-                  let at-i : stuck .0 ≡ i = omega (arith, stuck .1 .reference) in
+                  let at-i : stuck .0 ≡ i = omega (arith, stuck .1 .reference, writes-new) in
                   absurd (eqb-false (capacity w) 1 e (same .1 (ap (λ (c : ℕ). countOf N w k c) (sym at-i) ∙ stuck .1 .full))),
             )
 
-    allocate-tells : Tells N w (allocate n r) h said (settled N (allocateIn N w h n r i))
-    unfolding allocateIn putRoot placed graph.allocate counted
+    allocate-tells : Tells N w (allocateAs asData n r) h said (settled N (allocateIn N w asData h n r i))
+    unfolding allocateIn putRoot placed graph.allocate
     allocate-tells =
         let cap : ℕ = capacity w in
         let roots : ℕ = length (h .roots) in
         let pos = positive N w h healthy in
         let free = room-vacant N w h healthy n i nonzero (room N (h .a) n i found) in
-        let shown = placed-shows N w h healthy n i nonzero (room N (h .a) n i found) in
-        let shows = allocate-root N w h healthy n i nonzero (room N (h .a) n i found) r l .shows in
-        let fine = allocate-served N w h healthy n r i some-blocks not-more l found (one (birthSticks w)) .keep in
+        let shown = placed-shows N w h healthy n i nonzero (room N (h .a) n i found) asData in
+        let shows = allocate-root N w h healthy n i nonzero (room N (h .a) n i found) asData r l .shows in
+        let fine = allocate-served N w h healthy n r i some-blocks not-more l found asData (one (birthSticks w)) .keep in
         let one-there : count (place (view N w h) i n) i ≡ 1 =
         getD-set-same (view N w h .counts) i 1 0 (omega (arith, within, length-tabulate N (countOf N w h))) in
-        let size-there : size (view N w (placed N w h i n)) i ≡ n =
+        let size-there : size (view N w (placed N w asData h i n)) i ≡ n =
         ap (λ (k : Graph). size k i) (shown .view-is)
         ∙ getD-set-same (sizesOf N (h .a) (h .b)) i n 0 (omega (arith, within, length-sizes-of N (h .a) (h .b))) in
-        let before = sym (view-count N w (placed N w h i n) i within) ∙ ap (λ (k : Graph). count k i) (shown .view-is) ∙ one-there in
+        let before = sym (view-count N w (placed N w asData h i n) i within) ∙ ap (λ (k : Graph). count k i) (shown .view-is) ∙ one-there in
         let ends =
         finish-stuck cap pos roots (place (view N w h) i n) r (suc i)
         (placed-balanced cap pos roots (view N w h) (healthy .whole) i n r free l)
         (placed-waits cap pos roots (view N w h) (healthy .whole) i n r free l)
         (placed-shape cap pos roots (view N w h) (healthy .whole) i n r free l) (inl l) i in
-        let after = sym (view-count N w (allocateIn N w h n r i) i within) ∙ ap (λ (k : Graph). count k i) (shows .view-is) in
+        let after = sym (view-count N w (allocateIn N w asData h n r i) i within) ∙ ap (λ (k : Graph). count k i) (shows .view-is) in
         record {
           once-counted =
-              born-exactly (placed N w h i n) (λ e. before ∙ sym e, λ e. sym e ∙ before)
-              (λ full. sized-first N (placed N w h i n .a) (placed N w h i n .b) i (λ z. nonzero (sym size-there ∙ z)));
+              rw counted-new
+              (born-exactly (placed N w asData h i n) (λ e. before ∙ sym e, λ e. sym e ∙ before)
+              (λ full. sized-first N (placed N w asData h i n .a) (placed N w asData h i n .b) i (λ z. nonzero (sym size-there ∙ z))));
           afterwards =
-              born-exactly (settled N (allocateIn N w h n r i))
+              born-exactly (settled N (allocateIn N w asData h n r i))
               (λ e. after ∙ ends .0 (one-there ∙ sym e), λ e. sym (ends .1 (sym after ∙ e)) ∙ one-there)
-              (full-stands (settled N (allocateIn N w h n r i)) fine i within);
+              (full-stands (settled N (allocateIn N w asData h n r i)) fine i within);
           yes-or-no = one-or-none (birthSticks w);
         }
 
@@ -305,10 +322,17 @@ pub stuck-told : StuckTold
 unfolding outcome Passed
 stuck-told N w h =
     record {
-      allocation = λ n r. tells N w h (allocate n r) refl (λ healthy p. allocate-tells N w h healthy n r _ (p .0) (p .1) (p .2) (p .3));
+      allocation = allocation;
       store-root = λ r v. tells N w h (storeRoot r v) refl (λ healthy p. root-tells N w h healthy r v (p .0) (p .1));
-      store-cell = λ a j v. tells N w h (storeCell a j v) refl (λ healthy p. cell-tells N w h healthy a j v (p .0) (p .1) (p .2));
+      store-cell = λ a j v. tells N w h (storeCell a j v) refl (λ healthy p. cell-tells N w h healthy a j v (p .0) (p .1) (p .2) (p .3));
     }
+  where
+    allocation : (asData : Bool) (n r : ℕ) → let x = answer N w h (allocateAs asData n r) in
+        x .0 .number ≡ 0 → Tells N w (allocateAs asData n r) h (x .0) (x .1)
+    allocation true n r =
+        tells N w h (allocateData n r) refl (λ healthy p. allocate-tells N w h healthy true n r _ (p .0) (p .1) (p .2) (p .3))
+    allocation false n r =
+        tells N w h (allocate n r) refl (λ healthy p. allocate-tells N w h healthy false n r _ (p .0) (p .1) (p .2) (p .3))
 
 -- ---- no moment goes untold
 
@@ -326,7 +350,10 @@ module _ (N w : ℕ) (h : Memory) (fit : Fit N w h) where
           Object N h b n → Object N (x .1) b n → countOf N w h b < capacity w → countOf N w (x .1) b ≡ capacity w
           → Wrote N w b c h (x .0) → x .0 .second ≡ 1
       go (allocate m r) was is low top wrote =
-          stuck-told N w h .allocation m r (wrote .accepted) .afterwards .1
+          stuck-told N w h .allocation false m r (wrote .accepted) .afterwards .1
+          (b, record { reference = wrote .reference; below = inr low; stands = is .first; full = top })
+      go (allocateData m r) was is low top wrote =
+          stuck-told N w h .allocation true m r (wrote .accepted) .afterwards .1
           (b, record { reference = wrote .reference; below = inr low; stands = is .first; full = top })
       go (storeRoot r v) was is low top wrote =
           stuck-told N w h .store-root r v (wrote .accepted) .afterwards .1
@@ -340,6 +367,8 @@ module _ (N w : ℕ) (h : Memory) (fit : Fit N w h) where
       go freeBlocks was is low top wrote = absurd (omega (arith, wrote .reference))
       go (look a) was is low top wrote = absurd (omega (arith, wrote .reference))
       go (returnRoots chosen) was is low top wrote = absurd (omega (arith, wrote .reference))
+      go (writeNumber a j x) was is low top wrote = absurd (omega (arith, wrote .reference))
+      go (readNumber a j) was is low top wrote = absurd (omega (arith, wrote .reference))
 
   -- ---- the collection
 

@@ -130,8 +130,9 @@ module _ (N w : ℕ) (h : Memory) (fit : Fit N w h) (chosen : ℕ) (passed : cho
   same-heap =
       let singles = cleared-settled N w Chosen (Ordered order) h last (ran .cleared) in
       let together = cleared-settled N w Chosen Chosen h end all in
-      same-memory N w h (singles .healthy .shape) (singles .healthy .represents) (together .healthy .represents)
-      (singles .rewrites) (together .rewrites) (singles .roots-are ∙ sym (together .roots-are)) refl (ap (figures N)) same-view
+      same-memory N w h (singles .healthy .shape) (together .healthy .shape) (singles .healthy .represents) (together .healthy .represents)
+      (singles .healthy .bare) (together .healthy .bare) (singles .rewrites) (together .rewrites)
+      (singles .roots-are ∙ sym (together .roots-are)) refl (ap (figures N)) same-view
 
   same-blocks : freedInAll (clearedSingly N w h order) ≡ zeros (end .a) - zeros (h .a)
   same-blocks = omega (arith, ran .blocks, ap (λ (m : Memory). zeros (m .a)) same-heap)

@@ -3,7 +3,7 @@
 use mathlib.Core.Path.{_≡_, refl, sym, ap, _∙_, subst}
 use mathlib.Core.Logic.{inl, inr}
 use mathlib.Core.Bool.{Bool, true, false}
-use mathlib.Core.List.{List, _++_}
+use mathlib.Core.List.{List}
 use Prim.Native.Nat.{ℕ, suc, _+_, _<_}
 use native.Mathlib.Omega.{arith}
 use lib.ListN.{length, getD}
@@ -20,8 +20,8 @@ use Rattle.theory.proofs.Graphs.Graph.{size, slot}
 use Rattle.theory.proofs.Graphs.Keep.{Reach}
 use Rattle.theory.proofs.Graphs.Order.{runs-leave}
 use Rattle.theory.proofs.Graphs.Returns.{runs-reach-without}
-use Rattle.theory.proofs.Memories.View.{view}
-use Rattle.theory.proofs.Memories.Slots.{root-slot, cell-slot, slot-cases}
+use Rattle.theory.proofs.Memories.View.{slotsIn, view}
+use Rattle.theory.proofs.Memories.Slots.{root-slot, cell-slot, cell-within, slot-cases}
 use Rattle.theory.proofs.Memories.Healthy.{Healthy, view-count}
 use Rattle.theory.proofs.Memories.Leads.{object-size, size-object, leads-reach}
 use Rattle.theory.proofs.Memories.Stores.{positive}
@@ -48,7 +48,7 @@ module _ (N w : ℕ) (h : Memory) (healthy : Healthy N w h) (chosen : ℕ) where
   left = withRoots (rootsWithout chosen (h .roots)) h
 
   -- what is not 0 once the roots of the set are is no root of the set
-  left-slot : (s b : ℕ) → getD (left .roots ++ h .cells) s 0 ≡ suc b → (slot (view N w h) s ≡ suc b) × ¬ Chosen s
+  left-slot : (s b : ℕ) → getD (slotsIn N left) s 0 ≡ suc b → (slot (view N w h) s ≡ suc b) × ¬ Chosen s
   unfolding rootLeft
   left-slot s b e = elim (slot-cases left s) [ inl l ↦ of-root l | inr q ↦ of-cell (q .0) (q .1) ]
     where
@@ -56,7 +56,7 @@ module _ (N w : ℕ) (h : Memory) (healthy : Healthy N w h) (chosen : ℕ) where
       same-length = length-without chosen (h .roots)
 
       of-root : s < length (left .roots) → (slot (view N w h) s ≡ suc b) × ¬ Chosen s
-      of-root m = go (isChosen chosen s) refl (sym (getD-without chosen (h .roots) s l) ∙ sym (root-slot left s m) ∙ e)
+      of-root m = go (isChosen chosen s) refl (sym (getD-without chosen (h .roots) s l) ∙ sym (root-slot N left s m) ∙ e)
         where
           l : s < length (h .roots)
           l = omega (arith, same-length)
@@ -64,13 +64,14 @@ module _ (N w : ℕ) (h : Memory) (healthy : Healthy N w h) (chosen : ℕ) where
           go : (t : Bool) → isChosen chosen s ≡ t → elim t [ true ↦ 0 | false ↦ getD (h .roots) s 0 ] ≡ suc b
               → (slot (view N w h) s ≡ suc b) × ¬ Chosen s
           go true f z = absurd (omega arith)
-          go false f z = (root-slot h s l ∙ z, λ q. eqb-false (bitOf chosen s) 1 f (q .1))
+          go false f z = (root-slot N h s l ∙ z, λ q. eqb-false (bitOf chosen s) 1 f (q .1))
 
       of-cell : (j : ℕ) → s ≡ length (left .roots) + j → (slot (view N w h) s ≡ suc b) × ¬ Chosen s
       of-cell j q =
-          let at : s ≡ length (h .roots) + j = q ∙ ap (λ (n : ℕ). n + j) same-length in (
-            ap (λ (i : ℕ). slot (view N w h) i) at ∙ cell-slot h j ∙ sym (cell-slot left j)
-                ∙ ap (λ (i : ℕ). getD (left .roots ++ h .cells) i 0) (sym q) ∙ e,
+          let at : s ≡ length (h .roots) + j = q ∙ ap (λ (n : ℕ). n + j) same-length in
+          let inside = cell-within N left j (omega (arith, e, ap (λ (i : ℕ). getD (slotsIn N left) i 0) q)) in (
+            ap (λ (i : ℕ). slot (view N w h) i) at ∙ cell-slot N h j inside ∙ sym (cell-slot N left j inside)
+                ∙ ap (λ (i : ℕ). getD (slotsIn N left) i 0) (sym q) ∙ e,
             λ p. omega (arith, p .0),
           )
 
@@ -89,8 +90,8 @@ module _ (N w : ℕ) (h : Memory) (healthy : Healthy N w h) (chosen : ℕ) where
             let was = object-size N h (sizesOf N (h .a) (h .b)) (healthy .represents) b n object in
             let kept =
             runs-reach-without (capacity w) (positive N w h healthy) (length (h .roots)) Chosen (view N w h) (view N w end)
-            (left .roots ++ h .cells) (all .runs) (healthy .whole .balanced) (healthy .whole .shape .disjoint) (λ i s. s .0) left-slot b
-            (subst (λ (r : ℕ). Reach r (sizesOf N (h .a) (h .b)) (left .roots ++ h .cells) b) (length-without chosen (h .roots))
+            (slotsIn N left) (all .runs) (healthy .whole .balanced) (healthy .whole .shape .disjoint) (λ i s. s .0) left-slot b
+            (subst (λ (r : ℕ). Reach r (sizesOf N (h .a) (h .b)) (slotsIn N left) b) (length-without chosen (h .roots))
             (leads-reach N left (sizesOf N (h .a) (h .b)) (healthy .represents) leads)) in
             let is : size (view N w end) b ≡ n = kept ∙ was .0 in
             subst (λ (m : ℕ). Object N (settled N end) b m) is

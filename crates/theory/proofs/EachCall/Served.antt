@@ -1,21 +1,31 @@
 -- What is asked of one call on a healthy memory, and that it holds of every call that frees and stores nothing: one that is refused, the
--- check, the number of free blocks and the look, which leave the memory as it was, and the format.
-use mathlib.Core.Path.{_≡_, refl, sym, ap, _∙_}
+-- check, the number of free blocks, the look and a number read, which leave the memory as it was, a number written, and the format.
+use mathlib.Core.Path.{_≡_, refl, sym, ap, _∙_, subst}
 use mathlib.Core.Logic.{_≢_}
 use mathlib.Core.Bool.{Bool, true, false, true≢false}
-use Prim.Native.Nat.{ℕ, _<_}
+use mathlib.Core.List.{List, _++_}
+use Prim.Native.Nat.{ℕ, _+_, _*_, _<_}
 use native.Mathlib.Omega.{arith}
-use lib.ListN.{length, getD, length-replicate}
-use Rattle.rules.specs.Heap.{Memory, capacity, countOf}
+use lib.ListN.{length, getD, set, length-set, length-replicate}
+use Rattle.rules.specs.Heap.{Memory, withCells, capacity, countOf, isFirst, sizeAt, isData, reference}
 use Rattle.rules.specs.Store.{formatted}
 use Rattle.rules.specs.Calls.{Call, format, check, collect, freeBlocks, allocate, storeRoot, storeCell, look, returnRoots, Answer, reply, accepted, refused, settled}
+use Rattle.rules.specs.Calls.{allocateData, writeNumber, readNumber}
 use Rattle.theory.specs.Words.{Object, Leads, root, cell, written, stored}
 use Rattle.theory.specs.Stuck.{Wrote}
 use Rattle.theory.specs.Demand.{NoEarlyFree, Collects}
 use Rattle.types.specs.declared.Reply.{Reply}
 use Rattle.rules.proofs.TrueList.{length-figures}
+use Rattle.rules.proofs.Tabulate.{getD-tabulate}
+use Rattle.theory.proofs.Maps.Extents.{sizesOf}
+use Rattle.theory.proofs.Graphs.Graph.{Graph}
+use Rattle.theory.proofs.Graphs.Calls.{Whole}
+use Rattle.theory.proofs.Memories.Reading.{tabulate-is, number-written, cell-bare}
+use Rattle.theory.proofs.Memories.View.{cellRefs, view}
+use Rattle.theory.proofs.Memories.Slots.{length-cell-refs}
 use Rattle.theory.proofs.Memories.Healthy.{Healthy}
-use Rattle.theory.proofs.Memories.ViewRelease.{reshaped}
+use Rattle.theory.proofs.Memories.Stores.{cell-of}
+use Rattle.theory.proofs.Memories.ViewRelease.{reshaped, graph-is}
 use Rattle.theory.proofs.Memories.Formatted.{zeros-at, no-object, formatted-healthy}
 
 -- the count of an object that stands before and after a call comes to the capacity only by a reference that the call writes
@@ -34,6 +44,9 @@ collecting (storeRoot r v) = false
 collecting (storeCell a j v) = false
 collecting (look a) = false
 collecting (returnRoots chosen) = false
+collecting (allocateData n r) = false
+collecting (writeNumber a j x) = false
+collecting (readNumber a j) = false
 
 pub no-collection : {A : Type 0} (c : Call) → collecting c ≡ false → c ≡ collect → A
 no-collection c other is = absurd (true≢false (ap collecting (sym is) ∙ other))
@@ -50,10 +63,12 @@ pub settled-healthy : (N w : ℕ) (h : Memory) → Healthy N w h → Healthy N w
 settled-healthy N w h healthy =
     record {
       shape = reshaped N w h (settled N h) (healthy .shape) refl refl refl refl refl
-          (length-replicate N 0 ∙ sym (healthy .shape .length-waiting)) (length-figures N (h .a) ∙ sym (healthy .shape .length-sections));
+          (length-replicate N 0 ∙ sym (healthy .shape .length-waiting)) (length-figures N (h .a) ∙ sym (healthy .shape .length-sections))
+          refl;
       represents = healthy .represents;
       whole = healthy .whole;
       aligned = healthy .aligned;
+      bare = healthy .bare;
     }
 
 -- where all roots are 0 they lead nowhere
@@ -75,6 +90,50 @@ module _ (N w : ℕ) (h : Memory) (healthy : Healthy N w h) where
 
   pub refused-served : (c : Call) (number : ℕ) → number ≢ 0 → Served N w c h (refused N w h number)
   refused-served c number nonzero = unchanged c _ (λ _ accepted. absurd (nonzero accepted))
+
+  -- ---- a number written into cell j of the data at block a (request U6): no reference changes
+
+  module _ (a j x : ℕ) (first : isFirst N h a ≡ true) (l : j < 4 * sizeAt N h a) (made : isData (h .d) a ≡ true) where
+    abbrev c : ℕ
+    c = 4 * a + j
+
+    abbrev sizes : List ℕ
+    sizes = sizesOf N (h .a) (h .b)
+
+    abbrev left : Memory
+    left = withCells (set (h .cells) c x) h
+
+    pub number-references : (i : ℕ) → reference N left i ≡ reference N h i
+    number-references =
+        number-written N (h .a) (h .b) sizes (healthy .represents) (h .d) (h .cells) a c x (cell-of N w h healthy a j first l) made
+
+    number-view : view N w left ≡ view N w h
+    number-view =
+        graph-is refl refl
+        (ap (λ (refs : List ℕ). h .roots ++ refs)
+        (tabulate-is (4 * N) (reference N left) (cellRefs N h) (length-cell-refs N h)
+        (λ i m. number-references i ∙ sym (getD-tabulate 0 (4 * N) (reference N h) i m))))
+
+    pub number-healthy : Healthy N w left
+    number-healthy =
+        record {
+          shape = reshaped N w h left (healthy .shape) refl refl refl (length-set (h .cells) c x) refl refl refl refl;
+          represents = healthy .represents;
+          whole = subst (λ (k : Graph). Whole (capacity w) (length (h .roots)) k) (sym number-view) (healthy .whole);
+          aligned = healthy .aligned;
+          bare =
+              cell-bare N (h .a) (h .b) sizes (healthy .represents) (h .d) (h .cells) a c x (cell-of N w h healthy a j first l)
+              (healthy .bare);
+        }
+
+    pub number-served : Served N w (writeNumber a j x) h (accepted left 0)
+    number-served =
+        record {
+          keep = number-healthy;
+          no-early-free = λ b n object leads. record { first = object .first; size = object .size };
+          collects = no-collection (writeNumber a j x) refl;
+          sticks = λ b n was is low top. absurd (omega arith);
+        }
 
   -- ---- the format
 

@@ -3,7 +3,7 @@
 use mathlib.Core.Path.{_≡_, refl, sym, ap, _∙_, subst}
 use mathlib.Core.Logic.{_≢_, inl, inr}
 use mathlib.Core.Bool.{Bool, true, false}
-use mathlib.Core.List.{[]}
+use mathlib.Core.List.{List, [], _++_}
 use mathlib.Core.Option.{some}
 use Prim.Native.Nat.{ℕ, suc, _+_, _-_, _*_, _/_, _≤_, _<_}
 use native.Mathlib.Decide.{ℕ-discrete}
@@ -13,10 +13,10 @@ use lib.Dec.{eqb}
 use borrow.Author.Tests.{eqb-false}
 use Rattle.bitmap.specs.Bit.{bitAt, zeros}
 use lib.Seq.{set-append-left, getD-set-same, getD-set-other}
-use Rattle.rules.specs.Heap.{Memory, withCells, withRoots, capacity, countOf, isFirst, sizeAt, exponent, lowestFree, isRef}
+use Rattle.rules.specs.Heap.{Memory, withCells, withRoots, capacity, countOf, isFirst, sizeAt, exponent, lowestFree, isRef, isData}
 use Rattle.rules.specs.Store.{placed, putRoot, putCell, changeRoot, changeCell, storeRootIn, storeCellIn, allocateIn}
-use Rattle.rules.specs.Calls.{Call, allocate, storeRoot, storeCell, reply, settled, freeing}
-use Rattle.theory.specs.Words.{Object, numberOfReferences, written, stored}
+use Rattle.rules.specs.Calls.{Call, allocateAs, storeRoot, storeCell, reply, settled, freeing}
+use Rattle.theory.specs.Words.{Object, Leads, numberOfReferences, written, stored}
 use Rattle.theory.specs.Stuck.{writes}
 use Rattle.types.specs.declared.Reply.{Reply}
 use Rattle.rules.proofs.Objects.{first-facts}
@@ -32,16 +32,18 @@ use Rattle.theory.proofs.Graphs.Order.{runs-leave}
 use Rattle.theory.proofs.Graphs.Calls.{Shape, Whole, Place, finish-ends}
 use Rattle.theory.proofs.Graphs.Calls.{raised-balanced, raised-waits, raised-shape, store-whole, store-keeps}
 use Rattle.theory.proofs.Graphs.Calls.{placed-balanced, placed-waits, placed-shape, allocate-whole, allocate-keeps}
-use Rattle.theory.proofs.Memories.View.{view}
-use Rattle.theory.proofs.Memories.Slots.{slotsIn, root-slot, cell-slot, references-slots}
-use Rattle.theory.proofs.Memories.Healthy.{Aligned, Healthy, view-count, healthy-damage-free}
+use Rattle.theory.proofs.Memories.Reading.{reference-written, cell-bare}
+use Rattle.theory.proofs.Memories.View.{cellRefs, slotsIn, view}
+use Rattle.theory.proofs.Memories.Slots.{root-slot, references-slots}
+use Rattle.theory.proofs.Memories.Healthy.{Aligned, Healthy, view-count}
 use Rattle.theory.proofs.Memories.Soundness.{all-references}
 use Rattle.theory.proofs.Memories.Leads.{object-size, size-object, leads-reach}
 use Rattle.rules.proofs.TrueList.{length-figures}
 use Rattle.theory.proofs.EachCall.Served.{collecting, no-collection, Served, settled-healthy}
 use Rattle.theory.proofs.Memories.ViewMoves.{set-append-right}
 use Rattle.theory.proofs.Memories.ViewRelease.{reshaped, Shows}
-use Rattle.theory.proofs.Memories.Stores.{positive, slots-length, ref-object, store-root, same-size, cell-place, cell-inside, store-cell, room-vacant, allocate-root}
+use Rattle.theory.proofs.Memories.Stores.{positive, slots-length, ref-object, store-root, cell-place, cell-inside, cell-of, cell-below}
+use Rattle.theory.proofs.Memories.Stores.{cell-read, store-cell, room-vacant, allocate-root}
 
 -- ---- what a graph that keeps its laws gives its memory
 
@@ -49,10 +51,11 @@ pub healthy-after :
     (N w r : ℕ) (g : Memory) (k : Graph) → Shows N w r g k → Whole (capacity w) r k → Aligned (k .sizes) → Healthy N w (settled N g)
 healthy-after N w r g k shows whole aligned = record {
   shape = reshaped N w g (settled N g) (shows .shape) refl refl refl refl refl (length-replicate N 0 ∙ sym (shows .shape .length-waiting))
-      (length-figures N (g .a) ∙ sym (shows .shape .length-sections));
+      (length-figures N (g .a) ∙ sym (shows .shape .length-sections)) refl;
   represents = shows .represents;
   whole = subst (λ (m : Graph). Whole (capacity w) (length (g .roots)) m) (sym (shows .view-is)) (rw (shows .roots-are) whole);
   aligned = subst (λ (m : Graph). Aligned (m .sizes)) (sym (shows .view-is)) aligned;
+  bare = shows .bare;
 }
 
 -- an object whose size stays stands
@@ -96,7 +99,7 @@ module _ (N w : ℕ) (h : Memory) (healthy : Healthy N w h) where
         (raised-shape cap pos r (view N w h) (healthy .whole) i v slot-i named) slot-i (healthy .aligned))
 
     store-object :
-        (b n : ℕ) → Object N h b n → Reach (length (h .roots)) (sizesOf N (h .a) (h .b)) (set (slotsIn h) i v) b
+        (b n : ℕ) → Object N h b n → Reach (length (h .roots)) (sizesOf N (h .a) (h .b)) (set (slotsIn N h) i v) b
         → Object N (settled N g) b n
     store-object b n object reach =
         object-after N w (length (h .roots)) h g (graph.store (capacity w) (length (h .roots)) (view N w h) i v) (healthy .represents) shows
@@ -106,8 +109,8 @@ module _ (N w : ℕ) (h : Memory) (healthy : Healthy N w h) where
 
     -- it brings the count of the object at b to the capacity only where that many slots name the object once v is written
     store-sticks :
-        i < length (slotsIn h) → getD (slotsIn h) i 0 ≢ v → (b n : ℕ) → Object N h b n → countOf N w h b < capacity w
-        → countOf N w g b ≡ capacity w → (v ≡ suc b) × (capacity w ≤ occurrences (suc b) (set (slotsIn h) i v))
+        i < length (slotsIn N h) → getD (slotsIn N h) i 0 ≢ v → (b n : ℕ) → Object N h b n → countOf N w h b < capacity w
+        → countOf N w g b ≡ capacity w → (v ≡ suc b) × (capacity w ≤ occurrences (suc b) (set (slotsIn N h) i v))
     store-sticks inside new b n object low top =
         let in-heap : b < N = first-facts N (h .a) (h .b) b (object .first) .inside in
         stuck-by-store (capacity w) (positive N w h healthy) (length (h .roots)) (view N w h) (healthy .whole) i v b slot-i inside
@@ -124,19 +127,16 @@ module _ (N w : ℕ) (h : Memory) (healthy : Healthy N w h) where
         sticks = λ b n was is low top. absurd (omega arith);
       }
 
-  free-cells : (j : ℕ) → j < 4 * N → bitAt (h .a) (j / 4) ≡ 0 → getD (h .cells) j 0 ≡ 0
-  free-cells = healthy-damage-free N w h healthy .free-cells
-
   -- ---- a root
 
   module _ (r v : ℕ) (l : r < length (h .roots)) (ref : isRef N h v ≡ true) where
     -- the references once the root is written
-    root-references : (b : ℕ) → numberOfReferences N (withRoots (set (h .roots) r v) h) b ≡ occurrences (suc b) (set (slotsIn h) r v)
+    root-references : (b : ℕ) → numberOfReferences N (withRoots (set (h .roots) r v) h) b ≡ occurrences (suc b) (set (slotsIn N h) r v)
     root-references b =
         let written : Memory = withRoots (set (h .roots) r v) h in
-        all-references N written (healthy .represents) (healthy .shape .length-cells) free-cells b
-        ∙ sym (references-slots written b)
-        ∙ ap (occurrences (suc b)) (sym (set-append-left (h .roots) (h .cells) r v l))
+        all-references N written (healthy .represents) (healthy .bare .free-cells) b
+        ∙ sym (references-slots N written b)
+        ∙ ap (occurrences (suc b)) (sym (set-append-left (h .roots) (cellRefs N h) r v l))
 
     -- the memory after a store is healthy before its waiting list is cleared, too
     pub store-root-healthy : Healthy N w (storeRootIn N w h r v)
@@ -155,6 +155,7 @@ module _ (N w : ℕ) (h : Memory) (healthy : Healthy N w h) where
               represents = settled-healthy .represents;
               whole = settled-healthy .whole;
               aligned = settled-healthy .aligned;
+              bare = settled-healthy .bare;
             }
 
     change-root-served :
@@ -166,13 +167,13 @@ module _ (N w : ℕ) (h : Memory) (healthy : Healthy N w h) where
           keep = store-healthy v ref r (inl l) (changeRoot N w h r v) shows;
           no-early-free = λ b n object leads.
               store-object v ref r (inl l) (changeRoot N w h r v) shows b n object
-              (rw (length-set (h .roots) r v, ← set-append-left (h .roots) (h .cells) r v l)
+              (rw (length-set (h .roots) r v, ← set-append-left (h .roots) (cellRefs N h) r v l)
               at (leads-reach N (withRoots (set (h .roots) r v) h) (sizesOf N (h .a) (h .b)) (healthy .represents) leads));
           collects = no-collection (storeRoot r v) refl;
           sticks = λ b n was is low top.
               let found =
               store-sticks v ref r (inl l) (changeRoot N w h r v) shows (omega (arith, slots-length N w h healthy))
-              (λ e. new (sym (root-slot h r l) ∙ e)) b n was low top in
+              (λ e. new (sym (root-slot N h r l) ∙ e)) b n was low top in
               record { accepted = refl; reference = omega (arith, found .0); enough = omega (arith, found .1, root-references b) };
         }
 
@@ -187,42 +188,52 @@ module _ (N w : ℕ) (h : Memory) (healthy : Healthy N w h) where
 
   -- ---- a cell
 
-  module _ (a j v : ℕ) (first : isFirst N h a ≡ true) (l : j < 4 * sizeAt N h a) (ref : isRef N h v ≡ true) where
+  module _ (a j v : ℕ) (first : isFirst N h a ≡ true) (l : j < 4 * sizeAt N h a) (ordinary : isData (h .d) a ≡ false)
+      (ref : isRef N h v ≡ true) where
     abbrev c : ℕ
     c = 4 * a + j
 
+    -- the slots with the reference written
+    cell-slots : slotsIn N (withCells (set (h .cells) c v) h) ≡ set (slotsIn N h) (length (h .roots) + c) v
+    cell-slots =
+        ap (λ (refs : List ℕ). h .roots ++ refs)
+        (reference-written N (h .a) (h .b) (sizesOf N (h .a) (h .b)) (healthy .represents) (h .d) (h .cells) a c v
+        (cell-of N w h healthy a j first l) ordinary (omega (arith, cell-below N w h healthy a j first l, healthy .shape .length-cells)))
+        ∙ sym (set-append-right (h .roots) (cellRefs N h) c v)
+
     -- the cells of free blocks stay 0
-    written-free : (k : ℕ) → k < 4 * N → bitAt (h .a) (k / 4) ≡ 0 → getD (set (h .cells) c v) k 0 ≡ 0
-    written-free k m z =
-        getD-set-other (h .cells) c k v 0
-        (λ e. omega (arith, healthy .represents .used a (k / 4) (omega arith) (omega (arith, same-size N w h healthy a j first l)))) ∙ free-cells k m z
+    written-free : (k : ℕ) → bitAt (h .a) (k / 4) ≡ 0 → getD (set (h .cells) c v) k 0 ≡ 0
+    written-free =
+        cell-bare N (h .a) (h .b) (sizesOf N (h .a) (h .b)) (healthy .represents) (h .d) (h .cells) a c v
+        (cell-of N w h healthy a j first l) (healthy .bare)
+        .free-cells
 
     cell-references :
-        (b : ℕ) → numberOfReferences N (withCells (set (h .cells) c v) h) b ≡ occurrences (suc b) (set (slotsIn h) (length (h .roots) + c) v)
+        (b : ℕ) → numberOfReferences N (withCells (set (h .cells) c v) h) b ≡ occurrences (suc b) (set (slotsIn N h) (length (h .roots) + c) v)
     cell-references b =
         let written : Memory = withCells (set (h .cells) c v) h in
-        all-references N written (healthy .represents) (length-set (h .cells) c v ∙ healthy .shape .length-cells) written-free b
-        ∙ sym (references-slots written b)
-        ∙ ap (occurrences (suc b)) (sym (set-append-right (h .roots) (h .cells) c v))
+        all-references N written (healthy .represents) written-free b
+        ∙ sym (references-slots N written b)
+        ∙ ap (occurrences (suc b)) cell-slots
 
     change-cell-served :
         (second : ℕ) → getD (h .cells) c 0 ≢ v → Served N w (storeCell a j v) h (freeing N h (changeCell N w h c v) second)
     unfolding changeCell putCell freeing stored written writes
     change-cell-served second new =
-        let shows = store-cell N w h healthy v ref a j first l .shows in
+        let shows = store-cell N w h healthy v ref a j first l ordinary .shows in
         let slot-i = cell-place N w h healthy a j first l in
         let i : ℕ = length (h .roots) + c in
         record {
           keep = store-healthy v ref i slot-i (changeCell N w h c v) shows;
           no-early-free = λ b n object leads.
               store-object v ref i slot-i (changeCell N w h c v) shows b n object
-              (rw (← set-append-right (h .roots) (h .cells) c v)
+              (rw cell-slots
               at (leads-reach N (withCells (set (h .cells) c v) h) (sizesOf N (h .a) (h .b)) (healthy .represents) leads));
           collects = no-collection (storeCell a j v) refl;
           sticks = λ b n was is low top.
               let found =
               store-sticks v ref i slot-i (changeCell N w h c v) shows (cell-inside N w h healthy a j first l)
-              (λ e. new (sym (cell-slot h c) ∙ e)) b n was low top in
+              (λ e. new (sym (cell-read N w h healthy a j first l ordinary) ∙ e)) b n was low top in
               record { accepted = refl; reference = omega (arith, found .0); enough = omega (arith, found .1, cell-references b) };
         }
 
@@ -262,29 +273,42 @@ module _ (N w : ℕ) (h : Memory) (healthy : Healthy N w h) where
         let was = object-size N h (sizesOf N (h .a) (h .b)) (healthy .represents) b m object in
         omega (arith, place-found .free b (omega arith) (omega arith), healthy .represents .used b b (omega arith) (omega (arith, was)))
 
-    pub allocate-served : (second : ℕ) → Served N w (allocate n root) h (reply 0 i second, settled N (allocateIn N w h n root i))
-    unfolding allocateIn putRoot placed graph.allocate stored written
-    allocate-served second =
+    -- what the call stores, of either kind
+    allocation-written : (asData : Bool) (x : Reply) → written h (allocateAs asData n root) x ≡ withRoots (set (h .roots) root (1 + x .value)) h
+    unfolding written
+    allocation-written true x = refl
+    allocation-written false x = refl
+
+    other-call : (asData : Bool) → collecting (allocateAs asData n root) ≡ false
+    other-call true = refl
+    other-call false = refl
+
+    pub allocate-served :
+        (asData : Bool) (second : ℕ)
+        → Served N w (allocateAs asData n root) h (reply 0 i second, settled N (allocateIn N w asData h n root i))
+    unfolding allocateIn putRoot placed graph.allocate stored
+    allocate-served asData second =
         let cap : ℕ = capacity w in
         let r : ℕ = length (h .roots) in
         let pos = positive N w h healthy in
         let vacant = room-vacant N w h healthy n i nonzero place-found in
-        let shows = allocate-root N w h healthy n i nonzero place-found root l .shows in
+        let shows = allocate-root N w h healthy n i nonzero place-found asData root l .shows in
         let named : 1 + i ≡ suc i = omega arith in
         record {
-          keep = healthy-after N w r (allocateIn N w h n root i) (graph.allocate cap r (view N w h) i n root) shows
+          keep = healthy-after N w r (allocateIn N w asData h n root i) (graph.allocate cap r (view N w h) i n root) shows
               (allocate-whole cap pos r (view N w h) (healthy .whole) i n root vacant l)
               (finish-aligned cap pos r (place (view N w h) i n) root (suc i)
               (placed-balanced cap pos r (view N w h) (healthy .whole) i n root vacant l)
               (placed-waits cap pos r (view N w h) (healthy .whole) i n root vacant l)
               (placed-shape cap pos r (view N w h) (healthy .whole) i n root vacant l) (inl l) placed-aligned);
           no-early-free = λ b m object leads.
-              object-after N w r h (allocateIn N w h n root i) (graph.allocate cap r (view N w h) i n root) (healthy .represents) shows
+              object-after N w r h (allocateIn N w asData h n root i) (graph.allocate cap r (view N w h) i n root) (healthy .represents) shows
               b m object
               (allocate-keeps cap pos r (view N w h) (healthy .whole) i n root vacant l b (old-object b m object)
-              (rw (length-set (h .roots) root (1 + i), ← set-append-left (h .roots) (h .cells) root (1 + i) l, named)
-              at (leads-reach N (withRoots (set (h .roots) root (1 + i)) h) (sizesOf N (h .a) (h .b)) (healthy .represents) leads)));
-          collects = no-collection (allocate n root) refl;
+              (rw (length-set (h .roots) root (1 + i), ← set-append-left (h .roots) (cellRefs N h) root (1 + i) l, named)
+              at (leads-reach N (withRoots (set (h .roots) root (1 + i)) h) (sizesOf N (h .a) (h .b)) (healthy .represents)
+              (subst (λ (k : Memory). Leads N k b) (allocation-written asData (reply 0 i second)) leads))));
+          collects = no-collection (allocateAs asData n root) (other-call asData);
           sticks = λ b m was is low top.
               let in-heap : b < N = first-facts N (h .a) (h .b) b (was .first) .inside in
               absurd
@@ -292,7 +316,7 @@ module _ (N w : ℕ) (h : Memory) (healthy : Healthy N w h) where
                 arith,
                 allocate-lowers cap pos r (view N w h) (healthy .whole) i n root vacant l b (old-object b m was),
                 view-count N w h b in-heap,
-                view-count N w (allocateIn N w h n root i) b in-heap,
+                view-count N w (allocateIn N w asData h n root i) b in-heap,
                 ap (λ (k : Graph). count k b) (shows .view-is),
               ));
         }

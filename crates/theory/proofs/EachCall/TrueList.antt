@@ -5,6 +5,7 @@ use Prim.Native.Nat.{ℕ}
 use Rattle.rules.specs.Heap.{Memory}
 use Rattle.rules.specs.Store.{formatted}
 use Rattle.rules.specs.Calls.{Call, format, check, collect, freeBlocks, allocate, storeRoot, storeCell, look, returnRoots, Answer}
+use Rattle.rules.specs.Calls.{allocateData, writeNumber, readNumber}
 use Rattle.rules.specs.Calls.{testsHeap, freeing, outcome, answer}
 use Rattle.rules.proofs.Replies.{answer-either, accepted-outcome}
 use Rattle.theory.specs.Sections.{ListLeftTrue}
@@ -23,6 +24,9 @@ outcome-listed N w h (storeRoot r v) listed = refl
 outcome-listed N w h (storeCell a j v) listed = refl
 outcome-listed N w h (look a) listed = listed refl
 outcome-listed N w h (returnRoots chosen) listed = refl
+outcome-listed N w h (allocateData n r) listed = refl
+outcome-listed N w h (writeNumber a j x) listed = listed refl
+outcome-listed N w h (readNumber a j) listed = listed refl
 
 -- a list that was true is true after every call, a refused one too
 pub answer-listed : (N w : ℕ) (h : Memory) → Listed N h → (c : Call) → Listed N (answer N w h c .1)

@@ -15,6 +15,7 @@ use Rattle.rules.proofs.Shape.{Shaped, formatted-shaped}
 use Rattle.rules.proofs.Objects.{first-facts, ref-test}
 use Rattle.theory.proofs.Maps.Extents.{represents-delimited, formatted-represents}
 use Rattle.theory.proofs.Maps.Undamaged.{DamageFree}
+use Rattle.rules.proofs.Reading.{read-zero}
 use Rattle.theory.proofs.Memories.Healthy.{Healthy, undamaged-healthy}
 
 pub zeros-at : (n i : ℕ) → _≡_ {A = ℕ} (getD (replicate n 0) i 0) 0
@@ -39,11 +40,12 @@ module _ (N w : ℕ) (h : Memory) (shape : Shaped N w h) where
         delimited = represents-delimited N a b (replicate N 0) (formatted-represents N (shape .whole-bytes));
         aligned = λ i f. absurd (no-object i f);
         free-cells = λ j l z. zeros-at (4 * N) j;
-        cell-refs = λ j l. ref-test N a b (getD (replicate (4 * N) 0) j 0) (inl (zeros-at (4 * N) j));
+        cell-refs = λ j l. ref-test N a b _ (inl (read-zero N a b (replicate (N / 8) 0) (replicate (4 * N) 0) j (zeros-at (4 * N) j)));
         root-refs = λ r l. ref-test N a b (getD (replicate (length (h .roots)) 0) r 0) (inl (zeros-at (length (h .roots)) r));
         no-count = λ i l f. count-all-zero (N / 8) w (w * (N / 8)) i;
         some-count = λ i f z. no-object i f;
         counted = λ i f. absurd (no-object i f);
+        data-first = λ i l f. bit-all-zero (N / 8) i;
       }
 
   pub formatted-healthy : Healthy N w (formatted N w (length (h .roots)))

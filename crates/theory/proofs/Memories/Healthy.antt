@@ -1,18 +1,19 @@
 -- What is carried from call to call about a lent memory: its shape, that its maps stand for the sizes read off them, that its view keeps
--- the laws of the object graph, and that every object is aligned. Exactly the memories with the right shape and no damage are healthy.
+-- the laws of the object graph, that every object is aligned, and that nothing is left where no object stands. Exactly the memories with the
+-- right shape and no damage are healthy.
 use mathlib.Core.Path.{_≡_, sym, ap, _∙_}
 use mathlib.Core.Logic.{_≢_, _⊎_, inl, inr}
 use mathlib.Core.Bool.{true, false, true≢false}
 use mathlib.Core.List.{List, []}
-use Prim.Native.Nat.{ℕ, suc, _+_, _-_, _/_, _%_, _^_, _≤_, _<_}
+use Prim.Native.Nat.{ℕ, suc, _+_, _-_, _*_, _/_, _%_, _^_, _≤_, _<_}
 use native.Mathlib.Nat.{add-zero}
 use native.Mathlib.Decide.{ℕ-discrete, decLt}
 use native.Mathlib.Omega.{arith}
 use lib.ListN.{length, getD, length-append, List·getD-eq-default}
 use lib.Pow.{pow-mono}
-use Rattle.bitmap.specs.Bit.{bitAt}
+use Rattle.bitmap.proofs.Maps.{bit-past-end}
 use Rattle.planes.proofs.Counts.{count-lt}
-use Rattle.rules.specs.Heap.{Memory, shaped, capacity, countOf, isFirst, exponent, isRef}
+use Rattle.rules.specs.Heap.{Memory, shaped, capacity, countOf, isFirst, exponent, isRef, reference}
 use Rattle.rules.specs.Damage.{damage}
 use Rattle.rules.proofs.Tests.{test-cases}
 use Rattle.rules.proofs.Shape.{Shaped, shape-facts, shape-test}
@@ -20,12 +21,14 @@ use Rattle.rules.proofs.Objects.{bit-cases, first-facts, ref-test}
 use Rattle.rules.proofs.Tabulate.{length-tabulate, getD-tabulate}
 use Rattle.theory.proofs.Maps.Extents.{Represents, sizesOf, length-sizes-of, size-not-first, sized-first, first-size, extent, represents-delimited}
 use Rattle.theory.proofs.Maps.Undamaged.{DamageFree, undamaged-represents, damage-facts, damage-test}
-use Rattle.theory.proofs.Graphs.Occurrences.{equals-none, occurrences, occurrences-nil, occurrences-find, nonzero-inside}
+use Rattle.theory.proofs.Graphs.Occurrences.{equals-none, occurrences, occurrences-nil, occurrences-find}
 use Rattle.theory.proofs.Graphs.Graph.{size, count, slot, Owns}
 use Rattle.theory.proofs.Graphs.Balance.{Law, unreferenced, unreferenced-absent, unreferenced-counted, all-counted, named-object}
 use Rattle.theory.proofs.Graphs.Calls.{Whole}
-use Rattle.theory.proofs.Memories.View.{view}
-use Rattle.theory.proofs.Memories.Slots.{slotsIn, root-slot, cell-slot, slot-cases, references-slots, ref-first}
+use Rattle.rules.proofs.Reading.{read-free}
+use Rattle.theory.proofs.Memories.Reading.{Bare}
+use Rattle.theory.proofs.Memories.View.{cellRefs, slotsIn, view}
+use Rattle.theory.proofs.Memories.Slots.{root-slot, cell-slot, length-cell-refs, cell-within, slot-cases, references-slots, ref-first}
 
 -- every object starts at a multiple of the least power of two that is its size or more
 abbrev pub Aligned : List ℕ → Type 0
@@ -36,6 +39,7 @@ pub record Healthy (N w : ℕ) (h : Memory) : Type 0 where
   pub represents : Represents N (h .a) (h .b) (sizesOf N (h .a) (h .b))
   pub whole : Whole (capacity w) (length (h .roots)) (view N w h)
   pub aligned : Aligned (sizesOf N (h .a) (h .b))
+  pub bare : Bare N (h .a) (h .b) (h .d) (h .cells)
 
 pub capacity-positive : (w : ℕ) → 1 ≤ w → 0 < capacity w
 capacity-positive w l = omega (arith, pow-mono {i = 1} {j = w} l)
@@ -50,24 +54,23 @@ module _ (N w : ℕ) (h : Memory) (shape : Shaped N w h) (undamaged : DamageFree
   represents = undamaged-represents N w h shape undamaged
 
   -- what a slot names is the first block of an object
-  named : (s b : ℕ) → getD (slotsIn h) s 0 ≡ suc b → isFirst N h b ≡ true
+  named : (s b : ℕ) → getD (slotsIn N h) s 0 ≡ suc b → isFirst N h b ≡ true
   named s b e =
       elim (slot-cases h s) [
-        | inl l ↦ ref-first N h (getD (h .roots) s 0) b (undamaged .root-refs s l) (sym (root-slot h s l) ∙ e)
-        | inr q ↦ cell (q .0) (sym (cell-slot h (q .0)) ∙ ap (λ (i : ℕ). getD (slotsIn h) i 0) (sym (q .1)) ∙ e)
+        | inl l ↦ ref-first N h (getD (h .roots) s 0) b (undamaged .root-refs s l) (sym (root-slot N h s l) ∙ e)
+        | inr q ↦ cell (q .0) (ap (λ (i : ℕ). getD (slotsIn N h) i 0) (sym (q .1)) ∙ e)
       ]
     where
-      cell : (j : ℕ) → getD (h .cells) j 0 ≡ suc b → isFirst N h b ≡ true
+      cell : (j : ℕ) → getD (slotsIn N h) (length (h .roots) + j) 0 ≡ suc b → isFirst N h b ≡ true
       cell j p =
-          ref-first N h (getD (h .cells) j 0) b
-          (undamaged .cell-refs j (omega (arith, nonzero-inside (h .cells) j (omega arith), shape .length-cells)))
-          p
+          let inside = cell-within N h j (omega arith) in
+          ref-first N h (reference N h j) b (undamaged .cell-refs j inside) (sym (cell-slot N h j inside) ∙ p)
 
   -- nothing names a block that is not a first one, and it has no count
-  unnamed : (b : ℕ) → isFirst N h b ≡ false → occurrences (suc b) (slotsIn h) ≡ 0
+  unnamed : (b : ℕ) → isFirst N h b ≡ false → occurrences (suc b) (slotsIn N h) ≡ 0
   unnamed b f =
-      elim (decLt 0 (occurrences (suc b) (slotsIn h))) [
-        | yes l ↦ let found = occurrences-find (suc b) (slotsIn h) l in absurd (true≢false (sym (named (found .0) b (found .2)) ∙ f))
+      elim (decLt 0 (occurrences (suc b) (slotsIn N h))) [
+        | yes l ↦ let found = occurrences-find (suc b) (slotsIn N h) l in absurd (true≢false (sym (named (found .0) b (found .2)) ∙ f))
         | no l ↦ omega arith
       ]
 
@@ -78,10 +81,10 @@ module _ (N w : ℕ) (h : Memory) (shape : Shaped N w h) (undamaged : DamageFree
         | no l ↦ List·getD-eq-default (view N w h .counts) 0 {n = b} (omega (arith, length-tabulate N (countOf N w h)))
       ]
 
-  undamaged-law : (b : ℕ) → Law (capacity w) (size (view N w h) b) (count (view N w h) b) (occurrences (suc b) (slotsIn h))
+  undamaged-law : (b : ℕ) → Law (capacity w) (size (view N w h) b) (count (view N w h) b) (occurrences (suc b) (slotsIn N h))
   undamaged-law b = elim (test-cases (isFirst N h b)) [ inl f ↦ object f | inr f ↦ other f ]
     where
-      object : isFirst N h b ≡ true → Law (capacity w) (size (view N w h) b) (count (view N w h) b) (occurrences (suc b) (slotsIn h))
+      object : isFirst N h b ≡ true → Law (capacity w) (size (view N w h) b) (count (view N w h) b) (occurrences (suc b) (slotsIn N h))
       object f =
           let c = view-count N w h b (first-facts N (h .a) (h .b) b f .inside) in
           record {
@@ -89,12 +92,12 @@ module _ (N w : ℕ) (h : Memory) (shape : Shaped N w h) (undamaged : DamageFree
             exact = λ l.
                 elim (undamaged .counted b f) [
                   | inl e ↦ absurd (omega arith)
-                  | inr e ↦ c ∙ e ∙ sym (references-slots h b)
+                  | inr e ↦ c ∙ e ∙ sym (references-slots N h b)
                 ];
             absent = λ z. absurd (first-size N (h .a) (h .b) (sizesOf N (h .a) (h .b)) represents b f z);
           }
 
-      other : isFirst N h b ≡ false → Law (capacity w) (size (view N w h) b) (count (view N w h) b) (occurrences (suc b) (slotsIn h))
+      other : isFirst N h b ≡ false → Law (capacity w) (size (view N w h) b) (count (view N w h) b) (occurrences (suc b) (slotsIn N h))
       other f =
           let c = uncounted b f in
           let n = unnamed b f in
@@ -117,24 +120,43 @@ module _ (N w : ℕ) (h : Memory) (shape : Shaped N w h) (undamaged : DamageFree
 
   -- a cell that is not 0 is one of a used block, which has an owner
   owned :
-      (s : ℕ) → getD (slotsIn h) s 0 ≢ 0
+      (s : ℕ) → getD (slotsIn N h) s 0 ≢ 0
       → (s < length (h .roots)) ⊎ ((x : ℕ) × Owns (length (h .roots)) (sizesOf N (h .a) (h .b)) x s)
   owned s n =
       elim (slot-cases h s) [
         | inl l ↦ inl l
-        | inr q ↦ inr (cell (q .0) (q .1) (λ z. n (ap (λ (i : ℕ). getD (slotsIn h) i 0) (q .1) ∙ cell-slot h (q .0) ∙ z)))
+        | inr q ↦ inr (cell (q .0) (q .1) (λ z. n (ap (λ (i : ℕ). getD (slotsIn N h) i 0) (q .1) ∙ z)))
       ]
     where
       cell :
-          (j : ℕ) → s ≡ length (h .roots) + j → getD (h .cells) j 0 ≢ 0 → (x : ℕ) × Owns (length (h .roots)) (sizesOf N (h .a) (h .b)) x s
+          (j : ℕ) → s ≡ length (h .roots) + j → getD (slotsIn N h) (length (h .roots) + j) 0 ≢ 0
+          → (x : ℕ) × Owns (length (h .roots)) (sizesOf N (h .a) (h .b)) x s
       cell j e some =
+          let inside = cell-within N h j some in
           elim (bit-cases (h .a) (j / 4)) [
             | inl z ↦
-                absurd (some (undamaged .free-cells j (omega (arith, nonzero-inside (h .cells) j some, shape .length-cells)) z))
+                absurd
+                (some
+                (cell-slot N h j inside ∙ read-free N (h .a) (h .b) (h .d) (h .cells) j z ∙ undamaged .free-cells j inside z))
             | inr u ↦
                 let o = represents .owner (j / 4) u in
                 (o .0, (omega (arith, o .1), omega (arith, o .2)))
           ]
+
+  bare : Bare N (h .a) (h .b) (h .d) (h .cells)
+  bare =
+      record {
+        free-cells = λ j z.
+            elim (decLt j (4 * N)) [
+              | yes l ↦ undamaged .free-cells j l z
+              | no l ↦ List·getD-eq-default (h .cells) 0 {n = j} (omega (arith, shape .length-cells))
+            ];
+        data-first = λ i f.
+            elim (decLt i N) [
+              | yes l ↦ undamaged .data-first i l f
+              | no l ↦ bit-past-end (h .d) i (omega (arith, shape .length-d, shape .whole-bytes))
+            ];
+      }
 
   pub undamaged-healthy : Healthy N w h
   undamaged-healthy =
@@ -148,13 +170,14 @@ module _ (N w : ℕ) (h : Memory) (shape : Shaped N w h) (undamaged : DamageFree
             disjoint = represents .apart;
             inside = λ x n. rw (length-sizes-of N (h .a) (h .b)) (represents .inside x n);
             counts-length = length-tabulate N (countOf N w h) ∙ sym (length-sizes-of N (h .a) (h .b));
-            slots-length = omega (arith, length-append (h .roots) (h .cells), shape .length-cells, length-sizes-of N (h .a) (h .b));
+            slots-length = omega (arith, length-append (h .roots) (cellRefs N h), length-cell-refs N h, length-sizes-of N (h .a) (h .b));
             owned = owned;
           };
         };
         aligned = λ x n.
             ap (λ (m : ℕ). x % 2 ^ exponent m) (sym (extent N (h .a) (h .b) (sizesOf N (h .a) (h .b)) represents x n))
             ∙ undamaged .aligned x (sized-first N (h .a) (h .b) x n);
+        bare = bare;
       }
 
 -- ---- and the other way
@@ -174,13 +197,6 @@ module _ (N w : ℕ) (h : Memory) (healthy : Healthy N w h) where
           (sized-first N (h .a) (h .b) (v - 1)
           (named-object (capacity w) (capacity-positive w (healthy .shape .width-min)) (view N w h) (healthy .whole .balanced) s (v - 1) (omega arith)))
 
-  free-unowned :
-      (j : ℕ) → bitAt (h .a) (j / 4) ≡ 0
-      → (length (h .roots) + j < length (h .roots))
-      ⊎ ((x : ℕ) × Owns (length (h .roots)) (sizesOf N (h .a) (h .b)) x (length (h .roots) + j)) → ⊥
-  free-unowned j z (inl l) = omega arith
-  free-unowned j z (inr (x, own)) = omega (arith, healthy .represents .used x (j / 4) (omega arith) (omega arith))
-
   pub healthy-damage-free : DamageFree N w h
   healthy-damage-free =
       record {
@@ -188,13 +204,9 @@ module _ (N w : ℕ) (h : Memory) (healthy : Healthy N w h) where
         aligned = λ i f.
             ap (λ (m : ℕ). i % 2 ^ exponent m) (extent N (h .a) (h .b) (sizesOf N (h .a) (h .b)) (healthy .represents) i (sized i f))
             ∙ healthy .aligned i (sized i f);
-        free-cells = λ j l z.
-            elim (ℕ-discrete (getD (h .cells) j 0) 0) [
-              | yes e ↦ e
-              | no n ↦ absurd (free-unowned j z (healthy .whole .shape .owned (length (h .roots) + j) (λ q. n (sym (cell-slot h j) ∙ q))))
-            ];
-        cell-refs = λ j l. slot-ref (length (h .roots) + j) (getD (h .cells) j 0) (cell-slot h j);
-        root-refs = λ s l. slot-ref s (getD (h .roots) s 0) (root-slot h s l);
+        free-cells = λ j l z. healthy .bare .free-cells j z;
+        cell-refs = λ j l. slot-ref (length (h .roots) + j) (reference N h j) (cell-slot N h j l);
+        root-refs = λ s l. slot-ref s (getD (h .roots) s 0) (root-slot N h s l);
         no-count = λ i l f. sym (view-count N w h i l) ∙ healthy .whole .balanced i .absent (size-not-first N (h .a) (h .b) i f);
         some-count = λ i f z.
             all-counted (view N w h) (healthy .whole .waits) i (sized i f)
@@ -203,9 +215,10 @@ module _ (N w : ℕ) (h : Memory) (healthy : Healthy N w h) where
             let c = view-count N w h i (first-facts N (h .a) (h .b) i f .inside) in
             let law = healthy .whole .balanced i in
             elim (decLt (countOf N w h i) (capacity w)) [
-              | yes l ↦ inr (omega (arith, law .exact (omega arith), equals-none i, references-slots h i))
+              | yes l ↦ inr (omega (arith, law .exact (omega arith), equals-none i, references-slots N h i))
               | no l ↦ inl (omega (arith, law .bounded))
             ];
+        data-first = λ i l f. healthy .bare .data-first i f;
       }
 
 -- ---- as the tests of a call have it

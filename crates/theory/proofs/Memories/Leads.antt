@@ -3,7 +3,7 @@
 use mathlib.Core.Path.{_≡_, sym, ap, _∙_}
 use mathlib.Core.Logic.{_≢_}
 use mathlib.Core.List.{List}
-use Prim.Native.Nat.{ℕ, suc, _+_, _-_, _*_}
+use Prim.Native.Nat.{ℕ, suc, _+_, _-_, _*_, _<_}
 use native.Mathlib.Omega.{arith}
 use lib.ListN.{length, getD}
 use Rattle.rules.specs.Heap.{Memory}
@@ -11,7 +11,8 @@ use Rattle.theory.specs.Words.{Object, Leads, root, cell}
 use Rattle.theory.proofs.Maps.Extents.{Represents, first-size, size-is-first, extent}
 use Rattle.theory.proofs.Graphs.Graph.{firstSlot}
 use Rattle.theory.proofs.Graphs.Keep.{Reach}
-use Rattle.theory.proofs.Memories.Slots.{slotsIn, root-slot, cell-slot}
+use Rattle.theory.proofs.Memories.View.{slotsIn}
+use Rattle.theory.proofs.Memories.Slots.{root-slot, cell-slot}
 
 module _ (N : ℕ) (h : Memory) (sizes : List ℕ) (represents : Represents N (h .a) (h .b) sizes) where
   -- an object is a block whose size is not 0
@@ -26,25 +27,28 @@ module _ (N : ℕ) (h : Memory) (sizes : List ℕ) (represents : Represents N (h
       record { first = size-is-first N (h .a) (h .b) sizes represents b some; size = extent N (h .a) (h .b) sizes represents b some }
 
   -- what a root leads to is reached in the graph
-  pub leads-reach : {b : ℕ} → Leads N h b → Reach (length (h .roots)) sizes (slotsIn h) b
-  leads-reach (root b n r object l e) = Reach.root {b = b} r l (omega (arith, root-slot h r l))
+  pub leads-reach : {b : ℕ} → Leads N h b → Reach (length (h .roots)) sizes (slotsIn N h) b
+  leads-reach (root b n r object l e) = Reach.root {b = b} r l (omega (arith, root-slot N h r l))
   leads-reach (cell b n a m j object before owner l e) =
-      let same = object-size a m owner .0 in
+      let both = object-size a m owner in
+      let same = both .0 in
+      let inside : 4 * a + j < 4 * N = omega (arith, represents .inside a (λ z. both .1 (sym same ∙ z))) in
       Reach.link {b = b}
       a
       (length (h .roots) + (4 * a + j))
       (leads-reach before)
       (omega arith, omega arith)
-      (omega (arith, cell-slot h (4 * a + j)))
+      (omega (arith, cell-slot N h (4 * a + j) inside))
 
   -- where every reference names an object, the other way too
-  module _ (named : (s b : ℕ) → getD (slotsIn h) s 0 ≡ suc b → getD sizes b 0 ≢ 0) where
-    pub reach-leads : (b : ℕ) → Reach (length (h .roots)) sizes (slotsIn h) b → Leads N h b
+  module _ (named : (s b : ℕ) → getD (slotsIn N h) s 0 ≡ suc b → getD sizes b 0 ≢ 0) where
+    pub reach-leads : (b : ℕ) → Reach (length (h .roots)) sizes (slotsIn N h) b → Leads N h b
     reach-leads b (Reach.root s l e) =
-        root b (getD sizes b 0) s (size-object b (named s b e)) l (omega (arith, root-slot h s l))
+        root b (getD sizes b 0) s (size-object b (named s b e)) l (omega (arith, root-slot N h s l))
     reach-leads b (Reach.link a s before owns e) =
         let j : ℕ = s - firstSlot (length (h .roots)) a in
         let place : length (h .roots) + (4 * a + j) ≡ s = omega (arith, owns .0) in
+        let inside : 4 * a + j < 4 * N = omega (arith, owns, represents .inside a (omega (arith, owns))) in
         cell
         b
         (getD sizes b 0)
@@ -55,4 +59,4 @@ module _ (N : ℕ) (h : Memory) (sizes : List ℕ) (represents : Represents N (h
         (reach-leads a before)
         (size-object a (omega (arith, owns)))
         (omega (arith, owns))
-        (omega (arith, cell-slot h (4 * a + j), ap (λ (i : ℕ). getD (slotsIn h) i 0) place))
+        (omega (arith, cell-slot N h (4 * a + j) inside, ap (λ (i : ℕ). getD (slotsIn N h) i 0) place))

@@ -39,6 +39,7 @@ taken-first N w h front back i before =
             occurrences-cons b i (front ++ back),
             occurrences-append b front back,
           );
+      bare = before .bare;
     }
 
 -- one object less
@@ -57,7 +58,7 @@ fewer-objects N w h x rest before =
 record Carried (N w k n : ℕ) (h : Memory) (g : Memory) (left : List ℕ) : Type 0 where
   releasing : Releasing N w g left
   runs : Runs (capacity w) (length (h .roots)) (λ j. ⊥) (view N w h) (view N w g)
-  written : Rewrites h g
+  written : Rewrites N h g
   same-roots : g .roots ≡ h .roots
   same-waiting : g .waiting ≡ h .waiting
   same-sections : g .sections ≡ h .sections
@@ -72,7 +73,7 @@ carried N w Taken.none before =
     record {
       releasing = before;
       runs = done;
-      written = rewrites-same _;
+      written = rewrites-same N _;
       same-roots = refl;
       same-waiting = refl;
       same-sections = refl;
@@ -89,7 +90,7 @@ carried N w (Taken.next {k} {n} {total} {h} {g} {waiting} {left} front i back e 
           free-one i (head .0) (head .1)
           (subst (λ (m : Graph). Runs (capacity w) (length (h .roots)) (λ j. ⊥) m (view N w g)) (view-after N w h i (front ++ back) first)
           (more .runs));
-      written = rewrites-trans (step-rewrites N w h i (front ++ back)) (more .written);
+      written = rewrites-trans (step-rewrites N w h i (front ++ back) first) (more .written);
       same-roots = more .same-roots;
       same-waiting = more .same-waiting;
       same-sections = more .same-sections;
@@ -133,7 +134,8 @@ module _ (N w : ℕ) (h : Memory) (waiting : List ℕ) (before : Releasing N w h
   two-ends k n l m g end t u =
       let c = carried N w t before in
       let d = carried N w u before in
-      same-memory N w h (c .releasing .shape) (c .releasing .represents) (d .releasing .represents) (c .written) (d .written)
+      same-memory N w h (c .releasing .shape) (d .releasing .shape) (c .releasing .represents) (d .releasing .represents)
+      (c .releasing .bare) (d .releasing .bare) (c .written) (d .written)
       (ap length (c .same-roots ∙ sym (d .same-roots))) (c .same-waiting ∙ sym (d .same-waiting))
       (λ e. c .same-sections ∙ sym (d .same-sections))
       (same-end (capacity w) (before .positive) (length (h .roots)) (λ j. ⊥) (view N w h) (before .balanced) (view N w g) (view N w end)
@@ -166,7 +168,7 @@ one-end N w h stack before =
 -- what a release writes; the A-map has no fewer 0 bits after it
 pub release-rewrites :
     (N w : ℕ) (h : Memory) (stack : List ℕ) → Releasing N w h stack
-    → Rewrites h (release N N w h stack) × (zeros (h .a) ≤ zeros ((release N N w h stack) .a))
+    → Rewrites N h (release N N w h stack) × (zeros (h .a) ≤ zeros ((release N N w h stack) .a))
 release-rewrites N w h stack before =
     let own = release-taken N w N h stack before (omega arith) in
     let c = carried N w (own .2) before in

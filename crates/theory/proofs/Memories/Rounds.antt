@@ -13,7 +13,7 @@ use lib.Dec.{leb, ltb, eqb}
 use borrow.Author.Tests.{leb-true, le-leb, ltb-true, lt-ltb, eqb-true, eq-eqb, not-true, not-false}
 use Rattle.bitmap.specs.Bit.{countBelow}
 use Rattle.rules.specs.Tools.{holding, someBelow}
-use Rattle.rules.specs.Heap.{Memory, isFirst, sizeAt}
+use Rattle.rules.specs.Heap.{Memory, isFirst, sizeAt, reference}
 use Rattle.rules.specs.Collection.{isCellOf, cellOfChosen, referencesFrom, marked, reachedNext, reachedIn, reached}
 use Rattle.theory.specs.Words.{Leads, root, cell}
 use Rattle.rules.proofs.Tests.{test-cases, and-true, true-and, and-false, some-true, true-some, some-false}
@@ -68,11 +68,11 @@ module _ (N : ℕ) (h : Memory) where
 
   -- cell number j names the object at block b and belongs to an object in the set
   abbrev pub namesFrom : (ℕ → Bool) → ℕ → ℕ → Bool
-  namesFrom set b j = elim (eqb (getD (h .cells) j 0) (b + 1)) [ true ↦ cellOfChosen N h set j | false ↦ false ]
+  namesFrom set b j = elim (eqb (reference N h j) (b + 1)) [ true ↦ cellOfChosen N h set j | false ↦ false ]
 
   data NamedFrom (set : ℕ → Bool) (b : ℕ) : Type 0 where
     by-root : (r : ℕ) → r < length (h .roots) → getD (h .roots) r 0 ≡ 1 + b → NamedFrom set b
-    by-cell : (j a : ℕ) → CellOf set j a → getD (h .cells) j 0 ≡ 1 + b → NamedFrom set b
+    by-cell : (j a : ℕ) → CellOf set j a → reference N h j ≡ 1 + b → NamedFrom set b
 
   named-from : (set : ℕ → Bool) (b : ℕ) → 1 ≤ referencesFrom N h set b → NamedFrom set b
   unfolding referencesFrom holding
@@ -86,9 +86,9 @@ module _ (N : ℕ) (h : Memory) where
     where
       cells : (j : ℕ) → namesFrom set b j ≡ true → NamedFrom set b
       cells j e =
-          let both = then-true (eqb (getD (h .cells) j 0) (b + 1)) (cellOfChosen N h set j) e in
+          let both = then-true (eqb (reference N h j) (b + 1)) (cellOfChosen N h set j) e in
           let owner = cell-of-set set j (both .1) in
-          by-cell j (owner .0) (owner .1) (omega (arith, eqb-true (getD (h .cells) j 0) (b + 1) (both .0)))
+          by-cell j (owner .0) (owner .1) (omega (arith, eqb-true (reference N h j) (b + 1) (both .0)))
 
   from-named : (set : ℕ → Bool) (b : ℕ) → NamedFrom set b → 1 ≤ referencesFrom N h set b
   unfolding referencesFrom holding
@@ -102,8 +102,8 @@ module _ (N : ℕ) (h : Memory) where
       omega (
         arith,
         found-count (namesFrom set b) (4 * N) j inside
-            (true-then (eqb (getD (h .cells) j 0) (b + 1)) (cellOfChosen N h set j)
-            (eq-eqb (getD (h .cells) j 0) (b + 1) (omega arith))
+            (true-then (eqb (reference N h j) (b + 1)) (cellOfChosen N h set j)
+            (eq-eqb (reference N h j) (b + 1) (omega arith))
             (of-set-cell set j a c)),
       )
     where
@@ -147,7 +147,7 @@ module _ (N : ℕ) (h : Memory) where
       cell b (sizeAt N h b) a (sizeAt N h a) (j - 4 * a) (record { first = f; size = refl }) (before a (c .chosen))
       (record { first = c .first; size = refl })
       (omega (arith, c .below))
-      (ap (λ (i : ℕ). getD (h .cells) i 0) place ∙ e)
+      (ap (reference N h) place ∙ e)
 
   rounds-sound : (k b : ℕ) → marked (reachedIn k N h) b ≡ true → Leads N h b
   unfolding reachedIn

@@ -13,7 +13,7 @@ use borrow.Author.Tests.{eqb-false, ne-eqb, not-true}
 use Rattle.bitmap.specs.Bit.{countBelow}
 use Rattle.bitmap.proofs.Zeros.{count-same}
 use Rattle.rules.specs.Tools.{holding, tabulate}
-use Rattle.rules.specs.Heap.{Memory, capacity, countOf, isFirst}
+use Rattle.rules.specs.Heap.{Memory, capacity, countOf, isFirst, reference}
 use Rattle.rules.specs.Collection.{cellOfChosen, referencesFrom, marked, reached, swept, collected}
 use Rattle.rules.proofs.Tests.{test-cases, true-and}
 use Rattle.rules.proofs.Counting.{then-all, then-none}
@@ -28,8 +28,8 @@ use Rattle.theory.proofs.Graphs.Marking.{Markable, isReached, reached-s
 use Rattle.theory.proofs.Graphs.Collection.{Live, Collected}
 use Rattle.theory.proofs.Graphs.Sweep.{sweep, markedGraph, collect}
 use Rattle.theory.proofs.Graphs.Calls.{whole-markable, collect-is, collect-whole}
-use Rattle.theory.proofs.Memories.View.{view}
-use Rattle.theory.proofs.Memories.Slots.{slotsIn, cell-slot, references-slots}
+use Rattle.theory.proofs.Memories.View.{slotsIn, view}
+use Rattle.theory.proofs.Memories.Slots.{cell-slot, references-slots}
 use Rattle.theory.proofs.Memories.Healthy.{Healthy, view-count}
 use Rattle.theory.proofs.Memories.Leads.{leads-reach, reach-leads}
 use Rattle.theory.proofs.Memories.Rounds.{cell-of-set, of-set-cell, namesFrom, reached-led, led-reached}
@@ -98,17 +98,17 @@ module _ (N w : ℕ) (h : Memory) (healthy : Healthy N w h) where
   unfolding collect
   collect-swept =
       subst (λ (n : ℕ). Swept N w h (swept N w h marks N) (sweep r (markedGraph (capacity w) r before) n)) (sym (length-sizes-of N (h .a) (h .b)))
-      (sweep-swept N w h (healthy .shape) (healthy .represents) marks (marking.marked (capacity w) r before) counted uncounted N (omega arith))
+      (sweep-swept N w h (healthy .shape) (healthy .represents) (healthy .bare) marks (marking.marked (capacity w) r before) counted uncounted N (omega arith))
 
   -- ---- the references that are left
 
   abbrev left : Memory
   left = swept N w h marks N
 
-  cell-left : (j : ℕ) → getD (left .cells) j 0 ≡ slot after (r + j)
-  cell-left j =
-      sym (cell-slot left j)
-      ∙ ap (λ (roots : List ℕ). getD (slotsIn left) (length roots + j) 0) (collect-swept .same-roots)
+  cell-left : (j : ℕ) → j < 4 * N → reference N left j ≡ slot after (r + j)
+  cell-left j l =
+      sym (cell-slot N left j l)
+      ∙ ap (λ (roots : List ℕ). getD (slotsIn N left) (length roots + j) 0) (collect-swept .same-roots)
       ∙ ap (λ (slots : List ℕ). getD slots (r + j) 0) (collect-swept .slots-are)
 
   -- a cell of an object that is marked stands, any other is 0
@@ -131,27 +131,25 @@ module _ (N w : ℕ) (h : Memory) (healthy : Healthy N w h) where
       (record { first = first; chosen = reach-marked x reach; from = omega (arith, own); below = omega (arith, own) }))
 
   names-left :
-      (b j : ℕ) → eqb (getD (left .cells) j 0) (b + 1) ≡ namesFrom N h (marked marks) b j
-  names-left b j =
+      (b j : ℕ) → j < 4 * N → eqb (reference N left j) (b + 1) ≡ namesFrom N h (marked marks) b j
+  names-left b j l =
       elim (test-cases (cellOfChosen N h (marked marks) j)) [
         | inl e ↦
-            ap (λ (v : ℕ). eqb v (b + 1)) (cell-left j ∙ is-collected .live (r + j) (live j e) ∙ cell-slot h j)
-            ∙ sym (then-all (eqb (getD (h .cells) j 0) (b + 1)) (cellOfChosen N h (marked marks) j) e)
+            ap (λ (v : ℕ). eqb v (b + 1)) (cell-left j l ∙ is-collected .live (r + j) (live j e) ∙ cell-slot N h j l)
+            ∙ sym (then-all (eqb (reference N h j) (b + 1)) (cellOfChosen N h (marked marks) j) e)
         | inr e ↦
-            ne-eqb (getD (left .cells) j 0) (b + 1) (λ q. omega (arith, cell-left j, is-collected .dead (r + j) (dead j e)))
-            ∙ sym (then-none (eqb (getD (h .cells) j 0) (b + 1)) (cellOfChosen N h (marked marks) j) e)
+            ne-eqb (reference N left j) (b + 1) (λ q. omega (arith, cell-left j l, is-collected .dead (r + j) (dead j e)))
+            ∙ sym (then-none (eqb (reference N h j) (b + 1)) (cellOfChosen N h (marked marks) j) e)
       ]
 
   cells-left :
-      (b : ℕ) → holding (b + 1) (left .cells)
+      (b : ℕ) → countBelow (λ j. eqb (reference N left j) (b + 1)) (4 * N)
       ≡ countBelow (namesFrom N h (marked marks) b) (4 * N)
-  unfolding holding
   cells-left b =
-      ap (countBelow (λ j. eqb (getD (left .cells) j 0) (b + 1))) (collect-swept .shape .length-cells)
-      ∙ count-same (λ j. eqb (getD (left .cells) j 0) (b + 1))
+      count-same (λ j. eqb (reference N left j) (b + 1))
       (namesFrom N h (marked marks) b)
       (4 * N)
-      (λ j l. names-left b j)
+      (names-left b)
 
   -- each reference that is left is one from a root or from a cell of a marked object
   pub references-left : (b : ℕ) → referencesFrom N h (marked marks) b ≡ occurrences (suc b) (after .slots)
@@ -161,7 +159,7 @@ module _ (N w : ℕ) (h : Memory) (healthy : Healthy N w h) where
         arith,
         cells-left b,
         ap (holding (b + 1)) (collect-swept .same-roots),
-        references-slots left b,
+        references-slots N left b,
         ap (occurrences (suc b)) (collect-swept .slots-are),
       )
 
@@ -214,9 +212,11 @@ module _ (N w : ℕ) (h : Memory) (healthy : Healthy N w h) where
             refl
             refl
             refl
+            refl
             refl;
         represents =
             rw (← represents-is N (left .a) (left .b) (after .sizes) (collect-swept .represents)) (collect-swept .represents);
         roots-are = ap length (collect-swept .same-roots);
         view-is = view-collected;
+        bare = collect-swept .bare;
       }

@@ -170,16 +170,31 @@ module _ (N w : ℕ) (whole : 8 * (N / 8) ≡ N) (counts : List ℕ) (len : leng
 -- each cell of a stretch, where the stretch of slots holds the same
 pub each-shows :
     (N w : ℕ) (whole : 8 * (N / 8) ≡ N) (counts : List ℕ) (len : length counts ≡ w * (N / 8)) (stack cells slots : List ℕ) (j i : ℕ)
-    → ((k : ℕ) → getD cells (j + k) 0 ≡ getD slots (i + k) 0) → ((k : ℕ) → getD slots k 0 ≤ N) → (n : ℕ)
+    → ((k : ℕ) → getD slots k 0 ≤ N) → (n : ℕ) → ((k : ℕ) → k < n → getD cells (j + k) 0 ≡ getD slots (i + k) 0)
     → WorkShows N w (countDownEach N w (work counts stack) cells j n) (graph.countDownEach (capacity w) (countsOf N w counts) slots i n)
     (graph.countDownEachStack (capacity w) (countsOf N w counts) slots i n stack)
 unfolding countDownEach graph.countDownEach graph.countDownEachStack
-each-shows N w whole counts len stack cells slots j i same named zero = record { length-is = len; counts-are = refl; stack-is = refl }
-each-shows N w whole counts len stack cells slots j i same named (suc n) =
-    let before = each-shows N w whole counts len stack cells slots j i same named n in
+each-shows N w whole counts len stack cells slots j i named zero same = record { length-is = len; counts-are = refl; stack-is = refl }
+each-shows N w whole counts len stack cells slots j i named (suc n) same =
+    let before = each-shows N w whole counts len stack cells slots j i named n (λ k l. same k (omega arith)) in
     let s : Work = countDownEach N w (work counts stack) cells j n in
-    rw (same n, ← before .counts-are, ← before .stack-is)
+    rw (same n (omega arith), ← before .counts-are, ← before .stack-is)
     (down-shows N w whole (s .counts) (before .length-is) (s .stack) (getD slots (i + n) 0) (named (i + n)))
+
+-- slots that hold 0 count nothing down
+pub each-none :
+    (cap : ℕ) (counts stack slots : List ℕ) (i n : ℕ) → ((k : ℕ) → k < n → getD slots (i + k) 0 ≡ 0)
+    → (graph.countDownEach cap counts slots i n ≡ counts) × (graph.countDownEachStack cap counts slots i n stack ≡ stack)
+unfolding graph.countDown graph.countDownStack graph.countDownEach graph.countDownEachStack
+each-none cap counts stack slots i zero none = (refl, refl)
+each-none cap counts stack slots i (suc n) none =
+    let before = each-none cap counts stack slots i n (λ k l. none k (omega arith)) in
+    let here = none n (omega arith) in
+    let so-far : List ℕ = graph.countDownEach cap counts slots i n in
+    let waiting : List ℕ = graph.countDownEachStack cap counts slots i n stack in (
+      ap (graph.countDown cap so-far) here ∙ before .0,
+      ap (λ (v : ℕ). graph.countDownStack cap so-far v waiting) here ∙ before .1,
+    )
 
 -- ---- slots
 
@@ -194,8 +209,8 @@ length-clear-cells cells j zero = refl
 length-clear-cells cells j (suc n) = length-set (clearCells cells j n) (j + n) 0 ∙ length-clear-cells cells j n
 
 -- cells made 0 are slots made 0
-pub clear-behind : (roots cells : List ℕ) (j n : ℕ) → roots ++ clearCells cells j n ≡ clear (length roots + j) n (roots ++ cells)
-unfolding clearCells stretch
+pub clear-behind : (roots cells : List ℕ) (j n : ℕ) → roots ++ clear j n cells ≡ clear (length roots + j) n (roots ++ cells)
+unfolding stretch
 clear-behind roots cells j zero = refl
 clear-behind roots cells j (suc n) =
-    rw (← clear-behind roots cells j n, add-assoc) (sym (set-append-right roots (clearCells cells j n) (j + n) 0))
+    rw (← clear-behind roots cells j n, add-assoc) (sym (set-append-right roots (clear j n cells) (j + n) 0))

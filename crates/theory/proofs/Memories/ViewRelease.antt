@@ -1,20 +1,19 @@
 -- The release of the rules is, seen in the object graph, the release of the graph's machine; and the maps go on to represent the sizes.
-use mathlib.Core.Path.{_≡_, refl, sym, _∙_, subst}
+use mathlib.Core.Path.{_≡_, refl, sym, ap, _∙_, subst}
 use mathlib.Core.Logic.{_≢_}
+use mathlib.Core.Bool.{Bool, true, false}
 use mathlib.Core.List.{List, [], _∷_, _++_}
 use Prim.Native.Nat.{ℕ, zero, suc, _+_, _-_, _*_, _/_, _≤_, _<_}
-use native.Mathlib.Nat.{add-assoc}
 use native.Mathlib.Omega.{arith}
-use lib.ListN.{length, set}
-use lib.Seq.{getD-append-add}
+use lib.ListN.{length, getD, set}
 use Rattle.bitmap.specs.Bit.{setBit, fillBits, zeros}
 use Rattle.bitmap.proofs.Maps.{length-set-bit}
 use Rattle.bitmap.proofs.Runs.{length-fill}
 use Rattle.bitmap.proofs.Zeros.{zeros-fill-zeros}
 use Rattle.planes.specs.Plane.{setCount}
 use Rattle.planes.proofs.Counts.{set-count-there}
-use Rattle.rules.specs.Heap.{Memory, capacity, sizeAt}
-use Rattle.rules.specs.Store.{freed, workAfter, memoryAfter, release}
+use Rattle.rules.specs.Heap.{Memory, capacity, sizeAt, isData, reference}
+use Rattle.rules.specs.Store.{work, countDownEach, freed, namingCells, workAfter, memoryAfter, release}
 use Rattle.rules.proofs.Shape.{Shaped}
 use Rattle.theory.proofs.Maps.Extents.{Represents, sizesOf, length-sizes-of, extent, represents-is}
 use Rattle.theory.proofs.Maps.Moves.{freed-represents}
@@ -22,16 +21,20 @@ use Rattle.theory.proofs.Graphs.Occurrences.{nonzero-inside}
 use Rattle.theory.proofs.Graphs.Graph as graph
 use Rattle.theory.proofs.Graphs.Graph.{Graph, size, count, slot, firstSlot}
 use Rattle.theory.proofs.Graphs.Balance.{Balanced, Waits, waits-head, named-object, free-balanced, free-waits}
-use Rattle.theory.proofs.Memories.View.{view}
+use Rattle.theory.proofs.Graphs.Stretch.{clear}
+use Rattle.theory.proofs.Memories.Reading.{Bare, data-read, ordinary-read, freed-read, freed-bare}
+use Rattle.theory.proofs.Memories.View.{cellRefs, slotsIn, view}
+use Rattle.theory.proofs.Memories.Slots.{cell-slot}
 use Rattle.theory.proofs.Memories.Healthy.{view-count}
-use Rattle.theory.proofs.Memories.ViewMoves.{WorkShows, each-shows, length-clear-cells, clear-behind}
+use Rattle.theory.proofs.Memories.ViewMoves.{WorkShows, each-shows, each-none, length-clear-cells, clear-behind}
 
 -- a memory whose buffers have the lengths of another's
 pub reshaped :
     (N w : ℕ) (h g : Memory) → Shaped N w h → length (g .a) ≡ length (h .a) → length (g .b) ≡ length (h .b)
     → length (g .counts) ≡ length (h .counts) → length (g .cells) ≡ length (h .cells) → length (g .roots) ≡ length (h .roots)
-    → length (g .waiting) ≡ length (h .waiting) → length (g .sections) ≡ length (h .sections) → Shaped N w g
-reshaped N w h g s a b counts cells roots waiting sections = record {
+    → length (g .waiting) ≡ length (h .waiting) → length (g .sections) ≡ length (h .sections) → length (g .d) ≡ length (h .d)
+    → Shaped N w g
+reshaped N w h g s a b counts cells roots waiting sections d = record {
   power = s .power;
   blocks-min = s .blocks-min;
   blocks-max = s .blocks-max;
@@ -46,6 +49,7 @@ reshaped N w h g s a b counts cells roots waiting sections = record {
   length-cells = cells ∙ s .length-cells;
   length-waiting = waiting ∙ s .length-waiting;
   length-sections = sections ∙ s .length-sections;
+  length-d = d ∙ s .length-d;
 }
 
 -- the memory h is as its shape demands, has r roots and shows the graph k
@@ -54,6 +58,7 @@ pub record Shows (N w r : ℕ) (h : Memory) (k : Graph) : Type 0 where
   pub represents : Represents N (h .a) (h .b) (sizesOf N (h .a) (h .b))
   pub roots-are : length (h .roots) ≡ r
   pub view-is : view N w h ≡ k
+  pub bare : Bare N (h .a) (h .b) (h .d) (h .cells)
 
 -- graphs with equal parts are equal
 pub graph-is : {sizes counts slots sizes′ counts′ slots′ : List ℕ} → sizes ≡ sizes′ → counts ≡ counts′ → slots ≡ slots′
@@ -67,6 +72,7 @@ pub record Releasing (N w : ℕ) (h : Memory) (stack : List ℕ) : Type 0 where
   pub positive : 0 < capacity w
   pub balanced : Balanced (capacity w) (view N w h) 0
   pub waits : Waits (view N w h) stack
+  pub bare : Bare N (h .a) (h .b) (h .d) (h .cells)
 
 -- ---- one object is freed
 
@@ -94,6 +100,9 @@ module _ (N w : ℕ) (h : Memory) (x : ℕ) (rest : List ℕ) (before : Releasin
   pub size-there : sizeAt N h x ≡ size (view N w h) x
   size-there = extent N (h .a) (h .b) (sizesOf N (h .a) (h .b)) (before .represents) x object
 
+  pub nonzero : sizeAt N h x ≢ 0
+  nonzero z = object (sym size-there ∙ z)
+
   -- its blocks become free
   pub freed-zeros : zeros (fillBits (h .a) x (sizeAt N h x) 0) ≡ zeros (h .a) + sizeAt N h x
   freed-zeros =
@@ -107,21 +116,47 @@ module _ (N w : ℕ) (h : Memory) (x : ℕ) (rest : List ℕ) (before : Releasin
       let inside : x < N = omega (arith, object, before .represents .inside x object) in
       set-count-there (N / 8) w (h .counts) x 0 (sym (view-count N w h x inside) ∙ uncounted)
 
+  -- its cells as slots
+  slot-of : (k : ℕ) → k < 4 * size (view N w h) x → getD (slotsIn N h) (firstSlot (length (h .roots)) x + k) 0 ≡ reference N h (4 * x + k)
+  slot-of k l =
+      let at : firstSlot (length (h .roots)) x + k ≡ length (h .roots) + (4 * x + k) = omega arith in
+      ap (λ (s : ℕ). getD (slotsIn N h) s 0) at
+      ∙ cell-slot N h (4 * x + k) (omega (arith, before .represents .inside x object))
+
+  -- what its cells name is counted down; those of data name none
+  naming :
+      (t : Bool) → isData (h .d) x ≡ t
+      → WorkShows N w (countDownEach N w (work (h .counts) rest) (h .cells) (4 * x) (elim t [ true ↦ 0 | false ↦ 4 * sizeAt N h x ]))
+      (graph.countDownEach (capacity w) (view N w h .counts) (slotsIn N h) (firstSlot (length (h .roots)) x) (4 * size (view N w h) x))
+      (graph.countDownEachStack (capacity w) (view N w h .counts) (slotsIn N h) (firstSlot (length (h .roots)) x) (4 * size (view N w h) x) rest)
+  unfolding countDownEach
+  naming true e =
+      let none =
+      each-none (capacity w) (view N w h .counts) rest (slotsIn N h) (firstSlot (length (h .roots)) x) (4 * size (view N w h) x)
+      (λ k l.
+      slot-of k l
+      ∙ data-read N (h .a) (h .b) (sizesOf N (h .a) (h .b)) (before .represents) (h .d) (h .cells) x (4 * x + k) (omega arith, omega arith) e) in
+      record { length-is = shape .length-counts; counts-are = sym (none .0); stack-is = sym (none .1) }
+  naming false e =
+      rw size-there
+      (each-shows N w (shape .whole-bytes) (h .counts) (shape .length-counts) rest (h .cells) (slotsIn N h) (4 * x)
+      (firstSlot (length (h .roots)) x) (slot-le N w h shape (before .positive) (before .balanced)) (4 * size (view N w h) x)
+      (λ k l.
+      sym
+      (slot-of k l
+      ∙ ordinary-read N (h .a) (h .b) (sizesOf N (h .a) (h .b)) (before .represents) (h .d) (h .cells) x (4 * x + k) (omega arith, omega arith) e)))
+
   work-after :
       WorkShows N w (workAfter N w h x rest) ((graph.free (capacity w) (length (h .roots)) (view N w h) x) .counts)
       (graph.freeStack (capacity w) (length (h .roots)) (view N w h) x rest)
-  unfolding freed graph.free graph.freeStack
-  work-after =
-      rw (same-counts, size-there)
-      (each-shows N w (shape .whole-bytes) (h .counts) (shape .length-counts) rest (h .cells) (h .roots ++ h .cells) (4 * x)
-      (firstSlot (length (h .roots)) x) (λ k. rw add-assoc (sym (getD-append-add (h .roots) (h .cells) (4 * x + k) 0)))
-      (slot-le N w h shape (before .positive) (before .balanced)) (4 * size (view N w h) x))
+  unfolding freed namingCells graph.free graph.freeStack
+  work-after = rw same-counts (naming (isData (h .d) x) refl)
 
   maps-after :
       Represents N (fillBits (h .a) x (sizeAt N h x) 0) (setBit (h .b) (x + sizeAt N h x - 1) 1) (set (sizesOf N (h .a) (h .b)) x 0)
   maps-after =
       freed-represents N (h .a) (h .b) (sizesOf N (h .a) (h .b)) (before .represents) x (sizeAt N h x) (sym size-there)
-      (λ z. object (sym size-there ∙ z))
+      nonzero
 
   pub sizes-after :
       set (sizesOf N (h .a) (h .b)) x 0 ≡ sizesOf N (fillBits (h .a) x (sizeAt N h x) 0) (setBit (h .b) (x + sizeAt N h x - 1) 1)
@@ -133,7 +168,10 @@ module _ (N w : ℕ) (h : Memory) (x : ℕ) (rest : List ℕ) (before : Releasin
   unfolding freed graph.free
   view-after =
       graph-is (sym sizes-after) (work-after .counts-are)
-      (rw size-there (clear-behind (h .roots) (h .cells) (4 * x) (4 * size (view N w h) x)))
+      (ap (λ (l : List ℕ). h .roots ++ l)
+      (freed-read N (h .a) (h .b) (sizesOf N (h .a) (h .b)) (h .d) (h .cells) (before .represents) x (sizeAt N h x) (sym size-there) nonzero)
+      ∙ clear-behind (h .roots) (cellRefs N h) (4 * x) (4 * sizeAt N h x)
+      ∙ ap (λ (n : ℕ). clear (firstSlot (length (h .roots)) x) (4 * n) (slotsIn N h)) size-there)
 
   pub releasing-next : Releasing N w (memoryAfter N w h x rest) ((workAfter N w h x rest) .stack)
   unfolding freed
@@ -143,7 +181,7 @@ module _ (N w : ℕ) (h : Memory) (x : ℕ) (rest : List ℕ) (before : Releasin
       record {
         shape = reshaped N w h (memoryAfter N w h x rest) shape (length-fill (h .a) x (sizeAt N h x) 0)
             (length-set-bit (h .b) (x + sizeAt N h x - 1) 1) (work-after .length-is ∙ sym (shape .length-counts))
-            (length-clear-cells (h .cells) (4 * x) (4 * sizeAt N h x)) refl refl refl;
+            (length-clear-cells (h .cells) (4 * x) (4 * sizeAt N h x)) refl refl refl (length-set-bit (h .d) x 0);
         represents = rw (← sizes-after) maps-after;
         positive = before .positive;
         balanced =
@@ -152,6 +190,9 @@ module _ (N w : ℕ) (h : Memory) (x : ℕ) (rest : List ℕ) (before : Releasin
         waits =
             subst (λ (k : Graph). Waits k ((workAfter N w h x rest) .stack)) (sym view-after)
             (rw (work-after .stack-is) (free-waits cap (before .positive) r (view N w h) x rest (before .balanced) (before .waits)));
+        bare =
+            freed-bare N (h .a) (h .b) (sizesOf N (h .a) (h .b)) (h .d) (h .cells) (before .represents) x (sizeAt N h x) (sym size-there) nonzero
+            (before .bare);
       }
 
 -- ---- all that waits is freed
@@ -161,9 +202,9 @@ pub release-shows :
     → Shows N w (length (h .roots)) (release fuel N w h stack) (graph.release (capacity w) (length (h .roots)) fuel (view N w h) stack)
 unfolding release graph.release freed
 release-shows N w zero h stack before =
-    record { shape = before .shape; represents = before .represents; roots-are = refl; view-is = refl }
+    record { shape = before .shape; represents = before .represents; roots-are = refl; view-is = refl; bare = before .bare }
 release-shows N w (suc fuel) h [] before =
-    record { shape = before .shape; represents = before .represents; roots-are = refl; view-is = refl }
+    record { shape = before .shape; represents = before .represents; roots-are = refl; view-is = refl; bare = before .bare }
 release-shows N w (suc fuel) h (x ∷ rest) before =
     rw (← view-after N w h x rest before, ← work-after N w h x rest before .stack-is)
     (release-shows N w fuel (memoryAfter N w h x rest) ((workAfter N w h x rest) .stack) (releasing-next N w h x rest before))

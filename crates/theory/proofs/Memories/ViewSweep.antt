@@ -3,7 +3,7 @@
 use mathlib.Core.Path.{_≡_, refl, sym, ap, _∙_}
 use mathlib.Core.Logic.{_≢_, inl, inr}
 use mathlib.Core.Bool.{Bool, true, false, not, _&&_}
-use mathlib.Core.List.{List}
+use mathlib.Core.List.{List, _++_}
 use Prim.Native.Nat.{ℕ, zero, suc, _+_, _-_, _*_, _/_, _≤_, _<_}
 use native.Mathlib.Decide.{ℕ-discrete}
 use native.Mathlib.Omega.{arith}
@@ -24,7 +24,9 @@ use Rattle.theory.proofs.Maps.Moves.{freed-represents}
 use Rattle.theory.proofs.Graphs.Stretch.{stretch, clear}
 use Rattle.theory.proofs.Graphs.Graph.{Graph, size, count, firstSlot}
 use Rattle.theory.proofs.Graphs.Sweep.{erase, sweepOne, sweep, sweep-gone, sweep-kept}
-use Rattle.theory.proofs.Memories.Slots.{slotsIn}
+use Rattle.theory.proofs.Memories.Reading.{Bare, freed-read, freed-bare}
+use Rattle.theory.proofs.Memories.Keeping.{sizesIn, Kept, kept-same, kept-trans, freed-kept}
+use Rattle.theory.proofs.Memories.View.{cellRefs, slotsIn}
 use Rattle.theory.proofs.Memories.ViewMoves.{length-clear-cells, clear-behind}
 use Rattle.theory.proofs.Memories.ViewRelease.{reshaped, graph-is}
 
@@ -35,7 +37,10 @@ pub record Swept (N w : ℕ) (h g : Memory) (k : Graph) : Type 0 where
   pub same-roots : g .roots ≡ h .roots
   pub same-waiting : g .waiting ≡ h .waiting
   pub same-sections : g .sections ≡ h .sections
-  pub slots-are : slotsIn g ≡ k .slots
+  pub slots-are : slotsIn N g ≡ k .slots
+  pub bare : Bare N (g .a) (g .b) (g .d) (g .cells)
+  -- what stands is as it was
+  pub keeps : (x : ℕ) → getD (sizesIn N g) x 0 ≢ 0 → Kept N h g x
 
 -- ---- one object
 
@@ -53,12 +58,20 @@ freed-swept N w h g k p x n e some =
           (length-clear-cells (g .cells) (4 * x) (4 * n))
           refl
           refl
-          refl;
+          refl
+          (length-set-bit (g .d) x 0);
       represents = freed-represents N (g .a) (g .b) (k .sizes) (p .represents) x n e some;
       same-roots = p .same-roots;
       same-waiting = p .same-waiting;
       same-sections = p .same-sections;
-      slots-are = rw (e, ← p .slots-are, ← p .same-roots) (clear-behind (g .roots) (g .cells) (4 * x) (4 * n));
+      slots-are =
+          rw (e, ← p .slots-are, ← p .same-roots)
+          (ap (λ (l : List ℕ). g .roots ++ l) (freed-read N (g .a) (g .b) (k .sizes) (g .d) (g .cells) (p .represents) x n e some)
+          ∙ clear-behind (g .roots) (cellRefs N g) (4 * x) (4 * n));
+      bare = freed-bare N (g .a) (g .b) (k .sizes) (g .d) (g .cells) (p .represents) x n e some (p .bare);
+      keeps = λ y stands.
+          let kept = freed-kept N w g (k .sizes) (p .represents) x n e some y stands in
+          kept-trans (p .keeps y (λ z. stands (kept .size ∙ z))) kept;
     }
 
 -- where no object stands, nothing goes
@@ -107,12 +120,12 @@ module _ (N w : ℕ) (h : Memory) (marks : List Bool) where
   swept-stays n e = rw (e, swept)
 
 module _ (N w : ℕ) (h : Memory) (shape : Shaped N w h) (represents : Represents N (h .a) (h .b) (sizesOf N (h .a) (h .b)))
-    (marks : List Bool) (counts : List ℕ)
+    (bare : Bare N (h .a) (h .b) (h .d) (h .cells)) (marks : List Bool) (counts : List ℕ)
     -- the counts of the graph are not 0 exactly where an object is marked
     (counted : (b : ℕ) → marked marks b ≡ true → getD counts b 0 ≢ 0)
     (uncounted : (b : ℕ) → marked marks b ≡ false → getD counts b 0 ≡ 0) where
   abbrev before : Graph
-  before = record { sizes = sizesOf N (h .a) (h .b); counts = counts; slots = slotsIn h }
+  before = record { sizes = sizesOf N (h .a) (h .b); counts = counts; slots = slotsIn N h }
 
   abbrev r : ℕ
   r = length (h .roots)
@@ -159,5 +172,15 @@ module _ (N w : ℕ) (h : Memory) (shape : Shaped N w h) (represents : Represent
 
   pub sweep-swept : (n : ℕ) → n ≤ N → Swept N w h (swept N w h marks n) (sweep r before n)
   unfolding sweep swept
-  sweep-swept zero l = record { shape = shape; represents = represents; same-roots = refl; same-waiting = refl; same-sections = refl; slots-are = refl }
+  sweep-swept zero l =
+      record {
+        shape = shape;
+        represents = represents;
+        same-roots = refl;
+        same-waiting = refl;
+        same-sections = refl;
+        slots-are = refl;
+        bare = bare;
+        keeps = λ x stands. kept-same N h x;
+      }
   sweep-swept (suc n) l = one-more n l (sweep-swept n (omega arith))

@@ -4,7 +4,8 @@ use Prim.Native.Nat.{ℕ}
 use lib.ListN.{replicate}
 use Rattle.rules.specs.Heap.{Memory}
 use Rattle.rules.specs.Store.{formatted}
-use Rattle.rules.specs.Calls.{Call, format, check, collect, freeBlocks, allocate, storeRoot, storeCell, look, returnRoots, Answer, freeing, outcome, answer}
+use Rattle.rules.specs.Calls.{Call, format, check, collect, freeBlocks, allocate, storeRoot, storeCell, look, returnRoots, allocateData, writeNumber, readNumber}
+use Rattle.rules.specs.Calls.{Answer, freeing, outcome, answer}
 use Rattle.rules.specs.Promise.{Promise}
 use Rattle.types.specs.declared.Reply.{Reply}
 use Rattle.rules.proofs.Replies.{answer-either}
@@ -26,6 +27,9 @@ module _ {N w : ℕ} {h : Memory} (usable : Usable N w h) where
   outcome-idle (storeCell a j v) = refl
   outcome-idle (look a) = usable .idle
   outcome-idle (returnRoots chosen) = refl
+  outcome-idle (allocateData n r) = refl
+  outcome-idle (writeNumber a j x) = usable .idle
+  outcome-idle (readNumber a j) = usable .idle
 
   answer-idle : (c : Call) → Idle (answer N w h c)
   answer-idle c = answer-either N w h c Idle (λ number nonzero. usable .idle) (λ _. outcome-idle c)

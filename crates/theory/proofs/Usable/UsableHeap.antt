@@ -5,7 +5,7 @@ use mathlib.Core.List.{List}
 use Prim.Native.Nat.{ℕ}
 use lib.ListN.{length-replicate, replicate}
 use Rattle.rules.specs.Heap.{Memory, withWaiting, withSections}
-use Rattle.rules.specs.Damage.{endOnFree, openEnd, unaligned, badCell, badRoot, badCount, damage}
+use Rattle.rules.specs.Damage.{endOnFree, openEnd, unaligned, badCell, badRoot, badCount, strayData, damage}
 use Rattle.rules.specs.Sections.{figures}
 use Rattle.rules.specs.Calls.{settled}
 use Rattle.rules.proofs.Shape.{shape-facts, shape-test}
@@ -17,7 +17,7 @@ use Rattle.theory.specs.Usable.{Usable}
 
 module _ {N w : ℕ} {h : Memory} where
   pub cleared-usable : Undamaged N w h → Usable N w (withWaiting (replicate N 0) h)
-  unfolding damage endOnFree openEnd unaligned badCell badRoot badCount
+  unfolding damage endOnFree openEnd unaligned badCell badRoot badCount strayData
   cleared-usable fit =
       let facts = shape-facts N w h (fit .intact .right-shape) in
       let cleared : Memory = withWaiting (replicate N 0) h in
@@ -26,7 +26,7 @@ module _ {N w : ℕ} {h : Memory} where
           intact = record {
             right-shape =
                 shape-test N w cleared
-                (reshaped N w h cleared facts refl refl refl refl refl (length-replicate N 0 ∙ sym (facts .length-waiting)) refl);
+                (reshaped N w h cleared facts refl refl refl refl refl (length-replicate N 0 ∙ sym (facts .length-waiting)) refl refl);
             no-damage = fit .intact .no-damage;
           };
           true-list = fit .true-list;
