@@ -3,32 +3,60 @@
 ghost use mathlib.Core.Path.{_≡_};
 ghost use mathlib.Core.Bool.{cond, not, _&&_, _||_};
 ghost use mathlib.Core.List.{[]};
-ghost use Prim.Native.Nat.{ℕ, _+_, _*_, _/_, _≤_, _<_};
+ghost use Prim.Native.Nat.{ℕ, _+_, _*_, _≤_, _<_};
 ghost use lib.Dec.{eqb, ltb};
 ghost use lib.ListN.{length, getD};
-ghost use Rattle.rules.specs.Tools.{holding, someBelow};
-ghost use Rattle.rules.specs.Heap.{memory, maxBlocks};
+ghost use Rattle.rules.specs.Tools.{someBelow};
+ghost use Rattle.rules.specs.Heap.{lentMemory, maxBlocks, refAt};
 ghost use Rattle.rules.specs.Damage.{badCount};
+ghost use Rattle.check_counts.specs.Tally.{Room, Tallied, CellsWithin, Countable};
+use map_objects::numbers;
+use map_objects::objects;
 use types::MAX_BLOCKS;
 use types::Ref;
-use types::capacity_of;
 
-// Adds the references of a list to the tally: at place b the number of those that name block b.
-fn tally(refs: &[Ref], at: &mut [Ref; MAX_BLOCKS])
-    requires { ⌜ ((j : ℕ) → getD (now refs) j 0 ≤ maxBlocks) × (length (now at) ≡ maxBlocks)
-        × ((b : ℕ) → b < maxBlocks → getD (now at) b 0 + length (now refs) < 65536) ⌝ }
-    ensures { λ _.
-        ⌜ (length (now (at .exit)) ≡ maxBlocks)
-        × ((b : ℕ) → b < maxBlocks
-        → getD (now (at .exit)) b 0 ≡ getD (now (at .entry)) b 0 + holding (b + 1) (now (refs .entry))) ⌝ }
+// Adds to the tally what the n numbers of a list from number `from` on name.
+fn tally(refs: &[Ref], from: usize, n: usize, at: &mut [Ref; MAX_BLOCKS])
+    requires { ⌜ (from + n ≤ length (now refs)) × ((k : ℕ) → k < n → getD (now refs) (from + k) 0 ≤ maxBlocks)
+        × Room n (now at) ⌝ }
+    ensures { λ _. ⌜ Tallied (λ k. getD (now (refs .entry)) (from + k) 0) n (now (at .entry)) (now (at .exit)) ⌝ }
 {
-    let mut j = 0;
-    while j < refs.len() {
-        let v = refs[j] as usize;
+    let mut k = 0;
+    while k < n {
+        let v = refs[from + k] as usize;
         if v != 0 {
             at[v - 1] = at[v - 1] + 1;
         }
-        j += 1;
+        k += 1;
+    }
+}
+
+// Adds to the tally what the cells name. Those of data name nothing (request U6).
+fn tally_cells(
+    blocks: usize,
+    a: &[u8],
+    b: &[u8],
+    cells: &[Ref],
+    d: &[u8],
+    at: &mut [Ref; MAX_BLOCKS],
+)
+    requires { ⌜ CellsWithin blocks (now a) (now b) (now d) (now cells) × Room (4 * blocks) (now at) ⌝ }
+    ensures { λ _.
+        ⌜ Tallied (refAt blocks (now (a .entry)) (now (b .entry)) (now (d .entry)) (now (cells .entry))) (4 * blocks)
+        (now (at .entry)) (now (at .exit)) ⌝ }
+{
+    if !numbers::has_data(d) {
+        tally(cells, 0, 4 * blocks, at);
+        return;
+    }
+    let mut in_data = false;
+    let mut i = 0;
+    while i < blocks {
+        in_data = numbers::is_in_data(blocks, a, b, d, i, in_data);
+        if !in_data {
+            tally(cells, 4 * i, 4, at);
+        }
+        i += 1;
     }
 }
 
@@ -41,25 +69,24 @@ pub fn has_bad_count(
     counts: &[u8],
     cells: &[Ref],
     roots: &[Ref],
+    d: &[u8],
 ) -> bool
-    requires { ⌜ (blocks ≡ 8 * (blocks / 8)) × (blocks ≤ maxBlocks) × (1 ≤ width) × (width ≤ 4)
-        × (blocks ≤ 8 * length (now a)) × (blocks ≤ 8 * length (now b)) × (length (now counts) ≡ width * (blocks / 8))
-        × (length (now cells) ≡ 4 * blocks) × (length (now roots) ≤ 64)
-        × ((j : ℕ) → getD (now cells) j 0 ≤ blocks) × ((r : ℕ) → getD (now roots) r 0 ≤ blocks) ⌝ }
+    requires { ⌜ Countable blocks width (now a) (now b) (now counts) (now cells) (now roots) (now d) ⌝ }
     ensures { λ r.
         ⌜ r ≡ someBelow
         (badCount blocks width
-        (memory (now (a .entry)) (now (b .entry)) (now (counts .entry)) (now (cells .entry)) (now (roots .entry)) []))
+        (lentMemory (now (a .entry)) (now (b .entry)) (now (counts .entry)) (now (cells .entry)) (now (roots .entry)) [] []
+        (now (d .entry))))
         blocks ⌝ }
 {
     let mut at = [0 as Ref; MAX_BLOCKS];
-    tally(roots, &mut at);
-    tally(cells, &mut at);
-    let capacity = capacity_of(width);
+    tally(roots, 0, roots.len(), &mut at);
+    tally_cells(blocks, a, b, cells, d, &mut at);
+    let capacity = types::capacity_of(width);
     let mut i = 0;
     while i < blocks {
         let count = planes::get_count(counts, blocks / 8, width, i);
-        let first = map_objects::objects::is_first(blocks, a, b, i);
+        let first = objects::is_first(blocks, a, b, i);
         if is_bad_count(first, count, capacity, at[i]) {
             return true;
         }

@@ -17,15 +17,16 @@ pub fn damage_kind(
     counts: &[u8],
     cells: &[Ref],
     roots: &[Ref],
+    d: &[u8],
 ) -> usize
     requires { ⌜ ((waiting : List ℕ) × (sections : List ℕ)
         × (shaped blocks width
-        (lentMemory (now a) (now b) (now counts) (now cells) (now roots) waiting sections) ≡ true)) ⌝ }
+        (lentMemory (now a) (now b) (now counts) (now cells) (now roots) waiting sections (now d)) ≡ true)) ⌝ }
     ensures { λ r.
         ⌜ ((waiting sections : List ℕ)
         → r ≡ damage blocks width
         (lentMemory (now (a .entry)) (now (b .entry)) (now (counts .entry)) (now (cells .entry)) (now (roots .entry))
-        waiting sections)) ⌝ }
+        waiting sections (now (d .entry)))) ⌝ }
 {
     if check_maps::has_end_on_free(blocks, a, b) {
         return 1;
@@ -36,14 +37,17 @@ pub fn damage_kind(
     if check_maps::has_unaligned(blocks, a, b) {
         return 3;
     }
-    if check_references::has_bad_cell(blocks, a, b, cells) {
+    if check_references::has_bad_cell(blocks, a, b, cells, d) {
         return 4;
     }
     if check_references::has_bad_root(blocks, a, b, roots) {
         return 4;
     }
-    if check_counts::has_bad_count(blocks, width, a, b, counts, cells, roots) {
+    if check_counts::has_bad_count(blocks, width, a, b, counts, cells, roots, d) {
         return 5;
+    }
+    if check_maps::has_stray_data(blocks, a, b, d) {
+        return 7;
     }
     0
 }

@@ -1,13 +1,13 @@
-// Damage kinds 1, 2 and 3: what the two maps say against each other.
+// Damage kinds 1, 2, 3 and 7: what the maps say against each other.
 ghost use mathlib.Core.Path.{_≡_};
 ghost use mathlib.Core.Bool.{_||_};
 ghost use mathlib.Core.List.{[]};
 ghost use Prim.Native.Nat.{_*_, _≤_};
 ghost use lib.Dec.{leb};
 ghost use lib.ListN.{length};
-ghost use Rattle.rules.specs.Heap.{memory, maxBlocks, isFree};
+ghost use Rattle.rules.specs.Heap.{memory, lentMemory, maxBlocks, isFree};
 ghost use Rattle.rules.specs.Tools.{someBelow};
-ghost use Rattle.rules.specs.Damage.{endOnFree, openEnd, unaligned};
+ghost use Rattle.rules.specs.Damage.{endOnFree, openEnd, unaligned, strayData};
 
 // Kind 1: a 0 in the B-map on a free block.
 pub fn has_end_on_free(blocks: usize, a: &[u8], b: &[u8]) -> bool
@@ -66,6 +66,28 @@ pub fn has_unaligned(blocks: usize, a: &[u8], b: &[u8]) -> bool
         if map_objects::objects::is_first(blocks, a, b, i) {
             let size = map_objects::objects::object_size(blocks, b, i);
             if i % search_size::chunk_size(size) != 0 {
+                return true;
+            }
+        }
+        i += 1;
+    }
+    false
+}
+
+// Kind 7 (request U6): a D bit where no object starts.
+pub fn has_stray_data(blocks: usize, a: &[u8], b: &[u8], d: &[u8]) -> bool
+    requires { ⌜ (blocks ≤ 8 * length (now a)) × (blocks ≤ 8 * length (now b)) × (blocks ≤ 8 * length (now d)) ⌝ }
+    ensures { λ r.
+        ⌜ r ≡ someBelow
+        (strayData blocks (lentMemory (now (a .entry)) (now (b .entry)) [] [] [] [] [] (now (d .entry)))) blocks ⌝ }
+{
+    if !map_objects::numbers::has_data(d) {
+        return false;
+    }
+    let mut i = 0;
+    while i < blocks {
+        if bitmap::get_bit(d, i) == 1 {
+            if !map_objects::objects::is_first(blocks, a, b, i) {
                 return true;
             }
         }

@@ -30,8 +30,9 @@ pub fn is_shaped(
     roots: usize,
     waiting: usize,
     sections: usize,
+    d: usize,
 ) -> bool
-    ensures { λ r. ⌜ r ≡ shape blocks width a b counts cells roots waiting sections ⌝ }
+    ensures { λ r. ⌜ r ≡ shape blocks width a b counts cells roots waiting sections d ⌝ }
 {
     if !is_blocks(blocks) {
         return false;
@@ -63,5 +64,8 @@ pub fn is_shaped(
     if waiting != blocks {
         return false;
     }
-    sections == section_figures::section_count(blocks)
+    if sections != section_figures::section_count(blocks) {
+        return false;
+    }
+    d == blocks / 8
 }

@@ -1,3 +1,5 @@
 pub mod Cells
 pub mod Firsts
+pub mod Naming
 pub mod Sizes
+pub mod Walk

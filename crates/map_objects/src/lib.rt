@@ -1,3 +1,4 @@
-// What the two maps say of a block, and lists of references cleared.
+// What the maps say of a block, and lists of references cleared.
 pub mod lists;
+pub mod numbers;
 pub mod objects;

@@ -1,8 +1,9 @@
-// First blocks, sizes and references, read off the A-map and the B-map.
+// First blocks, sizes and references, read off the A-map and the B-map, and the kind of an object off the D-map.
 ghost use mathlib.Core.Path.{_≡_};
 ghost use Prim.Native.Nat.{_+_, _-_, _*_, _<_, _≤_};
 ghost use lib.ListN.{length};
-ghost use Rattle.rules.specs.Heap.{firstIn, sizeFrom, refIn};
+ghost use Rattle.rules.specs.Heap.{firstIn, sizeFrom, refIn, maxBlocks};
+ghost use Rattle.rules.specs.Store.{namingCells};
 
 // Whether block i, which may be any number, is a first block.
 pub fn is_first(blocks: usize, a: &[u8], b: &[u8], i: usize) -> bool
@@ -48,4 +49,15 @@ pub fn is_reference(blocks: usize, a: &[u8], b: &[u8], v: usize) -> bool
         return true;
     }
     is_first(blocks, a, b, v - 1)
+}
+
+// How many cells of the object of n blocks at block i may name others: of data none.
+pub fn naming_cells(d: &[u8], i: usize, n: usize) -> usize
+    requires { ⌜ (i < 8 * length (now d)) × (n ≤ maxBlocks) ⌝ }
+    ensures { λ r. ⌜ (r ≡ namingCells (now (d .entry)) i n) × (r ≤ 4 * n) ⌝ }
+{
+    if bitmap::get_bit(d, i) == 1 {
+        return 0;
+    }
+    4 * n
 }

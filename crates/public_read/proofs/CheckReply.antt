@@ -7,10 +7,10 @@ use native.Mathlib.Omega.{arith}
 use lib.Dec.{eqb}
 use borrow.Author.Tests.{eq-eqb, ne-eqb}
 use Rattle.bitmap.specs.Bit.{zeros}
-use Rattle.rules.specs.Heap.{Memory, memory, shaped}
+use Rattle.rules.specs.Heap.{Memory, memory, lentMemory, shaped}
 use Rattle.rules.specs.Damage.{damage}
 use Rattle.rules.specs.Sections.{staleFigures}
-use Rattle.rules.specs.Calls.{Call, check, freeBlocks, look, reply, accepted, testsHeap, refusals, refusedWith, outcome, answer}
+use Rattle.rules.specs.Calls.{Call, check, freeBlocks, look, readNumber, reply, accepted, testsHeap, refusals, refusedWith, outcome, answer}
 use Rattle.rules.specs.Promise.{Promise}
 use Rattle.types.specs.declared.Reply.{Reply}
 use Rattle.rules.proofs.Tests.{first-past, first-found}
@@ -19,8 +19,8 @@ use Rattle.theory.specs.Statements.{Undamaged}
 use Rattle.theory.proofs.Memories.Fit.{undamaged-fit}
 use Rattle.theory.proofs.EachCall.Accepted.{fit-accepted}
 use Rattle.rules.proofs.Promised.{promised}
-use Rattle.test_arguments.specs.Replies.{lookReply}
-use Rattle.test_arguments.proofs.ArgumentTests.{look-answered}
+use Rattle.test_arguments.specs.Replies.{lookReply, readReply}
+use Rattle.test_arguments.proofs.ArgumentTests.{look-answered, read-answered}
 
 module _ {N w : ℕ} {h : Memory} where
   -- ---- the check itself
@@ -83,3 +83,10 @@ module _ {N w : ℕ} {h : Memory} where
     pub look-passed : {at : ℕ} {x : Reply} → x ≡ lookReply N w (memory (h .a) (h .b) (h .counts) [] [] []) at → Promise N w (look at) h x h
     look-passed {at} {x} x-is =
         promised N w h (look at) _ (look-answered N w h (undamaged-fit N w h (checked-fit checked accepts)) at) x h x-is refl
+
+    -- the maps and the cells alone are read
+    pub read-passed :
+        {at j : ℕ} {x : Reply} → x ≡ readReply N (lentMemory (h .a) (h .b) [] (h .cells) [] [] [] (h .d)) at j
+        → Promise N w (readNumber at j) h x h
+    read-passed {at} {j} {x} x-is =
+        promised N w h (readNumber at j) _ (read-answered N w h (undamaged-fit N w h (checked-fit checked accepts)) at j) x h x-is refl

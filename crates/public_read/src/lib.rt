@@ -1,8 +1,9 @@
-// The public calls that only read: check, free blocks, look.
+// The public calls that only read: check, free blocks, look, and the read of a number.
 ghost use Rattle.rules.specs.Lent.{before, after};
 ghost use Rattle.rules.specs.Calls.{Call};
 ghost use Rattle.rules.specs.Promise.{Promise};
 use test_arguments::looking;
+use test_arguments::numbers;
 use types::Ref;
 use types::Reply;
 use types::replies;
@@ -18,10 +19,11 @@ pub fn check(
     roots: &[Ref],
     waiting: &[Ref],
     sections: &[Ref],
+    d: &[u8],
 ) -> Reply
     ensures { λ reply.
-        ⌜ Promise blocks width Call.check (before a b counts cells roots waiting sections) reply
-        (after a b counts cells roots waiting sections) ⌝ }
+        ⌜ Promise blocks width Call.check (before a b counts cells roots waiting sections d) reply
+        (after a b counts cells roots waiting sections d) ⌝ }
 {
     if !check_shape::is_shaped(
         blocks,
@@ -33,10 +35,11 @@ pub fn check(
         roots.len(),
         waiting.len(),
         sections.len(),
+        d.len(),
     ) {
         return replies::refusal(1);
     }
-    let kind = check_damage::damage_kind(blocks, width, a, b, counts, cells, roots);
+    let kind = check_damage::damage_kind(blocks, width, a, b, counts, cells, roots, d);
     if kind != 0 {
         return Reply {
             number: 2,
@@ -61,12 +64,24 @@ pub fn free_blocks(
     roots: &[Ref],
     waiting: &[Ref],
     sections: &[Ref],
+    d: &[u8],
 ) -> Reply
     ensures { λ reply.
-        ⌜ Promise blocks width Call.freeBlocks (before a b counts cells roots waiting sections) reply
-        (after a b counts cells roots waiting sections) ⌝ }
+        ⌜ Promise blocks width Call.freeBlocks (before a b counts cells roots waiting sections d) reply
+        (after a b counts cells roots waiting sections d) ⌝ }
 {
-    let check_reply = check(blocks, width, a, b, counts, cells, roots, waiting, sections);
+    let check_reply = check(
+        blocks,
+        width,
+        a,
+        b,
+        counts,
+        cells,
+        roots,
+        waiting,
+        sections,
+        d,
+    );
     let number = check_reply.number;
     if number != 0 {
         return check_reply;
@@ -85,16 +100,66 @@ pub fn look(
     roots: &[Ref],
     waiting: &[Ref],
     sections: &[Ref],
+    d: &[u8],
     at: usize,
 ) -> Reply
     ensures { λ reply.
-        ⌜ Promise blocks width (Call.look at) (before a b counts cells roots waiting sections) reply
-        (after a b counts cells roots waiting sections) ⌝ }
+        ⌜ Promise blocks width (Call.look at) (before a b counts cells roots waiting sections d) reply
+        (after a b counts cells roots waiting sections d) ⌝ }
 {
-    let checked = check(blocks, width, a, b, counts, cells, roots, waiting, sections);
+    let checked = check(
+        blocks,
+        width,
+        a,
+        b,
+        counts,
+        cells,
+        roots,
+        waiting,
+        sections,
+        d,
+    );
     let number = checked.number;
     if number != 0 {
         return checked;
     }
     looking::look_reply(blocks, width, a, b, counts, at)
+}
+
+// The number in cell j of the data at block `at` (request U6).
+pub fn read_number(
+    blocks: usize,
+    width: usize,
+    a: &[u8],
+    b: &[u8],
+    counts: &[u8],
+    cells: &[Ref],
+    roots: &[Ref],
+    waiting: &[Ref],
+    sections: &[Ref],
+    d: &[u8],
+    at: usize,
+    j: usize,
+) -> Reply
+    ensures { λ reply.
+        ⌜ Promise blocks width (Call.readNumber at j) (before a b counts cells roots waiting sections d) reply
+        (after a b counts cells roots waiting sections d) ⌝ }
+{
+    let tested = check(
+        blocks,
+        width,
+        a,
+        b,
+        counts,
+        cells,
+        roots,
+        waiting,
+        sections,
+        d,
+    );
+    let number = tested.number;
+    if number != 0 {
+        return tested;
+    }
+    numbers::read_reply(blocks, a, b, cells, d, at, j)
 }

@@ -10,7 +10,7 @@ use lib.ListN.{length}
 use borrow.Author.Tests.{leb-true, ltb-true}
 use Rattle.rules.specs.Tools.{isSome, firstNumber}
 use Rattle.rules.specs.Heap.{Memory, exponent, lowestFree}
-use Rattle.rules.specs.Calls.{allocate, Answer, reply, ownRefusals, answer}
+use Rattle.rules.specs.Calls.{Call, allocate, allocateData, Answer, reply, allocationRefusals, ownRefusals, answer}
 use Rattle.rules.specs.Promise.{Promise}
 use Rattle.types.specs.declared.Reply.{Reply}
 use Rattle.rules.proofs.Tests.{and-true}
@@ -96,30 +96,56 @@ allocate-accepts {N} {a} {roots} {n} {r} tested accepts =
     tested-accepts (leb 1 n && leb n N) (ltb r roots) (lowestFree N (exponent n) a) (ap (λ (y : Reply). y .number) (sym e) ∙ accepts)
     ∙ ap (λ (y : Reply). reply 0 (y .value) 0) (sym e)
 
+-- ---- an allocation of either kind
+
+-- a call with an allocation's own numbers
+module _ (N : ℕ) (h : Memory) (c : Call) (n r : ℕ) (own : ownRefusals N h c ≡ allocationRefusals N h n r) where
+  own-number : firstNumber (ownRefusals N h c) ≡ allocateReply N (h .a) (length (h .roots)) n r .number
+  unfolding allocateReply
+  own-number =
+      ap firstNumber own
+      ∙ tested-number (leb 1 n && leb n N) (ltb r (length (h .roots))) (lowestFree N (exponent n) (h .a))
+
+  goes-on : {x : Reply} → Replied N (h .a) (length (h .roots)) n r x → x .number ≡ 0 → ownTest N h c .number ≡ 0
+  unfolding ownTest
+  goes-on tested accepts = own-number ∙ ap (λ (y : Reply). y .number) (sym (tested .is-reply)) ∙ accepts
+
+  stopped :
+      (w : ℕ) → Fit N w h → (allocateReply N (h .a) (length (h .roots)) n r .number ≡ 0 → ⊥)
+      → answer N w h c ≡ (allocateReply N (h .a) (length (h .roots)) n r, h)
+  unfolding allocateReply
+  stopped w fit fails =
+      fit-refused N w h fit c (λ e. fails (sym own-number ∙ e)) ∙ ap {B = Answer} (λ k. (reply k 0 0, h)) own-number
+      ∙ ap {B = Answer} (λ x. (x, h))
+      (tested-plain (leb 1 n && leb n N) (ltb r (length (h .roots))) (lowestFree N (exponent n) (h .a)) fails)
+
+  refuses :
+      {w : ℕ} {x : Reply} → x ≡ allocateReply N (h .a) (length (h .roots)) n r → Fit N w h → (x .number ≡ 0 → ⊥) → Promise N w c h x h
+  refuses {w} {x} tested fit fails =
+      promised N w h c (allocateReply N (h .a) (length (h .roots)) n r, h)
+      (stopped w fit (λ e. fails (ap (λ (y : Reply). y .number) tested ∙ e)))
+      x h tested refl
+
 pub allocate-goes-on :
     (h : Memory) {N n r : ℕ} {x : Reply} → Replied N (h .a) (length (h .roots)) n r x → x .number ≡ 0
     → ownTest N h (allocate n r) .number ≡ 0
-unfolding ownTest ownRefusals allocateReply
-allocate-goes-on h {N} {n} {r} tested accepts =
-    tested-number (leb 1 n && leb n N) (ltb r (length (h .roots))) (lowestFree N (exponent n) (h .a))
-    ∙ ap (λ (y : Reply). y .number) (sym (tested .is-reply)) ∙ accepts
+unfolding ownRefusals
+allocate-goes-on h {N} {n} {r} = goes-on N h (allocate n r) n r refl
 
-allocate-stopped :
-    (N w : ℕ) (h : Memory) (n r : ℕ) → Fit N w h → (allocateReply N (h .a) (length (h .roots)) n r .number ≡ 0 → ⊥)
-    → answer N w h (allocate n r) ≡ (allocateReply N (h .a) (length (h .roots)) n r, h)
-unfolding ownRefusals allocateReply
-allocate-stopped N w h n r fit fails =
-    let size : Bool = leb 1 n && leb n N in
-    let place : Bool = ltb r (length (h .roots)) in
-    let search : Option ℕ = lowestFree N (exponent n) (h .a) in
-    let number = tested-number size place search in
-    fit-refused N w h fit (allocate n r) (λ e. fails (sym number ∙ e))
-    ∙ ap {B = Answer} (λ k. (reply k 0 0, h)) number ∙ ap {B = Answer} (λ x. (x, h)) (tested-plain size place search fails)
+pub allocate-data-goes-on :
+    (h : Memory) {N n r : ℕ} {x : Reply} → Replied N (h .a) (length (h .roots)) n r x → x .number ≡ 0
+    → ownTest N h (allocateData n r) .number ≡ 0
+unfolding ownRefusals
+allocate-data-goes-on h {N} {n} {r} = goes-on N h (allocateData n r) n r refl
 
 pub allocate-refused :
     {N w : ℕ} {h : Memory} {n r : ℕ} {x : Reply} → x ≡ allocateReply N (h .a) (length (h .roots)) n r → Fit N w h → (x .number ≡ 0 → ⊥)
     → Promise N w (allocate n r) h x h
-allocate-refused {N} {w} {h} {n} {r} {x} tested fit fails =
-    promised N w h (allocate n r) (allocateReply N (h .a) (length (h .roots)) n r, h)
-    (allocate-stopped N w h n r fit (λ e. fails (ap (λ (y : Reply). y .number) tested ∙ e)))
-    x h tested refl
+unfolding ownRefusals
+allocate-refused {N} {w} {h} {n} {r} = refuses N h (allocate n r) n r refl
+
+pub allocate-data-refused :
+    {N w : ℕ} {h : Memory} {n r : ℕ} {x : Reply} → x ≡ allocateReply N (h .a) (length (h .roots)) n r → Fit N w h → (x .number ≡ 0 → ⊥)
+    → Promise N w (allocateData n r) h x h
+unfolding ownRefusals
+allocate-data-refused {N} {w} {h} {n} {r} = refuses N h (allocateData n r) n r refl

@@ -3,21 +3,26 @@
 use mathlib.Core.Path.{_≡_, refl, sym, ap, _∙_}
 use mathlib.Core.Logic.{inl, inr}
 use mathlib.Core.Bool.{Bool, true, false, not}
-use mathlib.Core.List.{[]}
+use mathlib.Core.List.{List, [], _∷_}
 use Prim.Native.Nat.{ℕ, _+_, _-_, _*_, _≤_, _<_}
+use native.Mathlib.Decide.{ℕ-discrete}
 use native.Mathlib.Omega.{arith}
-use lib.ListN.{length}
-use Rattle.rules.specs.Heap.{Memory, memory, countOf, isFirst, sizeAt, isRef}
-use Rattle.rules.specs.Calls.{Call, storeRoot, storeCell, look, returnRoots, Answer, reply, ownRefusals, outcome, answer}
+use lib.Dec.{ltb}
+use lib.ListN.{length, getD}
+use borrow.Author.Tests.{eq-eqb, ne-eqb, ltb-true}
+use Rattle.rules.specs.Tools.{firstNumber}
+use Rattle.rules.specs.Heap.{Memory, memory, lentMemory, countOf, isFirst, sizeAt, isRef, isData}
+use Rattle.rules.specs.Calls.{Call, storeRoot, storeCell, look, returnRoots, writeNumber, readNumber, Answer}
+use Rattle.rules.specs.Calls.{reply, cellRefusals, ownRefusals, outcome, answer}
 use Rattle.rules.specs.Promise.{Promise}
 use Rattle.types.specs.declared.Reply.{Reply}
 use Rattle.rules.proofs.Replies.{Passed, own-passed}
-use Rattle.rules.proofs.Tests.{test-cases, first-found}
+use Rattle.rules.proofs.Tests.{test-cases, first-found, first-not}
 use Rattle.rules.proofs.Objects.{first-facts, size-le, ref-facts}
 use Rattle.rules.proofs.Promised.{promised}
 use Rattle.theory.proofs.Memories.Fit.{Fit}
 use Rattle.theory.proofs.EachCall.Accepted.{fit-accepted, fit-refused}
-use Rattle.test_arguments.specs.Replies.{ownTest, storeRootTest, storeCellTest, returnTest, lookReply}
+use Rattle.test_arguments.specs.Replies.{ownTest, storeRootTest, storeCellTest, cellTest, numberTest, readReply, returnTest, lookReply}
 
 -- ---- any call
 
@@ -63,11 +68,67 @@ pub root-tested :
 unfolding ownTest ownRefusals
 root-tested tested = record { is-test = tested }
 
+-- ---- a cell
+
+-- what the first two tests answer is what the call answers, or nothing
+pub cell-first : (N : ℕ) (h : Memory) (a j : ℕ) (more : List (ℕ × Bool)) → (cellTest N h a j .number ≡ 0 → ⊥)
+    → reply (firstNumber (cellRefusals N h a j more)) 0 0 ≡ cellTest N h a j
+unfolding cellTest firstNumber
+cell-first N h a j more fails = go (isFirst N h a) (ltb j (4 * sizeAt N h a)) fails
+  where
+    go : (s t : Bool) → (firstNumber ((6, not s) ∷ (7, not t) ∷ []) ≡ 0 → ⊥)
+        → reply (firstNumber ((6, not s) ∷ (7, not t) ∷ more)) 0 0 ≡ reply (firstNumber ((6, not s) ∷ (7, not t) ∷ [])) 0 0
+    go true true none = absurd (none refl)
+    go true false some = refl
+    go false t some = refl
+
+pub cell-then : (N : ℕ) (h : Memory) (a j : ℕ) (more : List (ℕ × Bool)) → cellTest N h a j .number ≡ 0
+    → firstNumber (cellRefusals N h a j more) ≡ firstNumber more
+unfolding cellTest firstNumber
+cell-then N h a j more e = go (isFirst N h a) (ltb j (4 * sizeAt N h a)) e
+  where
+    go : (s t : Bool) → firstNumber ((6, not s) ∷ (7, not t) ∷ []) ≡ 0
+        → firstNumber ((6, not s) ∷ (7, not t) ∷ more) ≡ firstNumber more
+    go true true none = refl
+    go true false some = absurd (omega arith)
+    go false t some = absurd (omega arith)
+
+-- so of a store, and of a number
+module _ (N : ℕ) (h : Memory) (a j : ℕ) where
+  pub store-early : (v : ℕ) → (cellTest N h a j .number ≡ 0 → ⊥) → cellTest N h a j ≡ storeCellTest N h a j v
+  unfolding ownTest ownRefusals
+  store-early v fails = sym (cell-first N h a j _ fails)
+
+  pub store-then : (v : ℕ) → cellTest N h a j .number ≡ 0
+      → storeCellTest N h a j v ≡ reply (firstNumber ((12, isData (h .d) a) ∷ (8, not (isRef N h v)) ∷ [])) 0 0
+  unfolding ownTest ownRefusals
+  store-then v e = ap (λ (k : ℕ). reply k 0 0) (cell-then N h a j _ e)
+
+  pub number-early : (cellTest N h a j .number ≡ 0 → ⊥) → cellTest N h a j ≡ numberTest N h a j
+  unfolding ownTest ownRefusals
+  number-early fails = sym (cell-first N h a j _ fails)
+
+  pub number-then : cellTest N h a j .number ≡ 0 → numberTest N h a j ≡ reply (firstNumber ((12, not (isData (h .d) a)) ∷ [])) 0 0
+  unfolding ownTest ownRefusals
+  number-then e = ap (λ (k : ℕ). reply k 0 0) (cell-then N h a j _ e)
+
+-- past them there is such a cell
+pub cell-there : (N : ℕ) (h : Memory) (a j : ℕ) → cellTest N h a j .number ≡ 0 → (isFirst N h a ≡ true) × (j < 4 * sizeAt N h a)
+unfolding cellTest
+cell-there N h a j e =
+    let six = first-not 6 (isFirst N h a) _ (omega arith) e in
+    let seven = first-not 7 (ltb j (4 * sizeAt N h a)) _ (omega arith) (six .1) in
+    (six .0, ltb-true j (4 * sizeAt N h a) (seven .0))
+
+cell-below : (N : ℕ) (h : Memory) (a j : ℕ) → isFirst N h a ≡ true → j < 4 * sizeAt N h a → 4 * a + j < 4 * N
+cell-below N h a j first place = omega (arith, place, first-facts N (h .a) (h .b) a first .inside, size-le (N - a) (h .b) a)
+
 -- ---- a store in a cell
 
 pub record CellPassed (N : ℕ) (h : Memory) (a j v : ℕ) : Type 0 where
   pub first : isFirst N h a ≡ true
   pub place : j < 4 * sizeAt N h a
+  pub ordinary : isData (h .d) a ≡ false
   pub ref : isRef N h v ≡ true
   pub cell-inside : 4 * a + j < 4 * N
   pub inside : v ≤ N
@@ -79,17 +140,59 @@ cell-passed {N} {h} {a} {j} {v} e =
     record {
       first = passed .0;
       place = passed .1;
-      ref = passed .2;
-      cell-inside = omega (arith, passed .1, first-facts N (h .a) (h .b) a (passed .0) .inside, size-le (N - a) (h .b) a);
-      inside = ref-inside N h v (passed .2);
+      ordinary = passed .2;
+      ref = passed .3;
+      cell-inside = cell-below N h a j (passed .0) (passed .1);
+      inside = ref-inside N h v (passed .3);
     }
 
 -- the test reads the maps alone
 pub cell-tested :
-    {N : ℕ} {h : Memory} {a j v : ℕ} {x : Reply} → x ≡ storeCellTest N (memory (h .a) (h .b) [] [] [] []) a j v
+    {N : ℕ} {h : Memory} {a j v : ℕ} {x : Reply} → x ≡ storeCellTest N (lentMemory (h .a) (h .b) [] [] [] [] [] (h .d)) a j v
     → Tested N h (storeCell a j v) x
 unfolding ownTest ownRefusals
 cell-tested tested = record { is-test = tested }
+
+-- ---- a number
+
+pub record NumberPassed (N : ℕ) (h : Memory) (a j : ℕ) : Type 0 where
+  pub first : isFirst N h a ≡ true
+  pub place : j < 4 * sizeAt N h a
+  pub made : isData (h .d) a ≡ true
+  pub cell-inside : 4 * a + j < 4 * N
+
+pub number-passed : {N : ℕ} {h : Memory} {a j : ℕ} → numberTest N h a j .number ≡ 0 → NumberPassed N h a j
+unfolding Passed
+number-passed {N} {h} {a} {j} e =
+    let passed = test-passed N h (readNumber a j) e in
+    record {
+      first = passed .0;
+      place = passed .1;
+      made = passed .2;
+      cell-inside = cell-below N h a j (passed .0) (passed .1);
+    }
+
+-- the test reads the maps alone, whatever number is written
+pub number-tested :
+    {N : ℕ} {h : Memory} {a j v : ℕ} {x : Reply} → x ≡ numberTest N (lentMemory (h .a) (h .b) [] [] [] [] [] (h .d)) a j
+    → Tested N h (writeNumber a j v) x
+unfolding ownTest ownRefusals
+number-tested tested = record { is-test = tested }
+
+-- a read reads the cells too
+module _ (N w : ℕ) (h : Memory) (fit : Fit N w h) (a j : ℕ) where
+  pub read-answered : answer N w h (readNumber a j) ≡ (readReply N (lentMemory (h .a) (h .b) [] (h .cells) [] [] [] (h .d)) a j, h)
+  unfolding outcome ownTest ownRefusals readReply
+  read-answered = elim (ℕ-discrete (firstNumber (ownRefusals N h (readNumber a j))) 0) [
+    | yes e ↦ fit-accepted N w h fit (readNumber a j) (own-passed N h (readNumber a j) e) ∙ ap {B = Answer} (λ t. (read t, h)) (sym (eq-eqb _ 0 e))
+    | no n ↦ fit-refused N w h fit (readNumber a j) n ∙ ap {B = Answer} (λ t. (read t, h)) (sym (ne-eqb _ 0 n))
+  ]
+    where
+      read : Bool → Reply
+      read t = elim t [
+        | true ↦ reply 0 (getD (h .cells) (4 * a + j) 0) 0
+        | false ↦ reply (firstNumber (ownRefusals N h (readNumber a j))) 0 0
+      ]
 
 -- ---- a return
 

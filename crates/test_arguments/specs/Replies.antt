@@ -1,12 +1,14 @@
 -- The replies that depend on the arguments and on the heap before the call alone, once numbers 1, 2 and 11 are passed: for contracts of
 -- inner functions. Each is a part of the rules' `answer`.
-use Prim.Native.Nat.{ℕ}
+use Prim.Native.Nat.{ℕ, _+_, _*_}
 use mathlib.Core.Bool.{true, false, not}
 use mathlib.Core.List.{[], _∷_}
+use lib.Dec.{eqb}
+use lib.ListN.{getD}
 use Rattle.rules.specs.Tools.{firstNumber}
 use Rattle.rules.specs.Heap.{Memory, countOf, isFirst, sizeAt}
 use Rattle.rules.specs.Store.{chosenBelow}
-use Rattle.rules.specs.Calls.{Call, storeRoot, storeCell, reply, ownRefusals}
+use Rattle.rules.specs.Calls.{Call, storeRoot, storeCell, readNumber, reply, cellRefusals, ownRefusals}
 use Rattle.types.specs.declared.Reply.{Reply}
 
 -- number 0 where a call goes on, or its own refusal
@@ -18,6 +20,19 @@ storeRootTest N h r v = ownTest N h (storeRoot r v)
 
 abbrev pub storeCellTest : ℕ → Memory → (at j v : ℕ) → Reply
 storeCellTest N h at j v = ownTest N h (storeCell at j v)
+
+-- the two tests that every call on a cell begins with: of the object and of the cell's number
+unfoldable pub cellTest : ℕ → Memory → (at j : ℕ) → Reply
+cellTest N h at j = reply (firstNumber (cellRefusals N h at j [])) 0 0
+
+-- the tests of a number read, which are those of a number write
+abbrev pub numberTest : ℕ → Memory → (at j : ℕ) → Reply
+numberTest N h at j = ownTest N h (readNumber at j)
+
+-- the whole reply of a number read
+unfoldable pub readReply : ℕ → Memory → (at j : ℕ) → Reply
+readReply N h at j =
+    elim (eqb (numberTest N h at j .number) 0) [ true ↦ reply 0 (getD (h .cells) (4 * at + j) 0) 0 | false ↦ numberTest N h at j ]
 
 -- number 0 where the return goes on, or its refusal
 unfoldable pub returnTest : (roots chosen : ℕ) → Reply

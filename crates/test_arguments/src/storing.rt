@@ -3,8 +3,9 @@ ghost use mathlib.Core.Path.{_≡_};
 ghost use mathlib.Core.List.{[]};
 ghost use Prim.Native.Nat.{_*_, _≤_};
 ghost use lib.ListN.{length};
-ghost use Rattle.rules.specs.Heap.{memory, maxBlocks};
+ghost use Rattle.rules.specs.Heap.{memory, lentMemory, maxBlocks};
 ghost use Rattle.test_arguments.specs.Replies.{storeRootTest, storeCellTest};
+use crate::cells;
 use map_objects::objects;
 use types::Ref;
 use types::Reply;
@@ -31,16 +32,28 @@ pub fn store_root_test(
     replies::acceptance(0)
 }
 
-// The tests of a store in cell j of the object at block `at`.
-pub fn store_cell_test(blocks: usize, a: &[u8], b: &[u8], at: usize, j: usize, v: usize) -> Reply
-    requires { ⌜ (blocks ≤ 8 * length (now a)) × (blocks ≤ 8 * length (now b)) × (blocks ≤ maxBlocks) ⌝ }
-    ensures { λ t. ⌜ t ≡ storeCellTest blocks (memory (now (a .entry)) (now (b .entry)) [] [] [] []) at j v ⌝ }
+// The tests of a store in cell j of the object at block `at`, which may not be data (request U6).
+pub fn store_cell_test(
+    blocks: usize,
+    a: &[u8],
+    b: &[u8],
+    d: &[u8],
+    at: usize,
+    j: usize,
+    v: usize,
+) -> Reply
+    requires { ⌜ (blocks ≤ 8 * length (now a)) × (blocks ≤ 8 * length (now b)) × (blocks ≤ maxBlocks)
+        × (blocks ≤ 8 * length (now d)) ⌝ }
+    ensures { λ t.
+        ⌜ t ≡ storeCellTest blocks (lentMemory (now (a .entry)) (now (b .entry)) [] [] [] [] [] (now (d .entry))) at j v ⌝ }
 {
-    if !objects::is_first(blocks, a, b, at) {
-        return replies::refusal(6);
+    let tested = cells::cell_test(blocks, a, b, at, j);
+    let number = tested.number;
+    if number != 0 {
+        return tested;
     }
-    if 4 * objects::object_size(blocks, b, at) <= j {
-        return replies::refusal(7);
+    if bitmap::get_bit(d, at) == 1 {
+        return replies::refusal(12);
     }
     if !objects::is_reference(blocks, a, b, v) {
         return replies::refusal(8);

@@ -2,12 +2,13 @@
 // write, and a call that is refused has done nothing but pass its gate.
 ghost use mathlib.Core.List.{[]};
 ghost use lib.ListN.{length};
-ghost use Rattle.rules.specs.Heap.{memory};
+ghost use Rattle.rules.specs.Heap.{memory, lentMemory};
 ghost use Rattle.rules.specs.Lent.{before};
 ghost use Rattle.rules.specs.Calls.{Call};
-ghost use Rattle.test_arguments.specs.Replies.{storeRootTest, storeCellTest, returnTest};
+ghost use Rattle.test_arguments.specs.Replies.{storeRootTest, storeCellTest, numberTest, returnTest};
 ghost use Rattle.test_allocation.specs.Replies.{allocateReply};
 ghost use Rattle.test_calls.specs.Gated.{Gated};
+use test_arguments::numbers;
 use test_arguments::returning;
 use test_arguments::storing;
 use types::Ref;
@@ -24,19 +25,70 @@ pub fn allocate(
     roots: &[Ref],
     waiting: &[Ref],
     sections: &[Ref],
+    d: &[u8],
     n: usize,
     r: usize,
 ) -> Reply
     ensures { λ reply.
-        ⌜ Gated blocks width (Call.allocate n r) (before a b counts cells roots waiting sections) reply
+        ⌜ Gated blocks width (Call.allocate n r) (before a b counts cells roots waiting sections d) reply
         (allocateReply blocks (now (a .entry)) (length (now (roots .entry))) n r) ⌝ }
 {
-    let checked = public_read::check(blocks, width, a, b, counts, cells, roots, waiting, sections);
+    let checked = public_read::check(
+        blocks,
+        width,
+        a,
+        b,
+        counts,
+        cells,
+        roots,
+        waiting,
+        sections,
+        d,
+    );
     let number = checked.number;
     if number != 0 {
         return checked;
     }
     test_allocation::allocate_reply(blocks, a, sections, roots.len(), n, r)
+}
+
+// The tests of an allocation of data (request U6), which are those of any allocation.
+pub fn allocate_data(
+    blocks: usize,
+    width: usize,
+    a: &[u8],
+    b: &[u8],
+    counts: &[u8],
+    cells: &[Ref],
+    roots: &[Ref],
+    waiting: &[Ref],
+    sections: &[Ref],
+    d: &[u8],
+    n: usize,
+    r: usize,
+) -> Reply
+    ensures { λ reply.
+        ⌜ Gated blocks width (Call.allocateData n r) (before a b counts cells roots waiting sections d) reply
+        (allocateReply blocks (now (a .entry)) (length (now (roots .entry))) n r) ⌝ }
+{
+    let checked = public_read::check(
+        blocks,
+        width,
+        a,
+        b,
+        counts,
+        cells,
+        roots,
+        waiting,
+        sections,
+        d,
+    );
+    let number = checked.number;
+    if number != 0 {
+        return checked;
+    }
+    let root_count = roots.len();
+    test_allocation::allocate_reply(blocks, a, sections, root_count, n, r)
 }
 
 // The tests of a store in root r.
@@ -50,14 +102,26 @@ pub fn store_root(
     roots: &[Ref],
     waiting: &[Ref],
     sections: &[Ref],
+    d: &[u8],
     r: usize,
     v: usize,
 ) -> Reply
     ensures { λ reply.
-        ⌜ Gated blocks width (Call.storeRoot r v) (before a b counts cells roots waiting sections) reply
+        ⌜ Gated blocks width (Call.storeRoot r v) (before a b counts cells roots waiting sections d) reply
         (storeRootTest blocks (memory (now (a .entry)) (now (b .entry)) [] [] (now (roots .entry)) []) r v) ⌝ }
 {
-    let checked = public_read::check(blocks, width, a, b, counts, cells, roots, waiting, sections);
+    let checked = public_read::check(
+        blocks,
+        width,
+        a,
+        b,
+        counts,
+        cells,
+        roots,
+        waiting,
+        sections,
+        d,
+    );
     let number = checked.number;
     if number != 0 {
         return checked;
@@ -76,20 +140,32 @@ pub fn store_cell(
     roots: &[Ref],
     waiting: &[Ref],
     sections: &[Ref],
+    d: &[u8],
     at: usize,
     j: usize,
     v: usize,
 ) -> Reply
     ensures { λ reply.
-        ⌜ Gated blocks width (Call.storeCell at j v) (before a b counts cells roots waiting sections) reply
-        (storeCellTest blocks (memory (now (a .entry)) (now (b .entry)) [] [] [] []) at j v) ⌝ }
+        ⌜ Gated blocks width (Call.storeCell at j v) (before a b counts cells roots waiting sections d) reply
+        (storeCellTest blocks (lentMemory (now (a .entry)) (now (b .entry)) [] [] [] [] [] (now (d .entry))) at j v) ⌝ }
 {
-    let checked = public_read::check(blocks, width, a, b, counts, cells, roots, waiting, sections);
+    let checked = public_read::check(
+        blocks,
+        width,
+        a,
+        b,
+        counts,
+        cells,
+        roots,
+        waiting,
+        sections,
+        d,
+    );
     let number = checked.number;
     if number != 0 {
         return checked;
     }
-    storing::store_cell_test(blocks, a, b, at, j, v)
+    storing::store_cell_test(blocks, a, b, d, at, j, v)
 }
 
 // The tests of a return of the roots of a set.
@@ -103,16 +179,67 @@ pub fn return_roots(
     roots: &[Ref],
     waiting: &[Ref],
     sections: &[Ref],
+    d: &[u8],
     chosen: u64,
 ) -> Reply
     ensures { λ reply.
-        ⌜ Gated blocks width (Call.returnRoots chosen) (before a b counts cells roots waiting sections) reply
+        ⌜ Gated blocks width (Call.returnRoots chosen) (before a b counts cells roots waiting sections d) reply
         (returnTest (length (now (roots .entry))) chosen) ⌝ }
 {
-    let checked = public_read::check(blocks, width, a, b, counts, cells, roots, waiting, sections);
+    let checked = public_read::check(
+        blocks,
+        width,
+        a,
+        b,
+        counts,
+        cells,
+        roots,
+        waiting,
+        sections,
+        d,
+    );
     let number = checked.number;
     if number != 0 {
         return checked;
     }
     returning::return_test(roots.len(), chosen)
+}
+
+// The tests of a write of a number into cell j of the data at block `at` (request U6). Any number is right.
+pub fn write_number(
+    blocks: usize,
+    width: usize,
+    a: &[u8],
+    b: &[u8],
+    counts: &[u8],
+    cells: &[Ref],
+    roots: &[Ref],
+    waiting: &[Ref],
+    sections: &[Ref],
+    d: &[u8],
+    at: usize,
+    j: usize,
+    v: Ref,
+) -> Reply
+    ensures { λ reply.
+        ⌜ Gated blocks width (Call.writeNumber at j v) (before a b counts cells roots waiting sections d) reply
+        (numberTest blocks (lentMemory (now (a .entry)) (now (b .entry)) [] [] [] [] [] (now (d .entry))) at j) ⌝ }
+{
+    let checked = public_read::check(
+        blocks,
+        width,
+        a,
+        b,
+        counts,
+        cells,
+        roots,
+        waiting,
+        sections,
+        d,
+    );
+    let number = checked.number;
+    if number != 0 {
+        return checked;
+    }
+    numbers::number_test(blocks, a, b, d, at, j)
 }

@@ -21,11 +21,12 @@ pub fn format(
     roots: &mut [Ref],
     waiting: &mut [Ref],
     sections: &mut [Ref],
+    d: &mut [u8],
 ) -> Reply
-    requires { ⌜ shaped blocks width (lent a b counts cells roots waiting sections) ≡ true ⌝ }
+    requires { ⌜ shaped blocks width (lent a b counts cells roots waiting sections d) ≡ true ⌝ }
     ensures { λ reply.
-        ⌜ Promise blocks width Call.format (before a b counts cells roots waiting sections) reply
-        (after a b counts cells roots waiting sections) ⌝ }
+        ⌜ Promise blocks width Call.format (before a b counts cells roots waiting sections d) reply
+        (after a b counts cells roots waiting sections d) ⌝ }
 {
     bitmap::fill_bytes(a, 0);
     bitmap::fill_bytes(b, 255);
@@ -34,5 +35,6 @@ pub fn format(
     lists::clear_all(roots);
     lists::clear_all(waiting);
     section_figures::fill_free(blocks, sections);
+    bitmap::fill_bytes(d, 0);
     replies::acceptance(0)
 }

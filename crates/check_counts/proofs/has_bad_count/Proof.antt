@@ -2,65 +2,78 @@
 -- The measure is what is left of the blocks.
 use mathlib.Core.Path.{_≡_, sym, _∙_}
 use mathlib.Core.Bool.{Bool}
-use mathlib.Core.List.{[]}
+use mathlib.Core.List.{List, []}
 use Prim.Native.Nat.{ℕ, _<_, _-_, _+_}
 use native.Mathlib.Omega.{arith}
-use lib.ListN.{getD, length-replicate, getD-replicate}
-use Rattle.rules.specs.Heap.{Memory, memory, maxBlocks, references}
+use lib.ListN.{length, getD, replicate, length-replicate, getD-replicate}
+use Rattle.rules.specs.Heap.{Memory, lentMemory, maxBlocks, references}
 use Rattle.rules.specs.Damage.{badCount}
 use Rattle.rules.proofs.Searches.{Searched, searched-start, searched-next, searched-all, searched-hit}
-use Rattle.check_counts.proofs.Tallies.{holding-le, bad-count-read}
+use Rattle.check_counts.proofs.Tallies.{tallied-le, whole-list, bad-count-read}
 use Rattle.check_counts.proofs.has_bad_count.Statement.{statement}
 use Rattle.check_counts.proofs.has_bad_count.Tie as tie
 
 abbrev Inv-loop : tie.InvT-loop
-Inv-loop blocks width a b counts cells roots at capacity i₀ i =
-    Searched (badCount blocks width (memory a b counts cells roots [])) blocks i
+Inv-loop blocks width a b counts cells roots d at capacity i₀ i =
+    Searched (badCount blocks width (lentMemory a b counts cells roots [] [] d)) blocks i
 
 abbrev μ-loop : tie.MeasureT-loop
-μ-loop blocks width a b counts cells roots at capacity i₀ i = blocks - i
+μ-loop blocks width a b counts cells roots d at capacity i₀ i = blocks - i
 
--- what is lent, with no stack
+-- what is lent, with no waiting list and no sections
 abbrev whole : tie.Start Inv-loop μ-loop → Memory
-whole s = memory (s .args .a .now) (s .args .b .now) (s .args .counts .now) (s .args .cells .now) (s .args .roots .now) []
+whole s =
+    lentMemory (s .args .a .now) (s .args .b .now) (s .args .counts .now) (s .args .cells .now) (s .args .roots .now) [] [] (s .args .d .now)
 
 -- the rule's test there
 abbrev test : tie.Start Inv-loop μ-loop → ℕ → Bool
 test s = badCount (s .args .blocks) (s .args .width) (whole s)
 
 -- where the code starts from
-abbrev start : tie.After-tally2 Inv-loop μ-loop → tie.Start Inv-loop μ-loop
-start c = search
+abbrev start : tie.After-tally-cells Inv-loop μ-loop → tie.Start Inv-loop μ-loop
+start c = c .before .before .before .before .before .before .before .before .before .before
 
 tally-requires : tie.Need-tally-requires Inv-loop μ-loop
 tally-requires c κs =
-    let s = c .before .before .before .before .before .before in (
-      λ j. omega (arith, s .pre .10 j),
-      length-replicate {A = ℕ} maxBlocks 0,
-      λ b l. omega (arith, getD-replicate {A = ℕ} maxBlocks b 0 0 l),
+    let s = c .before .before .before .before .before .before .before in (
+      omega arith,
+      λ k l. omega (arith, s .pre .roots-within (0 + k)),
+      record {
+        long = length-replicate {A = ℕ} maxBlocks 0;
+        fits = λ b l. omega (arith, getD-replicate {A = ℕ} maxBlocks b 0 0 l);
+      },
     )
 
-tally-requires-2 : tie.Need-tally-requires-2 Inv-loop μ-loop
-tally-requires-2 c κs =
-    let s = c .before .before .before .before .before .before .before .before in (
-      λ j. omega (arith, s .pre .9 j),
-      c .before .tally .ensures .0,
-      λ b l. omega (
-        arith,
-        c .before .tally .ensures .1 b l,
-        getD-replicate {A = ℕ} maxBlocks b 0 0 l,
-        holding-le (b + 1) (s .args .roots .now),
-      ),
+tally-cells-requires : tie.Need-tally-cells-requires Inv-loop μ-loop
+tally-cells-requires c κs =
+    let s = c .before .before .before .before .before .before .before .before .before in
+    let roots = c .before .tally .ensures in
+    let zeros : List ℕ = replicate maxBlocks 0 in (
+      s .pre .maps,
+      record {
+        long = roots .long;
+        fits = λ b l. omega (
+          arith,
+          tallied-le (λ k. getD (s .args .roots .now) (0 + k) 0) zeros (length (s .args .roots .now)) _ roots b l,
+          getD-replicate {A = ℕ} maxBlocks b 0 0 l,
+        );
+      },
     )
 
 capacity-of-requires : tie.Need-capacity-of-requires Inv-loop μ-loop
 capacity-of-requires c κs = omega arith
 
 -- every place has the number of all references that name its block
-tallied : (c : tie.After-tally2 Inv-loop μ-loop)
-    → (b : ℕ) → b < maxBlocks → getD (c .tally2 .last .1 .0) b 0 ≡ references (whole (start c)) b
+tallied : (c : tie.After-tally-cells Inv-loop μ-loop)
+    → (b : ℕ) → b < maxBlocks → getD (c .tally-cells .last .1 .1 .1 .1 .1 .0) b 0 ≡ references (start c .args .blocks) (whole (start c)) b
 tallied c b l =
-    omega (arith, c .tally2 .ensures .1 b l, c .before .before .tally .ensures .1 b l, getD-replicate {A = ℕ} maxBlocks b 0 0 l)
+    omega (
+      arith,
+      c .tally-cells .ensures .named b l,
+      c .before .before .tally .ensures .named b l,
+      whole-list (start c .args .roots .now) b,
+      getD-replicate {A = ℕ} maxBlocks b 0 0 l,
+    )
 
 loop-holds : tie.Need-loop-holds Inv-loop μ-loop
 loop-holds c =
@@ -130,7 +143,7 @@ has-bad-count-spec =
     Inv-loop
     μ-loop
     tally-requires
-    tally-requires-2
+    tally-cells-requires
     capacity-of-requires
     loop-holds
     get-count-requires

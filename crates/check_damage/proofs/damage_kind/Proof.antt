@@ -7,19 +7,20 @@ use native.Mathlib.Omega.{arith}
 use lib.ListN.{length}
 use Rattle.rules.specs.Heap.{Memory, lentMemory}
 use Rattle.rules.specs.Tools.{someBelow, firstNumber}
-use Rattle.rules.specs.Damage.{endOnFree, openEnd, unaligned, badCell, badRoot, badCount, damage}
+use Rattle.rules.specs.Damage.{endOnFree, openEnd, unaligned, badCell, badRoot, badCount, strayData, damage}
 use Rattle.check_damage.proofs.References.{cells-within, roots-within}
 use Rattle.rules.proofs.Shape.{Shaped, shape-facts}
 use Rattle.check_damage.proofs.damage_kind.Statement.{statement}
 use Rattle.check_damage.proofs.damage_kind.Tie as tie
 
--- ---- the six tests, in the code's order; kind 4 has two. No test reads the waiting list or the sections.
+-- ---- the seven tests, in the code's order; kind 4 has two. No test reads the waiting list or the sections.
 
 module _ (waiting sections : List ℕ) where
-  -- the seven buffers
+  -- the eight buffers
   abbrev whole : tie.Start → Memory
   whole s =
       lentMemory (s .args .a .now) (s .args .b .now) (s .args .counts .now) (s .args .cells .now) (s .args .roots .now) waiting sections
+      (s .args .d .now)
 
   -- the rule's tests
   abbrev rule-1 : tie.Start → Bool
@@ -40,7 +41,10 @@ module _ (waiting sections : List ℕ) where
   abbrev rule-6 : tie.Start → Bool
   rule-6 s = someBelow (badCount (s .args .blocks) (s .args .width) (whole s)) (s .args .blocks)
 
--- the seven buffers of right shape
+  abbrev rule-7 : tie.Start → Bool
+  rule-7 s = someBelow (strayData (s .args .blocks) (whole s)) (s .args .blocks)
+
+-- the eight buffers of right shape
 abbrev found : tie.Start → Memory
 found s = whole (s .pre .0) (s .pre .1) s
 
@@ -48,7 +52,7 @@ right : (s : tie.Start) → Shaped (s .args .blocks) (s .args .width) (found s)
 right s = shape-facts (s .args .blocks) (s .args .width) (found s) (s .pre .2)
 
 -- where the code starts from
-abbrev entry : tie.After-shared-slice-known5 → tie.Start
+abbrev entry : tie.After-shared-slice-known6 → tie.Start
 entry c = search
 
 abbrev start-1 : tie.After-has-end-on-free → tie.Start
@@ -68,6 +72,9 @@ start-5 c = start-4 (c .before .before)
 
 abbrev start-6 : tie.After-has-bad-count → tie.Start
 start-6 c = start-5 (c .before .before)
+
+abbrev start-7 : tie.After-has-stray-data → tie.Start
+start-7 c = start-6 (c .before .before)
 
 module _ (waiting sections : List ℕ) where
   -- what each call returns
@@ -95,6 +102,10 @@ module _ (waiting sections : List ℕ) where
   unfolding badCount
   test-6 c = c .has-bad-count .ensures
 
+  test-7 : (c : tie.After-has-stray-data) → c .has-stray-data .result ≡ rule-7 waiting sections (start-7 c)
+  unfolding strayData
+  test-7 c = c .has-stray-data .ensures
+
   -- past the test
   fails-1 : (c : tie.Else1) → rule-1 waiting sections (start-1 (c .before)) ≡ false
   fails-1 c = sym (test-1 (c .before)) ∙ c .if1 .left
@@ -113,6 +124,9 @@ module _ (waiting sections : List ℕ) where
 
   fails-6 : (c : tie.Else6) → rule-6 waiting sections (start-6 (c .before)) ≡ false
   fails-6 c = sym (test-6 (c .before)) ∙ c .if6 .left
+
+  fails-7 : (c : tie.Else7) → rule-7 waiting sections (start-7 (c .before)) ≡ false
+  fails-7 c = sym (test-7 (c .before)) ∙ c .if7 .left
 
 -- ---- the needs
 
@@ -171,19 +185,22 @@ has-bad-count-requires c κs =
     let s = start-5 (c .before) in
     let len = right s in
     let cells = cells-within (s .args .blocks) (found s) (omega arith) (fails-4 (s .pre .0) (s .pre .1) (c .before .before)) in
-    let roots = roots-within (s .args .blocks) (found s) (fails-5 (s .pre .0) (s .pre .1) c) in (
-      sym (len .whole-bytes),
-      len .blocks-max,
-      len .width-min,
-      len .width-max,
-      omega arith,
-      omega arith,
-      len .length-counts,
-      len .length-cells,
-      len .roots-max,
-      cells,
-      roots,
-    )
+    record {
+      maps = record {
+        blocks-max = len .blocks-max;
+        a-covers = omega arith;
+        b-covers = omega arith;
+        d-covers = omega arith;
+        length-cells = len .length-cells;
+        cells-within = cells;
+      };
+      whole-bytes = sym (len .whole-bytes);
+      width-min = len .width-min;
+      width-max = len .width-max;
+      length-counts = len .length-counts;
+      roots-max = len .roots-max;
+      roots-within = roots-within (s .args .blocks) (found s) (fails-5 (s .pre .0) (s .pre .1) c);
+    }
 
 returns-6 : tie.Need-returns-6
 unfolding damage firstNumber
@@ -195,15 +212,50 @@ returns-6 c = λ w x.
     let c1 = c2 .before .before in
     rw (fails-1 w x c1, fails-2 w x c2, fails-3 w x c3, fails-4 w x c4, fails-5 w x c5, sym (test-6 w x (c .before)) ∙ c .if6 .taken, damage, firstNumber)
 
+has-stray-data-requires : tie.Need-has-stray-data-requires
+has-stray-data-requires c κs = let len = right (start-6 (c .before)) in omega arith
+
 returns-7 : tie.Need-returns-7
 unfolding damage firstNumber
 returns-7 c = λ w x.
-    let c5 = c .before .before in
+    let c6 = c .before .before in
+    let c5 = c6 .before .before in
     let c4 = c5 .before .before in
     let c3 = c4 .before .before in
     let c2 = c3 .before .before in
     let c1 = c2 .before .before in
-    rw (fails-1 w x c1, fails-2 w x c2, fails-3 w x c3, fails-4 w x c4, fails-5 w x c5, fails-6 w x c, damage, firstNumber)
+    rw (
+      fails-1 w x c1,
+      fails-2 w x c2,
+      fails-3 w x c3,
+      fails-4 w x c4,
+      fails-5 w x c5,
+      fails-6 w x c6,
+      sym (test-7 w x (c .before)) ∙ c .if7 .taken,
+      damage,
+      firstNumber,
+    )
+
+returns-8 : tie.Need-returns-8
+unfolding damage firstNumber
+returns-8 c = λ w x.
+    let c6 = c .before .before in
+    let c5 = c6 .before .before in
+    let c4 = c5 .before .before in
+    let c3 = c4 .before .before in
+    let c2 = c3 .before .before in
+    let c1 = c2 .before .before in
+    rw (
+      fails-1 w x c1,
+      fails-2 w x c2,
+      fails-3 w x c3,
+      fails-4 w x c4,
+      fails-5 w x c5,
+      fails-6 w x c6,
+      fails-7 w x c,
+      damage,
+      firstNumber,
+    )
 
 pub damage-kind-spec : {M : Type 1} → statement M
 damage-kind-spec =
@@ -221,4 +273,6 @@ damage-kind-spec =
     returns-5
     has-bad-count-requires
     returns-6
-    returns-7)
+    has-stray-data-requires
+    returns-7
+    returns-8)

@@ -1,113 +1,107 @@
--- `check_references::has_bad_cell` meets its contract: the test fails at every cell below j. The measure is what is left of the cells.
-use mathlib.Core.Path.{_≡_, sym, ap, _∙_}
-use mathlib.Core.Bool.{Bool, false, not, and-false}
+-- `check_references::has_bad_cell` meets its contract: the test fails at every cell of the blocks below i.
+-- The measure is what is left of the blocks.
+use mathlib.Core.Path.{_≡_, sym, _∙_}
 use mathlib.Core.Logic.{inl, inr}
-use mathlib.Core.List.{[]}
-use Prim.Native.Nat.{ℕ, _-_, _*_, _/_}
+use mathlib.Core.Bool.{not}
+use mathlib.Core.List.{List, []}
+use Prim.Native.Nat.{ℕ, _-_, _*_}
 use native.Mathlib.Omega.{arith}
-use lib.ListN.{getD}
-use borrow.Author.Tests.{eq-eqb, ne-eqb}
-use Rattle.bitmap.specs.Bit.{bitAt}
-use Rattle.rules.specs.Heap.{memory, refIn}
+use borrow.Author.Tests.{not-true, not-false}
+use Rattle.rules.specs.Heap.{Memory, lentMemory}
 use Rattle.rules.specs.Damage.{badCell}
-use Rattle.rules.proofs.Searches.{Searched, searched-start, searched-next, searched-all, searched-hit}
+use Rattle.rules.proofs.Searches.{Searched, searched-start, searched-all}
+use Rattle.map_objects.specs.Walk.{dataBefore}
+use Rattle.map_objects.proofs.Walk.{walk-start, walk-next, no-data}
+use Rattle.check_references.proofs.Blocks.{all-others, data-next, other-next, other-hit}
 use Rattle.check_references.proofs.has_bad_cell.Statement.{statement}
 use Rattle.check_references.proofs.has_bad_cell.Tie as tie
 
+-- what is lent, with nothing in the other lists
+abbrev whole : (a b cells d : List ℕ) → Memory
+whole a b cells d = lentMemory a b [] cells [] [] [] d
+
 abbrev Inv-loop : tie.InvT-loop
-Inv-loop blocks a b cells j₀ j = Searched (badCell blocks (memory a b [] cells [] [])) (4 * blocks) j
+Inv-loop blocks a b cells d in-data₀ i₀ in-data i =
+    Searched (badCell blocks (whole a b cells d)) (4 * blocks) (4 * i) × (in-data ≡ dataBefore blocks a b d i)
 
 abbrev μ-loop : tie.MeasureT-loop
-μ-loop blocks a b cells j₀ j = 4 * blocks - j
+μ-loop blocks a b cells d in-data₀ i₀ in-data i = blocks - i
 
--- the rule's test, on what is lent
-abbrev test : tie.Start Inv-loop μ-loop → ℕ → Bool
-test s = badCell (s .args .blocks) (memory (s .args .a .now) (s .args .b .now) [] (s .args .cells .now) [] [])
+-- the lists at the entry
+abbrev lent : tie.Start Inv-loop μ-loop → Memory
+lent s = whole (s .args .a .now) (s .args .b .now) (s .args .cells .now) (s .args .d .now)
+
+-- where the code starts from
+abbrev start : tie.After-is-in-data Inv-loop μ-loop → tie.Start Inv-loop μ-loop
+start c = c .before .before .before .before .before .before .before .before .before
+
+has-data-requires : tie.Need-has-data-requires Inv-loop μ-loop
+has-data-requires c κs = tt
+
+mul-has-bad-cell-in : tie.Need-mul-has-bad-cell-in Inv-loop μ-loop
+mul-has-bad-cell-in c = omega arith
+
+has-bad-cell-in-requires : tie.Need-has-bad-cell-in-requires Inv-loop μ-loop
+has-bad-cell-in-requires c κs = omega arith
+
+returns : tie.Need-returns Inv-loop μ-loop
+returns c =
+    let s = c .before .before .before .before .before .before .before in
+    let none = sym (c .before .before .has-data .ensures) ∙ not-true _ (c .before .if1 .taken) in
+    c .has-bad-cell-in .ensures
+    ∙ all-others (s .args .blocks) (lent s) (no-data (s .args .blocks) (s .args .a .now) (s .args .b .now) (s .args .d .now) none)
 
 loop-holds : tie.Need-loop-holds Inv-loop μ-loop
 loop-holds c =
-    let s = c .before .before .before in
-    searched-start (test s) (4 * s .args .blocks)
+    let s = c .before .before .before .before .before .before in (
+      searched-start (badCell (s .args .blocks) (lent s)) (4 * s .args .blocks),
+      walk-start (s .args .blocks) (s .args .a .now) (s .args .b .now) (s .args .d .now),
+    )
 
-mul-v : tie.Need-mul-v Inv-loop μ-loop
-mul-v c = omega arith
+is-in-data-requires : tie.Need-is-in-data-requires Inv-loop μ-loop
+is-in-data-requires c κs = (omega arith, omega arith, omega arith, omega arith, c .before .loop .inv .1)
 
-shared-slice-read-v : tie.Need-shared-slice-read-v Inv-loop μ-loop
-shared-slice-read-v c = omega arith
+mul-has-bad-cell-in-2 : tie.Need-mul-has-bad-cell-in-2 Inv-loop μ-loop
+mul-has-bad-cell-in-2 c = omega arith
 
-get-bit-requires : tie.Need-get-bit-requires Inv-loop μ-loop
-get-bit-requires c κs = omega arith
-
-returns : tie.Need-returns Inv-loop μ-loop
-unfolding badCell
-returns c =
-    let get-a = c .before in
-    let l = get-a .before .before .before .before in
-    let s = l .before .before .before .before in
-    let a = s .args .a .now in
-    let j = l .loop .j in
-    let free = eq-eqb (bitAt a (j / 4)) 0 (sym (get-a .get-bit .ensures .0) ∙ c .if2 .taken) in
-    let some = ne-eqb (getD (s .args .cells .now) j 0) 0 (get-a .before .if1 .taken) in
-    searched-hit
-    (test s)
-    (4 * s .args .blocks)
-    j
-    (omega arith)
-    (rw (free, some, badCell))
-
-cast-is-reference : tie.Need-cast-is-reference Inv-loop μ-loop
-cast-is-reference c =
-    let read = c .before .before .before in
-    omega (arith, read .shared-slice-known4 .given (read .before .before .loop .j))
-
-is-reference-requires : tie.Need-is-reference-requires Inv-loop μ-loop
-is-reference-requires c κs = omega arith
+has-bad-cell-in-requires-2 : tie.Need-has-bad-cell-in-requires-2 Inv-loop μ-loop
+has-bad-cell-in-requires-2 c κs = omega arith
 
 returns-2 : tie.Need-returns-2 Inv-loop μ-loop
-unfolding badCell
 returns-2 c =
-    let get-a = c .before .before .before in
-    let l = get-a .before .before .before .before in
-    let s = l .before .before .before .before in
-    let a = s .args .a .now in
-    let j = l .loop .j in
-    let used = ne-eqb (bitAt a (j / 4)) 0 (λ e. c .before .before .if2 .left (get-a .get-bit .ensures .0 ∙ e)) in
-    searched-hit
-    (test s)
-    (4 * s .args .blocks)
-    j
-    (omega arith)
-    (rw (used, badCell) (ap not (sym (c .before .is-reference .ensures)) ∙ c .if3 .taken))
+    let walk = c .before .before .before in
+    let s = start walk in
+    let other = sym (walk .is-in-data .ensures) ∙ not-true _ (c .before .before .if2 .taken) in
+    other-hit (s .args .blocks) (lent s) (walk .before .before .loop .i) (omega arith) other
+    (sym (c .before .has-bad-cell-in2 .ensures) ∙ c .if3 .taken)
 
-add-j : tie.Need-add-j Inv-loop μ-loop
-add-j c = omega arith
+add-i : tie.Need-add-i Inv-loop μ-loop
+add-i c = omega arith
 
 loop-less : tie.Need-loop-less Inv-loop μ-loop
 loop-less c = omega arith
 
 loop-again : tie.Need-loop-again Inv-loop μ-loop
-unfolding badCell refIn
 loop-again c =
-    let l = c .before .before .before in
-    let s = l .before .before .before .before in
-    let a = s .args .a .now in
-    let b = s .args .b .now in
-    let cells = s .args .cells .now in
-    let j = l .loop .j in
-    let fails : test s j ≡ false =
-    elim (c .if1 .came) [
-      | inl w ↦
-          let used = ne-eqb (bitAt a (j / 4)) 0 (λ e. w .2 .left (w .1 .ensures .0 ∙ e)) in
-          rw (used, badCell) (ap not (sym (w .3 .ensures)) ∙ w .4 .left)
-      | inr w ↦ rw (eq-eqb (getD cells j 0) 0 (w .left), badCell, refIn, and-false)
-    ] in
-    searched-next (test s) (4 * s .args .blocks) j (l .loop .inv) (omega arith) fails
+    let walk = c .before in
+    let s = start walk in
+    let l = walk .before .before in
+    let i = l .loop .i in
+    let inv = l .loop .inv in (
+      elim (c .if2 .came) [
+        | inl w ↦
+            other-next (s .args .blocks) (lent s) i (omega arith) (sym (walk .is-in-data .ensures) ∙ not-true _ (w .0 .taken))
+            (sym (w .1 .ensures) ∙ w .2 .left) (inv .0)
+        | inr w ↦ data-next (s .args .blocks) (lent s) i (omega arith) (sym (walk .is-in-data .ensures) ∙ not-false _ (w .left)) (inv .0)
+      ],
+      walk-next (s .args .blocks) (s .args .a .now) (s .args .b .now) (s .args .d .now) i _ (walk .is-in-data .ensures),
+    )
 
 returns-3 : tie.Need-returns-3 Inv-loop μ-loop
 returns-3 c =
     let l = c .before in
-    let s = l .before .before .before .before in
-    searched-all (test s) (4 * s .args .blocks) (l .loop .j) (l .loop .inv) (omega arith)
+    let s = l .before .before .before .before .before .before .before in
+    searched-all (badCell (s .args .blocks) (lent s)) (4 * s .args .blocks) (4 * l .loop .i) (l .loop .inv .0) (omega arith)
 
 pub has-bad-cell-spec : {M : Type 1} → statement M
 has-bad-cell-spec =
@@ -115,15 +109,16 @@ has-bad-cell-spec =
     (tie.spec
     Inv-loop
     μ-loop
-    loop-holds
-    mul-v
-    shared-slice-read-v
-    get-bit-requires
+    has-data-requires
+    mul-has-bad-cell-in
+    has-bad-cell-in-requires
     returns
-    cast-is-reference
-    is-reference-requires
+    loop-holds
+    is-in-data-requires
+    mul-has-bad-cell-in-2
+    has-bad-cell-in-requires-2
     returns-2
-    add-j
+    add-i
     loop-less
     loop-again
     returns-3)

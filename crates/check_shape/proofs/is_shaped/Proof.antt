@@ -29,6 +29,7 @@ tests s =
     ∷ eqb (s .args .cells) (4 * s .args .blocks)
     ∷ eqb (s .args .waiting) (s .args .blocks)
     ∷ eqb (s .args .sections) (sectionCount (s .args .blocks))
+    ∷ eqb (s .args .d) (s .args .blocks / 8)
     ∷ []
 
 -- the places: from past the third test, of the width, back to the entry; and from past the seventh, of the maps, back to the third
@@ -118,9 +119,17 @@ section-count-requires : tie.Need-section-count-requires
 section-count-requires c κs = right-blocks (third (c .before .before .before) .before .before)
 
 returns-11 : tie.Need-returns-11
-unfolding shape all
+unfolding shape
 returns-11 c =
-    let e = c .before in
+    let s = start (third (c .before .before .before .before .before)) in
+    sym
+    (all-failed (tests s) 10
+    (ne-eqb (s .args .sections) (sectionCount (s .args .blocks)) (λ e. omega (arith, c .before .section-count .ensures))))
+
+returns-12 : tie.Need-returns-12
+unfolding shape all
+returns-12 c =
+    let e = c .before .before in
     let maps = e .before .before .before in
     let width = third maps in
     let s = start width in
@@ -135,9 +144,10 @@ returns-11 c =
       eq-eqb (s .args .counts) (s .args .width * (s .args .blocks / 8)) (e .before .before .if8 .left),
       eq-eqb (s .args .cells) (4 * s .args .blocks) (e .before .if9 .left),
       eq-eqb (s .args .waiting) (s .args .blocks) (e .if10 .left),
+      eq-eqb (s .args .sections) (sectionCount (s .args .blocks)) (omega (arith, c .before .section-count .ensures)),
       shape,
       all,
-    ) (ap (eqb (s .args .sections)) (c .section-count .ensures) ∙ sym (all-one (eqb (s .args .sections) (sectionCount (s .args .blocks)))))
+    ) (sym (all-one (eqb (s .args .d) (s .args .blocks / 8))))
 
 pub is-shaped-spec : {M : Type 1} → statement M
 is-shaped-spec =
@@ -157,4 +167,5 @@ is-shaped-spec =
     returns-9
     returns-10
     section-count-requires
-    returns-11)
+    returns-11
+    returns-12)

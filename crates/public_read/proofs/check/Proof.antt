@@ -15,10 +15,10 @@ use Rattle.public_read.proofs.check.Tie as tie
 abbrev lent : tie.Start → Memory
 lent s =
     lentMemory (s .args .a .now) (s .args .b .now) (s .args .counts .now) (s .args .cells .now) (s .args .roots .now) (s .args .waiting .now)
-    (s .args .sections .now)
+    (s .args .sections .now) (s .args .d .now)
 
 abbrev start : tie.After-is-shaped → tie.Start
-start c = search
+start c = c .before .before .before .before .before .before .before .before .before
 
 -- past the first test its shape is right
 shape-is : (c : tie.Else1) → let s = start (c .before) in shaped (s .args .blocks) (s .args .width) (lent s) ≡ true

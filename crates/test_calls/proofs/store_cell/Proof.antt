@@ -15,8 +15,12 @@ returns c = gate-shut (c .before .check .ensures) (c .if1 .taken) refl
 
 store-cell-test-requires : tie.Need-store-cell-test-requires
 store-cell-test-requires c κs =
-    let shape = checked-passed (c .before .check .ensures) (c .if1 .left) .healthy .shape in
-    (omega (arith, shape .length-a, shape .whole-bytes), omega (arith, shape .length-b, shape .whole-bytes), shape .blocks-max)
+    let shape = checked-passed (c .before .check .ensures) (c .if1 .left) .healthy .shape in (
+      omega (arith, shape .length-a, shape .whole-bytes),
+      omega (arith, shape .length-b, shape .whole-bytes),
+      shape .blocks-max,
+      omega (arith, shape .length-d, shape .whole-bytes),
+    )
 
 returns-2 : tie.Need-returns-2
 returns-2 c =

@@ -7,8 +7,11 @@ use Rattle.work_format.proofs.format.Statement.{statement}
 use Rattle.work_format.proofs.format.Tie as tie
 
 -- the places, from the end back to the entry: each buffer filled
+abbrev d : tie.After-acceptance → tie.After-fill-bytes4
+d c = c .before .before .before
+
 abbrev sections : tie.After-acceptance → tie.After-fill-free
-sections c = c .before .before .before
+sections c = d c .before .before .before .before
 
 abbrev waiting : tie.After-acceptance → tie.After-clear-all3
 waiting c = sections c .before .before .before .before
@@ -29,7 +32,7 @@ abbrev a : tie.After-clear-all3 → tie.After-fill-bytes
 a w = b w .before .before .before .before
 
 abbrev start : tie.After-clear-all3 → tie.Start
-start w = a w .before .before .before .before .before .before .before .before .before
+start w = a w .before .before .before .before .before .before .before .before .before .before
 
 fill-bytes-requires : tie.Need-fill-bytes-requires
 fill-bytes-requires c κs = search needs
@@ -54,9 +57,12 @@ fill-free-requires c κs =
     let s = start (c .before .before .before) in
     let lent : Memory =
     lentMemory (s .args .a .now) (s .args .b .now) (s .args .counts .now) (s .args .cells .now) (s .args .roots .now) (s .args .waiting .now)
-    (s .args .sections .now) in
+    (s .args .sections .now) (s .args .d .now) in
     let shape = shape-facts _ _ lent (s .pre) in
     (shaped-blocks _ _ lent shape, shape .length-sections)
+
+fill-bytes-requires-4 : tie.Need-fill-bytes-requires-4
+fill-bytes-requires-4 c κs = search needs
 
 acceptance-requires : tie.Need-acceptance-requires
 acceptance-requires c κs = search needs
@@ -72,6 +78,7 @@ returns c =
     (roots w .clear-all2 .ensures)
     (w .clear-all3 .ensures)
     (sections c .fill-free .ensures)
+    (d c .fill-bytes4 .ensures)
 
 pub format-spec : {M : Type 1} → statement M
 format-spec =
@@ -84,6 +91,7 @@ format-spec =
     clear-all-requires-2
     clear-all-requires-3
     fill-free-requires
+    fill-bytes-requires-4
     acceptance-requires
     (λ c. a (waiting c) .fill-bytes .kept .0)
     (λ c. b (waiting c) .fill-bytes2 .kept .0)
@@ -92,4 +100,5 @@ format-spec =
     (λ c. roots (waiting c) .clear-all2 .kept .0)
     (λ c. waiting c .clear-all3 .kept .0)
     (λ c. sections c .fill-free .kept .1 .0)
+    (λ c. d c .fill-bytes4 .kept .0)
     returns)

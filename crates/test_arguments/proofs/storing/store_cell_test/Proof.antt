@@ -1,99 +1,108 @@
 -- `storing::store_cell_test` meets its contract: the tests in order.
-use mathlib.Core.Path.{_≡_, sym, _∙_}
-use mathlib.Core.Bool.{true}
-use Prim.Native.Nat.{_-_, _*_}
+use mathlib.Core.Path.{_≡_, sym, ap, _∙_}
+use mathlib.Core.Bool.{not}
+use mathlib.Core.List.{[], _∷_}
+use Prim.Native.Nat.{ℕ}
 use native.Mathlib.Omega.{arith}
-use lib.Dec.{ltb}
 use borrow.Author.Needs.{needs}
-use borrow.Author.Tests.{le-ltb, lt-ltb, not-true, not-false}
-use Rattle.rules.specs.Heap.{firstIn, sizeFrom}
+use borrow.Author.Tests.{eq-eqb, ne-eqb, not-true, not-false}
+use Rattle.bitmap.specs.Bit.{bitAt}
+use Rattle.types.specs.declared.Reply.{Reply}
 use Rattle.rules.specs.Tools.{firstNumber}
-use Rattle.rules.specs.Calls.{ownRefusals}
+use Rattle.rules.specs.Heap.{Memory, lentMemory, isRef}
+use Rattle.rules.specs.Calls.{reply}
 use Rattle.rules.proofs.Objects.{first-facts}
-use Rattle.test_arguments.specs.Replies.{ownTest}
+use Rattle.test_arguments.specs.Replies.{cellTest, storeCellTest}
+use Rattle.test_arguments.proofs.ArgumentTests.{cell-there, store-early, store-then}
 use Rattle.test_arguments.proofs.storing.store_cell_test.Statement.{statement}
 use Rattle.test_arguments.proofs.storing.store_cell_test.Tie as tie
 
--- past the first test block `at` is a first block
-first : (c : tie.Else1) →
-    let args = c .before .before .before .before .args in
-    firstIn (args .blocks) (args .a .now) (args .b .now) (args .at) ≡ true
-first c = sym (c .before .is-first .ensures) ∙ not-false _ (c .if1 .left)
+-- where the code starts from
+abbrev start : tie.After-cell-test → tie.Start
+start c = c .before .before .before .before
 
--- past the second one it has cell j
-inside : (c : tie.Else2) →
-    let args = c .before .before .before .before .before .before .args in
-    ltb (args .j) (4 * sizeFrom (args .blocks - args .at) (args .b .now) (args .at)) ≡ true
-inside c =
-    let args = c .before .before .before .before .before .before .args in
-    let size = c .before .object-size .ensures .0 in
-    lt-ltb (args .j) (4 * sizeFrom (args .blocks - args .at) (args .b .now) (args .at)) (omega arith)
+-- the maps
+abbrev maps : tie.Start → Memory
+maps s = lentMemory (s .args .a .now) (s .args .b .now) [] [] [] [] [] (s .args .d .now)
 
-is-first-requires : tie.Need-is-first-requires
-is-first-requires c κs = search needs
+tested : (c : tie.After-cell-test) → let s = start c in c .cell-test .result ≡ cellTest (s .args .blocks) (maps s) (s .args .at) (s .args .j)
+unfolding cellTest
+tested c = c .cell-test .ensures
+
+-- past the first tests
+there : (c : tie.Else1) → let s = start (c .before) in cellTest (s .args .blocks) (maps s) (s .args .at) (s .args .j) .number ≡ 0
+there c = ap (λ (y : Reply). y .number) (sym (tested (c .before))) ∙ c .if1 .left
+
+cell-test-requires : tie.Need-cell-test-requires
+cell-test-requires c κs = search needs
+
+returns : tie.Need-returns
+returns c =
+    let s = start (c .before) in
+    tested (c .before)
+    ∙ store-early (s .args .blocks) (maps s) (s .args .at) (s .args .j) (s .args .v)
+    (λ e. c .if1 .taken (ap (λ (y : Reply). y .number) (tested (c .before)) ∙ e))
+
+get-bit-requires : tie.Need-get-bit-requires
+get-bit-requires c κs =
+    let s = start (c .before) in
+    omega (arith, first-facts _ _ _ _ (cell-there (s .args .blocks) (maps s) (s .args .at) (s .args .j) (there c) .0) .inside)
 
 refusal-requires : tie.Need-refusal-requires
 refusal-requires c κs = search needs
 
-returns : tie.Need-returns
-unfolding ownTest ownRefusals firstNumber
-returns c =
-    let fails = sym (c .before .before .is-first .ensures) ∙ not-true _ (c .before .if1 .taken) in
-    rw (fails, ownTest, ownRefusals, firstNumber) (c .refusal .ensures)
-
-object-size-requires : tie.Need-object-size-requires
-object-size-requires c κs = omega (arith, first-facts _ _ _ _ (first c) .inside)
-
-mul-if2 : tie.Need-mul-if2
-mul-if2 c = search needs
-
-refusal-requires-2 : tie.Need-refusal-requires-2
-refusal-requires-2 c κs = search needs
-
 returns-2 : tie.Need-returns-2
-unfolding ownTest ownRefusals firstNumber
+unfolding firstNumber
 returns-2 c =
-    let args = c .before .before .before .before .before .before .before .args in
-    let size = c .before .before .object-size .ensures .0 in
-    let past = le-ltb (args .j) (4 * sizeFrom (args .blocks - args .at) (args .b .now) (args .at)) (omega arith) in
-    rw (first (c .before .before .before), past, ownTest, ownRefusals, firstNumber) (c .refusal2 .ensures)
+    let bit = c .before .before in
+    let s = start (bit .before .before) in
+    let made = eq-eqb (bitAt (s .args .d .now) (s .args .at)) 1 (omega (arith, bit .get-bit .ensures .0, c .before .if2 .taken)) in
+    rw (store-then (s .args .blocks) (maps s) (s .args .at) (s .args .j) (s .args .v) (there (bit .before)), made, firstNumber)
+    (c .refusal .ensures)
 
 is-reference-requires : tie.Need-is-reference-requires
 is-reference-requires c κs = search needs
 
-refusal-requires-3 : tie.Need-refusal-requires-3
-refusal-requires-3 c κs = search needs
+-- past the test of the kind
+then : (c : tie.Else2) → let s = start (c .before .before .before) in
+    storeCellTest (s .args .blocks) (maps s) (s .args .at) (s .args .j) (s .args .v)
+    ≡ reply (firstNumber ((8, not (isRef (s .args .blocks) (maps s) (s .args .v))) ∷ [])) 0 0
+unfolding firstNumber
+then c =
+    let bit = c .before in
+    let s = start (bit .before .before) in
+    let other = ne-eqb (bitAt (s .args .d .now) (s .args .at)) 1 (λ e. omega (arith, bit .get-bit .ensures .0, c .if2 .left, e)) in
+    store-then (s .args .blocks) (maps s) (s .args .at) (s .args .j) (s .args .v) (there (bit .before)) ∙ rw (other, firstNumber)
+
+refusal-requires-2 : tie.Need-refusal-requires-2
+refusal-requires-2 c κs = search needs
 
 returns-3 : tie.Need-returns-3
-unfolding ownTest ownRefusals firstNumber
+unfolding firstNumber
 returns-3 c =
-    let else2 = c .before .before .before in
     let fails = sym (c .before .before .is-reference .ensures) ∙ not-true _ (c .before .if3 .taken) in
-    rw (first (else2 .before .before), inside else2, fails, ownTest, ownRefusals, firstNumber) (c .refusal3 .ensures)
+    rw (then (c .before .before .before), fails, firstNumber) (c .refusal2 .ensures)
 
 acceptance-requires : tie.Need-acceptance-requires
 acceptance-requires c κs = search needs
 
 returns-4 : tie.Need-returns-4
-unfolding ownTest ownRefusals firstNumber
+unfolding firstNumber
 returns-4 c =
-    let else2 = c .before .before .before in
     let passes = sym (c .before .before .is-reference .ensures) ∙ not-false _ (c .before .if3 .left) in
-    rw (first (else2 .before .before), inside else2, passes, ownTest, ownRefusals, firstNumber) (c .acceptance .ensures)
+    rw (then (c .before .before .before), passes, firstNumber) (c .acceptance .ensures)
 
 pub store-cell-test-spec : {M : Type 1} → statement M
 store-cell-test-spec =
     tie.close
     (tie.spec
-    is-first-requires
-    refusal-requires
+    cell-test-requires
     returns
-    object-size-requires
-    mul-if2
-    refusal-requires-2
+    get-bit-requires
+    refusal-requires
     returns-2
     is-reference-requires
-    refusal-requires-3
+    refusal-requires-2
     returns-3
     acceptance-requires
     returns-4)
