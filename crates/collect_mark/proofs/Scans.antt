@@ -4,8 +4,8 @@ use mathlib.Core.List.{List, [], _∷_}
 use Prim.Native.Nat.{ℕ, zero, suc, _-_, _*_, _/_, _≤_, _<_}
 use native.Mathlib.Omega.{arith}
 use lib.ListN.{length, getD, set, replicate}
-use Rattle.rules.specs.Heap.{Memory, withB, withCells, withRoots, sizeAt}
-use Rattle.rules.specs.Store.{Work, work}
+use Rattle.rules.specs.Heap.{Memory, withB, withCells, withRoots, withD, sizeAt}
+use Rattle.rules.specs.Store.{Work, work, namingCells}
 use Rattle.count_up.specs.Stack.{topFirst, uncounted, remaining, Stack, Worked}
 use Rattle.count_up.proofs.Stack.{top-first-kept, top-first-pop}
 use Rattle.collect_visit.specs.Visit.{visitEach}
@@ -18,7 +18,7 @@ scan-empty zero N w h counts = refl
 scan-empty (suc f) N w h counts = refl
 
 scan-next : (steps N w : ℕ) (h : Memory) (counts : List ℕ) (i : ℕ) (rest : List ℕ) → 0 < steps →
-    let s = visitEach N w (work counts rest) (h .cells) (4 * i) (4 * sizeAt N h i) in
+    let s = visitEach N w (work counts rest) (h .cells) (4 * i) (namingCells (h .d) i (sizeAt N h i)) in
     scan steps N w h counts (i ∷ rest) ≡ scan (steps - 1) N w h (s .counts) (s .stack)
 unfolding scan
 scan-next steps N w h counts i rest some =
@@ -37,20 +37,21 @@ module _ {N w : ℕ} {h : Memory} {counts waiting : List ℕ} {top : ℕ} where
 
   module _ {result : List ℕ} (before : Leading N w h result counts waiting top) where
     -- the object on top of the stack is scanned
-    pub leading-next : 0 < top → {n : ℕ} → n ≡ sizeAt N h (getD waiting (top - 1) 0) → {counts′ waiting′ : List ℕ} {top′ : ℕ}
+    pub leading-next : 0 < top → {n named : ℕ} → n ≡ sizeAt N h (getD waiting (top - 1) 0)
+        → named ≡ namingCells (h .d) (getD waiting (top - 1) 0) n → {counts′ waiting′ : List ℕ} {top′ : ℕ}
         → Worked uncounted N w
-        (visitEach N w (work counts (topFirst (set waiting (top - 1) 0) (top - 1))) (h .cells) (4 * getD waiting (top - 1) 0) (4 * n))
+        (visitEach N w (work counts (topFirst (set waiting (top - 1) 0) (top - 1))) (h .cells) (4 * getD waiting (top - 1) 0) named)
         (remaining uncounted N w counts (top - 1)) counts′ waiting′ top′
         → Leading N w h result counts′ waiting′ top′
-    leading-next some size next =
+    leading-next some size names next =
         let i : ℕ = getD waiting (top - 1) 0 in
-        let after : List ℕ → ℕ → Work = λ rest k. visitEach N w (work counts rest) (h .cells) (4 * i) (4 * k) in
+        let after : List ℕ → ℕ → Work = λ rest k. visitEach N w (work counts rest) (h .cells) (4 * i) k in
         let popped = top-first-kept waiting (top - 1) (top - 1) 0 (omega arith) in
         record {
           steps = before .steps - 1;
           enough = omega (arith, next .left-is, before .enough);
           leads =
-              ap (λ (s : Work). scan (before .steps - 1) N w h (s .counts) (s .stack)) (next .result ∙ ap₂ after popped size)
+              ap (λ (s : Work). scan (before .steps - 1) N w h (s .counts) (s .stack)) (next .result ∙ ap₂ after popped (names ∙ ap (namingCells (h .d) i) size))
               ∙ sym (scan-next (before .steps) N w h counts i (topFirst waiting (top - 1)) (omega (arith, before .enough)))
               ∙ ap (λ (l : List ℕ). scan (before .steps) N w h counts l) (sym (top-first-pop waiting top some))
               ∙ before .leads;
@@ -63,16 +64,17 @@ module _ {N w : ℕ} {h : Memory} {counts waiting : List ℕ} {top : ℕ} where
         ∙ ap (λ (k : ℕ). scan (before .steps) N w h counts (topFirst waiting k)) (sym e)
         ∙ before .leads
 
--- a scan reads the B-map and the cells alone: all other lists may be those of g
+-- a scan reads the B-map, the cells and the D-map alone: all other lists may be those of g
 scan-reads : (steps N w : ℕ) (h g : Memory) (counts stack : List ℕ)
-    → scan steps N w h counts stack ≡ scan steps N w (withB (h .b) (withCells (h .cells) g)) counts stack
+    → scan steps N w h counts stack ≡ scan steps N w (withB (h .b) (withCells (h .cells) (withD (h .d) g))) counts stack
 unfolding scan
 scan-reads zero N w h g counts stack = refl
 scan-reads (suc f) N w h g counts [] = refl
 scan-reads (suc f) N w h g counts (i ∷ rest) = scan-reads f N w h g _ _
 
 -- and the marking reads the roots besides
-pub mark-reads : (N w : ℕ) (h g : Memory) → markCounts N w h ≡ markCounts N w (withB (h .b) (withCells (h .cells) (withRoots (h .roots) g)))
+pub mark-reads : (N w : ℕ) (h g : Memory)
+    → markCounts N w h ≡ markCounts N w (withB (h .b) (withCells (h .cells) (withRoots (h .roots) (withD (h .d) g))))
 unfolding markCounts
 mark-reads N w h g = scan-reads N N w h (withRoots (h .roots) g) _ _
 

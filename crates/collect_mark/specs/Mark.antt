@@ -1,10 +1,11 @@
--- What the collector's marking computes, as total functions of the lent lists: visits of what the roots name, and of what the cells of
--- the waiting objects name. That this gives the rules' collection is shown for undamaged heaps in crate `refinement` (CollectorProcedure).
+-- What the collector's marking computes, as total functions of the lent lists: visits of what the roots name,
+-- and of what the cells of the waiting objects name, but for those of data. That this gives the rules' collection
+-- is shown for undamaged heaps in crate `refinement` (CollectorProcedure).
 use Prim.Native.Nat.{ℕ, zero, suc, _*_, _/_}
 use mathlib.Core.List.{List, [], _∷_}
 use lib.ListN.{length, replicate}
 use Rattle.rules.specs.Heap.{Memory, sizeAt}
-use Rattle.rules.specs.Store.{work}
+use Rattle.rules.specs.Store.{work, namingCells}
 use Rattle.collect_visit.specs.Visit.{visitEach}
 
 -- the waiting objects are scanned, the last one first, until none waits
@@ -12,7 +13,7 @@ unfoldable pub scan : (steps : ℕ) → ℕ → ℕ → Memory → List ℕ → 
 scan zero N w h counts stack = counts
 scan (suc f) N w h counts [] = counts
 scan (suc f) N w h counts (i ∷ rest) =
-    let s = visitEach N w (work counts rest) (h .cells) (4 * i) (4 * sizeAt N h i) in
+    let s = visitEach N w (work counts rest) (h .cells) (4 * i) (namingCells (h .d) i (sizeAt N h i)) in
     scan f N w h (s .counts) (s .stack)
 
 -- the counts that the marking leaves: from none, what the roots name, and then what the waiting objects' cells name

@@ -9,7 +9,7 @@ use native.Mathlib.Omega.{arith}
 use borrow.Author.Tests.{eq-eqb, ne-eqb}
 use Rattle.bitmap.specs.Bit.{setBit, fillBits}
 use Rattle.planes.proofs.Counts.{set-count-there}
-use Rattle.rules.specs.Heap.{Memory, withA, withB, withCounts, withCells, isFirst, sizeAt, countOf}
+use Rattle.rules.specs.Heap.{Memory, withA, withB, withCounts, withCells, withD, isFirst, sizeAt, countOf}
 use Rattle.rules.specs.Store.{freed, clearCells}
 use Rattle.section_figures.specs.Figures.{Coherent}
 use Rattle.collect_sweep.specs.Sweep.{isUnmarked, sweepOne, sweepOneBlocks, sweep, sweepBlocks}
@@ -40,14 +40,15 @@ module _ (N w : ℕ) (h : Memory) (i : ℕ) where
 
   -- the count of an unmarked object is 0 already
   pub sweep-unmarked : {n : ℕ} → n ≡ sizeAt N h i → i + n ≤ N → isFirst N h i ≡ true → countOf N w h i ≡ 0
-      → {a b cells : List ℕ} → a ≡ fillBits (h .a) i n 0 → b ≡ setBit (h .b) (i + n - 1) 1 → cells ≡ clearCells (h .cells) (4 * i) (4 * n)
-      → {sections : List ℕ} → Coherent N a sections → SweptOne N w h i (withA a (withB b (withCells cells h))) n sections
+      → {a b cells d : List ℕ} → a ≡ fillBits (h .a) i n 0 → b ≡ setBit (h .b) (i + n - 1) 1 → cells ≡ clearCells (h .cells) (4 * i) (4 * n)
+      → d ≡ setBit (h .d) i 0
+      → {sections : List ℕ} → Coherent N a sections → SweptOne N w h i (withA a (withB b (withCells cells (withD d h)))) n sections
   unfolding isUnmarked freed
-  sweep-unmarked {n} size within first z {a} {b} {cells} ea eb ec coherent =
+  sweep-unmarked {n} size within first z {a} {b} {cells} {d} ea eb ec ed coherent =
       let unmarked : isUnmarked N w h i ≡ true = rw (first, eq-eqb (countOf N w h i) 0 z, isUnmarked) in
       let there = set-count-there (N / 8) w (h .counts) i 0 z in
-      let cleared : withA a (withB b (withCells cells h)) ≡ freed N w h i n =
-      λ t. withA (ea t) (withB (eb t) (withCounts (sym there t) (withCells (ec t) h))) in
+      let cleared : withA a (withB b (withCells cells (withD d h))) ≡ freed N w h i n =
+      λ t. withA (ea t) (withB (eb t) (withCounts (sym there t) (withCells (ec t) (withD (ed t) h)))) in
       let done = object-freed unmarked in
       (cleared ∙ ap (λ (k : ℕ). freed N w h i k) size ∙ done .0, size ∙ done .1, omega arith, coherent)
 

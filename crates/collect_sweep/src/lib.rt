@@ -1,13 +1,23 @@
 // Objects of count 0 are freed, with no count-downs. The figures of sections in which blocks become free are left unknown.
 ghost use mathlib.Core.Path.{_≡_};
 ghost use mathlib.Core.List.{[]};
-ghost use Prim.Native.Nat.{_*_, _/_, _<_, _≤_};
+ghost use Prim.Native.Nat.{_*_, _<_, _≤_};
 ghost use lib.ListN.{length};
-ghost use Rattle.rules.specs.Heap.{memory};
+ghost use Rattle.bitmap.specs.Bit.{setBit};
 ghost use Rattle.section_figures.specs.Figures.{Coherent};
-ghost use Rattle.count_up.specs.Ready.{Planes};
+ghost use Rattle.count_up.specs.Ready.{Planes, Extents, partMemory};
 ghost use Rattle.collect_sweep.specs.Sweep.{sweepOne, sweepOneBlocks, sweep, sweepBlocks};
 use types::Ref;
+
+// The D bit of block i becomes 0. Where its byte is 0, as in a heap with no data, nothing is written.
+fn clear_kind(d: &mut [u8], i: usize)
+    requires { ⌜ i < 8 * length (now d) ⌝ }
+    ensures { λ _. ⌜ now (d .exit) ≡ setBit (now (d .entry)) i 0 ⌝ }
+{
+    if d[i / 8] != 0 {
+        bitmap::set_bit(d, i, 0);
+    }
+}
 
 // Frees the object that starts at block i, if one does and its count is 0: so the count is not written. The number of blocks freed.
 fn sweep_one(
@@ -18,14 +28,18 @@ fn sweep_one(
     counts: &[u8],
     cells: &mut [Ref],
     sections: &mut [Ref],
+    d: &mut [u8],
     i: usize,
 ) -> usize
-    requires { ⌜ Planes blocks width (now counts) × (length (now a) ≡ blocks / 8) × (length (now b) ≡ blocks / 8)
-        × (length (now cells) ≡ 4 * blocks) × (i < blocks) × Coherent blocks (now a) (now sections) ⌝ }
+    requires { ⌜ Planes blocks width (now counts) × Extents blocks (now a) (now b) (now cells) (now d)
+        × (i < blocks) × Coherent blocks (now a) (now sections) ⌝ }
     ensures { λ r.
-        ⌜ (memory (now (a .exit)) (now (b .exit)) (now (counts .entry)) (now (cells .exit)) [] []
-        ≡ sweepOne blocks width (memory (now (a .entry)) (now (b .entry)) (now (counts .entry)) (now (cells .entry)) [] []) i)
-        × (r ≡ sweepOneBlocks blocks width (memory (now (a .entry)) (now (b .entry)) (now (counts .entry)) (now (cells .entry)) [] []) i)
+        ⌜ (partMemory (now (a .exit)) (now (b .exit)) (now (counts .entry)) (now (cells .exit)) [] (now (d .exit))
+        ≡ sweepOne blocks width
+        (partMemory (now (a .entry)) (now (b .entry)) (now (counts .entry)) (now (cells .entry)) [] (now (d .entry))) i)
+        × (r
+        ≡ sweepOneBlocks blocks width
+        (partMemory (now (a .entry)) (now (b .entry)) (now (counts .entry)) (now (cells .entry)) [] (now (d .entry))) i)
         × (r ≤ blocks)
         × Coherent blocks (now (a .exit)) (now (sections .exit)) ⌝ }
 {
@@ -38,6 +52,7 @@ fn sweep_one(
     let n = map_objects::objects::object_size(blocks, b, i);
     section_extents::clear_extent(blocks, a, b, sections, i, n);
     map_extents::clear_cells(cells, 4 * i, 4 * n);
+    clear_kind(d, i);
     n
 }
 
@@ -50,19 +65,23 @@ pub fn sweep(
     counts: &[u8],
     cells: &mut [Ref],
     sections: &mut [Ref],
+    d: &mut [u8],
 ) -> usize
-    requires { ⌜ Planes blocks width (now counts) × (length (now a) ≡ blocks / 8) × (length (now b) ≡ blocks / 8)
-        × (length (now cells) ≡ 4 * blocks) × Coherent blocks (now a) (now sections) ⌝ }
+    requires { ⌜ Planes blocks width (now counts) × Extents blocks (now a) (now b) (now cells) (now d)
+        × Coherent blocks (now a) (now sections) ⌝ }
     ensures { λ freed.
-        ⌜ (memory (now (a .exit)) (now (b .exit)) (now (counts .entry)) (now (cells .exit)) [] []
-        ≡ sweep blocks width (memory (now (a .entry)) (now (b .entry)) (now (counts .entry)) (now (cells .entry)) [] []) blocks)
-        × (freed ≡ sweepBlocks blocks width (memory (now (a .entry)) (now (b .entry)) (now (counts .entry)) (now (cells .entry)) [] []) blocks)
+        ⌜ (partMemory (now (a .exit)) (now (b .exit)) (now (counts .entry)) (now (cells .exit)) [] (now (d .exit))
+        ≡ sweep blocks width
+        (partMemory (now (a .entry)) (now (b .entry)) (now (counts .entry)) (now (cells .entry)) [] (now (d .entry))) blocks)
+        × (freed
+        ≡ sweepBlocks blocks width
+        (partMemory (now (a .entry)) (now (b .entry)) (now (counts .entry)) (now (cells .entry)) [] (now (d .entry))) blocks)
         × Coherent blocks (now (a .exit)) (now (sections .exit)) ⌝ }
 {
     let mut freed: usize = 0;
     let mut i = 0;
     while i < blocks {
-        freed += sweep_one(blocks, width, a, b, counts, cells, sections, i);
+        freed += sweep_one(blocks, width, a, b, counts, cells, sections, d, i);
         i += 1;
     }
     freed

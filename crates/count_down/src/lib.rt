@@ -1,8 +1,10 @@
 // References dropped: what they name is counted down. The waiting list is the stack of objects whose count came to 0.
 ghost use mathlib.Core.Path.{_≡_};
-ghost use Prim.Native.Nat.{_+_, _≤_};
+ghost use Prim.Native.Nat.{_+_, _*_, _<_, _≤_};
 ghost use lib.ListN.{length};
-ghost use Rattle.rules.specs.Store.{work, countDown, countDownEach, clearCells};
+ghost use Rattle.bitmap.specs.Bit.{setBit};
+ghost use Rattle.rules.specs.Heap.{maxBlocks};
+ghost use Rattle.rules.specs.Store.{work, countDown, countDownEach, clearCells, namingCells};
 ghost use Rattle.count_up.specs.Ready.{Planes};
 ghost use Rattle.count_up.specs.Stack.{topFirst, counted, remaining, Stack, Worked};
 use types::Ref;
@@ -48,7 +50,7 @@ pub fn count_down(
 }
 
 // Clears the n cells from cell j on, and counts down what each named.
-pub fn drop_cells(
+fn drop_cells(
     blocks: usize,
     width: usize,
     counts: &mut [u8],
@@ -75,5 +77,50 @@ pub fn drop_cells(
         t = count_down(blocks, width, counts, waiting, v, t);
         i += 1;
     }
+    t
+}
+
+// How many cells of the object of n blocks at block i may name others: of data none. Its D bit becomes 0.
+fn end_kind(d: &mut [u8], i: usize, n: usize) -> usize
+    requires { ⌜ (i < 8 * length (now d)) × (n ≤ maxBlocks) ⌝ }
+    ensures { λ r.
+        ⌜ (r ≡ namingCells (now (d .entry)) i n) × (r ≤ 4 * n) × (now (d .exit) ≡ setBit (now (d .entry)) i 0) ⌝ }
+{
+    // Where the bit is 0, as in all but data, nothing is written.
+    if bitmap::get_bit(d, i) == 1 {
+        bitmap::set_bit(d, i, 0);
+        return 0;
+    }
+    4 * n
+}
+
+// The cells and the D bit of the object of n blocks at block i, which is freed, are cleared, and what its cells named is counted
+// down. Cells of data named nothing.
+pub fn drop_object(
+    blocks: usize,
+    width: usize,
+    counts: &mut [u8],
+    cells: &mut [Ref],
+    waiting: &mut [Ref],
+    d: &mut [u8],
+    i: usize,
+    n: usize,
+    top: usize,
+) -> usize
+    requires { ⌜ Planes blocks width (now counts) × Stack counted blocks width (now counts) (now waiting) top
+        × (i + n ≤ blocks) × (i < blocks) × (length (now cells) ≡ 4 * blocks) × (blocks ≤ 8 * length (now d)) ⌝ }
+    ensures { λ r.
+        ⌜ Worked counted blocks width
+        (countDownEach blocks width (work (now (counts .entry)) (topFirst (now (waiting .entry)) top)) (now (cells .entry)) (4 * i)
+        (namingCells (now (d .entry)) i n))
+        (remaining counted blocks width (now (counts .entry)) top)
+        (now (counts .exit)) (now (waiting .exit)) r
+        × (now (cells .exit) ≡ clearCells (now (cells .entry)) (4 * i) (4 * n))
+        × (now (d .exit) ≡ setBit (now (d .entry)) i 0) ⌝ }
+{
+    let all = 4 * n;
+    let named = end_kind(d, i, n);
+    let t = drop_cells(blocks, width, counts, cells, waiting, 4 * i, named, top);
+    map_extents::clear_cells(cells, 4 * i + named, all - named);
     t
 }

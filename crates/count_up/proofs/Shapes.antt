@@ -1,4 +1,4 @@
--- What keeps the shapes that the inner calls ask for: `Planes` of the count maps, `Extents` of the two maps and the cells.
+-- What keeps the shapes that the inner calls ask for: `Planes` of the count maps, `Extents` of the maps and the cells.
 use mathlib.Core.Path.{_≡_, ap, _∙_}
 use mathlib.Core.List.{List}
 use Prim.Native.Nat.{ℕ}
@@ -25,21 +25,23 @@ planes-same p e = record {
   length-is = e ∙ p .length-is;
 }
 
--- an extent written or cleared: a run of A bits, one B bit, a run of cells made 0
+-- an extent written or cleared: a run of A bits, one B bit, a run of cells made 0, the D bit of the first block
 pub extents-written :
-    {N : ℕ} {a b cells a′ b′ cells′ : List ℕ} (i n x last y j m : ℕ)
-    → a′ ≡ fillBits a i n x → b′ ≡ setBit b last y → cells′ ≡ clearCells cells j m
-    → Extents N a b cells → Extents N a′ b′ cells′
-extents-written {a = a} {b} {cells} i n x last y j m ea eb ee e = record {
+    {N : ℕ} {a b cells d a′ b′ cells′ d′ : List ℕ} (i n x last y j m z : ℕ)
+    → a′ ≡ fillBits a i n x → b′ ≡ setBit b last y → cells′ ≡ clearCells cells j m → d′ ≡ setBit d i z
+    → Extents N a b cells d → Extents N a′ b′ cells′ d′
+extents-written {a = a} {b} {cells} {d} i n x last y j m z ea eb ee ed e = record {
   a-length = ap length ea ∙ length-fill a i n x ∙ e .a-length;
   b-length = ap length eb ∙ length-set-bit b last y ∙ e .b-length;
   cells-length = ap length ee ∙ length-clear cells j m ∙ e .cells-length;
+  d-length = ap length ed ∙ length-set-bit d i z ∙ e .d-length;
 }
 
 -- a cell written
-pub extents-cell : {N : ℕ} {a b cells : List ℕ} (c v : ℕ) → Extents N a b cells → Extents N a b (set cells c v)
+pub extents-cell : {N : ℕ} {a b cells d : List ℕ} (c v : ℕ) → Extents N a b cells d → Extents N a b (set cells c v) d
 extents-cell {cells = cells} c v e = record {
   a-length = e .a-length;
   b-length = e .b-length;
   cells-length = length-set cells c v ∙ e .cells-length;
+  d-length = e .d-length;
 }

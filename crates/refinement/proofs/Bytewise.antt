@@ -1,4 +1,4 @@
--- The three bitmaps of a memory hold bytes, and a collection keeps them so, the rule's and the collector's.
+-- The bitmaps of a memory hold bytes, and a collection keeps them so, the rule's and the collector's.
 use mathlib.Core.Bool.{Bool, not, _&&_, _||_}
 use mathlib.Core.List.{List, [], _∷_}
 use Prim.Native.Nat.{ℕ, zero, suc, _+_, _-_, _*_, _/_, min}
@@ -11,7 +11,7 @@ use Rattle.bitmap.proofs.Runs.{bytes-fill}
 use Rattle.planes.specs.Plane.{countAt}
 use Rattle.planes.proofs.Counts.{bytes-set-count}
 use Rattle.rules.specs.Heap.{Memory, withCounts, capacity, isFirst, sizeAt}
-use Rattle.rules.specs.Store.{Work, work, freed, countUp}
+use Rattle.rules.specs.Store.{Work, work, freed, namingCells, countUp}
 use Rattle.rules.specs.Collection.{marked, referencesFrom, reached, swept, recounted, collected}
 use Rattle.rules.proofs.Tests.{choose}
 use Rattle.collect_visit.specs.Visit.{visit, visitEach}
@@ -23,6 +23,7 @@ pub record Bytewise (h : Memory) : Type 0 where
   pub a : Bytes (h .a)
   pub b : Bytes (h .b)
   pub counts : Bytes (h .counts)
+  pub d : Bytes (h .d)
 
 module _ (N w : ℕ) where
   freed-bytes : (h : Memory) (x n : ℕ) → Bytewise h → Bytewise (freed N w h x n)
@@ -32,6 +33,7 @@ module _ (N w : ℕ) where
         a = bytes-fill (h .a) x n 0 (omega arith) (bytes .a);
         b = bytes-set-bit (h .b) (x + n - 1) 1 (omega arith) (bytes .b);
         counts = bytes-set-count (N / 8) w (h .counts) x 0 (bytes .counts);
+        d = bytes-set-bit (h .d) x 0 (omega arith) (bytes .d);
       }
 
   -- ---- the rule
@@ -56,7 +58,12 @@ module _ (N w : ℕ) where
     unfolding collected
     collected-bytes =
         let left = swept-bytes (reached N h) N in
-        record { a = left .a; b = left .b; counts = recounted-bytes (reached N h) ((swept N w h (reached N h) N) .counts) (left .counts) N }
+        record {
+          a = left .a;
+          b = left .b;
+          counts = recounted-bytes (reached N h) ((swept N w h (reached N h) N) .counts) (left .counts) N;
+          d = left .d;
+        }
 
   -- ---- the collector
 
@@ -81,8 +88,9 @@ module _ (N w : ℕ) where
   scan-bytes zero h counts stack bytes = bytes
   scan-bytes (suc fuel) h counts [] bytes = bytes
   scan-bytes (suc fuel) h counts (x ∷ stack) bytes =
-      let s : Work = visitEach N w (work counts stack) (h .cells) (4 * x) (4 * sizeAt N h x) in
-      scan-bytes fuel h (s .counts) (s .stack) (visit-each-bytes (work counts stack) (h .cells) (4 * x) (4 * sizeAt N h x) bytes)
+      let named : ℕ = namingCells (h .d) x (sizeAt N h x) in
+      let s : Work = visitEach N w (work counts stack) (h .cells) (4 * x) named in
+      scan-bytes fuel h (s .counts) (s .stack) (visit-each-bytes (work counts stack) (h .cells) (4 * x) named bytes)
 
   mark-bytes : (h : Memory) → Bytes (markCounts N w h)
   unfolding markCounts
@@ -103,4 +111,4 @@ module _ (N w : ℕ) where
   pub collect-by-bytes : (h : Memory) → Bytewise h → Bytewise (collectBy N w h)
   unfolding collectBy
   collect-by-bytes h bytes =
-      sweep-bytes (withCounts (markCounts N w h) h) N (record { a = bytes .a; b = bytes .b; counts = mark-bytes h })
+      sweep-bytes (withCounts (markCounts N w h) h) N (record { a = bytes .a; b = bytes .b; counts = mark-bytes h; d = bytes .d })

@@ -1,12 +1,14 @@
 -- On a healthy memory of bytes the collector's procedure is the rule: marking by counting anew and sweeping what is left at 0 gives the
 -- memory that the rules give, and the blocks that it counts are the growth of the A-map's zeros.
 use mathlib.Core.Path.{_≡_, refl, sym, ap, _∙_, subst}
-use mathlib.Core.List.{List, _++_}
+use mathlib.Core.Logic.{_≢_}
+use mathlib.Core.List.{List}
 use Prim.Native.Nat.{ℕ, _-_, _/_, _<_}
 use native.Mathlib.Omega.{arith}
-use lib.ListN.{length, getD, drop}
-use lib.Seq.{drop-append-seam}
+use lib.ListN.{length, getD}
+use lib.Seq.{ext-getD}
 use Rattle.bitmap.specs.Bit.{zeros}
+use Rattle.bitmap.proofs.Maps.{map-ext}
 use Rattle.planes.specs.Plane.{countAt}
 use Rattle.planes.proofs.Counts.{counts-ext}
 use Rattle.rules.specs.Heap.{Memory, withCounts, capacity, countOf}
@@ -14,11 +16,12 @@ use Rattle.rules.specs.Collection.{collected}
 use Rattle.collect_mark.specs.Mark.{markCounts}
 use Rattle.refinement.proofs.Collection.{collectBy, collectBlocks}
 use Rattle.rules.proofs.Shape.{Shaped}
-use Rattle.theory.proofs.Maps.Extents.{length-sizes-of, same-maps}
+use Rattle.theory.proofs.Maps.Extents.{Represents, length-sizes-of, represents-is, same-maps}
 use Rattle.theory.proofs.Maps.Totals.{free-and-sizes}
 use Rattle.theory.proofs.Graphs.Graph.{Graph, count}
 use Rattle.theory.proofs.Graphs.Sweep as graph
 use Rattle.theory.proofs.Graphs.Sweep.{markedGraph}
+use Rattle.theory.proofs.Memories.Keeping.{sizesIn, Kept, kept-cell, kept-kind}
 use Rattle.theory.proofs.Memories.View.{view}
 use Rattle.theory.proofs.Memories.Healthy.{Healthy, view-count}
 use Rattle.theory.proofs.Memories.ViewRelease.{reshaped, graph-is}
@@ -27,9 +30,6 @@ use Rattle.theory.proofs.Memories.ViewCollection.{collect-swept, collected-show
 use Rattle.refinement.proofs.ViewMarking.{mark-counts-shows}
 use Rattle.refinement.proofs.CollectorSweep.{Stage, sweep-stage}
 use Rattle.refinement.proofs.Bytewise.{Bytewise, collected-bytes, collect-by-bytes}
-
-same-rest : (front l m : List ℕ) → front ++ l ≡ front ++ m → l ≡ m
-same-rest front l m e = sym (drop-append-seam front l) ∙ ap (drop (length front)) e ∙ drop-append-seam front m
 
 module _ (N w : ℕ) (h : Memory) (healthy : Healthy N w h) where
   abbrev r : ℕ
@@ -43,7 +43,7 @@ module _ (N w : ℕ) (h : Memory) (healthy : Healthy N w h) where
 
   remarked-shape : Shaped N w remarked
   remarked-shape =
-      reshaped N w h remarked (healthy .shape) refl refl (mark-counts-shows N w h healthy .0 ∙ sym (healthy .shape .length-counts)) refl refl refl refl
+      reshaped N w h remarked (healthy .shape) refl refl (mark-counts-shows N w h healthy .0 ∙ sym (healthy .shape .length-counts)) refl refl refl refl refl
 
   remarked-view : view N w remarked ≡ markedGraph (capacity w) r (view N w h)
   remarked-view = graph-is refl (mark-counts-shows N w h healthy .1) refl
@@ -54,7 +54,7 @@ module _ (N w : ℕ) (h : Memory) (healthy : Healthy N w h) where
       subst (λ (k : Graph). Stage N w remarked (collectBy N w h) k (collectBlocks N w h))
       (ap (λ (m : Graph). graph.sweep r m N) remarked-view
       ∙ ap (graph.sweep r (markedGraph (capacity w) r (view N w h))) (sym (length-sizes-of N (h .a) (h .b))))
-      (sweep-stage N w remarked remarked-shape (healthy .represents) N (omega arith))
+      (sweep-stage N w remarked remarked-shape (healthy .represents) (healthy .bare) N (omega arith))
 
   -- ---- the memory
 
@@ -82,6 +82,7 @@ module _ (N w : ℕ) (h : Memory) (healthy : Healthy N w h) where
         roots = (end-stage .swept .same-roots ∙ sym (collect-swept N w h healthy .same-roots)) i;
         waiting = (end-stage .swept .same-waiting ∙ sym (collect-swept N w h healthy .same-waiting)) i;
         sections = (end-stage .swept .same-sections ∙ sym (collect-swept N w h healthy .same-sections)) i;
+        d = same-d i;
       }
     where
       by : Bytewise (collectBy N w h)
@@ -109,13 +110,33 @@ module _ (N w : ℕ) (h : Memory) (healthy : Healthy N w h) where
           let inside : b < N = omega (arith, healthy .shape .whole-bytes) in
           count-by b inside ∙ sym (count-is b inside))
 
+      -- marking leaves all but the counts: what stands after the sweep is as it was before the marking
+      by-keeps : (x : ℕ) → getD (sizesIn N (collectBy N w h)) x 0 ≢ 0 → Kept N h (collectBy N w h) x
+      by-keeps x stands =
+          let kept = end-stage .swept .keeps x stands in
+          record { size = kept .size; kind = kept .kind; cells = kept .cells }
+
+      -- what stands is as it was, on both sides, and nothing is left where nothing stands
+      represents : Represents N ((collectBy N w h) .a) ((collectBy N w h) .b) (sizesIn N (collectBy N w h))
+      represents =
+          rw (← represents-is N ((collectBy N w h) .a) ((collectBy N w h) .b) (after .sizes) (end-stage .swept .represents))
+          (end-stage .swept .represents)
+
       same-cells : (collectBy N w h) .cells ≡ (collected N w h) .cells
       same-cells =
-          same-rest (h .roots) ((collectBy N w h) .cells) ((collected N w h) .cells)
-          (ap (λ (l : List ℕ). l ++ (collectBy N w h) .cells) (sym (end-stage .swept .same-roots))
-          ∙ end-stage .swept .slots-are
-          ∙ sym (collect-swept N w h healthy .slots-are)
-          ∙ ap (λ (l : List ℕ). l ++ (collected N w h) .cells) (collect-swept N w h healthy .same-roots))
+          ext-getD 0 ((collectBy N w h) .cells) ((collected N w h) .cells)
+          (end-stage .swept .shape .length-cells ∙ sym (collect-swept N w h healthy .shape .length-cells))
+          (λ j l.
+          kept-cell N h represents (end-stage .swept .bare) (collect-swept N w h healthy .bare) by-keeps (collect-swept N w h healthy .keeps)
+          (maps .0) (maps .1) j)
+
+      same-d : (collectBy N w h) .d ≡ (collected N w h) .d
+      same-d =
+          map-ext ((collectBy N w h) .d) ((collected N w h) .d) (by .d) (is .d)
+          (end-stage .swept .shape .length-d ∙ sym (collect-swept N w h healthy .shape .length-d))
+          (λ x l.
+          kept-kind N h represents (end-stage .swept .bare) (collect-swept N w h healthy .bare) by-keeps (collect-swept N w h healthy .keeps)
+          (maps .0) (maps .1) x)
 
   -- ---- the blocks freed
 

@@ -24,6 +24,8 @@ use Rattle.theory.proofs.Maps.Extents.{Represents, sizesOf, first-size, not-fir
 use Rattle.theory.proofs.Graphs.Graph.{Graph, size, count}
 use Rattle.theory.proofs.Graphs.Sweep as graph
 use Rattle.theory.proofs.Graphs.Sweep.{sweepOne, sweep-gone, sweep-kept}
+use Rattle.theory.proofs.Memories.Reading.{Bare}
+use Rattle.theory.proofs.Memories.Keeping.{kept-same}
 use Rattle.theory.proofs.Memories.View.{view}
 use Rattle.theory.proofs.Memories.Healthy.{view-count}
 use Rattle.theory.proofs.Memories.ViewSweep.{Swept, freed-swept, erase-none, sweep-counts}
@@ -104,7 +106,8 @@ module _ (N w : ℕ) (h g : Memory) (k : Graph) (blocks n : ℕ) (stage : Stage 
           (false-unless (isFirst N g n)
           (λ f. eqb-false (countOf N w g n) 0 (and-false (isFirst N g n) (eqb (countOf N w g n) 0) e f) (sym same-count ∙ z))))
 
-module _ (N w : ℕ) (h : Memory) (shape : Shaped N w h) (represents : Represents N (h .a) (h .b) (sizesOf N (h .a) (h .b))) where
+module _ (N w : ℕ) (h : Memory) (shape : Shaped N w h) (represents : Represents N (h .a) (h .b) (sizesOf N (h .a) (h .b)))
+    (bare : Bare N (h .a) (h .b) (h .d) (h .cells)) where
   next-stage :
       (n : ℕ) → n < N → Stage N w h (sweep N w h n) (graph.sweep (length (h .roots)) (view N w h) n) (sweepBlocks N w h n)
       → Stage N w h (sweep N w h (suc n)) (sweepOne (length (h .roots)) (graph.sweep (length (h .roots)) (view N w h) n) n)
@@ -132,7 +135,16 @@ module _ (N w : ℕ) (h : Memory) (shape : Shaped N w h) (represents : Represent
   unfolding sweep sweeping.sweepOne sweepBlocks sweepOneBlocks graph.sweep
   sweep-stage zero l =
       record {
-        swept = record { shape = shape; represents = represents; same-roots = refl; same-waiting = refl; same-sections = refl; slots-are = refl };
+        swept = record {
+          shape = shape;
+          represents = represents;
+          same-roots = refl;
+          same-waiting = refl;
+          same-sections = refl;
+          slots-are = refl;
+          bare = bare;
+          keeps = λ x stands. kept-same N h x;
+        };
         same-counts = refl;
         freed-blocks = omega arith;
       }

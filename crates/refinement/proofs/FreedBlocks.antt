@@ -7,7 +7,7 @@ use Prim.Native.Nat.{ℕ, zero, suc, _+_, _-_, _*_, _<_}
 use native.Mathlib.Omega.{arith}
 use lib.ListN.{length, getD}
 use Rattle.bitmap.specs.Bit.{zeros}
-use Rattle.rules.specs.Heap.{Memory, isFirst, sizeAt, isRef}
+use Rattle.rules.specs.Heap.{Memory, isFirst, sizeAt, isRef, isData}
 use Rattle.rules.specs.Store.{freed, release, letGo, putRoot, putCell, changeRoot, changeCell, storeRootIn, storeCellIn}
 use Rattle.release.specs.Blocks.{releasedBlocks, letGoBlocks}
 use Rattle.refinement.proofs.StoreBlocks.{putRootBlocks, storeRootBlocks, storeCellBlocks}
@@ -44,9 +44,9 @@ module _ (N w : ℕ) (h : Memory) (healthy : Healthy N w h) where
       (omega (arith, release-zeros N w N (store-root N w h healthy v ref r l .releasing)))
 
   pub store-cell-freed :
-      (a j v : ℕ) → isFirst N h a ≡ true → j < 4 * sizeAt N h a → isRef N h v ≡ true
+      (a j v : ℕ) → isFirst N h a ≡ true → j < 4 * sizeAt N h a → isData (h .d) a ≡ false → isRef N h v ≡ true
       → zeros ((storeCellIn N w h (4 * a + j) v) .a) - zeros (h .a) ≡ storeCellBlocks N w h (4 * a + j) v
   unfolding storeCellIn changeCell putCell letGo storeCellBlocks letGoBlocks
-  store-cell-freed a j v first l ref =
+  store-cell-freed a j v first l ordinary ref =
       choose-freed (eqb (getD (h .cells) (4 * a + j) 0) v) _ _
-      (omega (arith, release-zeros N w N (store-cell N w h healthy v ref a j first l .releasing)))
+      (omega (arith, release-zeros N w N (store-cell N w h healthy v ref a j first l ordinary .releasing)))

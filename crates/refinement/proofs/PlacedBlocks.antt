@@ -1,6 +1,7 @@
 -- The number of blocks that an allocation frees, counted along its release: what the A-map's zeros lose by the new object, less what they
 -- lose in all.
 use mathlib.Core.Path.{_≡_}
+use mathlib.Core.Bool.{Bool}
 use mathlib.Core.List.{List}
 use mathlib.Core.Option.{some}
 use Prim.Native.Nat.{ℕ, _+_, _-_, _≤_, _<_}
@@ -42,7 +43,8 @@ module _ (N w : ℕ) (h : Memory) (fit : Fit N w h) (n r i : ℕ) (some-blocks :
         fresh N w h fit n r i some-blocks l found,
       )
 
-  pub allocate-freed : zeros ((allocateIn N w h n r i) .a) + n ≡ zeros (h .a) + putRootBlocks N w (placed N w h i n) r (i + 1)
+  pub allocate-freed : (asData : Bool)
+      → zeros ((allocateIn N w asData h n r i) .a) + n ≡ zeros (h .a) + putRootBlocks N w (placed N w asData h i n) r (i + 1)
   unfolding allocateIn placed putRoot letGo putRootBlocks letGoBlocks
-  allocate-freed =
-      omega (arith, release-zeros N w N (allocate-root N w h healthy n i (omega arith) space r l .releasing), placed-zeros)
+  allocate-freed asData =
+      omega (arith, release-zeros N w N (allocate-root N w h healthy n i (omega arith) space asData r l .releasing), placed-zeros)

@@ -26,7 +26,12 @@ fit-ready N w h fit =
             width = shape .width-max;
             length-is = shape .length-counts;
           };
-      extents = record { a-length = shape .length-a; b-length = shape .length-b; cells-length = shape .length-cells };
+      extents = record {
+        a-length = shape .length-a;
+        b-length = shape .length-b;
+        cells-length = shape .length-cells;
+        d-length = shape .length-d;
+      };
       idle = refl;
       coherent = coherent-true N (h .a) (h .sections) (shaped-blocks N w h shape) (fit .listed);
     }

@@ -4,10 +4,11 @@ use mathlib.Core.Path.{_≡_, refl, sym, ap, _∙_}
 use mathlib.Core.List.{List, [], _∷_}
 use Prim.Native.Nat.{ℕ, zero, suc, _+_}
 use lib.ListN.{replicate}
-use Rattle.rules.specs.Heap.{Memory, memory, withA, withB, withCounts, withCells, withWaiting, sizeAt}
+use Rattle.rules.specs.Heap.{Memory, withA, withB, withCounts, withCells, withWaiting, withD, sizeAt}
 use Rattle.rules.specs.Store.{Work, work, countDown, freed, workAfter, memoryAfter, release, letGo}
 use Rattle.rules.proofs.Unread as unread
 use Rattle.rules.proofs.Unread.{beside, release-beside}
+use Rattle.count_up.specs.Ready.{partMemory}
 use Rattle.count_up.specs.Stack.{topFirst}
 use Rattle.release.specs.Blocks.{releasedBlocks, letGoBlocks}
 
@@ -45,13 +46,14 @@ module _ (N w : ℕ) (h : Memory) (v : ℕ) {counts stack : List ℕ}
 
 -- ---- the same beside roots and a list of sections
 
--- the memory as the code that lets go knows it: neither is lent to it
+-- the memory as the code that lets go knows it
 abbrev pub unlent : Memory → Memory
-unlent h = memory (h .a) (h .b) (h .counts) (h .cells) [] (h .waiting)
+unlent h = partMemory (h .a) (h .b) (h .counts) (h .cells) (h .waiting) (h .d)
 
--- h with the lists that are, as g has them
+-- h with the lists that are lent to it, as g has them
 abbrev pub lentAgain : Memory → Memory → Memory
-lentAgain h g = withA (g .a) (withB (g .b) (withCounts (g .counts) (withCells (g .cells) (withWaiting (g .waiting) h))))
+lentAgain h g =
+    withA (g .a) (withB (g .b) (withCounts (g .counts) (withCells (g .cells) (withWaiting (g .waiting) (withD (g .d) h)))))
 
 pub let-go-beside : (N w : ℕ) (h : Memory) (v : ℕ) {g : Memory} → g ≡ letGo N w (unlent h) v → lentAgain h g ≡ letGo N w h v
 let-go-beside N w h v e = ap (lentAgain h) e ∙ sym (unread.let-go-beside N w (lentAgain h) (unlent h) v)

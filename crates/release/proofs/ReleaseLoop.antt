@@ -8,9 +8,9 @@ use borrow.Author.Tests.{eqb-true, not-false}
 use Rattle.bitmap.specs.Bit.{setBit, fillBits}
 use Rattle.planes.specs.Plane.{setCount}
 use Rattle.planes.proofs.Counts.{set-count-there}
-use Rattle.rules.specs.Heap.{Memory, memory, withCounts, sizeFrom, maxBlocks}
-use Rattle.rules.specs.Store.{Work, work, countDownEach, clearCells, freed, release}
-use Rattle.count_up.specs.Ready.{Planes, Extents}
+use Rattle.rules.specs.Heap.{Memory, withCounts, sizeFrom, maxBlocks}
+use Rattle.rules.specs.Store.{Work, work, countDownEach, clearCells, freed, namingCells, release}
+use Rattle.count_up.specs.Ready.{Planes, Extents, partMemory}
 use Rattle.count_up.specs.Stack.{topFirst, counted, remaining, Stack, Worked}
 use Rattle.release.specs.Blocks.{releasedBlocks}
 use Rattle.count_up.proofs.Shapes.{extents-written}
@@ -20,7 +20,7 @@ use Rattle.count_up.proofs.Stack.{top-first-kept, top-first-pop, stack-emptied}
 
 -- the counts and the stack once the object of n blocks at i is freed
 abbrev after : ℕ → ℕ → Memory → ℕ → ℕ → List ℕ → Work
-after N w h i n rest = countDownEach N w (work (freed N w h i n .counts) rest) (h .cells) (4 * i) (4 * n)
+after N w h i n rest = countDownEach N w (work (freed N w h i n .counts) rest) (h .cells) (4 * i) (namingCells (h .d) i n)
 
 -- the memory then
 abbrev left : ℕ → ℕ → Memory → ℕ → ℕ → List ℕ → Memory
@@ -47,21 +47,21 @@ module _ (f N w : ℕ) (h : Memory) (i n : ℕ) (rest : List ℕ) (some : 0 < f)
 
 -- What it keeps: what is still to be done from here gives `goal`, and what is still to be counted gives `total`. The last part bounds
 -- the sum: whatever can still come to be freed has at most `maxBlocks` blocks.
-pub record ReleaseUnderWay (N w : ℕ) (goal : Memory) (total : ℕ) (a b counts cells waiting : List ℕ) (top done : ℕ) : Type 0 where
+pub record ReleaseUnderWay (N w : ℕ) (goal : Memory) (total : ℕ) (a b counts cells waiting d : List ℕ) (top done : ℕ) : Type 0 where
   pub planes : Planes N w counts
-  pub extents : Extents N a b cells
+  pub extents : Extents N a b cells d
   pub stack : Stack counted N w counts waiting top
   pub steps : ℕ
   pub enough : remaining counted N w counts top ≤ steps
-  pub rest : goal ≡ release steps N w (memory a b counts cells [] []) (topFirst waiting top)
-  pub blocks : total ≡ done + releasedBlocks steps N w (memory a b counts cells [] []) (topFirst waiting top)
+  pub rest : goal ≡ release steps N w (partMemory a b counts cells [] d) (topFirst waiting top)
+  pub blocks : total ≡ done + releasedBlocks steps N w (partMemory a b counts cells [] d) (topFirst waiting top)
   pub bound : done + maxBlocks * remaining counted N w counts top ≤ maxBlocks * maxBlocks
 
 pub releasing-start :
-    {N w : ℕ} {a b counts cells waiting : List ℕ} {top : ℕ}
-    → Planes N w counts → Extents N a b cells → Stack counted N w counts waiting top
-    → ReleaseUnderWay N w (release N N w (memory a b counts cells [] []) (topFirst waiting top))
-    (releasedBlocks N N w (memory a b counts cells [] []) (topFirst waiting top)) a b counts cells waiting top 0
+    {N w : ℕ} {a b counts cells waiting d : List ℕ} {top : ℕ}
+    → Planes N w counts → Extents N a b cells d → Stack counted N w counts waiting top
+    → ReleaseUnderWay N w (release N N w (partMemory a b counts cells [] d) (topFirst waiting top))
+    (releasedBlocks N N w (partMemory a b counts cells [] d) (topFirst waiting top)) a b counts cells waiting d top 0
 releasing-start {N} p x s = record {
   planes = p;
   extents = x;
@@ -74,16 +74,17 @@ releasing-start {N} p x s = record {
 }
 
 -- an object of n blocks at i is taken off the stack and freed
-module _ {N w : ℕ} {goal : Memory} {total : ℕ} {a b counts cells waiting : List ℕ} {top done i n : ℕ}
-    {a′ b′ counts′ cells′ waiting′ : List ℕ} {top′ : ℕ}
+module _ {N w : ℕ} {goal : Memory} {total : ℕ} {a b counts cells waiting d : List ℕ} {top done i n : ℕ}
+    {a′ b′ counts′ cells′ waiting′ d′ : List ℕ} {top′ : ℕ}
     (taken : 0 < top) (ei : i ≡ getD waiting (top - 1) 0) (size : n ≡ sizeFrom (N - i) b i) (inside : i + n ≤ N)
     (ea : a′ ≡ fillBits a i n 0) (eb : b′ ≡ setBit b (i + n - 1) 1) (ee : cells′ ≡ clearCells cells (4 * i) (4 * n))
     (down :
-    Worked counted N w (countDownEach N w (work counts (topFirst (set waiting (top - 1) 0) (top - 1))) cells (4 * i) (4 * n))
+    Worked counted N w (countDownEach N w (work counts (topFirst (set waiting (top - 1) 0) (top - 1))) cells (4 * i) (namingCells d i n))
     (remaining counted N w counts (top - 1)) counts′ waiting′ top′)
-    (r : ReleaseUnderWay N w goal total a b counts cells waiting top done) where
+    (ed : d′ ≡ setBit d i 0)
+    (r : ReleaseUnderWay N w goal total a b counts cells waiting d top done) where
   abbrev before : Memory
-  before = memory a b counts cells [] []
+  before = partMemory a b counts cells [] d
 
   abbrev rest : List ℕ
   rest = topFirst waiting (top - 1)
@@ -100,33 +101,33 @@ module _ {N w : ℕ} {goal : Memory} {total : ℕ} {a b counts cells waiting : L
 
   result : after N w before i n rest ≡ work counts′ (topFirst waiting′ top′)
   unfolding freed
-  result = sym (down .result ∙ ap (λ (s : Work). countDownEach N w s cells (4 * i) (4 * n)) same-work)
+  result = sym (down .result ∙ ap (λ (s : Work). countDownEach N w s cells (4 * i) (namingCells d i n)) same-work)
 
-  memory-left : left N w before i n rest ≡ memory a′ b′ counts′ cells′ [] []
+  memory-left : left N w before i n rest ≡ partMemory a′ b′ counts′ cells′ [] d′
   unfolding freed
-  memory-left = λ k. memory (sym ea k) (sym eb k) (result k .counts) (sym ee k) [] []
+  memory-left = λ k. partMemory (sym ea k) (sym eb k) (result k .counts) (sym ee k) [] (sym ed k)
 
   stack-left : after N w before i n rest .stack ≡ topFirst waiting′ top′
   stack-left = ap (λ (s : Work). s .stack) result
 
   release-left : release (r .steps) N w before (topFirst waiting top)
-      ≡ release (r .steps - 1) N w (memory a′ b′ counts′ cells′ [] []) (topFirst waiting′ top′)
+      ≡ release (r .steps - 1) N w (partMemory a′ b′ counts′ cells′ [] d′) (topFirst waiting′ top′)
   release-left =
       ap (λ (s : List ℕ). release (r .steps) N w before s) popped
       ∙ release-pop (r .steps) N w before i n rest (omega (arith, r .enough)) size
       ∙ ap₂ (λ (g : Memory) (s : List ℕ). release (r .steps - 1) N w g s) memory-left stack-left
 
   blocks-left : releasedBlocks (r .steps) N w before (topFirst waiting top)
-      ≡ n + releasedBlocks (r .steps - 1) N w (memory a′ b′ counts′ cells′ [] []) (topFirst waiting′ top′)
+      ≡ n + releasedBlocks (r .steps - 1) N w (partMemory a′ b′ counts′ cells′ [] d′) (topFirst waiting′ top′)
   blocks-left =
       ap (λ (s : List ℕ). releasedBlocks (r .steps) N w before s) popped
       ∙ released-pop (r .steps) N w before i n rest (omega (arith, r .enough)) size
       ∙ ap₂ (λ (g : Memory) (s : List ℕ). n + releasedBlocks (r .steps - 1) N w g s) memory-left stack-left
 
-  pub releasing-step : ReleaseUnderWay N w goal total a′ b′ counts′ cells′ waiting′ top′ (done + n)
+  pub releasing-step : ReleaseUnderWay N w goal total a′ b′ counts′ cells′ waiting′ d′ top′ (done + n)
   releasing-step = record {
     planes = down .planes;
-    extents = extents-written i n 0 (i + n - 1) 1 (4 * i) (4 * n) ea eb ee (r .extents);
+    extents = extents-written i n 0 (i + n - 1) 1 (4 * i) (4 * n) 0 ea eb ee ed (r .extents);
     stack = down .stack;
     steps = r .steps - 1;
     enough = omega (arith, down .left-is, r .enough);
@@ -136,15 +137,15 @@ module _ {N w : ℕ} {goal : Memory} {total : ℕ} {a b counts cells waiting : L
   }
 
 -- nothing waits any more
-module _ {N w : ℕ} {goal : Memory} {total : ℕ} {a b counts cells waiting : List ℕ} {top done : ℕ}
-    (r : ReleaseUnderWay N w goal total a b counts cells waiting top done) (none : top ≡ 0) where
-  pub releasing-done : memory a b counts cells [] [] ≡ goal
+module _ {N w : ℕ} {goal : Memory} {total : ℕ} {a b counts cells waiting d : List ℕ} {top done : ℕ}
+    (r : ReleaseUnderWay N w goal total a b counts cells waiting d top done) (none : top ≡ 0) where
+  pub releasing-done : partMemory a b counts cells [] d ≡ goal
   unfolding release topFirst
   releasing-done =
       sym
-      (r .rest ∙ ap (λ (k : ℕ). release (r .steps) N w (memory a b counts cells [] []) (topFirst waiting k)) none ∙ end (r .steps))
+      (r .rest ∙ ap (λ (k : ℕ). release (r .steps) N w (partMemory a b counts cells [] d) (topFirst waiting k)) none ∙ end (r .steps))
     where
-      end : (f : ℕ) → release f N w (memory a b counts cells [] []) [] ≡ memory a b counts cells [] []
+      end : (f : ℕ) → release f N w (partMemory a b counts cells [] d) [] ≡ partMemory a b counts cells [] d
       end zero = refl
       end (suc f) = refl
 
@@ -152,13 +153,13 @@ module _ {N w : ℕ} {goal : Memory} {total : ℕ} {a b counts cells waiting : L
   unfolding releasedBlocks topFirst
   blocks-done = omega (arith, r .blocks, last)
     where
-      end : (f : ℕ) → releasedBlocks f N w (memory a b counts cells [] []) [] ≡ 0
+      end : (f : ℕ) → releasedBlocks f N w (partMemory a b counts cells [] d) [] ≡ 0
       end zero = refl
       end (suc f) = refl
 
-      last : releasedBlocks (r .steps) N w (memory a b counts cells [] []) (topFirst waiting top) ≡ 0
+      last : releasedBlocks (r .steps) N w (partMemory a b counts cells [] d) (topFirst waiting top) ≡ 0
       last =
-          ap (λ (k : ℕ). releasedBlocks (r .steps) N w (memory a b counts cells [] []) (topFirst waiting k)) none ∙ end (r .steps)
+          ap (λ (k : ℕ). releasedBlocks (r .steps) N w (partMemory a b counts cells [] d) (topFirst waiting k)) none ∙ end (r .steps)
 
   pub waiting-done : waiting ≡ replicate N 0
   waiting-done = stack-emptied (rw none at (r .stack))

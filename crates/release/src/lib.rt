@@ -3,10 +3,9 @@
 ghost use mathlib.Core.Path.{_≡_};
 ghost use mathlib.Core.List.{[]};
 ghost use lib.ListN.{replicate};
-ghost use Rattle.rules.specs.Heap.{memory};
 ghost use Rattle.rules.specs.Store.{release, letGo};
 ghost use Rattle.section_figures.specs.Figures.{Coherent, Upkeep};
-ghost use Rattle.count_up.specs.Ready.{Planes, Extents};
+ghost use Rattle.count_up.specs.Ready.{Planes, Extents, partMemory};
 ghost use Rattle.count_up.specs.Stack.{topFirst, counted, Stack};
 ghost use Rattle.release.specs.Blocks.{releasedBlocks, letGoBlocks};
 use types::Ref;
@@ -21,18 +20,19 @@ fn release_all(
     cells: &mut [Ref],
     waiting: &mut [Ref],
     sections: &mut [Ref],
+    d: &mut [u8],
     top: usize,
 ) -> usize
-    requires { ⌜ Planes blocks width (now counts) × Extents blocks (now a) (now b) (now cells)
+    requires { ⌜ Planes blocks width (now counts) × Extents blocks (now a) (now b) (now cells) (now d)
         × Stack counted blocks width (now counts) (now waiting) top × Coherent blocks (now a) (now sections) ⌝ }
     ensures { λ r.
-        ⌜ (memory (now (a .exit)) (now (b .exit)) (now (counts .exit)) (now (cells .exit)) [] []
+        ⌜ (partMemory (now (a .exit)) (now (b .exit)) (now (counts .exit)) (now (cells .exit)) [] (now (d .exit))
         ≡ release blocks blocks width
-        (memory (now (a .entry)) (now (b .entry)) (now (counts .entry)) (now (cells .entry)) [] [])
+        (partMemory (now (a .entry)) (now (b .entry)) (now (counts .entry)) (now (cells .entry)) [] (now (d .entry)))
         (topFirst (now (waiting .entry)) top))
         × (r
         ≡ releasedBlocks blocks blocks width
-        (memory (now (a .entry)) (now (b .entry)) (now (counts .entry)) (now (cells .entry)) [] [])
+        (partMemory (now (a .entry)) (now (b .entry)) (now (counts .entry)) (now (cells .entry)) [] (now (d .entry)))
         (topFirst (now (waiting .entry)) top))
         × (now (waiting .exit) ≡ replicate blocks 0)
         × Upkeep blocks r (now (a .entry)) (now (sections .entry)) (now (a .exit)) (now (sections .exit)) ⌝ }
@@ -45,7 +45,7 @@ fn release_all(
         waiting[t] = 0;
         let n = map_objects::objects::object_size(blocks, b, i);
         section_extents::clear_extent(blocks, a, b, sections, i, n);
-        t = count_down::drop_cells(blocks, width, counts, cells, waiting, 4 * i, 4 * n, t);
+        t = count_down::drop_object(blocks, width, counts, cells, waiting, d, i, n, t);
         freed += n;
     }
     freed
@@ -61,19 +61,31 @@ pub fn let_go(
     cells: &mut [Ref],
     waiting: &mut [Ref],
     sections: &mut [Ref],
+    d: &mut [u8],
     v: Ref,
 ) -> usize
-    requires { ⌜ Planes blocks width (now counts) × Extents blocks (now a) (now b) (now cells) × (now waiting ≡ replicate blocks 0)
+    requires { ⌜ Planes blocks width (now counts) × Extents blocks (now a) (now b) (now cells) (now d) × (now waiting ≡ replicate blocks 0)
         × Coherent blocks (now a) (now sections) ⌝ }
     ensures { λ r.
-        ⌜ (memory (now (a .exit)) (now (b .exit)) (now (counts .exit)) (now (cells .exit)) [] (now (waiting .exit))
+        ⌜ (partMemory (now (a .exit)) (now (b .exit)) (now (counts .exit)) (now (cells .exit)) (now (waiting .exit)) (now (d .exit))
         ≡ letGo blocks width
-        (memory (now (a .entry)) (now (b .entry)) (now (counts .entry)) (now (cells .entry)) [] (now (waiting .entry))) v)
+        (partMemory (now (a .entry)) (now (b .entry)) (now (counts .entry)) (now (cells .entry)) (now (waiting .entry)) (now (d .entry))) v)
         × (r
         ≡ letGoBlocks blocks width
-        (memory (now (a .entry)) (now (b .entry)) (now (counts .entry)) (now (cells .entry)) [] (now (waiting .entry))) v)
+        (partMemory (now (a .entry)) (now (b .entry)) (now (counts .entry)) (now (cells .entry)) (now (waiting .entry)) (now (d .entry))) v)
         × Upkeep blocks r (now (a .entry)) (now (sections .entry)) (now (a .exit)) (now (sections .exit)) ⌝ }
 {
     let top = count_down::count_down(blocks, width, counts, waiting, v, 0);
-    release_all(blocks, width, a, b, counts, cells, waiting, sections, top)
+    release_all(
+        blocks,
+        width,
+        a,
+        b,
+        counts,
+        cells,
+        waiting,
+        sections,
+        d,
+        top,
+    )
 }

@@ -17,7 +17,7 @@ fill-bytes-requires c κs = search needs
 visit-each-requires : tie.Need-visit-each-requires
 visit-each-requires c κs =
     let f = c .before .before .before .before in
-    let s = f .before .before .before .before .before .before .before in
+    let s = f .before .before .before .before .before .before .before .before in
     (planes-same (s .pre .0) (omega arith), stack-empty (s .pre .3), omega arith)
 
 scan-all-requires : tie.Need-scan-all-requires
@@ -35,7 +35,7 @@ returns c =
     let a = c .before .before .before .before in
     let v = a .before .before .before .before .before .before .before in
     let f = v .before .before .before .before .before in
-    let s = f .before .before .before .before .before .before .before in
+    let s = f .before .before .before .before .before .before .before .before in
     let cleared = f .fill-bytes .ensures ∙ ap (λ (k : ℕ). replicate k 0) (s .pre .0 .length-is) in
     (a .scan-all .ensures .0 ∙ mark-parts _ _ _ cleared (v .visit-each .ensures .result), a .scan-all .ensures .1)
 

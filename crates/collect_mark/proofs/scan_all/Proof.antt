@@ -4,7 +4,7 @@ use mathlib.Core.Path.{_≡_}
 use mathlib.Core.List.{[]}
 use Prim.Native.Nat.{_-_}
 use native.Mathlib.Omega.{arith}
-use Rattle.rules.specs.Heap.{memory}
+use Rattle.rules.specs.Heap.{lentMemory}
 use Rattle.count_up.specs.Ready.{Planes}
 use Rattle.count_up.specs.Stack.{topFirst, uncounted, remaining, Stack}
 use Rattle.count_up.proofs.Stack.{stack-pop, stack-emptied}
@@ -14,17 +14,17 @@ use Rattle.collect_mark.proofs.scan_all.Statement.{statement}
 use Rattle.collect_mark.proofs.scan_all.Tie as tie
 
 abbrev Inv-loop : tie.InvT-loop
-Inv-loop blocks width b counts₀ cells waiting₀ top t₀ counts waiting t =
+Inv-loop blocks width b counts₀ cells waiting₀ d top t₀ counts waiting t =
     Planes blocks width counts × Stack uncounted blocks width counts waiting t
-    × Leading blocks width (memory [] b [] cells [] [])
-    (scan blocks blocks width (memory [] b [] cells [] []) counts₀ (topFirst waiting₀ top)) counts waiting t
+    × Leading blocks width (lentMemory [] b [] cells [] [] [] d)
+    (scan blocks blocks width (lentMemory [] b [] cells [] [] [] d) counts₀ (topFirst waiting₀ top)) counts waiting t
 
 abbrev μ-loop : tie.MeasureT-loop
-μ-loop blocks width b counts₀ cells waiting₀ top t₀ counts waiting t = remaining uncounted blocks width counts t
+μ-loop blocks width b counts₀ cells waiting₀ d top t₀ counts waiting t = remaining uncounted blocks width counts t
 
 loop-holds : tie.Need-loop-holds Inv-loop μ-loop
 loop-holds c =
-    let s = c .before .before .before .before in
+    let s = c .before .before .before .before .before in
     (s .pre .0, s .pre .1, leading-start (s .pre .1))
 
 sub-t : tie.Need-sub-t Inv-loop μ-loop
@@ -50,15 +50,15 @@ object-size-requires c κs =
     let l = c .before .before in
     (omega arith, l .loop .inv .1 .blocks (l .loop .t - 1) (omega arith))
 
+naming-cells-requires : tie.Need-naming-cells-requires Inv-loop μ-loop
+naming-cells-requires c κs = omega arith
+
 mul-visit-each : tie.Need-mul-visit-each Inv-loop μ-loop
 mul-visit-each c = omega arith
 
-mul-visit-each-2 : tie.Need-mul-visit-each-2 Inv-loop μ-loop
-mul-visit-each-2 c = omega arith
-
 visit-each-requires : tie.Need-visit-each-requires Inv-loop μ-loop
 visit-each-requires c κs =
-    let l = c .before .before .before .before .before in
+    let l = c .before .before .before .before .before .before in
     (l .loop .inv .0, stack-pop (omega arith) (l .loop .inv .1), omega arith)
 
 loop-less : tie.Need-loop-less Inv-loop μ-loop
@@ -68,10 +68,10 @@ loop-less c =
 loop-again : tie.Need-loop-again Inv-loop μ-loop
 loop-again c =
     let r = c .before .before .before .before in
-    let l = r .before .before .before .before .before .before in
+    let l = r .before .before .before .before .before .before .before in
     let m = r .visit-each .ensures in
-    let size = r .before .before .before .object-size .ensures .0 in
-    (m .planes, m .stack, leading-next (l .loop .inv .2) (omega arith) size m)
+    let named = r .before .before .before in
+    (m .planes, m .stack, leading-next (l .loop .inv .2) (omega arith) (named .before .object-size .ensures .0) (named .naming-cells .ensures .0) m)
 
 same-length : tie.Need-same-length Inv-loop μ-loop
 same-length c = omega arith
@@ -99,8 +99,8 @@ scan-all-spec =
     mul-waiting
     slice-write-waiting
     object-size-requires
+    naming-cells-requires
     mul-visit-each
-    mul-visit-each-2
     visit-each-requires
     loop-less
     loop-again

@@ -4,9 +4,9 @@ use mathlib.Core.Path.{_≡_, refl, sym, _∙_}
 use mathlib.Core.List.{[]}
 use Prim.Native.Nat.{_-_}
 use native.Mathlib.Omega.{arith}
-use Rattle.rules.specs.Heap.{memory}
 use Rattle.rules.specs.Store.{release}
 use Rattle.section_figures.specs.Figures.{Upkeep}
+use Rattle.count_up.specs.Ready.{partMemory}
 use Rattle.count_up.specs.Stack.{topFirst, counted, remaining}
 use Rattle.release.specs.Blocks.{releasedBlocks}
 use Rattle.count_up.proofs.Stack.{stack-pop}
@@ -15,20 +15,20 @@ use Rattle.release.proofs.release_all.Statement.{statement}
 use Rattle.release.proofs.release_all.Tie as tie
 
 abbrev Inv-loop : tie.InvT-loop
-Inv-loop blocks width a₀ b₀ counts₀ cells₀ waiting₀ sections₀ top freed₀ t₀ a b counts cells waiting sections freed t =
+Inv-loop blocks width a₀ b₀ counts₀ cells₀ waiting₀ sections₀ d₀ top freed₀ t₀ a b counts cells waiting sections d freed t =
     ReleaseUnderWay blocks width
-    (release blocks blocks width (memory a₀ b₀ counts₀ cells₀ [] []) (topFirst waiting₀ top))
-    (releasedBlocks blocks blocks width (memory a₀ b₀ counts₀ cells₀ [] []) (topFirst waiting₀ top))
-    a b counts cells waiting t freed
+    (release blocks blocks width (partMemory a₀ b₀ counts₀ cells₀ [] d₀) (topFirst waiting₀ top))
+    (releasedBlocks blocks blocks width (partMemory a₀ b₀ counts₀ cells₀ [] d₀) (topFirst waiting₀ top))
+    a b counts cells waiting d t freed
     × Upkeep blocks freed a₀ sections₀ a sections
 
 abbrev μ-loop : tie.MeasureT-loop
-μ-loop blocks width a₀ b₀ counts₀ cells₀ waiting₀ sections₀ top freed₀ t₀ a b counts cells waiting sections freed t =
+μ-loop blocks width a₀ b₀ counts₀ cells₀ waiting₀ sections₀ d₀ top freed₀ t₀ a b counts cells waiting sections d freed t =
     remaining counted blocks width counts t
 
 -- the places: the entry, a turn's beginning, an object's size found, its extent cleared, its cells dropped
-abbrev start : tie.After-slice-known6 Inv-loop μ-loop → tie.Start Inv-loop μ-loop
-start c = c .before .before .before .before .before .before
+abbrev start : tie.After-slice-known7 Inv-loop μ-loop → tie.Start Inv-loop μ-loop
+start c = c .before .before .before .before .before .before .before
 
 abbrev turn : tie.After-object-size Inv-loop μ-loop → tie.In-loop Inv-loop μ-loop
 turn c = c .before .before .before
@@ -36,11 +36,11 @@ turn c = c .before .before .before
 abbrev sized : tie.After-clear-extent Inv-loop μ-loop → tie.After-object-size Inv-loop μ-loop
 sized c = c .before .before .before .before
 
-abbrev cleared : tie.After-drop-cells-arg3 Inv-loop μ-loop → tie.After-clear-extent Inv-loop μ-loop
-cleared c = c .before .before .before .before .before .before .before .before .before
+abbrev cleared : tie.After-drop-object-arg4 Inv-loop μ-loop → tie.After-clear-extent Inv-loop μ-loop
+cleared c = c .before .before .before .before .before .before .before .before .before .before
 
-abbrev dropped : tie.After-slice-known13 Inv-loop μ-loop → tie.After-drop-cells Inv-loop μ-loop
-dropped c = c .before .before .before .before .before .before
+abbrev dropped : tie.After-slice-known15 Inv-loop μ-loop → tie.After-drop-object Inv-loop μ-loop
+dropped c = c .before .before .before .before .before .before .before .before
 
 loop-holds : tie.Need-loop-holds Inv-loop μ-loop
 loop-holds c =
@@ -84,21 +84,19 @@ clear-extent-requires c κs =
       found .object-size .ensures .2,
     )
 
-mul-drop-cells : tie.Need-mul-drop-cells Inv-loop μ-loop
-mul-drop-cells c = omega arith
-
-mul-drop-cells-2 : tie.Need-mul-drop-cells-2 Inv-loop μ-loop
-mul-drop-cells-2 c = omega arith
-
-drop-cells-requires : tie.Need-drop-cells-requires Inv-loop μ-loop
-drop-cells-requires c κs =
+drop-object-requires : tie.Need-drop-object-requires Inv-loop μ-loop
+drop-object-requires c κs =
     let found = sized (cleared c) in
+    let inside = found .object-size .ensures .2 in
     let test = turn found in
     let l = test .before .loop in
-    let size = found .object-size .ensures in (
-      l .inv .0 .planes,
-      stack-pop (test .loop-test .taken) (l .inv .0 .stack),
-      omega (arith, l .inv .0 .extents .cells-length),
+    let inv = l .inv .0 in (
+      inv .planes,
+      stack-pop (test .loop-test .taken) (inv .stack),
+      inside,
+      inv .stack .blocks (l .t - 1) (omega arith),
+      inv .extents .cells-length,
+      omega (arith, inv .extents .d-length, inv .planes .eighths),
     )
 
 add-freed : tie.Need-add-freed Inv-loop μ-loop
@@ -111,7 +109,7 @@ add-freed c =
 loop-less : tie.Need-loop-less Inv-loop μ-loop
 loop-less c =
     let taken = turn (sized (cleared (dropped c .before))) .loop-test .taken in
-    let kept = dropped c .drop-cells .ensures .0 .left-is in
+    let kept = dropped c .drop-object .ensures .0 .left-is in
     omega arith
 
 loop-again : tie.Need-loop-again Inv-loop μ-loop
@@ -121,9 +119,9 @@ loop-again c =
     let l = test .before .loop in
     let size = sized clear .object-size .ensures in
     let extent = clear .clear-extent .ensures in
-    let cells = dropped c .drop-cells .ensures in (
+    let cells = dropped c .drop-object .ensures in (
       releasing-step (test .loop-test .taken) refl (size .0) (size .2)
-          (extent .0) (extent .1) (cells .1) (cells .0) (l .inv .0),
+          (extent .0) (extent .1) (cells .1) (cells .0) (cells .2) (l .inv .0),
       record { coherent = extent .2; untouched = λ none. absurd (omega (arith, none, size .1)) },
     )
 
@@ -144,6 +142,9 @@ same-length-5 c = c .before .loop .inv .0 .stack .length-is ∙ sym (start (c .b
 
 same-length-6 : tie.Need-same-length-6 Inv-loop μ-loop
 same-length-6 c = c .before .loop .inv .1 .coherent .length-is ∙ sym (start (c .before .before) .pre .3 .length-is)
+
+same-length-7 : tie.Need-same-length-7 Inv-loop μ-loop
+same-length-7 c = c .before .loop .inv .0 .extents .d-length ∙ sym (start (c .before .before) .pre .1 .d-length)
 
 returns : tie.Need-returns Inv-loop μ-loop
 returns c =
@@ -171,9 +172,7 @@ release-all-spec =
     slice-write-waiting
     object-size-requires
     clear-extent-requires
-    mul-drop-cells
-    mul-drop-cells-2
-    drop-cells-requires
+    drop-object-requires
     add-freed
     loop-less
     loop-again
@@ -183,4 +182,5 @@ release-all-spec =
     same-length-4
     same-length-5
     same-length-6
+    same-length-7
     returns)

@@ -1,14 +1,16 @@
 -- `work_place::place` meets its contract.
 use mathlib.Core.List.{[]}
-use native.Mathlib.Omega.{arith}
 use borrow.Author.Needs.{needs}
-use Rattle.rules.specs.Heap.{memory}
 use Rattle.rules.specs.Store.{placed}
+use Rattle.count_up.specs.Ready.{partMemory}
 use Rattle.work_place.proofs.place.Statement.{statement}
 use Rattle.work_place.proofs.place.Tie as tie
 
--- the places, from the last back: the cells cleared, the count written, the extent marked
-abbrev cleared : tie.After-slice-known10 → tie.After-clear-cells
+-- the places, from the last back: the kind written, the cells cleared, the count written, the extent marked
+abbrev kinded : tie.After-slice-known12 → tie.After-set-kind
+kinded c = search
+
+abbrev cleared : tie.After-set-kind → tie.After-clear-cells
 cleared c = search
 
 abbrev counted : tie.After-clear-cells → tie.After-set-count
@@ -32,12 +34,17 @@ mul-clear-cells-2 c = search needs
 clear-cells-requires : tie.Need-clear-cells-requires
 clear-cells-requires c κs = search needs
 
+set-kind-requires : tie.Need-set-kind-requires
+set-kind-requires c κs = search needs
+
 returns : tie.Need-returns
 unfolding placed
 returns c =
-    let count = counted (cleared c) in
+    let kind = kinded c in
+    let cells = cleared kind in
+    let count = counted cells in
     let extent = marked count .mark-extent .ensures in (
-      λ k. memory (extent .0 k) (extent .1 k) (count .set-count .ensures k) (cleared c .clear-cells .ensures k) [] [],
+      λ k. partMemory (extent .0 k) (extent .1 k) (count .set-count .ensures k) (cells .clear-cells .ensures k) [] (kind .set-kind .ensures k),
       extent .2,
     )
 
@@ -50,9 +57,11 @@ place-spec =
     mul-clear-cells
     mul-clear-cells-2
     clear-cells-requires
-    (λ c. marked (counted (cleared c)) .mark-extent .kept .1 .0)
-    (λ c. marked (counted (cleared c)) .mark-extent .kept .1 .1 .0)
-    (λ c. counted (cleared c) .set-count .kept .0)
-    (λ c. cleared c .clear-cells .kept .0)
-    (λ c. marked (counted (cleared c)) .mark-extent .kept .1 .1 .1 .0)
+    set-kind-requires
+    (λ c. marked (counted (cleared (kinded c))) .mark-extent .kept .1 .0)
+    (λ c. marked (counted (cleared (kinded c))) .mark-extent .kept .1 .1 .0)
+    (λ c. counted (cleared (kinded c)) .set-count .kept .0)
+    (λ c. cleared (kinded c) .clear-cells .kept .0)
+    (λ c. marked (counted (cleared (kinded c))) .mark-extent .kept .1 .1 .1 .0)
+    (λ c. kinded c .set-kind .kept .0)
     returns)
