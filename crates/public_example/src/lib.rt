@@ -19,9 +19,10 @@ pub fn one_life(
     roots: &mut [Ref],
     waiting: &mut [Ref],
     sections: &mut [Ref],
+    d: &mut [u8],
 ) -> Reply
     ensures { λ reply.
-        ⌜ Lived blocks width (before a b counts cells roots waiting sections) reply (after a b counts cells roots waiting sections) ⌝ }
+        ⌜ Lived blocks width (before a b counts cells roots waiting sections d) reply (after a b counts cells roots waiting sections d) ⌝ }
 {
     let formatting = public_heap::format(
         blocks,
@@ -33,6 +34,7 @@ pub fn one_life(
         roots,
         waiting,
         sections,
+        d,
     );
     let number = formatting.number;
     if number != 0 {
@@ -48,6 +50,7 @@ pub fn one_life(
         roots,
         waiting,
         sections,
+        d,
         1,
         0,
     );
@@ -61,9 +64,21 @@ pub fn one_life(
         roots,
         waiting,
         sections,
+        d,
         0,
         0,
     );
-    public_heap::collect(blocks, width, a, b, counts, cells, roots, waiting, sections);
+    public_heap::collect(
+        blocks,
+        width,
+        a,
+        b,
+        counts,
+        cells,
+        roots,
+        waiting,
+        sections,
+        d,
+    );
     formatting
 }

@@ -18,15 +18,16 @@ pub fn mixed_calls(
     roots: &mut [Ref],
     waiting: &mut [Ref],
     sections: &mut [Ref],
+    d: &mut [u8],
     bytes: &[u8],
     calls: &[u64],
     replies: &mut [u64],
 ) -> Reply
     ensures { λ reply.
         ⌜ MixedCalls blocks width
-        (before a b counts cells roots waiting sections)
+        (before a b counts cells roots waiting sections d)
         (now (bytes .entry)) (now (calls .entry)) (now (replies .entry)) reply
-        (after a b counts cells roots waiting sections)
+        (after a b counts cells roots waiting sections d)
         (now (replies .exit)) ⌝ }
 {
     let formatting = public_heap::format(
@@ -39,6 +40,7 @@ pub fn mixed_calls(
         roots,
         waiting,
         sections,
+        d,
     );
     let number = formatting.number;
     if number != 0 {
@@ -54,6 +56,7 @@ pub fn mixed_calls(
         roots,
         waiting,
         sections,
+        d,
         1,
         0,
     );
@@ -68,6 +71,7 @@ pub fn mixed_calls(
         roots,
         waiting,
         sections,
+        d,
         run,
         bytes,
     );
@@ -81,9 +85,21 @@ pub fn mixed_calls(
         roots,
         waiting,
         sections,
+        d,
         calls,
         replies,
     );
-    public_heap::collect(blocks, width, a, b, counts, cells, roots, waiting, sections);
+    public_heap::collect(
+        blocks,
+        width,
+        a,
+        b,
+        counts,
+        cells,
+        roots,
+        waiting,
+        sections,
+        d,
+    );
     formatting
 }

@@ -1,4 +1,4 @@
-// The public calls that make and free objects: format, allocate, collect. Each has all its tests on shared slices first, and only then writes,
+// The public calls that make and free objects: format, allocate, allocate data, collect. Each has all its tests on shared slices first, and only then writes,
 // so that a refusal can't write.
 ghost use Rattle.rules.specs.Lent.{before, after};
 ghost use Rattle.rules.specs.Calls.{Call};
@@ -19,10 +19,11 @@ pub fn format(
     roots: &mut [Ref],
     waiting: &mut [Ref],
     sections: &mut [Ref],
+    d: &mut [u8],
 ) -> Reply
     ensures { λ reply.
-        ⌜ Promise blocks width Call.format (before a b counts cells roots waiting sections) reply
-        (after a b counts cells roots waiting sections) ⌝ }
+        ⌜ Promise blocks width Call.format (before a b counts cells roots waiting sections d) reply
+        (after a b counts cells roots waiting sections d) ⌝ }
 {
     if !check_shape::is_shaped(
         blocks,
@@ -34,10 +35,22 @@ pub fn format(
         roots.len(),
         waiting.len(),
         sections.len(),
+        d.len(),
     ) {
         return replies::refusal(1);
     }
-    work_format::format(blocks, width, a, b, counts, cells, roots, waiting, sections)
+    work_format::format(
+        blocks,
+        width,
+        a,
+        b,
+        counts,
+        cells,
+        roots,
+        waiting,
+        sections,
+        d,
+    )
 }
 
 // Allocates n blocks into root r. The value is the first block.
@@ -51,12 +64,13 @@ pub fn allocate(
     roots: &mut [Ref],
     waiting: &mut [Ref],
     sections: &mut [Ref],
+    d: &mut [u8],
     n: usize,
     r: usize,
 ) -> Reply
     ensures { λ reply.
-        ⌜ Promise blocks width (Call.allocate n r) (before a b counts cells roots waiting sections) reply
-        (after a b counts cells roots waiting sections) ⌝ }
+        ⌜ Promise blocks width (Call.allocate n r) (before a b counts cells roots waiting sections d) reply
+        (after a b counts cells roots waiting sections d) ⌝ }
 {
     let found = test_calls::allocate(
         blocks,
@@ -68,6 +82,7 @@ pub fn allocate(
         roots,
         waiting,
         sections,
+        d,
         n,
         r,
     );
@@ -87,6 +102,66 @@ pub fn allocate(
         roots,
         waiting,
         sections,
+        d,
+        false,
+        n,
+        r,
+        at,
+    );
+    done.reply()
+}
+
+// Allocates n blocks of data into root r (request U6). The value is the first block.
+pub fn allocate_data(
+    blocks: usize,
+    width: usize,
+    a: &mut [u8],
+    b: &mut [u8],
+    counts: &mut [u8],
+    cells: &mut [Ref],
+    roots: &mut [Ref],
+    waiting: &mut [Ref],
+    sections: &mut [Ref],
+    d: &mut [u8],
+    n: usize,
+    r: usize,
+) -> Reply
+    ensures { λ reply.
+        ⌜ Promise blocks width (Call.allocateData n r) (before a b counts cells roots waiting sections d) reply
+        (after a b counts cells roots waiting sections d) ⌝ }
+{
+    let tested = test_calls::allocate_data(
+        blocks,
+        width,
+        a,
+        b,
+        counts,
+        cells,
+        roots,
+        waiting,
+        sections,
+        d,
+        n,
+        r,
+    );
+    let number = tested.number;
+    if number != 0 {
+        return tested;
+    }
+    let at = tested.value;
+    lists::clear_all(waiting);
+    let done = work_allocate::allocate(
+        blocks,
+        width,
+        a,
+        b,
+        counts,
+        cells,
+        roots,
+        waiting,
+        sections,
+        d,
+        true,
         n,
         r,
         at,
@@ -105,17 +180,40 @@ pub fn collect(
     roots: &[Ref],
     waiting: &mut [Ref],
     sections: &mut [Ref],
+    d: &mut [u8],
 ) -> Reply
     ensures { λ reply.
-        ⌜ Promise blocks width Call.collect (before a b counts cells roots waiting sections) reply
-        (after a b counts cells roots waiting sections) ⌝ }
+        ⌜ Promise blocks width Call.collect (before a b counts cells roots waiting sections d) reply
+        (after a b counts cells roots waiting sections d) ⌝ }
 {
-    let checked = public_read::check(blocks, width, a, b, counts, cells, roots, waiting, sections);
+    let checked = public_read::check(
+        blocks,
+        width,
+        a,
+        b,
+        counts,
+        cells,
+        roots,
+        waiting,
+        sections,
+        d,
+    );
     let number = checked.number;
     if number != 0 {
         return checked;
     }
     lists::clear_all(waiting);
-    let done = work_collect::collect(blocks, width, a, b, counts, cells, roots, waiting, sections);
+    let done = work_collect::collect(
+        blocks,
+        width,
+        a,
+        b,
+        counts,
+        cells,
+        roots,
+        waiting,
+        sections,
+        d,
+    );
     done.reply()
 }

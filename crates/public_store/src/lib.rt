@@ -1,5 +1,5 @@
-// The public calls that assign references: the store in a root, the store in a cell, the return of a set of roots. Each passes its gate first,
-// which has all its tests on shared slices, and only then writes, so that a refusal can't write.
+// The public calls that assign references, the store in a root, the store in a cell, the return of a set of roots, and the write of a number.
+// Each passes its gate first, which has all its tests on shared slices, and only then writes, so that a refusal can't write.
 ghost use Rattle.rules.specs.Lent.{before, after};
 ghost use Rattle.rules.specs.Calls.{Call};
 ghost use Rattle.rules.specs.Promise.{Promise};
@@ -18,12 +18,13 @@ pub fn store_root(
     roots: &mut [Ref],
     waiting: &mut [Ref],
     sections: &mut [Ref],
+    d: &mut [u8],
     r: usize,
     v: usize,
 ) -> Reply
     ensures { λ reply.
-        ⌜ Promise blocks width (Call.storeRoot r v) (before a b counts cells roots waiting sections) reply
-        (after a b counts cells roots waiting sections) ⌝ }
+        ⌜ Promise blocks width (Call.storeRoot r v) (before a b counts cells roots waiting sections d) reply
+        (after a b counts cells roots waiting sections d) ⌝ }
 {
     let tested = test_calls::store_root(
         blocks,
@@ -35,6 +36,7 @@ pub fn store_root(
         roots,
         waiting,
         sections,
+        d,
         r,
         v,
     );
@@ -53,6 +55,7 @@ pub fn store_root(
         roots,
         waiting,
         sections,
+        d,
         r,
         v,
     );
@@ -70,13 +73,14 @@ pub fn store_cell(
     roots: &[Ref],
     waiting: &mut [Ref],
     sections: &mut [Ref],
+    d: &mut [u8],
     at: usize,
     j: usize,
     v: usize,
 ) -> Reply
     ensures { λ reply.
-        ⌜ Promise blocks width (Call.storeCell at j v) (before a b counts cells roots waiting sections) reply
-        (after a b counts cells roots waiting sections) ⌝ }
+        ⌜ Promise blocks width (Call.storeCell at j v) (before a b counts cells roots waiting sections d) reply
+        (after a b counts cells roots waiting sections d) ⌝ }
 {
     let tested = test_calls::store_cell(
         blocks,
@@ -88,6 +92,7 @@ pub fn store_cell(
         roots,
         waiting,
         sections,
+        d,
         at,
         j,
         v,
@@ -107,6 +112,7 @@ pub fn store_cell(
         roots,
         waiting,
         sections,
+        d,
         at,
         j,
         v,
@@ -125,11 +131,12 @@ pub fn return_roots(
     roots: &mut [Ref],
     waiting: &mut [Ref],
     sections: &mut [Ref],
+    d: &mut [u8],
     chosen: u64,
 ) -> Reply
     ensures { λ reply.
-        ⌜ Promise blocks width (Call.returnRoots chosen) (before a b counts cells roots waiting sections) reply
-        (after a b counts cells roots waiting sections) ⌝ }
+        ⌜ Promise blocks width (Call.returnRoots chosen) (before a b counts cells roots waiting sections d) reply
+        (after a b counts cells roots waiting sections d) ⌝ }
 {
     let tested = test_calls::return_roots(
         blocks,
@@ -141,6 +148,7 @@ pub fn return_roots(
         roots,
         waiting,
         sections,
+        d,
         chosen,
     );
     let number = tested.number;
@@ -158,7 +166,52 @@ pub fn return_roots(
         roots,
         waiting,
         sections,
+        d,
         chosen,
     );
+    done.reply()
+}
+
+// Writes the number x into cell j of the data at block `at` (request U6). Nothing but the cell is written: no reference is stored and nothing
+// freed, so that the waiting list keeps its content too.
+pub fn write_number(
+    blocks: usize,
+    width: usize,
+    a: &[u8],
+    b: &[u8],
+    counts: &[u8],
+    cells: &mut [Ref],
+    roots: &[Ref],
+    waiting: &[Ref],
+    sections: &[Ref],
+    d: &[u8],
+    at: usize,
+    j: usize,
+    x: Ref,
+) -> Reply
+    ensures { λ reply.
+        ⌜ Promise blocks width (Call.writeNumber at j x) (before a b counts cells roots waiting sections d) reply
+        (after a b counts cells roots waiting sections d) ⌝ }
+{
+    let tested = test_calls::write_number(
+        blocks,
+        width,
+        a,
+        b,
+        counts,
+        cells,
+        roots,
+        waiting,
+        sections,
+        d,
+        at,
+        j,
+        x,
+    );
+    let number = tested.number;
+    if number != 0 {
+        return tested;
+    }
+    let done = work_number::write_number(cells, at, j, x);
     done.reply()
 }

@@ -3,13 +3,14 @@
 ghost use mathlib.Core.Path.{_≡_};
 ghost use lib.ListN.{length};
 ghost use Rattle.rules.specs.Lent.{before, after, lent};
-ghost use Rattle.rules.specs.Calls.{Call, reply};
+ghost use Rattle.rules.specs.Calls.{allocateAs, reply};
 ghost use Rattle.theory.specs.Usable.{Usable, Worked};
 ghost use Rattle.test_allocation.specs.Replies.{allocateReply};
 use types::Outcome;
 use types::Ref;
 
-// Makes the object of n blocks at block `at`, which the search found, and stores its reference in root r.
+// Makes the object of n blocks at block `at`, which the search found, as data or as an ordinary one (request U6), and stores its reference in
+// root r.
 pub fn allocate(
     blocks: usize,
     width: usize,
@@ -20,21 +21,46 @@ pub fn allocate(
     roots: &mut [Ref],
     waiting: &mut [Ref],
     sections: &mut [Ref],
+    d: &mut [u8],
+    as_data: bool,
     n: usize,
     r: usize,
     at: usize,
 ) -> Outcome
-    requires { ⌜ Usable blocks width (lent a b counts cells roots waiting sections)
+    requires { ⌜ Usable blocks width (lent a b counts cells roots waiting sections d)
         × (allocateReply blocks (now a) (length (now roots)) n r ≡ reply 0 at 0) ⌝ }
     ensures { λ done.
-        ⌜ Worked blocks width (Call.allocate n r) (before a b counts cells roots waiting sections) done
-        (after a b counts cells roots waiting sections) ⌝ }
+        ⌜ Worked blocks width (allocateAs as_data n r) (before a b counts cells roots waiting sections d) done
+        (after a b counts cells roots waiting sections d) ⌝ }
 {
     let stuck = types::capacity_of(width) == 1;
-    work_place::place(blocks, width, a, b, counts, cells, sections, at, n);
+    work_place::place(
+        blocks,
+        width,
+        a,
+        b,
+        counts,
+        cells,
+        sections,
+        d,
+        at,
+        n,
+        as_data,
+    );
     let old = roots[r];
     roots[r] = (at + 1) as Ref;
-    let freed = release::let_go(blocks, width, a, b, counts, cells, waiting, sections, old);
+    let freed = release::let_go(
+        blocks,
+        width,
+        a,
+        b,
+        counts,
+        cells,
+        waiting,
+        sections,
+        d,
+        old,
+    );
     section_figures::renew(blocks, a, sections);
     Outcome {
         number: 0,

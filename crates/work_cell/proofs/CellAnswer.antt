@@ -27,7 +27,7 @@ cellSticks N w h a j v = storeSticks N w (h .counts) (getD (h .cells) (4 * a + j
 module _ {N w : ℕ} {h : Memory} {a j v : ℕ} (passed : CellPassed N h a j v) (usable : Usable N w h) where
   cell-answered : answer N w h (storeCell a j v) ≡ freeing N h (storeCellIn N w h (4 * a + j) v) (one (cellSticks N w h a j v))
   unfolding outcome Passed
-  cell-answered = fit-accepted N w h (usable-fit usable) (storeCell a j v) (passed .first, passed .place, passed .ref)
+  cell-answered = fit-accepted N w h (usable-fit usable) (storeCell a j v) (passed .first, passed .place, passed .ordinary, passed .ref)
 
   pub cell-worked :
       {freed : ℕ} {stuck : Bool} {g : Memory} → withSections (h .sections) g ≡ storeCellIn N w h (4 * a + j) v
@@ -37,5 +37,5 @@ module _ {N w : ℕ} {h : Memory} {a j v : ℕ} (passed : CellPassed N h a j v) 
       let k : Memory = storeCellIn N w h (4 * a + j) v in
       worked-freeing (blocks-add-up N w h .store-cell a j v) k
       (cell-answered ∙ ap {B = Answer} (λ t. freeing N h k (one t)) (sym told))
-      (counted ∙ sym (store-cell-freed N w h (usable-healthy usable) a j v (passed .first) (passed .place) (passed .ref)))
+      (counted ∙ sym (store-cell-freed N w h (usable-healthy usable) a j v (passed .first) (passed .place) (passed .ordinary) (passed .ref)))
       (left-settled usable left (store-cell-beside N w (withWaiting (h .waiting)) h (4 * a + j) v) listed)

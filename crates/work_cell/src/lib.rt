@@ -20,15 +20,16 @@ pub fn store_cell(
     roots: &[Ref],
     waiting: &mut [Ref],
     sections: &mut [Ref],
+    d: &mut [u8],
     at: usize,
     j: usize,
     v: usize,
 ) -> Outcome
-    requires { ⌜ Usable blocks width (lent a b counts cells roots waiting sections)
-        × (storeCellTest blocks (lent a b counts cells roots waiting sections) at j v .number ≡ 0) ⌝ }
+    requires { ⌜ Usable blocks width (lent a b counts cells roots waiting sections d)
+        × (storeCellTest blocks (lent a b counts cells roots waiting sections d) at j v .number ≡ 0) ⌝ }
     ensures { λ done.
-        ⌜ Worked blocks width (Call.storeCell at j v) (before a b counts cells roots waiting sections) done
-        (after a b counts cells roots waiting sections) ⌝ }
+        ⌜ Worked blocks width (Call.storeCell at j v) (before a b counts cells roots waiting sections d) done
+        (after a b counts cells roots waiting sections d) ⌝ }
 {
     let new = v as Ref;
     let c = 4 * at + j;
@@ -43,7 +44,18 @@ pub fn store_cell(
     }
     let stuck = count_up::count_up(blocks, width, counts, new);
     cells[c] = new;
-    let freed = release::let_go(blocks, width, a, b, counts, cells, waiting, sections, old);
+    let freed = release::let_go(
+        blocks,
+        width,
+        a,
+        b,
+        counts,
+        cells,
+        waiting,
+        sections,
+        d,
+        old,
+    );
     section_figures::renew_after(blocks, a, sections, freed);
     Outcome {
         number: 0,

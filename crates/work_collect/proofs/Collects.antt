@@ -3,10 +3,11 @@ use mathlib.Core.Path.{_≡_, refl, sym, ap, ap₂, _∙_}
 use mathlib.Core.List.{List, []}
 use Prim.Native.Nat.{ℕ, zero, suc, _+_}
 use lib.ListN.{replicate}
-use Rattle.rules.specs.Heap.{Memory, memory, withA, withB, withCounts, withCells, withWaiting, sizeAt}
+use Rattle.rules.specs.Heap.{Memory, lentMemory, withA, withB, withCounts, withCells, withWaiting, withD, sizeAt}
 use Rattle.rules.specs.Store.{freed}
 use Rattle.rules.proofs.Tests.{choose-both}
 use Rattle.rules.proofs.Unread.{beside}
+use Rattle.count_up.specs.Ready.{partMemory}
 use Rattle.collect_mark.specs.Mark.{markCounts}
 use Rattle.collect_mark.proofs.Scans.{mark-reads}
 use Rattle.collect_sweep.specs.Sweep.{isUnmarked, sweepOne, sweepOneBlocks, sweep, sweepBlocks}
@@ -29,18 +30,18 @@ module _ (N w : ℕ) (other : Memory → Memory) where
 
 -- what the two parts give is the collection, beside whatever the list of sections holds
 module _ (N w : ℕ) (h : Memory) (idle : h .waiting ≡ replicate N 0) {counts waiting : List ℕ}
-    (marked : counts ≡ markCounts N w (memory [] (h .b) [] (h .cells) (h .roots) [])) (cleared : waiting ≡ replicate N 0) where
+    (marked : counts ≡ markCounts N w (lentMemory [] (h .b) [] (h .cells) (h .roots) [] [] (h .d))) (cleared : waiting ≡ replicate N 0) where
   -- what is handed on to the sweep
   abbrev handed : Memory
-  handed = memory (h .a) (h .b) counts (h .cells) [] []
+  handed = partMemory (h .a) (h .b) counts (h .cells) [] (h .d)
 
   -- h with what it leaves, and the waiting list that the marking leaves
   abbrev whole : Memory → Memory
-  whole g = withA (g .a) (withB (g .b) (withCounts (g .counts) (withCells (g .cells) (withWaiting waiting h))))
+  whole g = withA (g .a) (withB (g .b) (withCounts (g .counts) (withCells (g .cells) (withD (g .d) (withWaiting waiting h)))))
 
   marked-memory : whole handed ≡ withCounts (markCounts N w h) h
   marked-memory t =
-      withCounts ((marked ∙ mark-reads N w (memory [] (h .b) [] (h .cells) (h .roots) []) h) t) (withWaiting ((cleared ∙ sym idle) t) h)
+      withCounts ((marked ∙ mark-reads N w (lentMemory [] (h .b) [] (h .cells) (h .roots) [] [] (h .d)) h) t) (withWaiting ((cleared ∙ sym idle) t) h)
 
   pub collected-memory : {g : Memory} → g ≡ sweep N w handed N → whole g ≡ collectBy N w h
   unfolding collectBy

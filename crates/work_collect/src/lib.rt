@@ -17,14 +17,15 @@ pub fn collect(
     roots: &[Ref],
     waiting: &mut [Ref],
     sections: &mut [Ref],
+    d: &mut [u8],
 ) -> Outcome
-    requires { ⌜ Usable blocks width (lent a b counts cells roots waiting sections) ⌝ }
+    requires { ⌜ Usable blocks width (lent a b counts cells roots waiting sections d) ⌝ }
     ensures { λ done.
-        ⌜ Worked blocks width Call.collect (before a b counts cells roots waiting sections) done
-        (after a b counts cells roots waiting sections) ⌝ }
+        ⌜ Worked blocks width Call.collect (before a b counts cells roots waiting sections d) done
+        (after a b counts cells roots waiting sections d) ⌝ }
 {
-    collect_mark::mark(blocks, width, b, counts, cells, roots, waiting);
-    let freed = collect_sweep::sweep(blocks, width, a, b, counts, cells, sections);
+    collect_mark::mark(blocks, width, b, counts, cells, roots, waiting, d);
+    let freed = collect_sweep::sweep(blocks, width, a, b, counts, cells, sections, d);
     section_figures::renew(blocks, a, sections);
     Outcome {
         number: 0,

@@ -23,16 +23,17 @@ fn clear_chosen(
     roots: &mut [Ref],
     waiting: &mut [Ref],
     sections: &mut [Ref],
+    d: &mut [u8],
     chosen: u64,
     r: usize,
 ) -> usize
-    requires { ⌜ Usable blocks width (lent a b counts cells roots waiting sections)
+    requires { ⌜ Usable blocks width (lent a b counts cells roots waiting sections d)
         × (r < length (now roots)) ⌝ }
     ensures { λ freed.
         ⌜ ClearedIfChosen blocks width
-        (before a b counts cells roots waiting sections)
+        (before a b counts cells roots waiting sections d)
         chosen r
-        (after a b counts cells roots waiting sections)
+        (after a b counts cells roots waiting sections d)
         freed ⌝ }
 {
     if (chosen >> r) % 2 != 1 {
@@ -48,6 +49,7 @@ fn clear_chosen(
         roots,
         waiting,
         sections,
+        d,
         r,
         0,
     );
@@ -65,13 +67,14 @@ pub fn clear_roots(
     roots: &mut [Ref],
     waiting: &mut [Ref],
     sections: &mut [Ref],
+    d: &mut [u8],
     chosen: u64,
 ) -> Outcome
-    requires { ⌜ Usable blocks width (lent a b counts cells roots waiting sections)
+    requires { ⌜ Usable blocks width (lent a b counts cells roots waiting sections d)
         × (returnTest (length (now roots)) chosen .number ≡ 0) ⌝ }
     ensures { λ done.
-        ⌜ Worked blocks width (Call.returnRoots chosen) (before a b counts cells roots waiting sections) done
-        (after a b counts cells roots waiting sections) ⌝ }
+        ⌜ Worked blocks width (Call.returnRoots chosen) (before a b counts cells roots waiting sections d) done
+        (after a b counts cells roots waiting sections d) ⌝ }
 {
     let mut freed: usize = 0;
     let mut r = 0;
@@ -86,6 +89,7 @@ pub fn clear_roots(
             roots,
             waiting,
             sections,
+            d,
             chosen,
             r,
         );
@@ -111,12 +115,13 @@ pub fn return_roots(
     roots: &mut [Ref],
     waiting: &mut [Ref],
     sections: &mut [Ref],
+    d: &mut [u8],
     chosen: u64,
 ) -> Outcome
-    requires { ⌜ Usable blocks width (lent a b counts cells roots waiting sections) ⌝ }
+    requires { ⌜ Usable blocks width (lent a b counts cells roots waiting sections d) ⌝ }
     ensures { λ done.
-        ⌜ Worked blocks width (Call.returnRoots chosen) (before a b counts cells roots waiting sections) done
-        (after a b counts cells roots waiting sections) ⌝ }
+        ⌜ Worked blocks width (Call.returnRoots chosen) (before a b counts cells roots waiting sections d) done
+        (after a b counts cells roots waiting sections d) ⌝ }
 {
     let test = returning::return_test(roots.len(), chosen);
     let number = test.number;
@@ -138,6 +143,7 @@ pub fn return_roots(
         roots,
         waiting,
         sections,
+        d,
         chosen,
     )
 }

@@ -19,14 +19,15 @@ pub fn store_root(
     roots: &mut [Ref],
     waiting: &mut [Ref],
     sections: &mut [Ref],
+    d: &mut [u8],
     r: usize,
     v: usize,
 ) -> Outcome
-    requires { ⌜ Usable blocks width (lent a b counts cells roots waiting sections)
-        × (storeRootTest blocks (lent a b counts cells roots waiting sections) r v .number ≡ 0) ⌝ }
+    requires { ⌜ Usable blocks width (lent a b counts cells roots waiting sections d)
+        × (storeRootTest blocks (lent a b counts cells roots waiting sections d) r v .number ≡ 0) ⌝ }
     ensures { λ done.
-        ⌜ Worked blocks width (Call.storeRoot r v) (before a b counts cells roots waiting sections) done
-        (after a b counts cells roots waiting sections) ⌝ }
+        ⌜ Worked blocks width (Call.storeRoot r v) (before a b counts cells roots waiting sections d) done
+        (after a b counts cells roots waiting sections d) ⌝ }
 {
     let new = v as Ref;
     let old = roots[r];
@@ -40,7 +41,18 @@ pub fn store_root(
     }
     let stuck = count_up::count_up(blocks, width, counts, new);
     roots[r] = new;
-    let freed = release::let_go(blocks, width, a, b, counts, cells, waiting, sections, old);
+    let freed = release::let_go(
+        blocks,
+        width,
+        a,
+        b,
+        counts,
+        cells,
+        waiting,
+        sections,
+        d,
+        old,
+    );
     section_figures::renew_after(blocks, a, sections, freed);
     Outcome {
         number: 0,

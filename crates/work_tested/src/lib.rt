@@ -1,12 +1,13 @@
 // The calls that write, on an undamaged heap with a cleared waiting list: their tests, and their work where these pass.
 ghost use Rattle.rules.specs.Lent.{before, after, lent};
-ghost use Rattle.rules.specs.Calls.{Call};
+ghost use Rattle.rules.specs.Calls.{Call, allocateAs};
 ghost use Rattle.theory.specs.Usable.{Usable, Worked};
+use test_arguments::numbers;
 use test_arguments::storing;
 use types::Outcome;
 use types::Ref;
 
-// Allocates n blocks into root r; a refused allocation frees nothing.
+// Allocates n blocks into root r, as data or as an ordinary object (request U6); a refused allocation frees nothing.
 pub fn allocate(
     blocks: usize,
     width: usize,
@@ -17,13 +18,15 @@ pub fn allocate(
     roots: &mut [Ref],
     waiting: &mut [Ref],
     sections: &mut [Ref],
+    d: &mut [u8],
+    as_data: bool,
     n: usize,
     r: usize,
 ) -> Outcome
-    requires { ⌜ Usable blocks width (lent a b counts cells roots waiting sections) ⌝ }
+    requires { ⌜ Usable blocks width (lent a b counts cells roots waiting sections d) ⌝ }
     ensures { λ done.
-        ⌜ Worked blocks width (Call.allocate n r) (before a b counts cells roots waiting sections) done
-        (after a b counts cells roots waiting sections) ⌝ }
+        ⌜ Worked blocks width (allocateAs as_data n r) (before a b counts cells roots waiting sections d) done
+        (after a b counts cells roots waiting sections d) ⌝ }
 {
     let test = test_allocation::allocate_reply(blocks, a, sections, roots.len(), n, r);
     let number = test.number;
@@ -46,6 +49,8 @@ pub fn allocate(
         roots,
         waiting,
         sections,
+        d,
+        as_data,
         n,
         r,
         at,
@@ -63,13 +68,14 @@ pub fn store_root(
     roots: &mut [Ref],
     waiting: &mut [Ref],
     sections: &mut [Ref],
+    d: &mut [u8],
     r: usize,
     v: usize,
 ) -> Outcome
-    requires { ⌜ Usable blocks width (lent a b counts cells roots waiting sections) ⌝ }
+    requires { ⌜ Usable blocks width (lent a b counts cells roots waiting sections d) ⌝ }
     ensures { λ done.
-        ⌜ Worked blocks width (Call.storeRoot r v) (before a b counts cells roots waiting sections) done
-        (after a b counts cells roots waiting sections) ⌝ }
+        ⌜ Worked blocks width (Call.storeRoot r v) (before a b counts cells roots waiting sections d) done
+        (after a b counts cells roots waiting sections d) ⌝ }
 {
     let test = storing::store_root_test(blocks, a, b, roots, r, v);
     let number = test.number;
@@ -91,6 +97,7 @@ pub fn store_root(
         roots,
         waiting,
         sections,
+        d,
         r,
         v,
     )
@@ -107,16 +114,17 @@ pub fn store_cell(
     roots: &[Ref],
     waiting: &mut [Ref],
     sections: &mut [Ref],
+    d: &mut [u8],
     at: usize,
     j: usize,
     v: usize,
 ) -> Outcome
-    requires { ⌜ Usable blocks width (lent a b counts cells roots waiting sections) ⌝ }
+    requires { ⌜ Usable blocks width (lent a b counts cells roots waiting sections d) ⌝ }
     ensures { λ done.
-        ⌜ Worked blocks width (Call.storeCell at j v) (before a b counts cells roots waiting sections) done
-        (after a b counts cells roots waiting sections) ⌝ }
+        ⌜ Worked blocks width (Call.storeCell at j v) (before a b counts cells roots waiting sections d) done
+        (after a b counts cells roots waiting sections d) ⌝ }
 {
-    let test = storing::store_cell_test(blocks, a, b, at, j, v);
+    let test = storing::store_cell_test(blocks, a, b, d, at, j, v);
     let number = test.number;
     if number != 0 {
         return Outcome {
@@ -136,8 +144,43 @@ pub fn store_cell(
         roots,
         waiting,
         sections,
+        d,
         at,
         j,
         v,
     )
+}
+
+// Writes the number x into cell j of the data at block `at` (request U6). The cells alone are written.
+pub fn write_number(
+    blocks: usize,
+    width: usize,
+    a: &[u8],
+    b: &[u8],
+    counts: &[u8],
+    cells: &mut [Ref],
+    roots: &[Ref],
+    waiting: &[Ref],
+    sections: &[Ref],
+    d: &[u8],
+    at: usize,
+    j: usize,
+    x: Ref,
+) -> Outcome
+    requires { ⌜ Usable blocks width (lent a b counts cells roots waiting sections d) ⌝ }
+    ensures { λ done.
+        ⌜ Worked blocks width (Call.writeNumber at j x) (before a b counts cells roots waiting sections d) done
+        (after a b counts cells roots waiting sections d) ⌝ }
+{
+    let test = numbers::number_test(blocks, a, b, d, at, j);
+    let number = test.number;
+    if number != 0 {
+        return Outcome {
+            number: number,
+            value: 0,
+            freed: 0,
+            stuck: false,
+        };
+    }
+    work_number::write_number(cells, at, j, x)
 }

@@ -6,24 +6,24 @@ use Rattle.public_example.proofs.one_life.Statement.{statement}
 use Rattle.public_example.proofs.one_life.Tie as tie
 
 -- the places at which the calls have just returned, from the end back
-abbrev collected : tie.After-slice-known34 → tie.After-collect
-collected c = search
+abbrev collected : tie.After-slice-known39 → tie.After-collect
+collected c = c .before .before .before .before .before .before .before .before .before .before .before .before .before .before
 
-abbrev stored : tie.After-slice-known34 → tie.After-store-root
-stored c = collected c .before .before .before .before .before .before .before .before .before .before .before .before .before .before .before .before .before .before .before .before .before .before
+abbrev stored : tie.After-slice-known39 → tie.After-store-root
+stored c = collected c .before .before .before .before .before .before .before .before .before .before .before .before .before .before .before .before .before .before .before .before .before .before .before .before .before
 
-abbrev allocated : tie.After-slice-known34 → tie.After-allocate
-allocated c = stored c .before .before .before .before .before .before .before .before .before .before .before .before .before .before .before .before .before .before .before .before .before .before
+abbrev allocated : tie.After-slice-known39 → tie.After-allocate
+allocated c = stored c .before .before .before .before .before .before .before .before .before .before .before .before .before .before .before .before .before .before .before .before .before .before .before .before .before
 
-abbrev accepted : tie.After-slice-known34 → tie.Else1
-accepted c = allocated c .before .before .before .before .before .before .before .before
+abbrev accepted : tie.After-slice-known39 → tie.Else1
+accepted c = allocated c .before .before .before .before .before .before .before .before .before
 
-abbrev formatted : tie.After-slice-known34 → tie.After-format
-formatted c = accepted c .before .before .before .before .before .before .before .before .before .before .before .before .before .before .before
+abbrev formatted : tie.After-slice-known39 → tie.After-format
+formatted c = accepted c .before .before .before .before .before .before .before .before .before .before .before .before .before .before .before .before .before
 
 -- .. and where the format refuses
 abbrev refused : tie.Then1 → tie.After-format
-refused c = search
+refused c = c .before .before .before .before .before .before .before .before .before .before .before .before .before .before .before .before .before
 
 format-requires : tie.Need-format-requires
 format-requires c κs = search needs
@@ -61,6 +61,7 @@ one-life-spec =
     (λ c. refused c .format .kept .1 .1 .1 .1 .1 .1 .0)
     (λ c. refused c .format .kept .1 .1 .1 .1 .1 .1 .1 .0)
     (λ c. refused c .format .kept .1 .1 .1 .1 .1 .1 .1 .1 .0)
+    (λ c. refused c .format .kept .1 .1 .1 .1 .1 .1 .1 .1 .1 .0)
     returns
     allocate-requires
     store-root-requires
@@ -79,4 +80,6 @@ one-life-spec =
     ∙ allocated c .allocate .kept .1 .1 .1 .1 .1 .1 .1 .0 ∙ formatted c .format .kept .1 .1 .1 .1 .1 .1 .1 .0)
     (λ c. collected c .collect .kept .1 .1 .1 .1 .1 .1 .1 .1 .0 ∙ stored c .store-root .kept .1 .1 .1 .1 .1 .1 .1 .1 .0
     ∙ allocated c .allocate .kept .1 .1 .1 .1 .1 .1 .1 .1 .0 ∙ formatted c .format .kept .1 .1 .1 .1 .1 .1 .1 .1 .0)
+    (λ c. collected c .collect .kept .1 .1 .1 .1 .1 .1 .1 .1 .1 .0 ∙ stored c .store-root .kept .1 .1 .1 .1 .1 .1 .1 .1 .1 .0
+    ∙ allocated c .allocate .kept .1 .1 .1 .1 .1 .1 .1 .1 .1 .0 ∙ formatted c .format .kept .1 .1 .1 .1 .1 .1 .1 .1 .1 .0)
     returns-2)

@@ -11,7 +11,7 @@ use Rattle.public_heap.proofs.allocate.Tie as tie
 abbrev passed : tie.After-clear-all → tie.Else1
 passed c = search
 
-abbrev cleared : tie.After-allocate-arg14 → tie.After-clear-all
+abbrev cleared : tie.After-allocate-arg16 → tie.After-clear-all
 cleared c = search
 
 abbrev done : tie.After-reply → tie.After-allocate2
@@ -58,6 +58,7 @@ allocate-spec =
     (λ _. refl)
     (λ _. refl)
     (λ _. refl)
+    (λ _. refl)
     returns
     clear-all-requires
     allocate-requires-2
@@ -69,4 +70,5 @@ allocate-spec =
     (λ c. done c .allocate2 .kept .1 .1 .1 .1 .1 .1 .0)
     (λ c. done c .allocate2 .kept .1 .1 .1 .1 .1 .1 .1 .0 ∙ cleared (done c .before) .clear-all .kept .0)
     (λ c. done c .allocate2 .kept .1 .1 .1 .1 .1 .1 .1 .1 .0)
+    (λ c. done c .allocate2 .kept .1 .1 .1 .1 .1 .1 .1 .1 .1 .0)
     returns-2)

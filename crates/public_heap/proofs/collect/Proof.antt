@@ -13,7 +13,7 @@ use Rattle.public_heap.proofs.collect.Tie as tie
 abbrev passed : tie.After-clear-all → tie.Else1
 passed c = search
 
-abbrev cleared : tie.After-collect-arg6 → tie.After-clear-all
+abbrev cleared : tie.After-collect-arg7 → tie.After-clear-all
 cleared c = search
 
 abbrev done : tie.After-reply → tie.After-collect
@@ -55,6 +55,7 @@ collect-spec =
     (λ _. refl)
     (λ _. refl)
     (λ _. refl)
+    (λ _. refl)
     returns
     clear-all-requires
     collect-requires
@@ -65,4 +66,5 @@ collect-spec =
     (λ c. done c .collect .kept .1 .1 .1 .1 .1 .0)
     (λ c. done c .collect .kept .1 .1 .1 .1 .1 .1 .1 .0 ∙ cleared (done c .before) .clear-all .kept .0)
     (λ c. done c .collect .kept .1 .1 .1 .1 .1 .1 .1 .1 .0)
+    (λ c. done c .collect .kept .1 .1 .1 .1 .1 .1 .1 .1 .1 .0)
     returns-2)

@@ -12,7 +12,7 @@ use Rattle.public_store.proofs.return_roots.Tie as tie
 abbrev passed : tie.After-clear-all → tie.Else1
 passed c = search
 
-abbrev cleared : tie.After-clear-roots-arg7 → tie.After-clear-all
+abbrev cleared : tie.After-clear-roots-arg8 → tie.After-clear-all
 cleared c = search
 
 abbrev done : tie.After-reply → tie.After-clear-roots
@@ -59,6 +59,7 @@ return-roots-spec =
     (λ _. refl)
     (λ _. refl)
     (λ _. refl)
+    (λ _. refl)
     returns
     clear-all-requires
     clear-roots-requires
@@ -70,4 +71,5 @@ return-roots-spec =
     (λ c. done c .clear-roots .kept .1 .1 .1 .1 .1 .1 .0)
     (λ c. done c .clear-roots .kept .1 .1 .1 .1 .1 .1 .1 .0 ∙ cleared (done c .before) .clear-all .kept .0)
     (λ c. done c .clear-roots .kept .1 .1 .1 .1 .1 .1 .1 .1 .0)
+    (λ c. done c .clear-roots .kept .1 .1 .1 .1 .1 .1 .1 .1 .1 .0)
     returns-2)

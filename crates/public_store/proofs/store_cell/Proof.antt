@@ -11,7 +11,7 @@ use Rattle.public_store.proofs.store_cell.Tie as tie
 abbrev passed : tie.After-clear-all → tie.Else1
 passed c = search
 
-abbrev cleared : tie.After-store-cell-arg12 → tie.After-clear-all
+abbrev cleared : tie.After-store-cell-arg14 → tie.After-clear-all
 cleared c = search
 
 abbrev done : tie.After-reply → tie.After-store-cell2
@@ -57,6 +57,7 @@ store-cell-spec =
     (λ _. refl)
     (λ _. refl)
     (λ _. refl)
+    (λ _. refl)
     returns
     clear-all-requires
     store-cell-requires-2
@@ -67,4 +68,5 @@ store-cell-spec =
     (λ c. done c .store-cell2 .kept .1 .1 .1 .1 .1 .0)
     (λ c. done c .store-cell2 .kept .1 .1 .1 .1 .1 .1 .1 .0 ∙ cleared (done c .before) .clear-all .kept .0)
     (λ c. done c .store-cell2 .kept .1 .1 .1 .1 .1 .1 .1 .1 .0)
+    (λ c. done c .store-cell2 .kept .1 .1 .1 .1 .1 .1 .1 .1 .1 .0)
     returns-2)

@@ -11,7 +11,7 @@ use Rattle.public_store.proofs.store_root.Tie as tie
 abbrev passed : tie.After-clear-all → tie.Else1
 passed c = search
 
-abbrev cleared : tie.After-store-root-arg14 → tie.After-clear-all
+abbrev cleared : tie.After-store-root-arg16 → tie.After-clear-all
 cleared c = search
 
 abbrev done : tie.After-reply → tie.After-store-root2
@@ -58,6 +58,7 @@ store-root-spec =
     (λ _. refl)
     (λ _. refl)
     (λ _. refl)
+    (λ _. refl)
     returns
     clear-all-requires
     store-root-requires-2
@@ -69,4 +70,5 @@ store-root-spec =
     (λ c. done c .store-root2 .kept .1 .1 .1 .1 .1 .1 .0)
     (λ c. done c .store-root2 .kept .1 .1 .1 .1 .1 .1 .1 .0 ∙ cleared (done c .before) .clear-all .kept .0)
     (λ c. done c .store-root2 .kept .1 .1 .1 .1 .1 .1 .1 .1 .0)
+    (λ c. done c .store-root2 .kept .1 .1 .1 .1 .1 .1 .1 .1 .1 .0)
     returns-2)

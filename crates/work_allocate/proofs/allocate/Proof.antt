@@ -15,7 +15,7 @@ use Rattle.work_allocate.proofs.allocate.Statement.{statement}
 use Rattle.work_allocate.proofs.allocate.Tie as tie
 
 -- the places, from the last back: unknown figures found anew, what stood in the root let go, the object made, the start
-abbrev renewed : tie.After-slice-known20 → tie.After-renew
+abbrev renewed : tie.After-slice-known23 → tie.After-renew
 renewed c = search
 
 abbrev gone : tie.After-renew → tie.After-let-go
@@ -79,7 +79,7 @@ let-go-requires c κs =
     let ready = usable-ready (start making .pre .0) in
     let kept = making .place .kept in (
       planes-same (ready .planes) (kept .1 .1 .1 .1 .0),
-      extents-same (ready .extents) (kept .1 .1 .0) (kept .1 .1 .1 .0) (kept .1 .1 .1 .1 .1 .0),
+      extents-same (ready .extents) (kept .1 .1 .0) (kept .1 .1 .1 .0) (kept .1 .1 .1 .1 .1 .0) (kept .1 .1 .1 .1 .1 .1 .1 .0),
       ready .idle,
       making .place .ensures .1,
     )
@@ -100,10 +100,10 @@ returns c =
     let h = memoryOf (usable-ready (pre .0)) in
     let written = making .place .ensures .0 in
     let capacity : tie.After-capacity-of = search in
-    allocate-worked (pre .0) (allocate-passed (pre .1))
-    (allocate-done _ _ h _ _ _ written (left .let-go .ensures .0))
+    allocate-worked (pre .0) (allocate-passed (pre .1)) (start making .args .as-data)
+    (allocate-done _ _ h _ _ _ _ written (left .let-go .ensures .0))
     (renewed c .renew .ensures)
-    (allocate-blocks _ _ h _ _ _ written (left .let-go .ensures .1))
+    (allocate-blocks _ _ h _ _ _ _ written (left .let-go .ensures .1))
     (ap (λ (most : ℕ). eqb most 1) (capacity .capacity-of .ensures .0))
 
 pub allocate-spec : {M : Type 1} → statement M
@@ -128,4 +128,5 @@ allocate-spec =
     (λ c. gone (renewed c) .let-go .kept .1 .1 .1 .1 .1 .1 .0)
     (λ c. renewed c .renew .kept .1 .1 .0 ∙ gone (renewed c) .let-go .kept .1 .1 .1 .1 .1 .1 .1 .0
     ∙ made (gone (renewed c)) .place .kept .1 .1 .1 .1 .1 .1 .0)
+    (λ c. gone (renewed c) .let-go .kept .1 .1 .1 .1 .1 .1 .1 .1 .0 ∙ made (gone (renewed c)) .place .kept .1 .1 .1 .1 .1 .1 .1 .0)
     returns)

@@ -15,7 +15,7 @@ use Rattle.work_cell.proofs.store_cell.Statement.{statement}
 use Rattle.work_cell.proofs.store_cell.Tie as tie
 
 -- the places, from the last back: unknown figures found anew, the old object let go, the new one counted up, the start
-abbrev renewed : tie.After-slice-known15 → tie.After-renew-after
+abbrev renewed : tie.After-slice-known17 → tie.After-renew-after
 renewed c = search
 
 abbrev gone : tie.After-renew-after → tie.After-let-go
@@ -137,4 +137,5 @@ store-cell-spec =
     same-length-4
     (λ c. gone (renewed c) .let-go .kept .1 .1 .1 .1 .1 .1 .0)
     (λ c. renewed c .renew-after .kept .1 .1 .0 ∙ gone (renewed c) .let-go .kept .1 .1 .1 .1 .1 .1 .1 .0)
+    (λ c. gone (renewed c) .let-go .kept .1 .1 .1 .1 .1 .1 .1 .1 .0)
     returns-2)

@@ -13,7 +13,7 @@ use Rattle.work_collect.proofs.collect.Statement.{statement}
 use Rattle.work_collect.proofs.collect.Tie as tie
 
 -- the places, from the last back: unknown figures found anew, swept, marked, the start
-abbrev renewed : tie.After-slice-known13 → tie.After-renew
+abbrev renewed : tie.After-slice-known15 → tie.After-renew
 renewed c = search
 
 abbrev swept : tie.After-renew → tie.After-sweep
@@ -25,7 +25,7 @@ marked c = search
 abbrev start : tie.After-mark → tie.Start
 start c = search
 
--- .. and those at which the three maps were lent
+-- .. and those at which the four maps were lent
 abbrev lent-a : tie.After-mark → tie.After-slice-known
 lent-a c = search
 
@@ -35,20 +35,21 @@ lent-b c = search
 abbrev lent-counts : tie.After-mark → tie.After-slice-known3
 lent-counts c = search
 
+abbrev lent-d : tie.After-mark → tie.After-slice-known7
+lent-d c = search
+
 mark-requires : tie.Need-mark-requires
 mark-requires c κs =
     let start : tie.Start = search in
     let ready = usable-ready (start .pre) in
-    (ready .planes, ready .extents .b-length, ready .extents .cells-length, ready .idle)
+    (ready .planes, ready .extents .b-length, ready .extents .cells-length, ready .idle, ready .extents .d-length)
 
 sweep-requires : tie.Need-sweep-requires
 sweep-requires c κs =
     let marking : tie.After-mark = search in
     let ready = usable-ready (start marking .pre) in (
       planes-same (ready .planes) (marking .mark .kept .1 .1 .1 .0),
-      ready .extents .a-length,
-      ready .extents .b-length,
-      ready .extents .cells-length,
+      ready .extents,
       ready .coherent,
     )
 
@@ -70,6 +71,7 @@ returns c =
       a = bytes-given _ (lent-a marking .slice-known .given);
       b = bytes-given _ (lent-b marking .slice-known2 .given);
       counts = bytes-given _ (lent-counts marking .slice-known3 .given);
+      d = bytes-given _ (lent-d marking .slice-known7 .given);
     })
     (collected-memory _ _ (memoryOf ready) (ready .idle) (counts .0) (counts .1) (sweeping .sweep .ensures .0))
     (renewed c .renew .ensures)
@@ -88,4 +90,5 @@ collect-spec =
     (λ c. swept (renewed c) .sweep .kept .1 .1 .1 .1 .1 .0)
     (λ c. marked (swept (renewed c)) .mark .kept .1 .1 .1 .1 .1 .1 .0)
     (λ c. renewed c .renew .kept .1 .1 .0 ∙ swept (renewed c) .sweep .kept .1 .1 .1 .1 .1 .1 .0)
+    (λ c. swept (renewed c) .sweep .kept .1 .1 .1 .1 .1 .1 .1 .0)
     returns)

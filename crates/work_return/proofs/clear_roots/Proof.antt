@@ -13,22 +13,22 @@ use Rattle.work_return.proofs.clear_roots.Statement.{statement}
 use Rattle.work_return.proofs.clear_roots.Tie as tie
 
 abbrev Inv-loop : tie.InvT-loop
-Inv-loop blocks width a₀ b₀ counts₀ cells₀ roots₀ waiting₀ sections₀ chosen freed₀ r₀ a b counts cells roots waiting sections freed r =
-    Progress blocks width (lentMemory a₀ b₀ counts₀ cells₀ roots₀ waiting₀ sections₀) chosen r
-    (lentMemory a b counts cells roots waiting sections) freed
+Inv-loop blocks width a₀ b₀ counts₀ cells₀ roots₀ waiting₀ sections₀ d₀ chosen freed₀ r₀ a b counts cells roots waiting sections d freed r =
+    Progress blocks width (lentMemory a₀ b₀ counts₀ cells₀ roots₀ waiting₀ sections₀ d₀) chosen r
+    (lentMemory a b counts cells roots waiting sections d) freed
 
 abbrev μ-loop : tie.MeasureT-loop
-μ-loop blocks width a₀ b₀ counts₀ cells₀ roots₀ waiting₀ sections₀ chosen freed₀ r₀ a b counts cells roots waiting sections freed r =
+μ-loop blocks width a₀ b₀ counts₀ cells₀ roots₀ waiting₀ sections₀ d₀ chosen freed₀ r₀ a b counts cells roots waiting sections d freed r =
     length roots₀ - r
 
 -- the places: the entry, a turn of the loop, its root seen to
-abbrev entry : tie.After-slice-known7 Inv-loop μ-loop → tie.Start Inv-loop μ-loop
+abbrev entry : tie.After-slice-known8 Inv-loop μ-loop → tie.Start Inv-loop μ-loop
 entry c = search
 
-abbrev turn : tie.After-clear-chosen-arg7 Inv-loop μ-loop → tie.In-loop Inv-loop μ-loop
+abbrev turn : tie.After-clear-chosen-arg8 Inv-loop μ-loop → tie.In-loop Inv-loop μ-loop
 turn c = search
 
-abbrev seen : tie.After-slice-known14 Inv-loop μ-loop → tie.After-clear-chosen Inv-loop μ-loop
+abbrev seen : tie.After-slice-known16 Inv-loop μ-loop → tie.After-clear-chosen Inv-loop μ-loop
 seen c = search
 
 loop-holds : tie.Need-loop-holds Inv-loop μ-loop
@@ -73,7 +73,7 @@ shaped-now :
     (c : tie.After-loop Inv-loop μ-loop)
     → let l = c .before .loop in
     let args = entry (c .before .before) .args in
-    Shaped (args .blocks) (args .width) (lentMemory (l .a) (l .b) (l .counts) (l .cells) (l .roots) (l .waiting) (l .sections))
+    Shaped (args .blocks) (args .width) (lentMemory (l .a) (l .b) (l .counts) (l .cells) (l .roots) (l .waiting) (l .sections) (l .d))
 shaped-now c = usable-healthy (c .before .loop .inv .usable) .shape
 
 shaped-before :
@@ -81,7 +81,7 @@ shaped-before :
     → let args = entry (c .before .before) .args in
     Shaped (args .blocks) (args .width)
     (lentMemory (args .a .now) (args .b .now) (args .counts .now) (args .cells .now) (args .roots .now) (args .waiting .now)
-    (args .sections .now))
+    (args .sections .now) (args .d .now))
 shaped-before c = usable-healthy (entry (c .before .before) .pre .0) .shape
 
 returns : tie.Need-returns Inv-loop μ-loop
@@ -108,4 +108,5 @@ clear-roots-spec =
     (λ c. c .before .loop .inv .roots-length)
     (λ c. shaped-now c .length-waiting ∙ sym (shaped-before c .length-waiting))
     (λ c. shaped-now c .length-sections ∙ sym (shaped-before c .length-sections))
+    (λ c. shaped-now c .length-d ∙ sym (shaped-before c .length-d))
     returns)

@@ -14,7 +14,7 @@ use Rattle.work_root.proofs.store_root.Statement.{statement}
 use Rattle.work_root.proofs.store_root.Tie as tie
 
 -- the places, from the last back: unknown figures found anew, the old object let go, the new one counted up, the start
-abbrev renewed : tie.After-slice-known16 → tie.After-renew-after
+abbrev renewed : tie.After-slice-known18 → tie.After-renew-after
 renewed c = search
 
 abbrev gone : tie.After-renew-after → tie.After-let-go
@@ -117,4 +117,5 @@ store-root-spec =
     (λ c. search needs)
     (λ c. gone (renewed c) .let-go .kept .1 .1 .1 .1 .1 .1 .0)
     (λ c. renewed c .renew-after .kept .1 .1 .0 ∙ gone (renewed c) .let-go .kept .1 .1 .1 .1 .1 .1 .1 .0)
+    (λ c. gone (renewed c) .let-go .kept .1 .1 .1 .1 .1 .1 .1 .1 .0)
     returns-2)

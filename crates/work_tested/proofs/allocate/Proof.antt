@@ -1,8 +1,17 @@
 -- `work_tested::allocate` meets its contract.
-use mathlib.Core.Path.{refl}
+use mathlib.Core.Path.{_≡_, refl}
+use mathlib.Core.Bool.{Bool, true, false}
+use Prim.Native.Nat.{ℕ}
 use native.Mathlib.Omega.{arith}
+use lib.ListN.{length}
+use Rattle.rules.specs.Heap.{Memory}
+use Rattle.rules.specs.Calls.{allocateAs}
+use Rattle.rules.specs.Promise.{Promise}
+use Rattle.types.specs.declared.Reply.{Reply}
 use Rattle.rules.proofs.Shape.{shaped-blocks}
-use Rattle.test_allocation.proofs.AllocationReply.{replied, allocate-accepts, allocate-refused}
+use Rattle.test_allocation.proofs.AllocationReply.{replied, allocate-accepts, allocate-refused, allocate-data-refused}
+use Rattle.test_allocation.specs.Replies.{allocateReply}
+use Rattle.theory.proofs.Memories.Fit.{Fit}
 use Rattle.theory.proofs.Usable.UsableHeap.{usable-fit}
 use Rattle.theory.proofs.Usable.WorkDone.{worked-refused}
 use borrow.Author.Needs.{needs}
@@ -13,8 +22,15 @@ use Rattle.work_tested.proofs.allocate.Tie as tie
 abbrev start : tie.After-allocate-reply-arg2 → tie.Start
 start c = search
 
-abbrev done : tie.After-slice-known14 → tie.After-allocate
+abbrev done : tie.After-slice-known16 → tie.After-allocate
 done c = search
+
+-- an allocation of either kind is refused alike
+refused-so :
+    {N w : ℕ} {h : Memory} (asData : Bool) (n r : ℕ) {x : Reply} → x ≡ allocateReply N (h .a) (length (h .roots)) n r → Fit N w h
+    → (x .number ≡ 0 → ⊥) → Promise N w (allocateAs asData n r) h x h
+refused-so true n r tested fit fails = allocate-data-refused tested fit fails
+refused-so false n r tested fit fails = allocate-refused tested fit fails
 
 allocate-reply-requires : tie.Need-allocate-reply-requires
 allocate-reply-requires c κs =
@@ -25,7 +41,7 @@ allocate-reply-requires c κs =
 returns : tie.Need-returns
 returns c =
     let start : tie.Start = search in
-    worked-refused (start .pre) (allocate-refused (c .before .allocate-reply .ensures) (usable-fit (start .pre)) (c .if1 .taken))
+    worked-refused (start .pre) (refused-so (start .args .as-data) (start .args .n) (start .args .r) (c .before .allocate-reply .ensures) (usable-fit (start .pre)) (c .if1 .taken))
     (c .if1 .taken)
 
 allocate-requires : tie.Need-allocate-requires
@@ -53,4 +69,5 @@ allocate-spec =
     (λ c. done c .allocate .kept .1 .1 .1 .1 .1 .1 .0)
     (λ c. done c .allocate .kept .1 .1 .1 .1 .1 .1 .1 .0)
     (λ c. done c .allocate .kept .1 .1 .1 .1 .1 .1 .1 .1 .0)
+    (λ c. done c .allocate .kept .1 .1 .1 .1 .1 .1 .1 .1 .1 .0)
     returns-2)

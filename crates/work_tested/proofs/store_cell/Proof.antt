@@ -9,16 +9,20 @@ use Rattle.work_tested.proofs.store_cell.Statement.{statement}
 use Rattle.work_tested.proofs.store_cell.Tie as tie
 
 -- the places: the start, and the work done
-abbrev start : tie.After-store-cell-test-arg2 → tie.Start
+abbrev start : tie.After-store-cell-test-arg3 → tie.Start
 start c = search
 
-abbrev done : tie.After-slice-known12 → tie.After-store-cell
+abbrev done : tie.After-slice-known14 → tie.After-store-cell
 done c = search
 
 store-cell-test-requires : tie.Need-store-cell-test-requires
 store-cell-test-requires c κs =
-    let shape = usable-healthy (start c .pre) .shape in
-    (omega (arith, shape .length-a, shape .whole-bytes), omega (arith, shape .length-b, shape .whole-bytes), shape .blocks-max)
+    let shape = usable-healthy (start c .pre) .shape in (
+      omega (arith, shape .length-a, shape .whole-bytes),
+      omega (arith, shape .length-b, shape .whole-bytes),
+      shape .blocks-max,
+      omega (arith, shape .length-d, shape .whole-bytes),
+    )
 
 returns : tie.Need-returns
 returns c =
@@ -42,6 +46,7 @@ store-cell-spec =
     store-cell-test-requires
     (λ _. refl)
     (λ _. refl)
+    (λ _. refl)
     returns
     store-cell-requires
     (λ c. done c .store-cell .kept .1 .1 .0)
@@ -50,4 +55,5 @@ store-cell-spec =
     (λ c. done c .store-cell .kept .1 .1 .1 .1 .1 .0)
     (λ c. done c .store-cell .kept .1 .1 .1 .1 .1 .1 .1 .0)
     (λ c. done c .store-cell .kept .1 .1 .1 .1 .1 .1 .1 .1 .0)
+    (λ c. done c .store-cell .kept .1 .1 .1 .1 .1 .1 .1 .1 .1 .0)
     returns-2)

@@ -7,26 +7,44 @@ use Rattle.public_example.proofs.mixed.mixed_calls.Statement.{statement
 use Rattle.public_example.proofs.mixed.mixed_calls.Tie as tie
 
 -- the places at which the calls have just returned, from the end back
-abbrev collected : tie.After-slice-known43 → tie.After-collect
+abbrev collected : tie.After-slice-known49 → tie.After-collect
 collected c = search
 
-abbrev replayed : tie.After-slice-known43 → tie.After-replay
-replayed c = collected c .before .before .before .before .before .before .before .before .before .before .before .before .before .before .before .before .before .before .before .before .before .before .before .before
+abbrev replayed-before : tie.After-collect → tie.After-replay
+replayed-before c = search
 
-abbrev recorded : tie.After-slice-known43 → tie.After-run-records
-recorded c = replayed c .before .before .before .before .before .before .before .before .before .before .before .before .before .before .before .before .before .before .before .before .before .before .before
+abbrev replayed : tie.After-slice-known49 → tie.After-replay
+replayed c = replayed-before (collected c)
 
-abbrev started : tie.After-slice-known43 → tie.After-new-run
-started c = recorded c .before .before .before .before .before .before .before .before
+abbrev recorded-before : tie.After-replay → tie.After-run-records
+recorded-before c = search
 
-abbrev allocated : tie.After-slice-known43 → tie.After-allocate
-allocated c = started c .before .before .before .before .before .before .before .before .before .before .before .before .before .before .before
+abbrev recorded : tie.After-slice-known49 → tie.After-run-records
+recorded c = recorded-before (replayed c)
 
-abbrev accepted : tie.After-slice-known43 → tie.Else1
-accepted c = allocated c .before .before .before .before .before .before .before .before
+abbrev started-before : tie.After-run-records → tie.After-new-run
+started-before c = search
 
-abbrev formatted : tie.After-slice-known43 → tie.After-format
-formatted c = accepted c .before .before .before .before .before .before .before .before .before .before .before .before .before .before .before
+abbrev started : tie.After-slice-known49 → tie.After-new-run
+started c = started-before (recorded c)
+
+abbrev allocated-before : tie.After-new-run → tie.After-allocate
+allocated-before c = search
+
+abbrev allocated : tie.After-slice-known49 → tie.After-allocate
+allocated c = allocated-before (started c)
+
+abbrev accepted-before : tie.After-allocate → tie.Else1
+accepted-before c = search
+
+abbrev accepted : tie.After-slice-known49 → tie.Else1
+accepted c = accepted-before (allocated c)
+
+abbrev formatted-before : tie.Else1 → tie.After-format
+formatted-before c = search
+
+abbrev formatted : tie.After-slice-known49 → tie.After-format
+formatted c = formatted-before (accepted c)
 
 -- .. and where the format refuses
 abbrev refused : tie.Then1 → tie.After-format
@@ -74,6 +92,7 @@ mixed-calls-spec =
     (λ c. refused c .format .kept .1 .1 .1 .1 .1 .1 .0)
     (λ c. refused c .format .kept .1 .1 .1 .1 .1 .1 .1 .0)
     (λ c. refused c .format .kept .1 .1 .1 .1 .1 .1 .1 .1 .0)
+    (λ c. refused c .format .kept .1 .1 .1 .1 .1 .1 .1 .1 .1 .0)
     returns
     allocate-requires
     new-run-requires
@@ -114,5 +133,10 @@ mixed-calls-spec =
     ∙ recorded c .run-records .kept .1 .1 .1 .1 .1 .1 .1 .1 .0
     ∙ allocated c .allocate .kept .1 .1 .1 .1 .1 .1 .1 .1 .0
     ∙ formatted c .format .kept .1 .1 .1 .1 .1 .1 .1 .1 .0)
-    (λ c. replayed c .replay .kept .1 .1 .1 .1 .1 .1 .1 .1 .1 .1 .0)
+    (λ c. collected c .collect .kept .1 .1 .1 .1 .1 .1 .1 .1 .1 .0
+    ∙ replayed c .replay .kept .1 .1 .1 .1 .1 .1 .1 .1 .1 .0
+    ∙ recorded c .run-records .kept .1 .1 .1 .1 .1 .1 .1 .1 .1 .0
+    ∙ allocated c .allocate .kept .1 .1 .1 .1 .1 .1 .1 .1 .1 .0
+    ∙ formatted c .format .kept .1 .1 .1 .1 .1 .1 .1 .1 .1 .0)
+    (λ c. replayed c .replay .kept .1 .1 .1 .1 .1 .1 .1 .1 .1 .1 .1 .0)
     returns-2)
