@@ -20,14 +20,15 @@ pub fn replay(
     roots: &mut [Ref],
     waiting: &mut [Ref],
     sections: &mut [Ref],
+    d: &mut [u8],
     calls: &[u64],
     replies: &mut [u64],
 ) -> Reply
     ensures { λ reply.
         ⌜ Replayed blocks width
-        (before a b counts cells roots waiting sections)
+        (before a b counts cells roots waiting sections d)
         (now (calls .entry)) (now (replies .entry)) reply
-        (after a b counts cells roots waiting sections)
+        (after a b counts cells roots waiting sections d)
         (now (replies .exit)) ⌝ }
 {
     let test = tests::replay_reply(
@@ -40,6 +41,7 @@ pub fn replay(
         roots.len(),
         waiting.len(),
         sections.len(),
+        d.len(),
         calls,
         replies.len(),
     );
@@ -47,7 +49,18 @@ pub fn replay(
     if number != 0 {
         return test;
     }
-    work_format::format(blocks, width, a, b, counts, cells, roots, waiting, sections);
+    work_format::format(
+        blocks,
+        width,
+        a,
+        b,
+        counts,
+        cells,
+        roots,
+        waiting,
+        sections,
+        d,
+    );
     run::run_all(
         blocks,
         width,
@@ -58,6 +71,7 @@ pub fn replay(
         roots,
         waiting,
         sections,
+        d,
         calls,
         replies,
     );

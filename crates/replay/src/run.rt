@@ -21,16 +21,17 @@ pub(crate) fn run_all(
     roots: &mut [Ref],
     waiting: &mut [Ref],
     sections: &mut [Ref],
+    d: &mut [u8],
     calls: &[u64],
     replies: &mut [u64],
 )
-    requires { ⌜ Usable blocks width (lent a b counts cells roots waiting sections)
+    requires { ⌜ Usable blocks width (lent a b counts cells roots waiting sections d)
         × (areCalls (now calls) (length (now calls) / 4) ≡ true) × (3 * (length (now calls) / 4) ≤ length (now replies)) ⌝ }
     ensures { λ _.
         ⌜ AsRun blocks width
-        (before a b counts cells roots waiting sections)
+        (before a b counts cells roots waiting sections d)
         (now (calls .entry)) (now (replies .entry))
-        (after a b counts cells roots waiting sections)
+        (after a b counts cells roots waiting sections d)
         (now (replies .exit)) ⌝ }
 {
     let n = calls.len() / 4;
@@ -47,6 +48,7 @@ pub(crate) fn run_all(
             roots,
             waiting,
             sections,
+            d,
             call.code,
             call.x,
             call.y,

@@ -3,15 +3,15 @@ use mathlib.Core.Path.{_≡_, refl}
 use mathlib.Core.List.{[]}
 use Prim.Native.Nat.{ℕ}
 use Rattle.bitmap.specs.Bit.{zeros}
-use Rattle.rules.specs.Heap.{Memory, memory}
-use Rattle.rules.specs.Calls.{check, look, freeBlocks, reply, accepted, outcome}
+use Rattle.rules.specs.Heap.{Memory, memory, lentMemory}
+use Rattle.rules.specs.Calls.{check, look, freeBlocks, readNumber, reply, accepted, outcome}
 use Rattle.rules.specs.Promise.{Promise}
 use Rattle.types.specs.declared.Reply.{Reply}
 use Rattle.rules.proofs.Replies.{Passed}
 use Rattle.rules.proofs.Promised.{promised}
 use Rattle.theory.proofs.EachCall.Accepted.{fit-accepted}
-use Rattle.test_arguments.specs.Replies.{lookReply}
-use Rattle.test_arguments.proofs.ArgumentTests.{look-answered}
+use Rattle.test_arguments.specs.Replies.{lookReply, readReply}
+use Rattle.test_arguments.proofs.ArgumentTests.{look-answered, read-answered}
 use Rattle.theory.specs.Usable.{Usable}
 use Rattle.theory.proofs.Usable.UsableHeap.{usable-fit}
 
@@ -29,3 +29,9 @@ module _ {N w : ℕ} {h : Memory} (usable : Usable N w h) where
   pub look-promise :
       {x : ℕ} {r : Reply} → r ≡ lookReply N w (memory (h .a) (h .b) (h .counts) [] [] []) x → Promise N w (look x) h r h
   look-promise {x} {r} e = promised N w h (look x) _ (look-answered N w h (usable-fit usable) x) r h e refl
+
+  -- .. and the read of a number four
+  pub read-promise :
+      {x y : ℕ} {r : Reply} → r ≡ readReply N (lentMemory (h .a) (h .b) [] (h .cells) [] [] [] (h .d)) x y
+      → Promise N w (readNumber x y) h r h
+  read-promise {x} {y} {r} e = promised N w h (readNumber x y) _ (read-answered N w h (usable-fit usable) x y) r h e refl

@@ -8,7 +8,7 @@ use Rattle.rules.specs.Promise.{Promise}
 use Rattle.types.specs.declared.Reply.{Reply}
 use Rattle.replay_words.specs.Encoding.{decoded, isCall}
 
--- the call of a known code keeps its promise; every other code is answered 9, and nothing changes
+-- a call keeps its promise; words that are none are answered 9, and nothing changes
 pub record Dispatched (N w code x y z : ℕ) (h : Memory) (answered : Reply) (after : Memory) : Type 0 where
-  pub known : isCall code ≡ true → Promise N w (decoded code x y z) h answered after
-  pub unknown : isCall code ≡ false → (answered ≡ reply 9 0 0) × (after ≡ h)
+  pub known : isCall code z ≡ true → Promise N w (decoded code x y z) h answered after
+  pub unknown : isCall code z ≡ false → (answered ≡ reply 9 0 0) × (after ≡ h)

@@ -2,12 +2,14 @@
 ghost use Rattle.rules.specs.Lent.{before, after, lent};
 ghost use Rattle.theory.specs.Usable.{Usable};
 ghost use Rattle.replay_call.specs.Dispatched.{Dispatched};
+use replay_words::tests::MAX_NUMBER;
 use test_arguments::looking;
+use test_arguments::numbers;
 use types::Ref;
 use types::Reply;
 use types::replies;
 
-// The call that the four words stand for. All other codes are answered 9.
+// The call that the four words stand for. All else is answered 9.
 pub fn step(
     blocks: usize,
     width: usize,
@@ -18,18 +20,30 @@ pub fn step(
     roots: &mut [Ref],
     waiting: &mut [Ref],
     sections: &mut [Ref],
+    d: &mut [u8],
     code: u64,
     x: u64,
     y: u64,
     z: u64,
 ) -> Reply
-    requires { ⌜ Usable blocks width (lent a b counts cells roots waiting sections) ⌝ }
+    requires { ⌜ Usable blocks width (lent a b counts cells roots waiting sections d) ⌝ }
     ensures { λ reply.
-        ⌜ Dispatched blocks width code x y z (before a b counts cells roots waiting sections) reply
-        (after a b counts cells roots waiting sections) ⌝ }
+        ⌜ Dispatched blocks width code x y z (before a b counts cells roots waiting sections d) reply
+        (after a b counts cells roots waiting sections d) ⌝ }
 {
     match code {
-        0 => work_format::format(blocks, width, a, b, counts, cells, roots, waiting, sections),
+        0 => work_format::format(
+            blocks,
+            width,
+            a,
+            b,
+            counts,
+            cells,
+            roots,
+            waiting,
+            sections,
+            d,
+        ),
         1 => replies::acceptance(0),
         2 => {
             let done = work_tested::allocate(
@@ -42,6 +56,8 @@ pub fn step(
                 roots,
                 waiting,
                 sections,
+                d,
+                false,
                 x as usize,
                 y as usize,
             );
@@ -58,6 +74,7 @@ pub fn step(
                 roots,
                 waiting,
                 sections,
+                d,
                 x as usize,
                 y as usize,
             );
@@ -74,6 +91,7 @@ pub fn step(
                 roots,
                 waiting,
                 sections,
+                d,
                 x as usize,
                 y as usize,
                 z as usize,
@@ -91,6 +109,7 @@ pub fn step(
                 roots,
                 waiting,
                 sections,
+                d,
             );
             done.reply()
         }
@@ -107,10 +126,51 @@ pub fn step(
                 roots,
                 waiting,
                 sections,
+                d,
                 x,
             );
             done.reply()
         }
+        9 => {
+            let done = work_tested::allocate(
+                blocks,
+                width,
+                a,
+                b,
+                counts,
+                cells,
+                roots,
+                waiting,
+                sections,
+                d,
+                true,
+                x as usize,
+                y as usize,
+            );
+            done.reply()
+        }
+        10 => {
+            if MAX_NUMBER < z {
+                return replies::refusal(9);
+            }
+            let done = work_tested::write_number(
+                blocks,
+                width,
+                a,
+                b,
+                counts,
+                cells,
+                roots,
+                waiting,
+                sections,
+                d,
+                x as usize,
+                y as usize,
+                z as Ref,
+            );
+            done.reply()
+        }
+        11 => numbers::read_reply(blocks, a, b, cells, d, x as usize, y as usize),
         _ => replies::refusal(9),
     }
 }

@@ -1,27 +1,50 @@
 -- A list of calls in one list of 64-bit words, four words a call, and their replies, three words each.
 use Prim.Native.Nat.{ℕ, zero, suc, _+_, _*_, _/_}
-use mathlib.Core.Bool.{Bool, not}
+use mathlib.Core.Bool.{Bool, true, false, not}
 use mathlib.Core.List.{List, [], _∷_}
 use lib.ListN.{length, getD}
-use lib.Dec.{leb}
+use lib.Dec.{leb, eqb}
 use Rattle.rules.specs.Tools.{someBelow}
-use Rattle.rules.specs.Calls.{Call, format, check, allocate, storeRoot, storeCell, collect, look, freeBlocks, returnRoots, Answer}
+use Rattle.rules.specs.Calls.{
+  Call,
+  format,
+  check,
+  allocate,
+  storeRoot,
+  storeCell,
+  collect,
+  look,
+  freeBlocks,
+  returnRoots,
+  allocateData,
+  writeNumber,
+  readNumber,
+  Answer,
+}
 
--- the call that a code and three arguments stand for; the codes are 0 to 8, and what a call does not name is not looked at
+-- the call that a code and three arguments stand for; the codes are 0 to 11, and what a call does not name is not looked at
 unfoldable pub decoded : (code x y z : ℕ) → Call
 decoded code x y z =
-    getD (format ∷ check ∷ allocate x y ∷ storeRoot x y ∷ storeCell x y z ∷ collect ∷ look x ∷ freeBlocks ∷ returnRoots x ∷ []) code check
+    getD
+    (format ∷ check ∷ allocate x y ∷ storeRoot x y ∷ storeCell x y z ∷ collect ∷ look x ∷ freeBlocks ∷ returnRoots x
+    ∷ allocateData x y ∷ writeNumber x y z ∷ readNumber x y ∷ [])
+    code check
 
--- a known code; the arguments may be any words
-unfoldable pub isCall : (code : ℕ) → Bool
-isCall code = leb code 8
+-- request U6: "Its cells hold any 16-bit number"
+abbrev pub maxNumber : ℕ
+maxNumber = 65535
+
+-- a known code; the arguments may be any words, save that the number of a number write is one that a cell can
+-- hold: nothing is truncated
+unfoldable pub isCall : (code z : ℕ) → Bool
+isCall code z = elim (eqb code 10) [ true ↦ leb z maxNumber | false ↦ leb code 11 ]
 
 -- call number i of the words
 abbrev pub callAt : List ℕ → ℕ → Call
 callAt words i = decoded (getD words (4 * i) 0) (getD words (4 * i + 1) 0) (getD words (4 * i + 2) 0) (getD words (4 * i + 3) 0)
 
 abbrev pub isCallAt : List ℕ → ℕ → Bool
-isCallAt words i = isCall (getD words (4 * i) 0)
+isCallAt words i = isCall (getD words (4 * i) 0) (getD words (4 * i + 3) 0)
 
 -- each of the first n is a call
 unfoldable pub areCalls : List ℕ → (n : ℕ) → Bool

@@ -10,7 +10,7 @@ use Rattle.types.specs.declared.Reply.{Reply}
 use Rattle.replay_words.specs.Encoding.{areCalls}
 
 -- From whether the shape is right, the words and the room for replies: 1 for the shape, as in format; 10 for a list that ends inside a call;
--- 9 for an unknown code; 18 for a list of replies that is too short for all of them. Each with whether it applies.
+-- 9 for an unknown code, or a number that no cell can hold; 18 for a list of replies that is too short for all of them. Each with whether it applies.
 unfoldable pub listRefusals : (shape : Bool) → List ℕ → (room : ℕ) → List (ℕ × Bool)
 listRefusals shape words room =
     (1, not shape)

@@ -9,11 +9,17 @@ use types::Reply;
 use types::replies::acceptance;
 use types::replies::refusal;
 
-// Whether a code is that of a call. All other codes are answered 9.
-fn is_call(code: u64) -> bool
-    ensures { λ r. ⌜ r ≡ isCall code ⌝ }
+// The largest number that a cell holds: all 16 bits of a `Ref`.
+pub const MAX_NUMBER: u64 = 65535;
+
+// Whether a code, with the third argument, is a call. All else is answered 9.
+fn is_call(code: u64, z: u64) -> bool
+    ensures { λ r. ⌜ r ≡ isCall code z ⌝ }
 {
-    code <= 8
+    if code == 10 {
+        return z <= MAX_NUMBER;
+    }
+    code <= 11
 }
 
 // Whether each of the first n calls is a call.
@@ -23,7 +29,7 @@ fn are_calls(calls: &[u64], n: usize) -> bool
 {
     let mut i = 0;
     while i < n {
-        if !is_call(calls[4 * i]) {
+        if !is_call(calls[4 * i], calls[4 * i + 3]) {
             return false;
         }
         i += 1;
@@ -42,12 +48,24 @@ pub fn replay_reply(
     roots: usize,
     waiting: usize,
     sections: usize,
+    d: usize,
     calls: &[u64],
     room: usize,
 ) -> Reply
-    ensures { λ r. ⌜ r ≡ replyOn (shape blocks width a b counts cells roots waiting sections) (now (calls .entry)) room ⌝ }
+    ensures { λ r. ⌜ r ≡ replyOn (shape blocks width a b counts cells roots waiting sections d) (now (calls .entry)) room ⌝ }
 {
-    if !check_shape::is_shaped(blocks, width, a, b, counts, cells, roots, waiting, sections) {
+    if !check_shape::is_shaped(
+        blocks,
+        width,
+        a,
+        b,
+        counts,
+        cells,
+        roots,
+        waiting,
+        sections,
+        d,
+    ) {
         return refusal(1);
     }
     if calls.len() % 4 != 0 {

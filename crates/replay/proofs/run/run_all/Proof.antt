@@ -12,26 +12,29 @@ use Rattle.replay.proofs.run.run_all.Statement.{statement}
 use Rattle.replay.proofs.run.run_all.Tie as tie
 
 abbrev Inv-loop : tie.InvT-loop
-Inv-loop blocks width a₀ b₀ counts₀ cells₀ roots₀ waiting₀ sections₀ calls replies₀ n i₀ a b counts cells roots waiting sections replies i =
-    Progress blocks width (lentMemory a₀ b₀ counts₀ cells₀ roots₀ waiting₀ sections₀) calls replies₀ i
-    (lentMemory a b counts cells roots waiting sections) replies
+Inv-loop blocks width a₀ b₀ counts₀ cells₀ roots₀ waiting₀ sections₀ d₀ calls replies₀ n i₀ a b counts cells roots waiting sections d replies i =
+    Progress blocks width (lentMemory a₀ b₀ counts₀ cells₀ roots₀ waiting₀ sections₀ d₀) calls replies₀ i
+    (lentMemory a b counts cells roots waiting sections d) replies
 
 abbrev μ-loop : tie.MeasureT-loop
-μ-loop blocks width a₀ b₀ counts₀ cells₀ roots₀ waiting₀ sections₀ calls replies₀ n i₀ a b counts cells roots waiting sections replies i =
+μ-loop blocks width a₀ b₀ counts₀ cells₀ roots₀ waiting₀ sections₀ d₀ calls replies₀ n i₀ a b counts cells roots waiting sections d replies i =
     length calls / 4 - i
 
 -- the places: the entry, the turn of the loop, the call made, its reply written
 abbrev entry : tie.At-loop Inv-loop μ-loop → tie.Start Inv-loop μ-loop
 entry c = search
 
-abbrev turn : tie.After-step-arg7 Inv-loop μ-loop → tie.In-loop Inv-loop μ-loop
+abbrev turn : tie.After-step-arg8 Inv-loop μ-loop → tie.In-loop Inv-loop μ-loop
 turn c = search
+
+abbrev read-at : tie.After-step-arg8 Inv-loop μ-loop → tie.After-call-at Inv-loop μ-loop
+read-at c = search
 
 abbrev made : tie.After-put-reply-arg Inv-loop μ-loop → tie.After-step Inv-loop μ-loop
 made c = search
 
-abbrev put : tie.After-slice-known16 Inv-loop μ-loop → tie.After-put-reply Inv-loop μ-loop
-put c = c .before .before
+abbrev put : tie.After-slice-known18 Inv-loop μ-loop → tie.After-put-reply Inv-loop μ-loop
+put c = search
 
 -- in a turn there is a call left
 left : (c : tie.In-loop Inv-loop μ-loop) → c .before .loop .i < length (entry (c .before) .args .calls .now) / 4
@@ -39,8 +42,8 @@ left c = omega arith
 
 loop-holds : tie.Need-loop-holds Inv-loop μ-loop
 loop-holds c =
-    let pre = c .before .before .before .before .before .before .before .before .before .pre in
-    progress-start (pre .0) (pre .2)
+    let s : tie.Start Inv-loop μ-loop = search in
+    progress-start (s .pre .0) (s .pre .2)
 
 call-at-requires : tie.Need-call-at-requires Inv-loop μ-loop
 call-at-requires c κs = omega (arith, left c)
@@ -67,7 +70,8 @@ loop-again c =
     let m = made (put c .before) in
     let t = turn (m .before) in
     let s = entry (t .before) in
-    let read = m .before .before .before .before .before .before .before .before .call-at .ensures in
+    let at : tie.After-call-at Inv-loop μ-loop = read-at (m .before) in
+    let read = at .call-at .ensures in
     progress-next (left t) (m .step .kept .1 .1 .1 .1 .1 .1 .0)
     (call-made _ _ (s .args .calls .now) (t .before .loop .i) read (call-at _ _ (s .pre .1) _ (left t)) (m .step .ensures))
     (put c .put-reply .ensures)
@@ -78,14 +82,14 @@ shaped-now : (c : tie.After-loop Inv-loop μ-loop) →
     let l = c .before .loop in
     let args = entry (c .before) .args in
     Shaped (args .blocks) (args .width)
-    (lentMemory (l .a) (l .b) (l .counts) (l .cells) (l .roots) (l .waiting) (l .sections))
+    (lentMemory (l .a) (l .b) (l .counts) (l .cells) (l .roots) (l .waiting) (l .sections) (l .d))
 shaped-now c = usable-healthy (c .before .loop .inv .usable) .shape
 
 shaped-before : (c : tie.After-loop Inv-loop μ-loop) →
     let args = entry (c .before) .args in
     Shaped (args .blocks) (args .width)
     (lentMemory (args .a .now) (args .b .now) (args .counts .now) (args .cells .now) (args .roots .now) (args .waiting .now)
-    (args .sections .now))
+    (args .sections .now) (args .d .now))
 shaped-before c = usable-healthy (entry (c .before) .pre .0) .shape
 
 returns : tie.Need-returns Inv-loop μ-loop
@@ -111,5 +115,6 @@ run-all-spec =
     (λ c. c .before .loop .inv .roots-length)
     (λ c. shaped-now c .length-waiting ∙ sym (shaped-before c .length-waiting))
     (λ c. shaped-now c .length-sections ∙ sym (shaped-before c .length-sections))
+    (λ c. shaped-now c .length-d ∙ sym (shaped-before c .length-d))
     (λ c. c .before .loop .inv .replies-length)
     returns)
