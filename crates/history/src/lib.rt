@@ -36,11 +36,23 @@ fn run_reply(
     roots: &[Ref],
     waiting: &[Ref],
     sections: &[Ref],
+    d: &[u8],
     run: Run,
 ) -> Reply
-    ensures { λ reply. ⌜ reply ≡ runReply blocks width (before a b counts cells roots waiting sections) run ⌝ }
+    ensures { λ reply. ⌜ reply ≡ runReply blocks width (before a b counts cells roots waiting sections d) run ⌝ }
 {
-    let checked = public_read::check(blocks, width, a, b, counts, cells, roots, waiting, sections);
+    let checked = public_read::check(
+        blocks,
+        width,
+        a,
+        b,
+        counts,
+        cells,
+        roots,
+        waiting,
+        sections,
+        d,
+    );
     let number = checked.number;
     if number != 0 {
         return checked;
@@ -63,12 +75,13 @@ pub fn run_records(
     roots: &mut [Ref],
     waiting: &mut [Ref],
     sections: &mut [Ref],
+    d: &mut [u8],
     run: Run,
     bytes: &[u8],
 ) -> Ran
     ensures { λ r.
-        ⌜ Promised blocks width (now (bytes .entry)) (before a b counts cells roots waiting sections) run r
-        (after a b counts cells roots waiting sections) ⌝ }
+        ⌜ Promised blocks width (now (bytes .entry)) (before a b counts cells roots waiting sections d) run r
+        (after a b counts cells roots waiting sections d) ⌝ }
 {
     let reply = run_reply(
         blocks,
@@ -80,6 +93,7 @@ pub fn run_records(
         roots,
         waiting,
         sections,
+        d,
         run,
     );
     let number = reply.number;
@@ -97,6 +111,7 @@ pub fn run_records(
         roots,
         waiting,
         sections,
+        d,
         bytes,
         run,
     );

@@ -25,17 +25,18 @@ fn run_whole(
     roots: &mut [Ref],
     waiting: &mut [Ref],
     sections: &mut [Ref],
+    d: &mut [u8],
     bytes: &[u8],
     n: usize,
     start: Running,
 ) -> Run
-    requires { ⌜ Usable blocks width (lent a b counts cells roots waiting sections)
-        × Going blocks (lent a b counts cells roots waiting sections) n start
+    requires { ⌜ Usable blocks width (lent a b counts cells roots waiting sections d)
+        × Going blocks (lent a b counts cells roots waiting sections d) n start
         × (8 * n ≤ length (now bytes)) ⌝ }
     ensures { λ r.
         ⌜ RunBy blocks width
-        (ranFrom n blocks width (now (bytes .entry)) 0 (before a b counts cells roots waiting sections) (start .run)) r
-        (after a b counts cells roots waiting sections) ⌝ }
+        (ranFrom n blocks width (now (bytes .entry)) 0 (before a b counts cells roots waiting sections d) (start .run)) r
+        (after a b counts cells roots waiting sections d) ⌝ }
 {
     let mut state = start;
     let mut i = 0;
@@ -51,6 +52,7 @@ fn run_whole(
             roots,
             waiting,
             sections,
+            d,
             f,
             state,
         );
@@ -107,14 +109,15 @@ pub(crate) fn run_piece(
     roots: &mut [Ref],
     waiting: &mut [Ref],
     sections: &mut [Ref],
+    d: &mut [u8],
     bytes: &[u8],
     run: Run,
 ) -> Run
-    requires { ⌜ Usable blocks width (lent a b counts cells roots waiting sections)
+    requires { ⌜ Usable blocks width (lent a b counts cells roots waiting sections d)
         × (inRange run ≡ true) ⌝ }
     ensures { λ r.
-        ⌜ RunBy blocks width (ran blocks width (now (bytes .entry)) (before a b counts cells roots waiting sections) run) r
-        (after a b counts cells roots waiting sections) ⌝ }
+        ⌜ RunBy blocks width (ran blocks width (now (bytes .entry)) (before a b counts cells roots waiting sections d) run) r
+        (after a b counts cells roots waiting sections d) ⌝ }
 {
     let number = run.number;
     if number != 0 {
@@ -136,6 +139,7 @@ pub(crate) fn run_piece(
         roots,
         waiting,
         sections,
+        d,
         bytes,
         n,
         state,

@@ -19,13 +19,14 @@ pub(crate) fn act(
     roots: &mut [Ref],
     waiting: &mut [Ref],
     sections: &mut [Ref],
+    d: &mut [u8],
     plan: Plan,
 ) -> Done
-    requires { ⌜ Usable blocks width (lent a b counts cells roots waiting sections) ⌝ }
+    requires { ⌜ Usable blocks width (lent a b counts cells roots waiting sections d) ⌝ }
     ensures { λ done.
-        ⌜ Acted blocks (before a b counts cells roots waiting sections)
-        (turnOf blocks width (before a b counts cells roots waiting sections) (meaning plan)) done
-        (after a b counts cells roots waiting sections) ⌝ }
+        ⌜ Acted blocks (before a b counts cells roots waiting sections d)
+        (turnOf blocks width (before a b counts cells roots waiting sections d) (meaning plan)) done
+        (after a b counts cells roots waiting sections d) ⌝ }
 {
     match plan {
         Plan::Stop(number) => Done {
@@ -35,7 +36,7 @@ pub(crate) fn act(
             freed: 0,
             stuck: false,
         },
-        Plan::Allocate { n, r } => history_retries::allocate(
+        Plan::Allocate { as_data, n, r } => history_retries::allocate(
             blocks,
             width,
             a,
@@ -45,6 +46,8 @@ pub(crate) fn act(
             roots,
             waiting,
             sections,
+            d,
+            as_data,
             n,
             r,
         ),
@@ -59,6 +62,7 @@ pub(crate) fn act(
                 roots,
                 waiting,
                 sections,
+                d,
                 r,
                 v,
             );
@@ -81,6 +85,7 @@ pub(crate) fn act(
                 roots,
                 waiting,
                 sections,
+                d,
                 at,
                 j,
                 v,
@@ -104,6 +109,7 @@ pub(crate) fn act(
                 roots,
                 waiting,
                 sections,
+                d,
             );
             Done {
                 number: 0,
@@ -111,6 +117,30 @@ pub(crate) fn act(
                 collected: true,
                 freed: done.freed,
                 stuck: false,
+            }
+        }
+        Plan::WriteNumber { at, j, x } => {
+            let done = work_tested::write_number(
+                blocks,
+                width,
+                a,
+                b,
+                counts,
+                cells,
+                roots,
+                waiting,
+                sections,
+                d,
+                at,
+                j,
+                x,
+            );
+            Done {
+                number: done.number,
+                allocated: 0,
+                collected: false,
+                freed: done.freed,
+                stuck: done.stuck,
             }
         }
     }

@@ -1,4 +1,5 @@
 // One record of a history, on an undamaged heap with a cleared waiting list: the calls it asks for, and what they add to the run.
+ghost use Prim.Native.Nat.{_<_};
 ghost use Rattle.rules.specs.Lent.{before, after, lent};
 ghost use Rattle.theory.specs.Usable.{Usable};
 ghost use Rattle.history_plans.specs.Asked.{asked};
@@ -22,18 +23,20 @@ pub fn step(
     roots: &mut [Ref],
     waiting: &mut [Ref],
     sections: &mut [Ref],
+    d: &mut [u8],
     f: Fields,
     state: Running,
 ) -> Running
-    requires { ⌜ Usable blocks width (lent a b counts cells roots waiting sections)
-        × Going blocks (lent a b counts cells roots waiting sections) 1 state ⌝ }
+    requires { ⌜ Usable blocks width (lent a b counts cells roots waiting sections d)
+        × Going blocks (lent a b counts cells roots waiting sections d) 1 state
+        × (f .size < 65536) ⌝ }
     ensures { λ next.
         ⌜ Stepped blocks
-        (turnOf blocks width (before a b counts cells roots waiting sections)
-        (asked blocks (before a b counts cells roots waiting sections) f))
-        state next (after a b counts cells roots waiting sections) ⌝ }
+        (turnOf blocks width (before a b counts cells roots waiting sections d)
+        (asked blocks (before a b counts cells roots waiting sections d) f))
+        state next (after a b counts cells roots waiting sections d) ⌝ }
 {
-    let plan = history_plans::plan_of(blocks, b, cells, roots, f);
+    let plan = history_plans::plan_of(blocks, b, cells, roots, d, f);
     let done = acts::act(
         blocks,
         width,
@@ -44,6 +47,7 @@ pub fn step(
         roots,
         waiting,
         sections,
+        d,
         plan,
     );
     noting::noted(state, done)

@@ -5,7 +5,21 @@ use mathlib.Core.List.{List, [], _∷_}
 use lib.Dec.{eqb, leb}
 use Rattle.rules.specs.Tools.{all}
 use Rattle.rules.specs.Heap.{maxBlocks}
-use Rattle.rules.specs.Calls.{Call, format, check, collect, freeBlocks, allocate, storeRoot, storeCell, look, returnRoots}
+use Rattle.rules.specs.Calls.{
+  Call,
+  format,
+  check,
+  collect,
+  freeBlocks,
+  allocate,
+  storeRoot,
+  storeCell,
+  look,
+  returnRoots,
+  allocateData,
+  writeNumber,
+  readNumber,
+}
 use Rattle.types.specs.declared.Reply.{Reply}
 use Rattle.theory.specs.Words.{Made}
 use Rattle.history_figures.specs.declared.tally.Tally.{Tally}
@@ -35,7 +49,7 @@ used n t = tally (t .allocations) (t .blocks) (t .largest) (t .collections) (max
 abbrev pub becameStuck : Tally → Tally
 becameStuck t = tally (t .allocations) (t .blocks) (t .largest) (t .collections) (t .peak) (t .stuck + 1)
 
--- what an accepted call adds
+-- what an accepted call adds; an allocation of data adds what another adds
 unfoldable pub countedIn : Call → Tally → Tally
 countedIn (allocate n r) t = allocated n t
 countedIn collect t = collected t
@@ -46,6 +60,9 @@ countedIn (storeRoot r v) t = t
 countedIn (storeCell at j v) t = t
 countedIn (look at) t = t
 countedIn (returnRoots chosen) t = t
+countedIn (allocateData n r) t = allocated n t
+countedIn (writeNumber at j x) t = t
+countedIn (readNumber at j) t = t
 
 -- "Every store and allocation passes the fact on": it is their second value
 unfoldable pub toldStuck : Call → Reply → Bool
@@ -58,6 +75,9 @@ toldStuck collect x = false
 toldStuck freeBlocks x = false
 toldStuck (look at) x = false
 toldStuck (returnRoots chosen) x = false
+toldStuck (allocateData n r) x = eqb (x .second) 1
+toldStuck (writeNumber at j y) x = false
+toldStuck (readNumber at j) x = false
 
 unfoldable pub momentIn : Bool → Tally → Tally
 momentIn moment t = elim moment [ true ↦ becameStuck t | false ↦ t ]

@@ -7,14 +7,15 @@ use native.Mathlib.Decide.{decLt}
 use native.Mathlib.Omega.{arith}
 use lib.ListN.{length, getD}
 use borrow.Author.Tests.{lt-ltb, le-ltb, ltb-true, eq-eqb, ne-eqb}
+use Rattle.bitmap.specs.Bit.{bitAt}
 use Rattle.rules.specs.Heap.{Memory, sizeAt}
-use Rattle.rules.specs.Calls.{storeRoot, storeCell}
+use Rattle.rules.specs.Calls.{storeRoot, storeCell, writeNumber}
 use Rattle.history_records.specs.declared.Fields.{Fields}
 use Rattle.history_records.specs.Records.{unnamed, areZero}
 use Rattle.history_records.proofs.Unnamed.{picks-other}
 use Rattle.history_plans.specs.Readable.{areRoots}
 use Rattle.history_plans.specs.Asked.{Asked, makes, stops, unless, root, objectIn, cellIn, onRoots}
-use Rattle.history_plans.specs.Asked.{copying, writing, reading, clearing, operations, operation, asked}
+use Rattle.history_plans.specs.Asked.{copying, writing, reading, clearing, writingNumber, operations, operation, asked}
 
 -- ---- the roots
 
@@ -51,6 +52,22 @@ module _ (h : Memory) (f : Fields) where
   pub clear-asked : f .d < length (h .roots) → clearing h f ≡ makes (storeRoot (f .d) 0)
   unfolding clearing unless
   clear-asked target = rw (lt-ltb (f .d) (length (h .roots)) target, clearing, unless)
+
+  pub number-target : length (h .roots) ≤ f .d → writingNumber h f ≡ stops 4
+  unfolding writingNumber unless
+  number-target past = rw (le-ltb (f .d) (length (h .roots)) past, writingNumber, unless)
+
+  module _ (target : f .d < length (h .roots)) where
+    pub number-empty : root h (f .d) ≡ 0 → writingNumber h f ≡ stops 6
+    unfolding writingNumber unless
+    number-empty e =
+        rw (lt-ltb (f .d) (length (h .roots)) target, eq-eqb (root h (f .d)) 0 e, writingNumber, unless)
+
+    pub number-asked :
+        (root h (f .d) ≡ 0 → ⊥) → writingNumber h f ≡ makes (writeNumber (objectIn h (f .d)) (f .c) (f .size))
+    unfolding writingNumber unless
+    number-asked some =
+        rw (lt-ltb (f .d) (length (h .roots)) target, ne-eqb (root h (f .d)) 0 some, writingNumber, unless)
 
   module _ (out : areRoots (h .roots) f ≡ false) where
     pub copy-out : copying h f ≡ stops 4
@@ -89,20 +106,39 @@ module _ (h : Memory) (f : Fields) where
           both-roots h f _ inside
           ∙ rw (ne-eqb (root h (f .s)) 0 some, le-ltb (f .c) (4 * sizeAt N h (objectIn h (f .s))) past, unless)
 
-      pub read-asked : f .c < 4 * sizeAt N h (objectIn h (f .s)) → reading N h f ≡ makes (storeRoot (f .d) (cellIn h (f .s) (f .c)))
-      unfolding reading unless
-      read-asked within =
-          both-roots h f _ inside
-          ∙ rw (ne-eqb (root h (f .s)) 0 some, lt-ltb (f .c) (4 * sizeAt N h (objectIn h (f .s))) within, unless)
+      module _ (within : f .c < 4 * sizeAt N h (objectIn h (f .s))) where
+        pub read-number : bitAt (h .d) (objectIn h (f .s)) ≡ 1 → reading N h f ≡ stops 12
+        unfolding reading unless
+        read-number e =
+            both-roots h f _ inside
+            ∙ rw (
+              ne-eqb (root h (f .s)) 0 some,
+              lt-ltb (f .c) (4 * sizeAt N h (objectIn h (f .s))) within,
+              eq-eqb (bitAt (h .d) (objectIn h (f .s))) 1 e,
+              unless,
+            )
+
+        pub read-asked :
+            (bitAt (h .d) (objectIn h (f .s)) ≡ 1 → ⊥) → reading N h f ≡ makes (storeRoot (f .d) (cellIn h (f .s) (f .c)))
+        unfolding reading unless
+        read-asked ordinary =
+            both-roots h f _ inside
+            ∙ rw (
+              ne-eqb (root h (f .s)) 0 some,
+              lt-ltb (f .c) (4 * sizeAt N h (objectIn h (f .s))) within,
+              ne-eqb (bitAt (h .d) (objectIn h (f .s))) 1 ordinary,
+              unless,
+            )
 
 -- ---- an unknown operation
 
 module _
     (f : Fields) (one : f .operation ≡ 1 → ⊥) (two : f .operation ≡ 2 → ⊥) (three : f .operation ≡ 3 → ⊥)
-    (four : f .operation ≡ 4 → ⊥) (five : f .operation ≡ 5 → ⊥) (six : f .operation ≡ 6 → ⊥) where
+    (four : f .operation ≡ 4 → ⊥) (five : f .operation ≡ 5 → ⊥) (six : f .operation ≡ 6 → ⊥) (seven : f .operation ≡ 7 → ⊥)
+    (eight : f .operation ≡ 8 → ⊥) where
   unknown-stops : (N : ℕ) (h : Memory) → operation N h f ≡ stops 9
   unfolding operation
-  unknown-stops N h = picks-other (f .operation) (operations N h f) (stops 9) refl refl one two three four five six
+  unknown-stops N h = picks-other (f .operation) (operations N h f) (stops 9) refl refl one two three four five six seven eight
 
   pub unknown-asked : (N : ℕ) (h : Memory) → areZero (unnamed f) ≡ true → asked N h f ≡ stops 9
   unfolding asked unless

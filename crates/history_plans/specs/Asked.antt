@@ -4,8 +4,8 @@ use mathlib.Core.Bool.{Bool, true, false, not}
 use mathlib.Core.List.{List, [], _∷_}
 use lib.ListN.{length, getD}
 use lib.Dec.{ltb, eqb}
-use Rattle.rules.specs.Heap.{Memory, sizeAt}
-use Rattle.rules.specs.Calls.{Call, allocate, storeRoot, storeCell, collect}
+use Rattle.rules.specs.Heap.{Memory, sizeAt, isData}
+use Rattle.rules.specs.Calls.{Call, allocate, storeRoot, storeCell, collect, allocateData, writeNumber}
 use Rattle.history_records.specs.declared.Fields.{Fields}
 use Rattle.history_records.specs.Records.{unnamed, areZero}
 
@@ -37,13 +37,17 @@ cellIn h r c = getD (h .cells) (4 * objectIn h r + c) 0
 abbrev pub hasCell : ℕ → Memory → (r c : ℕ) → Bool
 hasCell N h r c = ltb c (4 * sizeAt N h (objectIn h r))
 
+-- request U6: whether the object in root r was made as data
+abbrev pub holdsData : Memory → (r : ℕ) → Bool
+holdsData h r = isData (h .d) (objectIn h r)
+
 -- "A root out of range gives 4": both roots of an operation that names two
 unfoldable pub onRoots : Memory → Fields → Asked → Asked
 onRoots h f next = unless (isRoot h (f .d)) 4 (unless (isRoot h (f .s)) 4 next)
 
 -- ---- "Operation 1 allocates the size into d; 2 copies root s to d; 3 writes root s into cell c of the object in d; 4 reads cell c of the
 -- object in s into d; 5 clears d; 6 collects." Refusals of the call itself stop the run too: 3, 4 and 5 of an allocation ("A root out of
--- range gives 4, in operation 1 only after 3"), and 7 of a store in a cell.
+-- range gives 4, in operation 1 only after 3"), and 7 and 12 of a store in a cell.
 
 unfoldable pub allocating : Fields → Asked
 allocating f = makes (allocate (f .size) (f .d))
@@ -56,21 +60,36 @@ copying h f = onRoots h f (makes (storeRoot (f .d) (root h (f .s))))
 unfoldable pub writing : Memory → Fields → Asked
 writing h f = onRoots h f (unless (namesObject h (f .d)) 6 (makes (storeCell (objectIn h (f .d)) (f .c) (root h (f .s)))))
 
--- .. and s in 4"; "Then comes 7, in 4 as in 3"
+-- .. and s in 4"; "Then comes 7, in 4 as in 3". Request U6: "12, a reference store or read on data .., placed
+-- after 7".
 unfoldable pub reading : ℕ → Memory → Fields → Asked
 reading N h f =
     onRoots h f
     (unless (namesObject h (f .s)) 6
     (unless (hasCell N h (f .s) (f .c)) 7
-    (makes (storeRoot (f .d) (cellIn h (f .s) (f .c))))))
+    (unless (not (holdsData h (f .s))) 12
+    (makes (storeRoot (f .d) (cellIn h (f .s) (f .c)))))))
 
 unfoldable pub clearing : Memory → Fields → Asked
 clearing h f = unless (isRoot h (f .d)) 4 (makes (storeRoot (f .d) 0))
 
--- each operation by its number, from 1 to 6; "an unknown operation" is any other
+-- request U6: "History operations 7 and 8 allocate data into d as 1 does ..
+unfoldable pub allocatingData : Fields → Asked
+allocatingData f = makes (allocateData (f .size) (f .d))
+
+-- .. and write the size field's number into cell c of the data in d, an empty d giving 6." 7, and 12 where d
+-- holds an ordinary object, are refusals of the call itself.
+unfoldable pub writingNumber : Memory → Fields → Asked
+writingNumber h f =
+    unless (isRoot h (f .d)) 4
+    (unless (namesObject h (f .d)) 6
+    (makes (writeNumber (objectIn h (f .d)) (f .c) (f .size))))
+
+-- each operation by its number, from 1 to 8; "an unknown operation" is any other
 abbrev pub operations : ℕ → Memory → Fields → List Asked
 operations N h f =
-    stops 9 ∷ allocating f ∷ copying h f ∷ writing h f ∷ reading N h f ∷ clearing h f ∷ makes collect ∷ []
+    stops 9 ∷ allocating f ∷ copying h f ∷ writing h f ∷ reading N h f ∷ clearing h f ∷ makes collect ∷ allocatingData f
+    ∷ writingNumber h f ∷ []
 
 unfoldable pub operation : ℕ → Memory → Fields → Asked
 operation N h f = getD (operations N h f) (f .operation) (stops 9)

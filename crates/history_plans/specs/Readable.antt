@@ -9,10 +9,11 @@ use Rattle.rules.specs.Heap.{maxBlocks}
 use Rattle.history_records.specs.declared.Fields.{Fields}
 
 -- an undamaged heap has it
-pub record Readable (N : ℕ) (b cells roots : List ℕ) : Type 0 where
+pub record Readable (N : ℕ) (b cells roots d : List ℕ) : Type 0 where
   pub most : N ≤ maxBlocks
   pub b-length : N ≤ 8 * length b
   pub cells-length : length cells ≡ 4 * N
+  pub d-length : N ≤ 8 * length d
   pub named : (r : ℕ) → getD roots r 0 ≤ N
 
 -- both roots of a record are in range

@@ -1,8 +1,9 @@
 // What each record of a history asks for, as a plan.
 ghost use mathlib.Core.Path.{_≡_};
 ghost use mathlib.Core.List.{[]};
-ghost use Rattle.rules.specs.Heap.{memory};
-ghost use Rattle.history_plans.specs.Asked.{copying, writing, reading, clearing, asked};
+ghost use Prim.Native.Nat.{_<_};
+ghost use Rattle.rules.specs.Heap.{memory, lentMemory};
+ghost use Rattle.history_plans.specs.Asked.{copying, writing, reading, clearing, writingNumber, asked};
 ghost use Rattle.history_plans.specs.Meaning.{meaning};
 ghost use Rattle.history_plans.specs.Readable.{Readable, areRoots};
 use history_records::Fields;
@@ -12,10 +13,11 @@ use types::Ref;
 // What a record asks for: a call, or a number that stops the run.
 pub enum Plan {
     Stop(usize),
-    Allocate { n: usize, r: usize },
+    Allocate { as_data: bool, n: usize, r: usize },
     StoreRoot { r: usize, v: usize },
     StoreCell { at: usize, j: usize, v: usize },
     Collect,
+    WriteNumber { at: usize, j: usize, x: Ref },
 }
 
 // A reference as a whole word.
@@ -72,15 +74,18 @@ fn plan_write(roots: &[Ref], f: Fields) -> Plan
     }
 }
 
-// Cell c of the object in root s read into root d.
-fn plan_read(blocks: usize, b: &[u8], cells: &[Ref], roots: &[Ref], f: Fields) -> Plan
-    requires { ⌜ Readable blocks (now b) (now cells) (now roots) ⌝ }
-    ensures { λ r. ⌜ meaning r ≡ reading blocks (memory [] (now (b .entry)) [] (now (cells .entry)) (now (roots .entry)) []) f ⌝ }
+// Cell c of the object in root s read into root d. Here `d` is the D-map.
+fn plan_read(blocks: usize, b: &[u8], cells: &[Ref], roots: &[Ref], d: &[u8], f: Fields) -> Plan
+    requires { ⌜ Readable blocks (now b) (now cells) (now roots) (now d) ⌝ }
+    ensures { λ r.
+        ⌜ meaning r
+        ≡ reading blocks
+        (lentMemory [] (now (b .entry)) [] (now (cells .entry)) (now (roots .entry)) [] [] (now (d .entry))) f ⌝ }
 {
     if !both_roots(roots, f) {
         return Plan::Stop(4);
     }
-    let d = f.d;
+    let target = f.d;
     let s = f.s;
     let owner = word(roots[s]);
     if owner == 0 {
@@ -91,8 +96,11 @@ fn plan_read(blocks: usize, b: &[u8], cells: &[Ref], roots: &[Ref], f: Fields) -
     if 4 * objects::object_size(blocks, b, at) <= c {
         return Plan::Stop(7);
     }
+    if bitmap::get_bit(d, at) == 1 {
+        return Plan::Stop(12);
+    }
     Plan::StoreRoot {
-        r: d,
+        r: target,
         v: word(cells[4 * at + c]),
     }
 }
@@ -108,22 +116,57 @@ fn plan_clear(roots: &[Ref], f: Fields) -> Plan
     Plan::StoreRoot { r: d, v: 0 }
 }
 
-// What a record asks for.
-pub fn plan_of(blocks: usize, b: &[u8], cells: &[Ref], roots: &[Ref], f: Fields) -> Plan
-    requires { ⌜ Readable blocks (now b) (now cells) (now roots) ⌝ }
-    ensures { λ r. ⌜ meaning r ≡ asked blocks (memory [] (now (b .entry)) [] (now (cells .entry)) (now (roots .entry)) []) f ⌝ }
+// The size field's number written into cell c of the data in root d.
+fn plan_number(roots: &[Ref], f: Fields) -> Plan
+    requires { ⌜ f .size < 65536 ⌝ }
+    ensures { λ r. ⌜ meaning r ≡ writingNumber (memory [] [] [] [] (now (roots .entry)) []) f ⌝ }
+{
+    let d = f.d;
+    if roots.len() <= d {
+        return Plan::Stop(4);
+    }
+    let owner = word(roots[d]);
+    if owner == 0 {
+        return Plan::Stop(6);
+    }
+    let at = owner - 1;
+    let x = f.size as Ref;
+    Plan::WriteNumber {
+        at: at,
+        j: f.c,
+        x: x,
+    }
+}
+
+// What a record asks for. Here `d` is the D-map.
+pub fn plan_of(blocks: usize, b: &[u8], cells: &[Ref], roots: &[Ref], d: &[u8], f: Fields) -> Plan
+    requires { ⌜ Readable blocks (now b) (now cells) (now roots) (now d) × (f .size < 65536) ⌝ }
+    ensures { λ r.
+        ⌜ meaning r
+        ≡ asked blocks
+        (lentMemory [] (now (b .entry)) [] (now (cells .entry)) (now (roots .entry)) [] [] (now (d .entry))) f ⌝ }
 {
     if !history_records::unnamed_are_zero(f) {
         return Plan::Stop(9);
     }
     let operation = f.operation;
     match operation {
-        1 => Plan::Allocate { n: f.size, r: f.d },
+        1 => Plan::Allocate {
+            as_data: false,
+            n: f.size,
+            r: f.d,
+        },
         2 => plan_copy(roots, f),
         3 => plan_write(roots, f),
-        4 => plan_read(blocks, b, cells, roots, f),
+        4 => plan_read(blocks, b, cells, roots, d, f),
         5 => plan_clear(roots, f),
         6 => Plan::Collect,
+        7 => Plan::Allocate {
+            as_data: true,
+            n: f.size,
+            r: f.d,
+        },
+        8 => plan_number(roots, f),
         _ => Plan::Stop(9),
     }
 }

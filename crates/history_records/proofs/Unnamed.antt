@@ -29,23 +29,28 @@ past-three k zero one two three = omega arith
 past-six : (k : ℕ) → 4 ≤ k → (k ≡ 4 → ⊥) → (k ≡ 5 → ⊥) → (k ≡ 6 → ⊥) → 7 ≤ k
 past-six k low four five six = omega arith
 
--- of a list with places 0 to 6 such a number picks the first, or what stands for the rest
+past-eight : (k : ℕ) → 7 ≤ k → (k ≡ 7 → ⊥) → (k ≡ 8 → ⊥) → 9 ≤ k
+past-eight k low seven eight = omega arith
+
+-- of a list with places 0 to 8 such a number picks the first, or what stands for the rest
 pub picks-other :
-    {A : Type 0} (k : ℕ) (l : List A) (d : A) → length l ≡ 7 → getD l 0 d ≡ d
-    → (k ≡ 1 → ⊥) → (k ≡ 2 → ⊥) → (k ≡ 3 → ⊥) → (k ≡ 4 → ⊥) → (k ≡ 5 → ⊥) → (k ≡ 6 → ⊥) → getD l k d ≡ d
-picks-other k l d places same one two three four five six = elim (ℕ-discrete k 0) [
+    {A : Type 0} (k : ℕ) (l : List A) (d : A) → length l ≡ 9 → getD l 0 d ≡ d
+    → (k ≡ 1 → ⊥) → (k ≡ 2 → ⊥) → (k ≡ 3 → ⊥) → (k ≡ 4 → ⊥) → (k ≡ 5 → ⊥) → (k ≡ 6 → ⊥) → (k ≡ 7 → ⊥) → (k ≡ 8 → ⊥)
+    → getD l k d ≡ d
+picks-other k l d places same one two three four five six seven eight = elim (ℕ-discrete k 0) [
   | yes z ↦ ap (λ (i : ℕ). getD l i d) z ∙ same
-  | no z ↦ List·getD-eq-default l d {n = k} (enough places (past-six k (past-three k z one two three) four five six))
+  | no z ↦ List·getD-eq-default l d {n = k} (enough places (past-eight k (past-six k (past-three k z one two three) four five six) seven eight))
 ]
   where
-    enough : length l ≡ 7 → 7 ≤ k → length l ≤ k
+    enough : length l ≡ 9 → 9 ≤ k → length l ≤ k
     enough e low = omega arith
 
 module _
     (f : Fields) (one : f .operation ≡ 1 → ⊥) (two : f .operation ≡ 2 → ⊥) (three : f .operation ≡ 3 → ⊥)
-    (four : f .operation ≡ 4 → ⊥) (five : f .operation ≡ 5 → ⊥) (six : f .operation ≡ 6 → ⊥) where
+    (four : f .operation ≡ 4 → ⊥) (five : f .operation ≡ 5 → ⊥) (six : f .operation ≡ 6 → ⊥) (seven : f .operation ≡ 7 → ⊥)
+    (eight : f .operation ≡ 8 → ⊥) where
   pub unknown-zero : f .unused ≡ 0 → areZero (unnamed f) ≡ true
   unfolding unnamed all
   unknown-zero e =
-      ap (λ (l : List ℕ). areZero (f .unused ∷ l)) (picks-other (f .operation) (unnamedBy f) [] refl refl one two three four five six)
+      ap (λ (l : List ℕ). areZero (f .unused ∷ l)) (picks-other (f .operation) (unnamedBy f) [] refl refl one two three four five six seven eight)
       ∙ rw (eq-eqb (f .unused) 0 e, all)

@@ -28,7 +28,9 @@ fieldsAt bytes at =
       size = pair bytes (at + 6) (at + 7);
     }
 
--- "Fields an operation doesn't name, and byte 3, are 0": which these are, for the operations from 1 to 6 (0 is none)
+-- "Fields an operation doesn't name, and byte 3, are 0": which these are, for the operations from 1 to 8 (0 is
+-- none). Request U6: "History operations 7 and 8 allocate data into d as 1 does, and write the size field's
+-- number into cell c of the data in d".
 abbrev pub unnamedBy : Fields → List (List ℕ)
 unnamedBy f =
     []
@@ -38,6 +40,8 @@ unnamedBy f =
     ∷ (f .size ∷ [])
     ∷ (f .s ∷ f .c ∷ f .size ∷ [])
     ∷ (f .d ∷ f .s ∷ f .c ∷ f .size ∷ [])
+    ∷ (f .s ∷ f .c ∷ [])
+    ∷ (f .s ∷ [])
     ∷ []
 
 unfoldable pub unnamed : Fields → List ℕ

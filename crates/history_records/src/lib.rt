@@ -24,15 +24,15 @@ fn wide(byte: u8) -> usize
 // The number that the bytes at two places make.
 fn pair_at(bytes: &[u8], low: usize, high: usize) -> usize
     requires { ⌜ (low < length (now bytes)) × (high < length (now bytes)) ⌝ }
-    ensures { λ r. ⌜ r ≡ pair (now (bytes .entry)) low high ⌝ }
+    ensures { λ r. ⌜ (r ≡ pair (now (bytes .entry)) low high) × (r < 65536) ⌝ }
 {
     wide(bytes[low]) + 256 * wide(bytes[high])
 }
 
-// The record that begins at place `at`.
+// The record that begins at place `at`. Its size is a number that a cell holds.
 pub fn fields_at(bytes: &[u8], at: usize) -> Fields
     requires { ⌜ at + 8 ≤ length (now bytes) ⌝ }
-    ensures { λ r. ⌜ r ≡ fieldsAt (now (bytes .entry)) at ⌝ }
+    ensures { λ r. ⌜ (r ≡ fieldsAt (now (bytes .entry)) at) × (r .size < 65536) ⌝ }
 {
     Fields {
         operation: wide(bytes[at]),
@@ -76,6 +76,8 @@ pub fn unnamed_are_zero(f: Fields) -> bool
         4 => are_zero(f.size, 0, 0, 0),
         5 => are_zero(f.s, f.c, f.size, 0),
         6 => are_zero(f.d, f.s, f.c, f.size),
+        7 => are_zero(f.s, f.c, 0, 0),
+        8 => are_zero(f.s, 0, 0, 0),
         _ => true,
     }
 }

@@ -1,7 +1,7 @@
 // An allocation of a record, on an undamaged heap with a cleared waiting list: its try, and where no chunk is free a collection and a
 // second one.
 ghost use Rattle.rules.specs.Lent.{before, after, lent};
-ghost use Rattle.rules.specs.Calls.{Call};
+ghost use Rattle.rules.specs.Calls.{allocateAs};
 ghost use Rattle.theory.specs.Usable.{Usable};
 ghost use Rattle.history_plans.specs.Asked.{makes};
 ghost use Rattle.history_turns.specs.Turns.{turnOf};
@@ -10,7 +10,7 @@ use history_turns::outcome;
 use history_turns::outcome::Done;
 use types::Ref;
 
-// Allocates n blocks into root r; where no chunk is free, collects and tries once more.
+// Allocates n blocks into root r, as data or as an ordinary object; where no chunk is free, collects and tries once more.
 pub fn allocate(
     blocks: usize,
     width: usize,
@@ -21,14 +21,16 @@ pub fn allocate(
     roots: &mut [Ref],
     waiting: &mut [Ref],
     sections: &mut [Ref],
+    d: &mut [u8],
+    as_data: bool,
     n: usize,
     r: usize,
 ) -> Done
-    requires { ⌜ Usable blocks width (lent a b counts cells roots waiting sections) ⌝ }
+    requires { ⌜ Usable blocks width (lent a b counts cells roots waiting sections d) ⌝ }
     ensures { λ done.
-        ⌜ Acted blocks (before a b counts cells roots waiting sections)
-        (turnOf blocks width (before a b counts cells roots waiting sections) (makes (Call.allocate n r))) done
-        (after a b counts cells roots waiting sections) ⌝ }
+        ⌜ Acted blocks (before a b counts cells roots waiting sections d)
+        (turnOf blocks width (before a b counts cells roots waiting sections d) (makes (allocateAs as_data n r))) done
+        (after a b counts cells roots waiting sections d) ⌝ }
 {
     let first = work_tested::allocate(
         blocks,
@@ -40,6 +42,8 @@ pub fn allocate(
         roots,
         waiting,
         sections,
+        d,
+        as_data,
         n,
         r,
     );
@@ -57,6 +61,7 @@ pub fn allocate(
         roots,
         waiting,
         sections,
+        d,
     );
     let second = work_tested::allocate(
         blocks,
@@ -68,6 +73,8 @@ pub fn allocate(
         roots,
         waiting,
         sections,
+        d,
+        as_data,
         n,
         r,
     );

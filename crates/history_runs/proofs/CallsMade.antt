@@ -9,7 +9,21 @@ use lib.Dec.{eqb}
 use lib.ListN.{length}
 use borrow.Author.Tests.{eq-eqb, ne-eqb}
 use Rattle.rules.specs.Heap.{Memory}
-use Rattle.rules.specs.Calls.{Call, format, check, collect, freeBlocks, allocate, storeRoot, storeCell, look, returnRoots}
+use Rattle.rules.specs.Calls.{
+  Call,
+  format,
+  check,
+  collect,
+  freeBlocks,
+  allocate,
+  storeRoot,
+  storeCell,
+  look,
+  returnRoots,
+  allocateData,
+  writeNumber,
+  readNumber,
+}
 use Rattle.rules.specs.Calls.{answer, lastMemory}
 use Rattle.rules.proofs.Shape.{shape-facts}
 use Rattle.theory.specs.Words.{Made, leftBy}
@@ -58,6 +72,9 @@ counted-peak (storeRoot r v) p t = refl
 counted-peak (storeCell a j v) p t = refl
 counted-peak (look a) p t = refl
 counted-peak (returnRoots chosen) p t = refl
+counted-peak (allocateData n r) p t = refl
+counted-peak (writeNumber a j x) p t = refl
+counted-peak (readNumber a j) p t = refl
 
 moment-peak : (s : Bool) (p : ℕ) (t : Tally) → momentIn s (withPeak p t) ≡ withPeak p (momentIn s t)
 unfolding momentIn
@@ -92,6 +109,9 @@ counted-blocks (storeRoot r v) t = omega arith
 counted-blocks (storeCell a j v) t = omega arith
 counted-blocks (look a) t = omega arith
 counted-blocks (returnRoots chosen) t = omega arith
+counted-blocks (allocateData n r) t = refl
+counted-blocks (writeNumber a j x) t = omega arith
+counted-blocks (readNumber a j) t = omega arith
 
 moment-blocks : (s : Bool) (t : Tally) → momentIn s t .blocks ≡ t .blocks
 unfolding momentIn

@@ -5,7 +5,7 @@ use mathlib.Core.List.{List, _++_}
 use Prim.Native.Nat.{ℕ, _%_}
 use lib.ListN.{length, replicate, length-replicate}
 use Rattle.rules.specs.Heap.{Memory, withWaiting, shaped}
-use Rattle.rules.specs.Damage.{damage, endOnFree, openEnd, unaligned, badCell, badRoot, badCount}
+use Rattle.rules.specs.Damage.{damage, endOnFree, openEnd, unaligned, badCell, badRoot, badCount, strayData}
 use Rattle.rules.specs.Calls.{reply}
 use Rattle.types.specs.declared.Reply.{Reply}
 use Rattle.rules.proofs.Shape.{shape-facts, shape-test}
@@ -60,10 +60,10 @@ module _ (N w : ℕ) (g found : Memory) (usable : Usable N w g) (finds : Finds N
   found-shaped =
       let facts = shape-facts N w (cleared N found) (found-cleared .intact .right-shape) in
       shape-test N w found
-      (reshaped N w (cleared N found) found facts refl refl refl refl refl (finds .space ∙ sym (length-replicate N 0)) refl)
+      (reshaped N w (cleared N found) found facts refl refl refl refl refl (finds .space ∙ sym (length-replicate N 0)) refl refl)
 
   found-undamaged : Undamaged N w found
-  unfolding damage endOnFree openEnd unaligned badCell badRoot badCount
+  unfolding damage endOnFree openEnd unaligned badCell badRoot badCount strayData
   found-undamaged =
       record { intact = record { right-shape = found-shaped; no-damage = found-cleared .intact .no-damage }; true-list = found-cleared .true-list }
 

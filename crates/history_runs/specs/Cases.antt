@@ -1,5 +1,5 @@
--- Small histories and the lines that they print, as one list, from documents 01 and 02. N is 8, w is 2 and there are 4 roots, as in
--- document 01's small heaps, and the heap is new. That each case gives what it says is one lemma, in proofs/.
+-- Small histories and the lines that they print, as one list, from documents 01 and 02. N is 8, w is 2 (where nothing else is said) and
+-- there are 4 roots, as in document 01's small heaps, and the heap is new. That each case gives what it says is one lemma, in proofs/.
 use Prim.Native.Nat.{ℕ}
 use Prim.Native.Char.{code}
 use Prim.Native.String.{String, [] as none, _∷_ as _then_}
@@ -37,20 +37,32 @@ clear d = eight 5 d 0 0 0
 abbrev pub collect : List ℕ
 collect = eight 6 0 0 0 0
 
+-- request U6: "History operations 7 and 8 allocate data into d as 1 does, and write the size field's number into
+-- cell c of the data in d"
+abbrev pub allocateData : (size d : ℕ) → List ℕ
+allocateData size d = eight 7 d 0 0 size
+
+abbrev pub writeNumber : (number c d : ℕ) → List ℕ
+writeNumber number c d = eight 8 d 0 c number
+
 -- ---- cases
 
--- a history, with the number of records run before it; what is printed; and the byte of the A-map at the end
+-- a history, with the count width and the number of records run before it; what is printed; and the byte of the A-map at the end
 pub record Case : Type 0 where
+  pub width : ℕ
   pub records : ℕ
   pub bytes : List ℕ
   pub text : String
   pub a : ℕ
 
 abbrev pub prints : List ℕ → String → ℕ → Case
-prints bytes text a = record { records = 0; bytes = bytes; text = text; a = a }
+prints bytes text a = record { width = 2; records = 0; bytes = bytes; text = text; a = a }
 
 abbrev pub printsAfter : (records : ℕ) → List ℕ → String → ℕ → Case
-printsAfter records bytes text a = record { records = records; bytes = bytes; text = text; a = a }
+printsAfter records bytes text a = record { width = 2; records = records; bytes = bytes; text = text; a = a }
+
+abbrev pub printsAt : (width : ℕ) → List ℕ → String → ℕ → Case
+printsAt width bytes text a = record { width = width; records = 0; bytes = bytes; text = text; a = a }
 
 unfoldable pub cases : List Case
 cases =
@@ -82,7 +94,7 @@ cases =
     -- operation 4: root 2 holds what was read when the object it was read from is let go
     ∷ prints (allocate 2 0 ++ allocate 1 1 ++ write 1 7 0 ++ clear 1 ++ read 7 0 2 ++ clear 0) "2 3 2 0 3 0\n" 4
     -- "9 for an unknown operation or a nonzero unused field, before all others of that record but 10": before 4, there being no root 4
-    ∷ prints (allocate 1 0 ++ eight 7 4 0 0 0) "refused 9 at record 1\n" 1
+    ∷ prints (allocate 1 0 ++ eight 9 4 0 0 0) "refused 9 at record 1\n" 1
     ∷ prints (eight 5 4 0 0 1) "refused 9 at record 0\n" 0
     -- "A root out of range gives 4, in operation 1 only after 3."
     ∷ prints (allocate 0 4) "refused 3 at record 0\n" 0
@@ -96,6 +108,38 @@ cases =
     ∷ prints (read 4 0 0) "refused 6 at record 0\n" 0
     ∷ prints (allocate 1 0 ++ write 0 4 0) "refused 7 at record 1\n" 1
     ∷ prints (allocate 1 0 ++ read 4 0 1) "refused 7 at record 1\n" 1
+    -- request U6: operation 7 "as 1 does": it counts as an allocation in every figure, at w = 1 as a moment, collects and
+    -- tries once more where no chunk is free, and gives 4 only after 3
+    ∷ prints (allocateData 2 0 ++ allocate 1 1 ++ allocateData 3 2) "3 6 3 0 6 0\n" 119
+    ∷ prints (allocate 1 0 ++ copy 0 1 ++ copy 0 2 ++ clear 0 ++ clear 1 ++ clear 2 ++ allocateData 8 3) "2 9 8 1 8 1\n" 255
+    ∷ prints (allocateData 1 0 ++ copy 0 1 ++ copy 0 2) "1 1 1 0 1 1\n" 1
+    ∷ printsAt 1 (allocate 1 0 ++ allocateData 1 1) "2 2 1 0 2 2\n" 3
+    ∷ prints (allocateData 0 4) "refused 3 at record 0\n" 0
+    ∷ prints (allocateData 8 4) "refused 4 at record 0\n" 0
+    -- operation 8 counts in nothing, and its number is never 3: it may be 0, and the largest that the field holds
+    ∷ prints (allocateData 1 0 ++ writeNumber 0 3 0 ++ (8 ∷ 0 ∷ 0 ∷ 0 ∷ 0 ∷ 0 ∷ 255 ∷ 255 ∷ [])) "1 1 1 0 1 0\n" 1
+    -- "never followed, counted or checked as references": 2 would name the object in root 1, which is let go; a
+    -- collection frees it where it is stuck
+    ∷ prints (allocateData 1 0 ++ allocate 1 1 ++ writeNumber 2 0 0 ++ clear 1) "2 2 1 0 2 0\n" 1
+    ∷ prints (allocateData 1 0 ++ allocate 1 1 ++ copy 1 2 ++ copy 1 3 ++ writeNumber 2 0 0 ++ clear 1 ++ clear 2 ++ clear 3 ++ collect)
+    "2 2 1 1 2 1\n" 1
+    -- "an empty d giving 6", after 4 and before 7
+    ∷ prints (writeNumber 1 0 4) "refused 4 at record 0\n" 0
+    ∷ prints (writeNumber 1 4 0) "refused 6 at record 0\n" 0
+    -- "12, a reference store or read on data, or a number on an ordinary object, placed after 7"
+    ∷ prints (allocateData 1 0 ++ writeNumber 1 4 0) "refused 7 at record 1\n" 1
+    ∷ prints (allocate 1 0 ++ writeNumber 1 4 0) "refused 7 at record 1\n" 1
+    ∷ prints (allocate 1 0 ++ writeNumber 1 0 0) "refused 12 at record 1\n" 1
+    ∷ prints (allocateData 1 0 ++ write 1 4 0) "refused 7 at record 1\n" 1
+    ∷ prints (allocateData 1 0 ++ write 1 0 0) "refused 12 at record 1\n" 1
+    ∷ prints (allocateData 1 0 ++ read 4 0 1) "refused 7 at record 1\n" 1
+    ∷ prints (allocateData 1 0 ++ read 0 0 1) "refused 12 at record 1\n" 1
+    -- its D bit is "cleared when it is freed": the object made there next is an ordinary one
+    ∷ prints (allocateData 1 0 ++ clear 0 ++ allocate 1 0 ++ writeNumber 1 0 0) "refused 12 at record 3\n" 1
+    -- the fields that 7 and 8 don't name are 0: s and c; s
+    ∷ prints (eight 7 4 1 0 1) "refused 9 at record 0\n" 0
+    ∷ prints (eight 7 4 0 1 1) "refused 9 at record 0\n" 0
+    ∷ prints (eight 8 4 1 0 0) "refused 9 at record 0\n" 0
     -- "the refused operation changes nothing, and what earlier records did remains"; later ones do nothing
     ∷ prints (allocate 1 0 ++ allocate 0 1 ++ allocate 2 1) "refused 3 at record 1\n" 1
     -- "10 for a file ending inside a record .. met after the whole records": 10, and not 9 for what may be an unknown operation; 9 for one
@@ -110,7 +154,7 @@ cases =
 -- what the rules give for a case
 unfoldable pub given : Case → List ℕ × ℕ
 given c =
-    let x = ran 8 2 (c .bytes) (formatted 8 2 4) (run 0 (c .records) noFigures) in
+    let x = ran 8 (c .width) (c .bytes) (formatted 8 (c .width) 4) (run 0 (c .records) noFigures) in
     (line (x .run), getD (x .memory .a) 0 0)
 
 -- the bytes of a text of ASCII characters

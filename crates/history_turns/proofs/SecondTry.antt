@@ -7,7 +7,7 @@ use native.Mathlib.Decide.{ℕ-discrete}
 use native.Mathlib.Omega.{arith}
 use borrow.Author.Tests.{eq-eqb, ne-eqb}
 use Rattle.rules.specs.Heap.{Memory}
-use Rattle.rules.specs.Calls.{collect, allocate, answer}
+use Rattle.rules.specs.Calls.{Call, collect, answer}
 use Rattle.types.specs.declared.Outcome.{Outcome}
 use Rattle.theory.specs.Usable.{Usable, Worked}
 use Rattle.theory.proofs.Usable.UsableHeap.{usable-healthy}
@@ -21,31 +21,31 @@ use Rattle.history_turns.specs.Steps.{Acted}
 use Rattle.history_turns.proofs.Figures.{with-allocated}
 use Rattle.history_turns.proofs.Turns.{acted-as}
 use Rattle.history_turns.proofs.Collections.{collect-noted, collect-balance}
-use Rattle.history_turns.proofs.FirstTry.{reply-number, refused-noted, refused-balance, size-fits, accepted-noted, accepted-balance, acted-again}
+use Rattle.history_turns.proofs.FirstTry.{Allocation, reply-number, refused-noted, refused-balance, size-fits, accepted-noted, accepted-balance, acted-again}
 
-module _ {N w : ℕ} {h : Memory} (usable : Usable N w h) {n r : ℕ} {y : Outcome} {k : Memory} (forced : Worked N w collect h y k)
-    {second : Outcome} {g : Memory} (tried : Worked N w (allocate n r) k second g) where
+module _ {N w : ℕ} {h : Memory} (usable : Usable N w h) {c : Call} {n : ℕ} (new : Allocation c n) {y : Outcome} {k : Memory}
+    (forced : Worked N w collect h y k) {second : Outcome} {g : Memory} (tried : Worked N w c k second g) where
   forced-usable : Usable N w k
   forced-usable = usable-kept usable (forced .promise)
 
   abbrev again : Turn
   again =
-      turn (answer N w k (allocate n r) .0 .number) (madeOn N w h collect ∷ madeOn N w k (allocate n r) ∷ [])
-      (answer N w k (allocate n r) .1)
+      turn (answer N w k c .0 .number) (madeOn N w h collect ∷ madeOn N w k c ∷ [])
+      (answer N w k c .1)
 
-  tried-again : triedAgain N w h (allocate n r) ≡ again
+  tried-again : triedAgain N w h c ≡ again
   unfolding triedAgain
   tried-again =
       ap
       (λ (m : Memory).
-      turn (answer N w m (allocate n r) .0 .number) (madeOn N w h collect ∷ madeOn N w m (allocate n r) ∷ [])
-      (answer N w m (allocate n r) .1))
+      turn (answer N w m c .0 .number) (madeOn N w h collect ∷ madeOn N w m c ∷ [])
+      (answer N w m c .1))
       (sym (forced .promise .after-is))
 
   -- the two calls noted, one after the other
-  both-noted : (t : Tally) → notedAll (again .made) t ≡ noted (madeOn N w k (allocate n r)) (collected t)
+  both-noted : (t : Tally) → notedAll (again .made) t ≡ noted (madeOn N w k c) (collected t)
   unfolding notedAll
-  both-noted t = ap (noted (madeOn N w k (allocate n r))) (collect-noted usable t)
+  both-noted t = ap (noted (madeOn N w k c)) (collect-noted usable t)
 
   -- together they free no more blocks than two heaps have
   freed-few : y .freed + second .freed ≤ N + N
@@ -54,48 +54,48 @@ module _ {N w : ℕ} {h : Memory} (usable : Usable N w h) {n r : ℕ} {y : Outco
         omega (
           arith,
           collect-balance usable forced,
-          accepted-balance forced-usable tried e,
-          size-fits forced-usable tried e .1,
+          accepted-balance forced-usable new tried e,
+          size-fits forced-usable new tried e .1,
         )
-    | no e ↦ omega (arith, collect-balance usable forced, refused-balance forced-usable tried e)
+    | no e ↦ omega (arith, collect-balance usable forced, refused-balance forced-usable new tried e)
   ]
 
   again-refused :
       (second .number ≡ 0 → ⊥)
-      → Acted N h (triedAgain N w h (allocate n r)) (done (second .number) 0 true (y .freed + second .freed) false) g
+      → Acted N h (triedAgain N w h c) (done (second .number) 0 true (y .freed + second .freed) false) g
   unfolding withCollection withAllocation momentIn
   again-refused refused =
       acted-as tried-again
       record {
-        number-is = sym (reply-number forced-usable tried);
+        number-is = sym (reply-number forced-usable new tried);
         after-is = tried .promise .after-is;
-        figures-are = λ t. sym (both-noted t ∙ refused-noted forced-usable tried refused (collected t));
+        figures-are = λ t. sym (both-noted t ∙ refused-noted forced-usable new tried refused (collected t));
         balance =
-            omega (arith, collect-balance usable forced, refused-balance forced-usable tried refused);
+            omega (arith, collect-balance usable forced, refused-balance forced-usable new tried refused);
         allocated-few = omega arith;
         refused-none = λ _. (refl, refl);
       }
 
   again-allocated :
-      second .number ≡ 0 → Acted N h (triedAgain N w h (allocate n r)) (done 0 n true (y .freed + second .freed) (second .stuck)) g
+      second .number ≡ 0 → Acted N h (triedAgain N w h c) (done 0 n true (y .freed + second .freed) (second .stuck)) g
   unfolding withCollection
   again-allocated accepted =
-      let size = size-fits forced-usable tried accepted in
+      let size = size-fits forced-usable new tried accepted in
       acted-as tried-again
       record {
-        number-is = sym (reply-number forced-usable tried ∙ accepted);
+        number-is = sym (reply-number forced-usable new tried ∙ accepted);
         after-is = tried .promise .after-is;
         figures-are = λ t.
             ap (momentIn (second .stuck))
             (with-allocated n true 0 (y .freed + second .freed) (second .stuck) (collected t) (size .0))
-            ∙ sym (both-noted t ∙ accepted-noted forced-usable tried accepted (collected t));
+            ∙ sym (both-noted t ∙ accepted-noted forced-usable new tried accepted (collected t));
         balance =
-            omega (arith, collect-balance usable forced, accepted-balance forced-usable tried accepted);
+            omega (arith, collect-balance usable forced, accepted-balance forced-usable new tried accepted);
         allocated-few = size .1;
         refused-none = λ some. absurd (some refl);
       }
 
-  again-acted : Acted N h (triedAgain N w h (allocate n r)) (doneAfter second n true (y .freed)) g
+  again-acted : Acted N h (triedAgain N w h c) (doneAfter second n true (y .freed)) g
   unfolding doneAfter
   again-acted = elim (ℕ-discrete (second .number) 0) [
     | yes accepted ↦ rw (eq-eqb (second .number) 0 accepted, doneAfter) (again-allocated accepted)
@@ -104,16 +104,16 @@ module _ {N w : ℕ} {h : Memory} (usable : Usable N w h) {n r : ℕ} {y : Outco
 
 -- ---- an allocation that was tried twice: the first try left k, the collection l
 
-module _ {N w : ℕ} {h : Memory} (usable : Usable N w h) {n r : ℕ} {first : Outcome} {k : Memory}
-    (tried : Worked N w (allocate n r) h first k) {y : Outcome} {l : Memory} (forced : Worked N w collect k y l) {second : Outcome} {g : Memory}
-    (retried : Worked N w (allocate n r) l second g) where
+module _ {N w : ℕ} {h : Memory} (usable : Usable N w h) {c : Call} {n : ℕ} (new : Allocation c n) {first : Outcome} {k : Memory}
+    (tried : Worked N w c h first k) {y : Outcome} {l : Memory} (forced : Worked N w collect k y l) {second : Outcome} {g : Memory}
+    (retried : Worked N w c l second g) where
   tried-usable : Usable N w k
   tried-usable = usable-kept usable (tried .promise)
 
   pub freed-fits : y .freed + second .freed < 2 ^ 64
   freed-fits =
-      omega (arith, freed-few tried-usable forced retried, usable-healthy usable .shape .blocks-max)
+      omega (arith, freed-few tried-usable new forced retried, usable-healthy usable .shape .blocks-max)
 
-  pub acted-twice : first .number ≡ 5 → Acted N h (turnOf N w h (makes (allocate n r))) (doneAfter second n true (y .freed)) g
+  pub acted-twice : first .number ≡ 5 → Acted N h (turnOf N w h (makes c)) (doneAfter second n true (y .freed)) g
   acted-twice none-free =
-      acted-again usable tried none-free (again-acted tried-usable forced retried)
+      acted-again usable new tried none-free (again-acted tried-usable new forced retried)

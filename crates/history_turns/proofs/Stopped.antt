@@ -1,12 +1,12 @@
 -- A record that stops the run leaves the memory as it was, or as the collection that it forced left it.
 use mathlib.Core.Path.{_≡_, refl, sym, ap, _∙_, subst}
 use mathlib.Core.Logic.{_⊎_, inl, inr}
-use mathlib.Core.Bool.{true}
+use mathlib.Core.Bool.{Bool, true, false}
 use Prim.Native.Nat.{ℕ}
 use native.Mathlib.Decide.{ℕ-discrete}
 use native.Mathlib.Omega.{arith}
 use Rattle.rules.specs.Heap.{Memory}
-use Rattle.rules.specs.Calls.{Call, check, collect, Answer, testsHeap, ownRefusals, freeing, answer}
+use Rattle.rules.specs.Calls.{Call, check, collect, allocateAs, Answer, testsHeap, ownRefusals, freeing, answer}
 use Rattle.rules.proofs.Tests.{done}
 use Rattle.rules.proofs.Replies.{answer-either, outcome-accepts}
 use Rattle.theory.proofs.EachCall.Accepted.{accepted-fit}
@@ -25,13 +25,20 @@ unchanged N w h c =
     answer-either N w h c (λ x. (x .0 .number ≡ 0 → ⊥) → x .1 ≡ h) (λ number nonzero _. refl)
     (λ _ refused. absurd (refused (outcome-accepts N w h c)))
 
+-- an allocation tests the heap
+allocation-tests : (asData : Bool) (n r : ℕ) → testsHeap (allocateAs asData n r) ≡ true
+allocation-tests true n r = refl
+allocation-tests false n r = refl
+
 -- a heap that gives 5 has passed the check, which gives 5 itself to none
 five-fit : (N w : ℕ) (h : Memory) (c : Call) → answer N w h c .0 .number ≡ 5 → Fit N w h
 unfolding ownRefusals
 five-fit N w h c e = accepted-fit N w h check refl checked
   where
     tests : testsHeap c ≡ true
-    tests = let named = theory .five-to-allocations N w h c e in ap testsHeap (named .2)
+    tests =
+        let named = theory .five-to-allocations N w h c e in
+        ap testsHeap (named .3) ∙ allocation-tests (named .0) (named .1) (named .2)
 
     checked : answer N w h check .0 .number ≡ 0
     checked = elim (ℕ-discrete (answer N w h check .0 .number) 0) [

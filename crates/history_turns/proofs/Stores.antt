@@ -1,4 +1,4 @@
--- What came of a record that stops the run, and of one whose call is a store.
+-- What came of a record that stops the run, and of one whose call is a store or a number write.
 use mathlib.Core.Path.{_≡_, refl, sym, ap, ap₂, _∙_}
 use mathlib.Core.Bool.{Bool, false}
 use Prim.Native.Nat.{ℕ}
@@ -8,11 +8,13 @@ use lib.Dec.{eqb}
 use borrow.Author.Tests.{ne-eqb}
 use Rattle.bitmap.specs.Bit.{one}
 use Rattle.rules.specs.Heap.{Memory}
-use Rattle.rules.specs.Calls.{Call, storeRoot, storeCell, answer}
+use Rattle.rules.specs.Calls.{Call, storeRoot, storeCell, writeNumber, ownRefusals, outcome, answer}
+use Rattle.rules.proofs.Tests.{also, done as no-more}
+use Rattle.rules.proofs.Replies.{answer-either}
 use Rattle.types.specs.declared.Reply.{Reply}
 use Rattle.types.specs.declared.Outcome.{Outcome}
 use Rattle.theory.specs.Balance.{allocates, allocatedBy}
-use Rattle.theory.proofs.EachCall.Five.{store-root-not-five, store-cell-not-five}
+use Rattle.theory.proofs.EachCall.Five.{not-five, store-root-not-five, store-cell-not-five}
 use Rattle.theory.specs.Usable.{Usable, replyOf, Worked}
 use Rattle.theory.proofs.Usable.WorkDone.{accepted-allocates, refused-allocates, call-balance, refused-keeps}
 use Rattle.history_plans.specs.Asked.{makes, stops}
@@ -39,19 +41,33 @@ acted-stop w =
 -- a call that allocates nothing and is counted in no figure but the last
 record Plain (c : Call) : Type 0 where
   uncounted : (t : Tally) → countedIn c t ≡ t
-  told : (x : Reply) → toldStuck c x ≡ eqb (x .second) 1
+  told : (N w : ℕ) (h : Memory) → toldStuck c (answer N w h c .0) ≡ eqb (answer N w h c .0 .second) 1
   none-new : allocates c ≡ 0
   not-five : (N w : ℕ) (h : Memory) → answer N w h c .0 .number ≡ 5 → ⊥
 
 store-root-plain : (r v : ℕ) → Plain (storeRoot r v)
 unfolding countedIn toldStuck allocates
 store-root-plain r v =
-    record { uncounted = λ t. refl; told = λ x. refl; none-new = refl; not-five = λ N w h. store-root-not-five N w h r v }
+    record { uncounted = λ t. refl; told = λ N w h. refl; none-new = refl; not-five = λ N w h. store-root-not-five N w h r v }
 
 store-cell-plain : (a j v : ℕ) → Plain (storeCell a j v)
 unfolding countedIn toldStuck allocates
 store-cell-plain a j v =
-    record { uncounted = λ t. refl; told = λ x. refl; none-new = refl; not-five = λ N w h. store-cell-not-five N w h a j v }
+    record { uncounted = λ t. refl; told = λ N w h. refl; none-new = refl; not-five = λ N w h. store-cell-not-five N w h a j v }
+
+-- the second value of a number write is 0
+number-plain : (a j v : ℕ) → Plain (writeNumber a j v)
+unfolding countedIn toldStuck allocates ownRefusals outcome
+number-plain a j v =
+    record {
+      uncounted = λ t. refl;
+      told = λ N w h.
+          sym
+          (answer-either N w h (writeNumber a j v) (λ x. eqb (x .0 .second) 1 ≡ false) (λ number nonzero. refl) (λ _. refl));
+      none-new = refl;
+      not-five = λ N w h.
+          not-five N w h (writeNumber a j v) (also (omega arith) (also (omega arith) (also (omega arith) no-more)));
+    }
 
 module _ {N w : ℕ} {h : Memory} (usable : Usable N w h) where
   acted-plain :
@@ -86,7 +102,7 @@ module _ {N w : ℕ} {h : Memory} (usable : Usable N w h) where
 
       told : toldStuck c (answer N w h c .0) ≡ x .stuck
       told =
-          plain .told (answer N w h c .0)
+          plain .told N w h
           ∙ ap (λ (y : Reply). eqb (y .second) 1) (sym (worked .promise .reply-is))
           ∙ told-stuck (x .stuck)
 
@@ -106,3 +122,8 @@ module _ {N w : ℕ} {h : Memory} (usable : Usable N w h) where
       {a j v : ℕ} {x : Outcome} {g : Memory} → Worked N w (storeCell a j v) h x g
       → Acted N h (turnOf N w h (makes (storeCell a j v))) (done (x .number) 0 false (x .freed) (x .stuck)) g
   acted-cell {a} {j} {v} = acted-plain (storeCell a j v) (store-cell-plain a j v)
+
+  pub acted-number :
+      {a j v : ℕ} {x : Outcome} {g : Memory} → Worked N w (writeNumber a j v) h x g
+      → Acted N h (turnOf N w h (makes (writeNumber a j v))) (done (x .number) 0 false (x .freed) (x .stuck)) g
+  acted-number {a} {j} {v} = acted-plain (writeNumber a j v) (number-plain a j v)

@@ -31,8 +31,8 @@ triedAgain N w h c =
     let second = madeOn N w (forced .after) c in
     turn (second .reply .number) (forced ∷ second ∷ []) (second .after)
 
--- "When allocation gives 5 the run collects and tries once more." 5 is given to allocations alone (proved as `FiveToAllocations`,
--- theory/specs/Statements.antt).
+-- "When allocation gives 5 the run collects and tries once more." 5 is given to allocations alone, those of data
+-- among them (proved as `FiveToAllocations`, theory/specs/Statements.antt).
 unfoldable pub turnOf : ℕ → ℕ → Memory → Asked → Turn
 turnOf N w h (stops number) = turn number [] h
 turnOf N w h (makes c) =

@@ -17,11 +17,11 @@ use Rattle.theory.proofs.Theorems.{format-makes-undamaged}
 
 -- buffers of these lengths have the shape of the heap
 right-shape :
-    (a b counts cells roots waiting sections : List ℕ) → length a ≡ 1024 → length b ≡ 1024 → length counts ≡ 3072 → length cells ≡ 32768
-    → length roots ≡ 64 → length waiting ≡ 8192 → length sections ≡ 32
-    → shaped 8192 3 (lentMemory a b counts cells roots waiting sections) ≡ true
-right-shape a b counts cells roots waiting sections a-is b-is counts-are cells-are roots-are waiting-is sections-are =
-    shape-test 8192 3 (lentMemory a b counts cells roots waiting sections)
+    (a b counts cells roots waiting sections d : List ℕ) → length a ≡ 1024 → length b ≡ 1024 → length counts ≡ 3072 → length cells ≡ 32768
+    → length roots ≡ 64 → length waiting ≡ 8192 → length sections ≡ 32 → length d ≡ 1024
+    → shaped 8192 3 (lentMemory a b counts cells roots waiting sections d) ≡ true
+right-shape a b counts cells roots waiting sections d a-is b-is counts-are cells-are roots-are waiting-is sections-are d-is =
+    shape-test 8192 3 (lentMemory a b counts cells roots waiting sections d)
     record {
       power = (13, refl);
       blocks-min = omega arith;
@@ -37,27 +37,30 @@ right-shape a b counts cells roots waiting sections a-is b-is counts-are cells-a
       length-cells = cells-are;
       length-waiting = waiting-is;
       length-sections = sections-are;
+      length-d = d-is;
     }
 
 -- so their format is accepted
 pub new-heap :
-    {a b counts cells roots waiting sections : List ℕ} {x : Reply} {g : Memory}
-    → Promise 8192 3 format (lentMemory a b counts cells roots waiting sections) x g
+    {a b counts cells roots waiting sections d : List ℕ} {x : Reply} {g : Memory}
+    → Promise 8192 3 format (lentMemory a b counts cells roots waiting sections d) x g
     → length a ≡ 1024 → length b ≡ 1024 → length counts ≡ 3072 → length cells ≡ 32768 → length roots ≡ 64 → length waiting ≡ 8192
-    → length sections ≡ 32 → g ≡ formatted 8192 3 64
+    → length sections ≡ 32 → length d ≡ 1024 → g ≡ formatted 8192 3 64
 unfolding outcome
-new-heap {a} {b} {counts} {cells} {roots} {waiting} {sections} promise a-is b-is counts-are cells-are roots-are waiting-is sections-are =
-    let shape = right-shape a b counts cells roots waiting sections a-is b-is counts-are cells-are roots-are waiting-is sections-are in
+new-heap
+    {a} {b} {counts} {cells} {roots} {waiting} {sections} {d} promise a-is b-is counts-are cells-are roots-are waiting-is
+    sections-are d-is =
+    let shape = right-shape a b counts cells roots waiting sections d a-is b-is counts-are cells-are roots-are waiting-is sections-are d-is in
     promise .after-is
-    ∙ ap (λ (y : Answer). y .1) (format-accepted 8192 3 (lentMemory a b counts cells roots waiting sections) shape)
+    ∙ ap (λ (y : Answer). y .1) (format-accepted 8192 3 (lentMemory a b counts cells roots waiting sections d) shape)
     ∙ ap (formatted 8192 3) roots-are
 
 pub new-undamaged : Undamaged 8192 3 (formatted 8192 3 64)
 new-undamaged =
     let zeros : ℕ → List ℕ = λ n. replicate n 0 in
     let long : (n : ℕ) → length (zeros n) ≡ n = λ n. length-replicate {A = ℕ} n 0 in
-    let h : Memory = lentMemory (zeros 1024) (zeros 1024) (zeros 3072) (zeros 32768) (zeros 64) (zeros 8192) (zeros 32) in
+    let h : Memory = lentMemory (zeros 1024) (zeros 1024) (zeros 3072) (zeros 32768) (zeros 64) (zeros 8192) (zeros 32) (zeros 1024) in
     subst (λ (n : ℕ). Undamaged 8192 3 (formatted 8192 3 n)) (long 64)
     (format-makes-undamaged 8192 3 h
-    (right-shape (zeros 1024) (zeros 1024) (zeros 3072) (zeros 32768) (zeros 64) (zeros 8192) (zeros 32) (long 1024) (long 1024)
-    (long 3072) (long 32768) (long 64) (long 8192) (long 32)))
+    (right-shape (zeros 1024) (zeros 1024) (zeros 3072) (zeros 32768) (zeros 64) (zeros 8192) (zeros 32) (zeros 1024) (long 1024)
+    (long 1024) (long 3072) (long 32768) (long 64) (long 8192) (long 32) (long 1024)))

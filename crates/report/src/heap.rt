@@ -28,8 +28,20 @@ pub fn format(
     roots: &mut [Ref; ROOTS],
     waiting: &mut [Ref; BLOCKS],
     sections: &mut [Ref; SECTIONS],
+    d: &mut [u8; MAP_BYTES],
 )
-    ensures { λ _. ⌜ after a b counts cells roots waiting sections ≡ formatted 8192 3 64 ⌝ }
+    ensures { λ _. ⌜ after a b counts cells roots waiting sections d ≡ formatted 8192 3 64 ⌝ }
 {
-    public_heap::format(BLOCKS, WIDTH, a, b, counts, cells, roots, waiting, sections);
+    public_heap::format(
+        BLOCKS,
+        WIDTH,
+        a,
+        b,
+        counts,
+        cells,
+        roots,
+        waiting,
+        sections,
+        d,
+    );
 }

@@ -39,11 +39,12 @@ pub fn run_piece(
     roots: &mut [Ref; ROOTS],
     waiting: &mut [Ref; BLOCKS],
     sections: &mut [Ref; SECTIONS],
+    d: &mut [u8; MAP_BYTES],
     bytes: &[u8],
 ) -> PieceOutcome
     ensures { λ came.
-        ⌜ pieceMeaning (now (bytes .entry)) (before a b counts cells roots waiting sections) run came
-        (after a b counts cells roots waiting sections)
+        ⌜ pieceMeaning (now (bytes .entry)) (before a b counts cells roots waiting sections d) run came
+        (after a b counts cells roots waiting sections d)
         × Bytes (now (bytes .entry)) ⌝ }
 {
     let ran = history::run_records(
@@ -56,6 +57,7 @@ pub fn run_piece(
         roots,
         waiting,
         sections,
+        d,
         run,
         bytes,
     );
@@ -83,6 +85,7 @@ pub fn run_input() -> Outcome
     let mut roots = [0 as Ref; ROOTS];
     let mut waiting = [0 as Ref; BLOCKS];
     let mut sections = [0 as Ref; SECTIONS];
+    let mut d = [0u8; MAP_BYTES];
     heap::format(
         &mut a,
         &mut b,
@@ -91,6 +94,7 @@ pub fn run_input() -> Outcome
         &mut roots,
         &mut waiting,
         &mut sections,
+        &mut d,
     );
     let mut run = tally::new_run();
     let mut buffer = [0u8; PIECE];
@@ -109,6 +113,7 @@ pub fn run_input() -> Outcome
             &mut roots,
             &mut waiting,
             &mut sections,
+            &mut d,
             &buffer[..n],
         );
         match came {

@@ -6,14 +6,14 @@ use Rattle.history.proofs.run_records.Statement.{statement}
 use Rattle.history.proofs.run_records.Tie as tie
 
 -- the places, from the last back: the records run, the waiting list cleared, all tests passed
-abbrev ran : tie.After-slice-known15 → tie.After-run-piece
+abbrev ran : tie.After-slice-known17 → tie.After-run-piece
 ran c = search
 
-abbrev cleared : tie.After-run-piece-arg7 → tie.After-clear-all
+abbrev cleared : tie.After-run-piece-arg8 → tie.After-clear-all
 cleared c = search
 
 abbrev passed : tie.After-clear-all → tie.Else1
-passed c = c .before .before
+passed c = search
 
 run-reply-requires : tie.Need-run-reply-requires
 run-reply-requires c κs = search needs
@@ -53,6 +53,7 @@ run-records-spec =
     (λ _. refl)
     (λ _. refl)
     (λ _. refl)
+    (λ _. refl)
     returns
     clear-all-requires
     run-piece-requires
@@ -63,4 +64,5 @@ run-records-spec =
     (λ c. ran c .run-piece .kept .1 .1 .1 .1 .1 .1 .0)
     (λ c. ran c .run-piece .kept .1 .1 .1 .1 .1 .1 .1 .0 ∙ cleared (ran c .before) .clear-all .kept .0)
     (λ c. ran c .run-piece .kept .1 .1 .1 .1 .1 .1 .1 .1 .0)
+    (λ c. ran c .run-piece .kept .1 .1 .1 .1 .1 .1 .1 .1 .1 .0)
     returns-2)

@@ -6,17 +6,17 @@ use Rattle.history_execution.proofs.step.Statement.{statement}
 use Rattle.history_execution.proofs.step.Tie as tie
 
 -- the places: the calls made, the plan known, the start
-abbrev acted : tie.After-slice-known14 → tie.After-act
+abbrev acted : tie.After-slice-known16 → tie.After-act
 acted c = search
 
-abbrev planned-at : tie.After-act-arg7 → tie.After-plan-of
+abbrev planned-at : tie.After-act-arg8 → tie.After-plan-of
 planned-at c = search
 
-abbrev start : tie.After-plan-of-arg3 → tie.Start
+abbrev start : tie.After-plan-of-arg4 → tie.Start
 start c = search
 
 plan-of-requires : tie.Need-plan-of-requires
-plan-of-requires c κs = usable-readable (start c .pre .0)
+plan-of-requires c κs = (usable-readable (start c .pre .0), start c .pre .2)
 
 act-requires : tie.Need-act-requires
 act-requires c κs = start (planned-at c .before) .pre .0
@@ -48,4 +48,5 @@ step-spec =
     (λ c. acted (c .before) .act .kept .1 .1 .1 .1 .1 .1 .0)
     (λ c. acted (c .before) .act .kept .1 .1 .1 .1 .1 .1 .1 .0)
     (λ c. acted (c .before) .act .kept .1 .1 .1 .1 .1 .1 .1 .1 .0)
+    (λ c. acted (c .before) .act .kept .1 .1 .1 .1 .1 .1 .1 .1 .1 .0)
     returns)

@@ -3,7 +3,7 @@ use mathlib.Core.Path.{_≡_, sym, _∙_}
 use mathlib.Core.Bool.{true}
 use borrow.Author.Tests.{not-true, not-false}
 use Rattle.history_records.specs.Records.{unnamed, areZero}
-use Rattle.history_plans.specs.Asked.{onRoots, allocating, copying, writing, clearing}
+use Rattle.history_plans.specs.Asked.{onRoots, allocating, copying, writing, clearing, allocatingData, writingNumber}
 use Rattle.history_plans.proofs.Plans.{nonzero-asked, known-asked, unknown-asked}
 use borrow.Author.Needs.{needs}
 use Rattle.history_plans.proofs.plan_of.Statement.{statement}
@@ -11,7 +11,7 @@ use Rattle.history_plans.proofs.plan_of.Tie as tie
 
 -- where the code starts from
 abbrev start : tie.Else1 → tie.Start
-start c = c .before .before .before .before .before
+start c = c .before .before .before .before .before .before
 
 -- past the first test the unnamed fields are 0
 zero : (c : tie.Else1) → areZero (unnamed (start c .args .f)) ≡ true
@@ -34,6 +34,9 @@ plan-read-requires c κs = search needs
 
 plan-clear-requires : tie.Need-plan-clear-requires
 plan-clear-requires c κs = search needs
+
+plan-number-requires : tie.Need-plan-number-requires
+plan-number-requires c κs = search needs
 
 returns-2 : tie.Need-returns-2
 unfolding allocating
@@ -58,9 +61,20 @@ returns-7 : tie.Need-returns-7
 returns-7 c = sym (known-asked _ _ _ (zero (c .before)) 6 (c .match .keys6))
 
 returns-8 : tie.Need-returns-8
-returns-8 c =
-    let rest = c .match .rest in
-    sym (unknown-asked _ (rest .0 .0 .0 .0 .0 .1) (rest .0 .0 .0 .0 .1) (rest .0 .0 .0 .1) (rest .0 .0 .1) (rest .0 .1) (rest .1) _ _ (zero (c .before)))
+unfolding allocatingData
+returns-8 c = sym (known-asked _ _ _ (zero (c .before)) 7 (c .match .keys7))
+
+returns-9 : tie.Need-returns-9
+unfolding writingNumber
+returns-9 c = c .plan-number .ensures ∙ sym (known-asked _ _ _ (zero (c .before .before)) 8 (c .before .match .keys8))
+
+returns-10 : tie.Need-returns-10
+returns-10 c =
+    let known = c .match .rest in
+    let rest = known .0 .0 in
+    sym
+    (unknown-asked _ (rest .0 .0 .0 .0 .0 .1) (rest .0 .0 .0 .0 .1) (rest .0 .0 .0 .1) (rest .0 .0 .1) (rest .0 .1) (rest .1)
+    (known .0 .1) (known .1) _ _ (zero (c .before)))
 
 pub plan-of-spec : {M : Type 1} → statement M
 plan-of-spec =
@@ -72,10 +86,13 @@ plan-of-spec =
     plan-write-requires
     plan-read-requires
     plan-clear-requires
+    plan-number-requires
     returns-2
     returns-3
     returns-4
     returns-5
     returns-6
     returns-7
-    returns-8)
+    returns-8
+    returns-9
+    returns-10)

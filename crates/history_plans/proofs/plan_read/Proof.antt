@@ -7,7 +7,7 @@ use lib.ListN.{length}
 use borrow.Author.Needs.{needs}
 use borrow.Author.Tests.{not-true, not-false}
 use Rattle.history_plans.specs.Readable.{areRoots}
-use Rattle.history_plans.proofs.Plans.{roots-in, read-out, read-empty, read-past, read-asked}
+use Rattle.history_plans.proofs.Plans.{roots-in, read-out, read-empty, read-past, read-number, read-asked}
 use Rattle.history_plans.proofs.plan_read.Statement.{statement}
 use Rattle.history_plans.proofs.plan_read.Tie as tie
 
@@ -61,6 +61,25 @@ returns-3 c =
     sym
     (read-past _ _ (inside (past owner)) _ (λ z. some .if2 .left (owner .word .ensures ∙ z)) (omega (arith, size, c .if3 .taken)))
 
+get-bit-requires : tie.Need-get-bit-requires
+get-bit-requires c κs =
+    let owner : tie.After-word = search in
+    let s = start (past owner .before) in
+    omega (arith, s .pre .d-length, s .pre .named (s .args .f .s), owner .word .ensures)
+
+returns-4 : tie.Need-returns-4
+returns-4 c =
+    let owner : tie.After-word = search in
+    let some : tie.Else2 = search in
+    let sized : tie.After-object-size = search in
+    let within : tie.Else3 = search in
+    let read : tie.After-get-bit = search in
+    let size = rw (owner .word .ensures) at (sized .object-size .ensures .0) in
+    let bit = rw (owner .word .ensures) at (read .get-bit .ensures .0) in
+    sym
+    (read-number _ _ (inside (past owner)) _ (λ z. some .if2 .left (owner .word .ensures ∙ z))
+    (omega (arith, size, within .if3 .left)) (sym bit ∙ c .if4 .taken))
+
 mul-word-2 : tie.Need-mul-word-2
 mul-word-2 c = search needs
 
@@ -76,16 +95,20 @@ shared-slice-read-word-2 c = search needs
 word-requires-2 : tie.Need-word-requires-2
 word-requires-2 c κs = search needs
 
-returns-4 : tie.Need-returns-4
-returns-4 c =
-    let sized = c .before .before .before in
-    let some = sized .before in
-    let owner = some .before in
+returns-5 : tie.Need-returns-5
+returns-5 c =
+    let owner : tie.After-word = search in
+    let some : tie.Else2 = search in
+    let sized : tie.After-object-size = search in
+    let within : tie.Else3 = search in
+    let read : tie.After-get-bit = search in
+    let ordinary : tie.Else4 = search in
     let size = rw (owner .word .ensures) at (sized .object-size .ensures .0) in
+    let bit = rw (owner .word .ensures) at (read .get-bit .ensures .0) in
     rw (c .word2 .ensures, owner .word .ensures)
     (sym
     (read-asked _ _ (inside (past owner)) _ (λ z. some .if2 .left (owner .word .ensures ∙ z))
-    (omega (arith, size, c .before .before .if3 .left))))
+    (omega (arith, size, within .if3 .left)) (λ e. ordinary .if4 .left (bit ∙ e))))
 
 pub plan-read-spec : {M : Type 1} → statement M
 plan-read-spec =
@@ -101,9 +124,11 @@ plan-read-spec =
     object-size-requires
     mul-if3
     returns-3
+    get-bit-requires
+    returns-4
     mul-word-2
     add-word
     mul-word-3
     shared-slice-read-word-2
     word-requires-2
-    returns-4)
+    returns-5)

@@ -57,18 +57,21 @@ pair-at-requires-2 c κs = search needs
 
 returns : tie.Need-returns
 unfolding fieldsAt
-returns c = λ i.
+returns c =
     let fourth = c .before .before in
     let third = fourth .before .before in
-    let second = third .before .before in
-    record {
-      operation = second .before .before .wide .ensures .0 i;
-      d = second .wide2 .ensures .0 i;
-      s = third .wide3 .ensures .0 i;
-      unused = fourth .wide4 .ensures .0 i;
-      c = c .before .pair-at .ensures i;
-      size = c .pair-at2 .ensures i;
-    }
+    let second = third .before .before in (
+      λ i.
+          record {
+            operation = second .before .before .wide .ensures .0 i;
+            d = second .wide2 .ensures .0 i;
+            s = third .wide3 .ensures .0 i;
+            unused = fourth .wide4 .ensures .0 i;
+            c = c .before .pair-at .ensures .0 i;
+            size = c .pair-at2 .ensures .0 i;
+          },
+      c .pair-at2 .ensures .1,
+    )
 
 pub fields-at-spec : {M : Type 1} → statement M
 fields-at-spec =

@@ -27,6 +27,12 @@ are-zero-requires-5 c κs = search needs
 are-zero-requires-6 : tie.Need-are-zero-requires-6
 are-zero-requires-6 c κs = search needs
 
+are-zero-requires-7 : tie.Need-are-zero-requires-7
+are-zero-requires-7 c κs = search needs
+
+are-zero-requires-8 : tie.Need-are-zero-requires-8
+are-zero-requires-8 c κs = search needs
+
 returns-2 : tie.Need-returns-2
 unfolding all
 returns-2 c = c .are-zero .ensures ∙ sym (unnamed-zero _ 1 (c .before .before .if1 .left) (c .before .match .keys1))
@@ -52,9 +58,20 @@ unfolding all
 returns-7 c = c .are-zero6 .ensures ∙ sym (unnamed-zero _ 6 (c .before .before .if1 .left) (c .before .match .keys6))
 
 returns-8 : tie.Need-returns-8
-returns-8 c =
-    let rest = c .match .rest in
-    sym (unknown-zero _ (rest .0 .0 .0 .0 .0 .1) (rest .0 .0 .0 .0 .1) (rest .0 .0 .0 .1) (rest .0 .0 .1) (rest .0 .1) (rest .1) (c .before .if1 .left))
+unfolding all
+returns-8 c = c .are-zero7 .ensures ∙ sym (unnamed-zero _ 7 (c .before .before .if1 .left) (c .before .match .keys7))
+
+returns-9 : tie.Need-returns-9
+unfolding all
+returns-9 c = c .are-zero8 .ensures ∙ sym (unnamed-zero _ 8 (c .before .before .if1 .left) (c .before .match .keys8))
+
+returns-10 : tie.Need-returns-10
+returns-10 c =
+    let known = c .match .rest in
+    let rest = known .0 .0 in
+    sym
+    (unknown-zero _ (rest .0 .0 .0 .0 .0 .1) (rest .0 .0 .0 .0 .1) (rest .0 .0 .0 .1) (rest .0 .0 .1) (rest .0 .1) (rest .1)
+    (known .0 .1) (known .1) (c .before .if1 .left))
 
 pub unnamed-are-zero-spec : {M : Type 1} → statement M
 unnamed-are-zero-spec =
@@ -67,10 +84,14 @@ unnamed-are-zero-spec =
     are-zero-requires-4
     are-zero-requires-5
     are-zero-requires-6
+    are-zero-requires-7
+    are-zero-requires-8
     returns-2
     returns-3
     returns-4
     returns-5
     returns-6
     returns-7
-    returns-8)
+    returns-8
+    returns-9
+    returns-10)

@@ -1,20 +1,21 @@
 -- `allocate` meets its contract: one try, or a collection and a second one where no chunk was free.
 use mathlib.Core.Path.{_∙_}
+use Rattle.rules.specs.Calls.{allocateAs}
 use borrow.Author.Needs.{needs}
 use Rattle.theory.proofs.Usable.UsableAfterCalls.{usable-kept}
-use Rattle.history_turns.proofs.FirstTry.{acted-once}
+use Rattle.history_turns.proofs.FirstTry.{Allocation, allocation, acted-once}
 use Rattle.history_turns.proofs.SecondTry.{freed-fits, acted-twice}
 use Rattle.history_retries.proofs.allocate.Statement.{statement}
 use Rattle.history_retries.proofs.allocate.Tie as tie
 
 -- the places, from the last back: the second try, the collection, that no chunk was free, the first try (or the only one), the start
-abbrev second : tie.After-slice-known27 → tie.After-allocate2
+abbrev second : tie.After-slice-known31 → tie.After-allocate2
 second c = search
 
-abbrev forced : tie.After-allocate-arg14 → tie.After-collect
+abbrev forced : tie.After-allocate-arg16 → tie.After-collect
 forced c = search
 
-abbrev none-free : tie.After-collect-arg7 → tie.Else1
+abbrev none-free : tie.After-collect-arg8 → tie.Else1
 none-free c = search
 
 abbrev first : tie.Else1 → tie.After-allocate
@@ -23,7 +24,7 @@ first c = search
 abbrev only : tie.Then1 → tie.After-allocate
 only c = search
 
-abbrev start : tie.After-allocate-arg7 → tie.Start
+abbrev start : tie.After-allocate-arg8 → tie.Start
 start c = search
 
 -- those of an allocation that was tried twice, from its return
@@ -36,6 +37,10 @@ collection c = forced (last-try c .before)
 abbrev first-try : tie.After-done-after2 → tie.After-allocate
 first-try c = first (none-free (collection c .before))
 
+-- what is made is an allocation, of either kind
+kind : (c : tie.Start) → Allocation (allocateAs (c .args .as-data) (c .args .n) (c .args .r)) (c .args .n)
+kind c = allocation (c .args .as-data) (c .args .n) (c .args .r)
+
 allocate-requires : tie.Need-allocate-requires
 allocate-requires c κs = start c .pre
 
@@ -45,7 +50,7 @@ done-after-requires c κs = search needs
 returns : tie.Need-returns
 returns c =
     let try = only (c .before) in
-    rw (c .done-after .ensures) (acted-once (start (try .before) .pre) (try .allocate .ensures) (c .before .if1 .taken))
+    rw (c .done-after .ensures) (acted-once (start (try .before) .pre) (kind (start (try .before))) (try .allocate .ensures) (c .before .if1 .taken))
 
 collect-requires : tie.Need-collect-requires
 collect-requires c κs =
@@ -61,12 +66,12 @@ done-after-requires-2 : tie.Need-done-after-requires-2
 done-after-requires-2 c κs =
     let again = forced (second c .before) in
     let try = first (none-free (again .before)) in
-    freed-fits (start (try .before) .pre) (try .allocate .ensures) (again .collect .ensures) (second c .allocate2 .ensures)
+    freed-fits (start (try .before) .pre) (kind (start (try .before))) (try .allocate .ensures) (again .collect .ensures) (second c .allocate2 .ensures)
 
 returns-2 : tie.Need-returns-2
 returns-2 c =
     rw (c .done-after2 .ensures)
-    (acted-twice (start (first-try c .before) .pre) (first-try c .allocate .ensures) (collection c .collect .ensures)
+    (acted-twice (start (first-try c .before) .pre) (kind (start (first-try c .before))) (first-try c .allocate .ensures) (collection c .collect .ensures)
     (last-try c .allocate2 .ensures) (none-free (collection c .before) .if1 .left))
 
 pub allocate-spec : {M : Type 1} → statement M
@@ -82,6 +87,7 @@ allocate-spec =
     (λ c. only (c .before) .allocate .kept .1 .1 .1 .1 .1 .1 .0)
     (λ c. only (c .before) .allocate .kept .1 .1 .1 .1 .1 .1 .1 .0)
     (λ c. only (c .before) .allocate .kept .1 .1 .1 .1 .1 .1 .1 .1 .0)
+    (λ c. only (c .before) .allocate .kept .1 .1 .1 .1 .1 .1 .1 .1 .1 .0)
     returns
     collect-requires
     allocate-requires-2
@@ -97,4 +103,6 @@ allocate-spec =
     ∙ first-try c .allocate .kept .1 .1 .1 .1 .1 .1 .1 .0)
     (λ c. last-try c .allocate2 .kept .1 .1 .1 .1 .1 .1 .1 .1 .0 ∙ collection c .collect .kept .1 .1 .1 .1 .1 .1 .1 .1 .0
     ∙ first-try c .allocate .kept .1 .1 .1 .1 .1 .1 .1 .1 .0)
+    (λ c. last-try c .allocate2 .kept .1 .1 .1 .1 .1 .1 .1 .1 .1 .0 ∙ collection c .collect .kept .1 .1 .1 .1 .1 .1 .1 .1 .1 .0
+    ∙ first-try c .allocate .kept .1 .1 .1 .1 .1 .1 .1 .1 .1 .0)
     returns-2)

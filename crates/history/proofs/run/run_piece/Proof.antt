@@ -10,22 +10,22 @@ use Rattle.history.proofs.run.run_piece.Statement.{statement}
 use Rattle.history.proofs.run.run_piece.Tie as tie
 
 -- the places, from the last back: the whole records run, the blocks in use counted, the number of whole records known, a run that goes on
-abbrev ran : tie.After-slice-known14 → tie.After-run-whole
+abbrev ran : tie.After-slice-known16 → tie.After-run-whole
 ran c = search
 
-abbrev counted : tie.After-run-whole-arg7 → tie.After-count-zeros
+abbrev counted : tie.After-run-whole-arg8 → tie.After-count-zeros
 counted c = search
 
 abbrev measured : tie.After-count-zeros → tie.After-whole-records
-measured c = c .before .before
+measured c = search
 
 abbrev start : tie.Else1 → tie.Start
 start c = search
 
 returns : tie.Need-returns
 returns c =
-    let pre = c .before .before .before .before .before .before .before .before .before .pre in
-    piece-stopped _ (pre .0) (pre .1) (c .if1 .taken)
+    let s : tie.Start = search in
+    piece-stopped _ (s .pre .0) (s .pre .1) (c .if1 .taken)
 
 whole-records-requires : tie.Need-whole-records-requires
 whole-records-requires c κs = in-range-within _ (start c .pre .1) .few
@@ -78,4 +78,5 @@ run-piece-spec =
     (λ c. ran (c .before) .run-whole .kept .1 .1 .1 .1 .1 .1 .0)
     (λ c. ran (c .before) .run-whole .kept .1 .1 .1 .1 .1 .1 .1 .0)
     (λ c. ran (c .before) .run-whole .kept .1 .1 .1 .1 .1 .1 .1 .1 .0)
+    (λ c. ran (c .before) .run-whole .kept .1 .1 .1 .1 .1 .1 .1 .1 .1 .0)
     returns-2)

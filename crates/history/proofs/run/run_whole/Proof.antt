@@ -10,12 +10,12 @@ use Rattle.history.proofs.run.run_whole.Statement.{statement}
 use Rattle.history.proofs.run.run_whole.Tie as tie
 
 abbrev Inv-loop : tie.InvT-loop
-Inv-loop blocks width a₀ b₀ counts₀ cells₀ roots₀ waiting₀ sections₀ bytes n state₀ i₀ a b counts cells roots waiting sections state i =
-    Progress n blocks width bytes (lentMemory a₀ b₀ counts₀ cells₀ roots₀ waiting₀ sections₀) (state₀ .run) i
-    (lentMemory a b counts cells roots waiting sections) state
+Inv-loop blocks width a₀ b₀ counts₀ cells₀ roots₀ waiting₀ sections₀ d₀ bytes n state₀ i₀ a b counts cells roots waiting sections d state i =
+    Progress n blocks width bytes (lentMemory a₀ b₀ counts₀ cells₀ roots₀ waiting₀ sections₀ d₀) (state₀ .run) i
+    (lentMemory a b counts cells roots waiting sections d) state
 
 abbrev μ-loop : tie.MeasureT-loop
-μ-loop blocks width a₀ b₀ counts₀ cells₀ roots₀ waiting₀ sections₀ bytes n state₀ i₀ a b counts cells roots waiting sections state i =
+μ-loop blocks width a₀ b₀ counts₀ cells₀ roots₀ waiting₀ sections₀ d₀ bytes n state₀ i₀ a b counts cells roots waiting sections d state i =
     n - i
 
 -- the places, from the last back: the record run (it stopped the run, or the loop goes on), the record read, the loop's test, the start
@@ -25,7 +25,7 @@ stopped c = search
 abbrev went-on : tie.Else1 Inv-loop μ-loop → tie.After-step Inv-loop μ-loop
 went-on c = search
 
-abbrev record-read : tie.After-step-arg7 Inv-loop μ-loop → tie.After-fields-at Inv-loop μ-loop
+abbrev record-read : tie.After-step-arg8 Inv-loop μ-loop → tie.After-fields-at Inv-loop μ-loop
 record-read c = search
 
 abbrev start : tie.At-loop Inv-loop μ-loop → tie.Start Inv-loop μ-loop
@@ -36,7 +36,7 @@ shaped-at : (c : tie.At-loop Inv-loop μ-loop) →
     let args = start c .args in
     Shaped (args .blocks) (args .width)
     (lentMemory (args .a .now) (args .b .now) (args .counts .now) (args .cells .now) (args .roots .now) (args .waiting .now)
-    (args .sections .now))
+    (args .sections .now) (args .d .now))
 shaped-at c = usable-healthy (start c .pre .0) .shape
 
 shaped-stop : (c : tie.After-step Inv-loop μ-loop) →
@@ -44,24 +44,25 @@ shaped-stop : (c : tie.After-step Inv-loop μ-loop) →
     let left = c .step .last in
     Shaped (args .blocks) (args .width)
     (lentMemory (left .1 .1 .0) (left .1 .1 .1 .0) (left .1 .1 .1 .1 .0) (left .1 .1 .1 .1 .1 .0)
-    (left .1 .1 .1 .1 .1 .1 .0) (left .1 .1 .1 .1 .1 .1 .1 .0) (left .1 .1 .1 .1 .1 .1 .1 .1 .0))
+    (left .1 .1 .1 .1 .1 .1 .0) (left .1 .1 .1 .1 .1 .1 .1 .0) (left .1 .1 .1 .1 .1 .1 .1 .1 .0)
+    (left .1 .1 .1 .1 .1 .1 .1 .1 .1 .0))
 shaped-stop c =
     let read = record-read (c .before) in
     let test = read .before in
     usable-healthy
-    (next-usable (test .loop-test .taken) (test .before .loop .inv) (read .fields-at .ensures) (c .step .ensures))
+    (next-usable (test .loop-test .taken) (test .before .loop .inv) (read .fields-at .ensures .0) (c .step .ensures))
     .shape
 
 shaped-done : (c : tie.At-loop Inv-loop μ-loop) →
     let args = start c .args in
     let l = c .loop in
-    Shaped (args .blocks) (args .width) (lentMemory (l .a) (l .b) (l .counts) (l .cells) (l .roots) (l .waiting) (l .sections))
+    Shaped (args .blocks) (args .width) (lentMemory (l .a) (l .b) (l .counts) (l .cells) (l .roots) (l .waiting) (l .sections) (l .d))
 shaped-done c = usable-healthy (c .loop .inv .usable) .shape
 
 loop-holds : tie.Need-loop-holds Inv-loop μ-loop
 loop-holds c =
-    let pre = c .before .before .before .before .before .before .before .before .pre in
-    progress-start refl (pre .0) (pre .1)
+    let s : tie.Start Inv-loop μ-loop = search in
+    progress-start refl (s .pre .0) (s .pre .1)
 
 mul-fields-at : tie.Need-mul-fields-at Inv-loop μ-loop
 mul-fields-at c = omega (arith, start (c .before) .pre .2)
@@ -71,15 +72,16 @@ fields-at-requires c κs = omega (arith, start (c .before) .pre .2)
 
 step-requires : tie.Need-step-requires Inv-loop μ-loop
 step-requires c κs =
-    let inv = record-read c .before .before .loop .inv in
-    (inv .usable, step-going (omega arith) inv)
+    let read = record-read c in
+    let inv = read .before .before .loop .inv in
+    (inv .usable, step-going (omega arith) inv, read .fields-at .ensures .1)
 
 returns : tie.Need-returns Inv-loop μ-loop
 returns c =
     let step = stopped c in
     let read = record-read (step .before) in
     let test = read .before in
-    progress-stop (test .loop-test .taken) (test .before .loop .inv) (read .fields-at .ensures)
+    progress-stop (test .loop-test .taken) (test .before .loop .inv) (read .fields-at .ensures .0)
     (step .step .ensures) (c .before .if1 .taken)
 
 add-i : tie.Need-add-i Inv-loop μ-loop
@@ -95,7 +97,7 @@ loop-again c =
     let step = went-on c in
     let read = record-read (step .before) in
     let test = read .before in
-    progress-next (test .loop-test .taken) (test .before .loop .inv) (read .fields-at .ensures)
+    progress-next (test .loop-test .taken) (test .before .loop .inv) (read .fields-at .ensures .0)
     (step .step .ensures) (step .step .kept .1 .1 .1 .1 .1 .1 .0) (c .if1 .left)
 
 returns-2 : tie.Need-returns-2 Inv-loop μ-loop
@@ -118,6 +120,7 @@ run-whole-spec =
     (λ c. stopped c .step .kept .1 .1 .1 .1 .1 .1 .0 ∙ record-read (stopped c .before) .before .before .loop .inv .roots-length)
     (λ c. shaped-stop (stopped c) .length-waiting ∙ sym (shaped-at (record-read (stopped c .before) .before .before) .length-waiting))
     (λ c. shaped-stop (stopped c) .length-sections ∙ sym (shaped-at (record-read (stopped c .before) .before .before) .length-sections))
+    (λ c. shaped-stop (stopped c) .length-d ∙ sym (shaped-at (record-read (stopped c .before) .before .before) .length-d))
     returns
     add-i
     loop-less
@@ -129,4 +132,5 @@ run-whole-spec =
     (λ c. c .before .before .loop .inv .roots-length)
     (λ c. shaped-done (c .before .before) .length-waiting ∙ sym (shaped-at (c .before .before) .length-waiting))
     (λ c. shaped-done (c .before .before) .length-sections ∙ sym (shaped-at (c .before .before) .length-sections))
+    (λ c. shaped-done (c .before .before) .length-d ∙ sym (shaped-at (c .before .before) .length-d))
     returns-2)

@@ -2,38 +2,44 @@
 use mathlib.Core.Path.{refl}
 use borrow.Author.Needs.{needs}
 use Rattle.history_turns.proofs.Turns.{acted-plan}
-use Rattle.history_turns.proofs.Stores.{acted-stop, acted-root, acted-cell}
+use Rattle.history_turns.proofs.Stores.{acted-stop, acted-root, acted-cell, acted-number}
 use Rattle.history_turns.proofs.Collections.{acted-collect}
 use Rattle.history_execution.proofs.acts.act.Statement.{statement}
 use Rattle.history_execution.proofs.acts.act.Tie as tie
 
 -- the places: the entry; each arm with its plan known, from where its call is made; that call made, from where the arm returns
-abbrev entry : tie.After-slice-known7 → tie.Start
+abbrev entry : tie.After-slice-known8 → tie.Start
 entry c = search
 
-abbrev allocating : tie.After-allocate-arg7 → tie.After-plan2
+abbrev allocating : tie.After-allocate-arg8 → tie.After-plan2
 allocating c = search
 
-abbrev root-storing : tie.After-store-root-arg7 → tie.After-plan3
+abbrev root-storing : tie.After-store-root-arg8 → tie.After-plan3
 root-storing c = search
 
-abbrev cell-storing : tie.After-store-cell-arg7 → tie.After-plan4
+abbrev cell-storing : tie.After-store-cell-arg8 → tie.After-plan4
 cell-storing c = search
 
-abbrev collecting : tie.After-collect-arg7 → tie.After-enum-told
+abbrev collecting : tie.After-collect-arg8 → tie.After-enum-told
 collecting c = search
 
-abbrev allocated : tie.After-slice-known14 → tie.After-allocate
+abbrev number-writing : tie.After-write-number-arg8 → tie.After-plan5
+number-writing c = search
+
+abbrev allocated : tie.After-slice-known16 → tie.After-allocate
 allocated c = search
 
-abbrev root-stored : tie.After-slice-known21 → tie.After-store-root
+abbrev root-stored : tie.After-slice-known24 → tie.After-store-root
 root-stored c = search
 
-abbrev cell-stored : tie.After-slice-known27 → tie.After-store-cell
+abbrev cell-stored : tie.After-slice-known31 → tie.After-store-cell
 cell-stored c = search
 
-abbrev collected : tie.After-slice-known33 → tie.After-collect
+abbrev collected : tie.After-slice-known38 → tie.After-collect
 collected c = search
+
+abbrev number-written : tie.After-slice-known39 → tie.After-write-number
+number-written c = search
 
 enum-known-plan : tie.Need-enum-known-plan
 enum-known-plan c = search needs
@@ -62,6 +68,12 @@ enum-told c = search needs
 collect-requires : tie.Need-collect-requires
 collect-requires c κs = entry (collecting c .before .before) .pre
 
+enum-known-plan-5 : tie.Need-enum-known-plan-5
+enum-known-plan-5 c = search needs
+
+write-number-requires : tie.Need-write-number-requires
+write-number-requires c κs = entry (number-writing c .before .before) .pre
+
 returns : tie.Need-returns
 returns c = acted-plan _ (c .before .plan .given .1) (acted-stop _)
 
@@ -85,6 +97,11 @@ returns-5 c =
     let arm = collecting (collected c .before) in
     acted-plan _ (arm .enum-told .given .1) (acted-collect (entry (arm .before .before) .pre) (collected c .collect .ensures))
 
+returns-6 : tie.Need-returns-6
+returns-6 c =
+    let arm = number-writing (number-written c .before) in
+    acted-plan _ (arm .plan5 .given .1) (acted-number (entry (arm .before .before) .pre) (number-written c .write-number .ensures))
+
 pub act-spec : {M : Type 1} → statement M
 act-spec =
     tie.close
@@ -98,6 +115,8 @@ act-spec =
     store-cell-requires
     enum-told
     collect-requires
+    enum-known-plan-5
+    write-number-requires
     returns
     (λ c. allocated c .allocate .kept .1 .1 .0)
     (λ c. allocated c .allocate .kept .1 .1 .1 .0)
@@ -106,6 +125,7 @@ act-spec =
     (λ c. allocated c .allocate .kept .1 .1 .1 .1 .1 .1 .0)
     (λ c. allocated c .allocate .kept .1 .1 .1 .1 .1 .1 .1 .0)
     (λ c. allocated c .allocate .kept .1 .1 .1 .1 .1 .1 .1 .1 .0)
+    (λ c. allocated c .allocate .kept .1 .1 .1 .1 .1 .1 .1 .1 .1 .0)
     returns-2
     (λ c. root-stored c .store-root .kept .1 .1 .0)
     (λ c. root-stored c .store-root .kept .1 .1 .1 .0)
@@ -114,6 +134,7 @@ act-spec =
     (λ c. root-stored c .store-root .kept .1 .1 .1 .1 .1 .1 .0)
     (λ c. root-stored c .store-root .kept .1 .1 .1 .1 .1 .1 .1 .0)
     (λ c. root-stored c .store-root .kept .1 .1 .1 .1 .1 .1 .1 .1 .0)
+    (λ c. root-stored c .store-root .kept .1 .1 .1 .1 .1 .1 .1 .1 .1 .0)
     returns-3
     (λ c. cell-stored c .store-cell .kept .1 .1 .0)
     (λ c. cell-stored c .store-cell .kept .1 .1 .1 .0)
@@ -122,6 +143,7 @@ act-spec =
     (λ c. refl)
     (λ c. cell-stored c .store-cell .kept .1 .1 .1 .1 .1 .1 .1 .0)
     (λ c. cell-stored c .store-cell .kept .1 .1 .1 .1 .1 .1 .1 .1 .0)
+    (λ c. cell-stored c .store-cell .kept .1 .1 .1 .1 .1 .1 .1 .1 .1 .0)
     returns-4
     (λ c. collected c .collect .kept .1 .1 .0)
     (λ c. collected c .collect .kept .1 .1 .1 .0)
@@ -130,4 +152,14 @@ act-spec =
     (λ c. refl)
     (λ c. collected c .collect .kept .1 .1 .1 .1 .1 .1 .1 .0)
     (λ c. collected c .collect .kept .1 .1 .1 .1 .1 .1 .1 .1 .0)
-    returns-5)
+    (λ c. collected c .collect .kept .1 .1 .1 .1 .1 .1 .1 .1 .1 .0)
+    returns-5
+    (λ c. refl)
+    (λ c. refl)
+    (λ c. refl)
+    (λ c. number-written c .write-number .kept .1 .1 .1 .1 .1 .0)
+    (λ c. refl)
+    (λ c. refl)
+    (λ c. refl)
+    (λ c. refl)
+    returns-6)

@@ -13,11 +13,11 @@ use Rattle.report.proofs.run.run_input.Statement.{statement}
 use Rattle.report.proofs.run.run_input.Tie as tie
 
 abbrev Inv-loop : tie.InvT-loop
-Inv-loop a₀ b₀ counts₀ cells₀ roots₀ waiting₀ sections₀ run₀ buffer₀ a b counts cells roots waiting sections run buffer =
-    (length buffer ≡ 65536) × (bytes : List ℕ) × Kept bytes (lentMemory a b counts cells roots waiting sections) run
+Inv-loop a₀ b₀ counts₀ cells₀ roots₀ waiting₀ sections₀ d₀ run₀ buffer₀ a b counts cells roots waiting sections d run buffer =
+    (length buffer ≡ 65536) × (bytes : List ℕ) × Kept bytes (lentMemory a b counts cells roots waiting sections d) run
 
 abbrev μ-loop : tie.MeasureT-loop
-μ-loop a₀ b₀ counts₀ cells₀ roots₀ waiting₀ sections₀ run₀ buffer₀ a b counts cells roots waiting sections run buffer =
+μ-loop a₀ b₀ counts₀ cells₀ roots₀ waiting₀ sections₀ d₀ run₀ buffer₀ a b counts cells roots waiting sections d run buffer =
     mostRecords - run .records
 
 -- the places, from the last back
@@ -25,7 +25,7 @@ abbrev read : tie.After-run-piece Inv-loop μ-loop → tie.After-read-piece Inv-
 read c = search
 
 abbrev looped : tie.After-read-piece Inv-loop μ-loop → tie.At-loop Inv-loop μ-loop
-looped c = c .before .before
+looped c = search
 
 loop-holds : tie.Need-loop-holds Inv-loop μ-loop
 loop-holds c = (search needs, [], kept-start (c .before .format .ensures) (c .new-run .ensures))
