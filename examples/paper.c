@@ -8,13 +8,13 @@
 
 enum { BLOCKS = 8, WIDTH = 2, ROOTS = 4 };
 
-static uint8_t a[BLOCKS / 8], b[BLOCKS / 8], counts[WIDTH * BLOCKS / 8];
+static uint8_t a[BLOCKS / 8], b[BLOCKS / 8], counts[WIDTH * BLOCKS / 8], data[BLOCKS / 8];
 static uint16_t cells[4 * BLOCKS], roots[ROOTS], waiting[BLOCKS], sections[HUWEKAPO_SECTIONS_LENGTH(BLOCKS)];
 
-/* The seven lent buffers. */
+/* The eight lent buffers. */
 #define HEAP \
     BLOCKS, WIDTH, a, sizeof a, b, sizeof b, counts, sizeof counts, cells, 4 * BLOCKS, roots, ROOTS, waiting, BLOCKS, \
-        sections, HUWEKAPO_SECTIONS_LENGTH(BLOCKS)
+        sections, HUWEKAPO_SECTIONS_LENGTH(BLOCKS), data, sizeof data
 
 /* P1 as a list for replay, with one word behind the replies. */
 static const uint64_t p1[] = {2, 2, 0, 0, 2, 1, 1, 0, 2, 3, 2, 0, 6, 4, 0, 0};
@@ -110,6 +110,48 @@ static void replay_wide(void) {
     expect("  look at 0", replied(4), HUWEKAPO_ACCEPTED, 2, 1);
 }
 
+/* A pixel buffer of two blocks, in root 0, and an object beside it. Its cells hold any number, 4 too, which as a reference would name
+ * no first block. Freed, it leaves nothing. */
+static void write_pixels(void) {
+    expect("format", huwekapo_format(HEAP), HUWEKAPO_ACCEPTED, 0, 0);
+    expect("allocate 2 of data, root 0", huwekapo_allocate_data(HEAP, 2, 0), HUWEKAPO_ACCEPTED, 0, 0);
+    expect("allocate 1 into root 1", huwekapo_allocate(HEAP, 1, 1), HUWEKAPO_ACCEPTED, 2, 0);
+    expect("write 65535 in cell 7 of 0", huwekapo_write_number(HEAP, 0, 7, 65535), HUWEKAPO_ACCEPTED, 0, 0);
+    expect("write 4 in cell 0 of 0", huwekapo_write_number(HEAP, 0, 0, 4), HUWEKAPO_ACCEPTED, 0, 0);
+    expect("read cell 7 of 0", huwekapo_read_number(HEAP, 0, 7), HUWEKAPO_ACCEPTED, 65535, 0);
+    expect("read cell 1 of 0", huwekapo_read_number(HEAP, 0, 1), HUWEKAPO_ACCEPTED, 0, 0);
+    expect("check", huwekapo_check(HEAP), HUWEKAPO_ACCEPTED, 0, 0);
+    printf("D = %d  ", data[0]);
+    verdict(data[0] == 1);
+    /* References are not stored in data, numbers not in other objects: 12, which comes after 7 and before 8. */
+    expect("store 9 in cell 0 of 0", huwekapo_store_cell(HEAP, 0, 0, 9), HUWEKAPO_WRONG_KIND, 0, 0);
+    expect("store 9 in cell 8 of 0", huwekapo_store_cell(HEAP, 0, 8, 9), HUWEKAPO_BAD_CELL, 0, 0);
+    expect("write 5 in cell 0 of 2", huwekapo_write_number(HEAP, 2, 0, 5), HUWEKAPO_WRONG_KIND, 0, 0);
+    expect("read cell 0 of 2", huwekapo_read_number(HEAP, 2, 0), HUWEKAPO_WRONG_KIND, 0, 0);
+    expect("read cell 0 of 1", huwekapo_read_number(HEAP, 1, 0), HUWEKAPO_NO_OBJECT, 0, 0);
+    expect("store 1 in cell 0 of 2", huwekapo_store_cell(HEAP, 2, 0, 1), HUWEKAPO_ACCEPTED, 0, 0);
+    expect("return roots 0 and 1", huwekapo_return_roots(HEAP, 3), HUWEKAPO_ACCEPTED, 3, 0);
+    printf("D = %d, cells 0 and 7 = %d, %d  ", data[0], cells[0], cells[7]);
+    verdict(data[0] == 0 && cells[0] == 0 && cells[7] == 0);
+    data[0] = 4;
+    expect("check, a D bit on block 2", huwekapo_check(HEAP), HUWEKAPO_DAMAGED, HUWEKAPO_STRAY_DATA, 0);
+    data[0] = 0;
+}
+
+/* Data in a list: 1 block into root 0, 65,535 in its cell 3, read back. With a number that no cell holds the list is no list of
+ * calls, and nothing is written. */
+static uint64_t number_list[] = {9, 1, 0, 0, 10, 0, 3, 65535, 11, 0, 3, 0};
+
+static void replay_numbers(void) {
+    expect("replay numbers", huwekapo_replay(HEAP, number_list, 12, replies, 9), HUWEKAPO_ACCEPTED, 3, 0);
+    expect("  allocate 1 of data, root 0", replied(0), HUWEKAPO_ACCEPTED, 0, 0);
+    expect("  write 65535 in cell 3 of 0", replied(1), HUWEKAPO_ACCEPTED, 0, 0);
+    expect("  read cell 3 of 0", replied(2), HUWEKAPO_ACCEPTED, 65535, 0);
+    number_list[7] = 65536;
+    expect("replay, a number of 65536", huwekapo_replay(HEAP, number_list, 12, replies, 8), HUWEKAPO_NO_CALL, 0, 0);
+    expect("read cell 3 of 0", huwekapo_read_number(HEAP, 0, 3), HUWEKAPO_ACCEPTED, 65535, 0);
+}
+
 int main(void) {
     expect("format", huwekapo_format(HEAP), HUWEKAPO_ACCEPTED, 0, 0);
     expect_section(BLOCKS);
@@ -135,8 +177,10 @@ int main(void) {
     expect("store 1 in root 1", huwekapo_store_root(HEAP, 1, 1), HUWEKAPO_ACCEPTED, 0, 0);
     expect("store 1 in root 2", huwekapo_store_root(HEAP, 2, 1), HUWEKAPO_ACCEPTED, 0, 1);
     expect("store 1 in root 3", huwekapo_store_root(HEAP, 3, 1), HUWEKAPO_ACCEPTED, 0, 0);
+    write_pixels();
     replay_p1();
     replay_wide();
+    replay_numbers();
     puts(failures == 0 ? "paper: ok" : "paper: DIFFERENT");
     return failures != 0;
 }

@@ -8,13 +8,13 @@
 
 enum { BLOCKS = 8192, WIDTH = 3, ROOTS = 64 };
 
-static uint8_t a[BLOCKS / 8], b[BLOCKS / 8], counts[WIDTH * BLOCKS / 8];
+static uint8_t a[BLOCKS / 8], b[BLOCKS / 8], counts[WIDTH * BLOCKS / 8], data[BLOCKS / 8];
 static uint16_t cells[4 * BLOCKS], roots[ROOTS], waiting[BLOCKS], sections[HUWEKAPO_SECTIONS_LENGTH(BLOCKS)];
 
-/* The seven lent buffers. */
+/* The eight lent buffers. */
 #define HEAP \
     BLOCKS, WIDTH, a, sizeof a, b, sizeof b, counts, sizeof counts, cells, 4 * BLOCKS, roots, ROOTS, waiting, BLOCKS, \
-        sections, HUWEKAPO_SECTIONS_LENGTH(BLOCKS)
+        sections, HUWEKAPO_SECTIONS_LENGTH(BLOCKS), data, sizeof data
 
 /* The most records of a history. */
 #define MOST_RECORDS ((size_t)4294967295u)
@@ -30,6 +30,11 @@ enum { EXAMPLE = 24 };
  * forced collection. */
 static const uint8_t no_room[] = {
     1, 0, 0, 0, 0, 0, 0, 16, 1, 1, 0, 0, 0, 0, 1, 0, 1, 2, 0, 0, 0, 0, 0, 8, 1, 3, 0, 0, 0, 0, 0, 16,
+};
+
+/* A pixel buffer of two blocks in root 0, its last cell 65,535, and an object in root 1; a reference in the buffer is refused 12. */
+static const uint8_t pixels[] = {
+    7, 0, 0, 0, 0, 0, 2, 0, 8, 0, 0, 0, 7, 0, 255, 255, 1, 1, 0, 0, 0, 0, 1, 0, 3, 0, 1, 0, 0, 0, 0, 0,
 };
 
 /* A new run: all 0, as statics are. */
@@ -173,6 +178,9 @@ int main(void) {
     expect_section(16, 128);
     expect_section(17, 256);
     expect_section(24, 0);
+    whole_and_pieces("pixels", pixels, sizeof pixels, run_of(12, 3, 2, 3, 2, 0, 3, 0), BLOCKS - 3);
+    printf("D = %d, cell 7 = %d  ", data[0], cells[7]);
+    verdict(data[0] == 1 && cells[7] == 65535);
     stopped();
     limit();
     out_of_range();

@@ -1,28 +1,34 @@
 /* Huwekapo: a heap of 16-byte blocks in bitmaps, with limited reference counts.
  *
- * The caller lends the heap's seven buffers to every call, each as a pointer and a length in elements, in this order:
+ * The caller lends the heap's eight buffers to every call, each as a pointer and a length in elements, in this order:
  *
  *   a         blocks / 8 bytes           A-map: 1 is allocated, 0 is free
  *   b         blocks / 8 bytes           B-map: 0 on the last block of each object, 1 everywhere else
  *   counts    width * blocks / 8 bytes   count maps, the least significant bit first
- *   cells     4 * blocks numbers         cells 4i to 4i + 3 for block i: 0, or 1 + the first block of an object
- *   roots     1 to 64 numbers            filled as cells are
+ *   cells     4 * blocks numbers         cells 4i to 4i + 3 for block i: 0, or 1 + the first block of an object; of an object
+ *                                        made as data any number
+ *   roots     1 to 64 numbers            0, or 1 + the first block of an object
  *   waiting   blocks numbers             working space
  *   sections  blocks / 256 numbers       the size of the largest free chunk of each section, 0 where it has none
+ *   data      blocks / 8 bytes           D-map: 1 on the first block of each object made as data, 0 everywhere else
  *
  * blocks is a power of two from 8 to 8,192; width, the count width, is 1 to 4 bits. Block i is bit i % 8 (bit 0 is the
  * least) of byte i / 8 of a map. A chunk is s blocks starting at a multiple of s, s a power of two. A section is 256 blocks;
  * below 256 blocks it is all of them, and `sections` is one number.
  *
  * Every call may be made with any arguments and any content of the buffers: what is wrong is refused by a number, and a
- * refusal changes no buffer. Arguments are whole words, and nothing of them is cut off: a v of 65,537 is refused 8. Format,
- * allocate, both stores, the return, collect, replay and runs of records leave `waiting` all 0, and `sections` as it must be,
- * when accepted; check, look and free blocks write nothing.
+ * refusal changes no buffer. Arguments are whole words, and nothing of them is cut off: a v of 65,537 is refused 8. Only the
+ * number that is written into data is as wide as a cell: any such number is right. Format, both allocations, both stores, the
+ * return, collect, replay and runs of records leave `waiting` all 0, and `sections` as it must be, when accepted; the write of
+ * a number changes one cell and nothing else; check, look, free blocks and the read of a number write nothing.
+ *
+ * The cells of data are never followed, counted or checked as references, whatever they hold. What roots and cells name may be
+ * data. When data is freed, its cells become 0, and its D bit too.
  *
  * The buffers, the two lists of replay and the bytes of a run must not overlap, and each pointer must be good for its length,
  * and not null even where that is 0.
  *
- * huwekapo_heap.h has the seven buffers as one struct, and the same calls on it.
+ * huwekapo_heap.h has the eight buffers as one struct, and the same calls on it.
  *
  * Link libhuwekapo, which `bash install.sh PREFIX` makes (`pkg-config --cflags --libs huwekapo`), or libcapi.a, which it is made
  * of. What a device has to bring:
@@ -45,13 +51,13 @@
 /* The version of this header, and of the library that it goes with. What changes an argument, a struct or a buffer raises the
  * minor number, and with it the shared library's name. */
 #define HUWEKAPO_VERSION_MAJOR 0
-#define HUWEKAPO_VERSION_MINOR 3
+#define HUWEKAPO_VERSION_MINOR 4
 #define HUWEKAPO_VERSION_PATCH 0
-#define HUWEKAPO_VERSION "0.3.0"
+#define HUWEKAPO_VERSION "0.4.0"
 #define HUWEKAPO_VERSION_NUMBER (1000000 * HUWEKAPO_VERSION_MAJOR + 1000 * HUWEKAPO_VERSION_MINOR + HUWEKAPO_VERSION_PATCH)
 
 /* The number of buffers that every call takes. */
-#define HUWEKAPO_BUFFER_COUNT 7
+#define HUWEKAPO_BUFFER_COUNT 8
 
 /* The limits. */
 #define HUWEKAPO_MIN_BLOCKS 8
@@ -68,6 +74,7 @@
 #define HUWEKAPO_CELLS_LENGTH(blocks) (4 * (blocks))
 #define HUWEKAPO_WAITING_LENGTH(blocks) (blocks)
 #define HUWEKAPO_SECTIONS_LENGTH(blocks) ((blocks) < 256 ? 1 : (blocks) / 256)
+#define HUWEKAPO_DATA_LENGTH(blocks) ((blocks) / 8)
 
 /* The blocks of a section. */
 #define HUWEKAPO_SECTION_BLOCKS(blocks) ((blocks) / HUWEKAPO_SECTIONS_LENGTH(blocks))
@@ -101,8 +108,9 @@ size_t huwekapo_buffers(void);
 
 /* A number and its values. `number` is 0 where the call was accepted, else the first that applies of the refusals that the
  * call names, in the order in which it names them. A refusal carries value 0, or the damage kind for number 2. `second` is the
- * count that a look finds; of an accepted allocation or store it is 1 where this call brought the count of the object that it
- * stores to the capacity, at which the object is stuck, and 0 where not. Else it is 0. */
+ * count that a look finds; of an accepted allocation, of data too, or of an accepted store of a reference it is 1 where this
+ * call brought the count of the object that it stores to the capacity, at which the object is stuck, and 0 where not. Else it
+ * is 0. */
 struct huwekapo_reply {
     size_t number;
     size_t value;
@@ -120,11 +128,13 @@ enum huwekapo_number {
     HUWEKAPO_NO_OBJECT = 6,     /* `at` is not a first block (or not below blocks) */
     HUWEKAPO_BAD_CELL = 7,      /* j is not below 4 times the object's size */
     HUWEKAPO_BAD_REFERENCE = 8, /* v is neither 0 nor 1 + a first block */
-    HUWEKAPO_NO_CALL = 9,       /* an entry is no call: its code is above 8. A record is none: its operation is unknown, or a
-                                   field that the operation does not name is not 0 */
+    HUWEKAPO_NO_CALL = 9,       /* an entry is no call: its code is above 11, or it writes a number above 65,535. A record is
+                                   none: its operation is unknown, or a field that the operation does not name is not 0 */
     HUWEKAPO_CUT_OFF = 10,      /* the list ends inside a call. A history ends inside a record, or goes on past
                                    4,294,967,295 records */
     HUWEKAPO_STALE_SECTIONS = 11, /* a number of `sections` is not the size of the largest free chunk of its section */
+    HUWEKAPO_WRONG_KIND = 12,   /* a reference is stored in a cell of data, or read from one; or a number is written or read
+                                   where the object is not data */
     HUWEKAPO_SHORT_REPLIES = 18, /* `replies` is too short for the replies of all calls */
     HUWEKAPO_BAD_RUN = 19       /* the run handed in is out of range */
 };
@@ -134,11 +144,13 @@ enum huwekapo_damage {
     HUWEKAPO_OPEN_END = 2,            /* an allocated block with B bit 1 whose next block is free or past the end */
     HUWEKAPO_UNALIGNED = 3,           /* an object whose first block is not a multiple of the least power of two that is
                                          its size or more */
-    HUWEKAPO_DANGLING_REFERENCE = 4,  /* a cell of a free block that isn't 0, or a cell or root that is neither 0 nor
-                                         1 + a first block */
-    HUWEKAPO_WRONG_COUNT = 5          /* a count other than 0 where no object starts; an object with count 0; a count below
-                                         capacity that differs from the number of all cells and roots naming the object */
+    HUWEKAPO_DANGLING_REFERENCE = 4,  /* a cell of a free block that isn't 0, or a cell, not of data, or a root that is neither
+                                         0 nor 1 + a first block */
+    HUWEKAPO_WRONG_COUNT = 5,         /* a count other than 0 where no object starts; an object with count 0; a count below
+                                         capacity that differs from the number of all roots and all cells, but those of data,
+                                         naming the object */
     /* 6 is not used: it was the number of objects against the 0 bits of the B-map, which kinds 1 and 2 imply */
+    HUWEKAPO_STRAY_DATA = 7           /* a D bit where no object starts */
 };
 
 /* The codes of replay's list. */
@@ -151,7 +163,10 @@ enum huwekapo_code {
     HUWEKAPO_CODE_COLLECT = 5,
     HUWEKAPO_CODE_LOOK = 6,
     HUWEKAPO_CODE_FREE_BLOCKS = 7,
-    HUWEKAPO_CODE_RETURN_ROOTS = 8
+    HUWEKAPO_CODE_RETURN_ROOTS = 8,
+    HUWEKAPO_CODE_ALLOCATE_DATA = 9,
+    HUWEKAPO_CODE_WRITE_NUMBER = 10,
+    HUWEKAPO_CODE_READ_NUMBER = 11
 };
 
 /* The operations of a history's records. */
@@ -161,27 +176,32 @@ enum huwekapo_operation {
     HUWEKAPO_RECORD_WRITE = 3,
     HUWEKAPO_RECORD_READ = 4,
     HUWEKAPO_RECORD_CLEAR = 5,
-    HUWEKAPO_RECORD_COLLECT = 6
+    HUWEKAPO_RECORD_COLLECT = 6,
+    HUWEKAPO_RECORD_ALLOCATE_DATA = 7,
+    HUWEKAPO_RECORD_WRITE_NUMBER = 8
 };
 
 /* The parameters that every call begins with: blocks, width, and the buffers in their order, each as a pointer and a length in
- * elements. Three macros have them: HUWEKAPO_BUFFERS for a call that may write every buffer, HUWEKAPO_BUFFERS_BUT_ROOTS for one
- * that may write every buffer but the roots, HUWEKAPO_CONST_BUFFERS for one that writes none. So huwekapo_look is
+ * elements. Four macros have them: HUWEKAPO_BUFFERS for a call that may write every buffer, HUWEKAPO_BUFFERS_BUT_ROOTS for one
+ * that may write every buffer but the roots, HUWEKAPO_CONST_BUFFERS_BUT_CELLS for one that may write the cells alone,
+ * HUWEKAPO_CONST_BUFFERS for one that writes none. So huwekapo_look is
  *
  *     struct huwekapo_reply huwekapo_look(size_t blocks, size_t width, const uint8_t *a, size_t a_length, .., size_t at);
  */
-#define HUWEKAPO_BUFFERS_(byte, number, root) \
+#define HUWEKAPO_BUFFERS_(byte, number, cell, root) \
     size_t blocks, size_t width, \
     byte *a, size_t a_length, \
     byte *b, size_t b_length, \
     byte *counts, size_t counts_length, \
-    number *cells, size_t cells_length, \
+    cell *cells, size_t cells_length, \
     root *roots, size_t roots_length, \
     number *waiting, size_t waiting_length, \
-    number *sections, size_t sections_length
-#define HUWEKAPO_BUFFERS HUWEKAPO_BUFFERS_(uint8_t, uint16_t, uint16_t)
-#define HUWEKAPO_BUFFERS_BUT_ROOTS HUWEKAPO_BUFFERS_(uint8_t, uint16_t, const uint16_t)
-#define HUWEKAPO_CONST_BUFFERS HUWEKAPO_BUFFERS_(const uint8_t, const uint16_t, const uint16_t)
+    number *sections, size_t sections_length, \
+    byte *data, size_t data_length
+#define HUWEKAPO_BUFFERS HUWEKAPO_BUFFERS_(uint8_t, uint16_t, uint16_t, uint16_t)
+#define HUWEKAPO_BUFFERS_BUT_ROOTS HUWEKAPO_BUFFERS_(uint8_t, uint16_t, uint16_t, const uint16_t)
+#define HUWEKAPO_CONST_BUFFERS_BUT_CELLS HUWEKAPO_BUFFERS_(const uint8_t, const uint16_t, uint16_t, const uint16_t)
+#define HUWEKAPO_CONST_BUFFERS HUWEKAPO_BUFFERS_(const uint8_t, const uint16_t, const uint16_t, const uint16_t)
 
 /* Makes an empty heap of whatever the buffers held: b is all ones, each number of sections the blocks of a section,
  * every other buffer all 0. The value is 0. Refusals: 1. */
@@ -199,7 +219,7 @@ struct huwekapo_reply huwekapo_allocate(HUWEKAPO_BUFFERS, size_t n, size_t r);
 struct huwekapo_reply huwekapo_store_root(HUWEKAPO_BUFFERS, size_t r, size_t v);
 
 /* Stores v in cell j of the object at block `at`. The value is the number of blocks freed, `second` whether the object that v
- * names became stuck. Where the cell holds v already, only the waiting list is written. Refusals: 1, 2, 11, 6, 7, 8. */
+ * names became stuck. Where the cell holds v already, only the waiting list is written. Refusals: 1, 2, 11, 6, 7, 12, 8. */
 struct huwekapo_reply huwekapo_store_cell(HUWEKAPO_BUFFERS_BUT_ROOTS, size_t at, size_t j, size_t v);
 
 /* Clears the roots of a set, bit r of `chosen` for root r, as stores of 0 do one after another. The value is the number of
@@ -216,6 +236,17 @@ struct huwekapo_reply huwekapo_look(HUWEKAPO_CONST_BUFFERS, size_t at);
 /* Counts the free blocks. The value is their number. Refusals: 1, 2, 11. */
 struct huwekapo_reply huwekapo_free_blocks(HUWEKAPO_CONST_BUFFERS);
 
+/* Allocates n blocks of data into root r, as huwekapo_allocate does, and with its replies. The cells are 0. Refusals: 1, 2, 11,
+ * 3, 4, 5. */
+struct huwekapo_reply huwekapo_allocate_data(HUWEKAPO_BUFFERS, size_t n, size_t r);
+
+/* Writes v into cell j of the data at block `at`, and changes nothing else, `waiting` neither. The value is 0. Refusals: 1, 2,
+ * 11, 6, 7, 12. C makes 65,537 a 1 on the way into v: the caller has to see to it that it fits. */
+struct huwekapo_reply huwekapo_write_number(HUWEKAPO_CONST_BUFFERS_BUT_CELLS, size_t at, size_t j, uint16_t v);
+
+/* Reads cell j of the data at block `at`. The value is the number. Refusals: 1, 2, 11, 6, 7, 12. */
+struct huwekapo_reply huwekapo_read_number(HUWEKAPO_CONST_BUFFERS, size_t at, size_t j);
+
 /* Formats the heap and runs a list of calls, each an entry of four words, a code and arguments:
  *
  *   0             format
@@ -227,6 +258,9 @@ struct huwekapo_reply huwekapo_free_blocks(HUWEKAPO_CONST_BUFFERS);
  *   6, at         look
  *   7             free_blocks
  *   8, chosen     return_roots
+ *   9, n, r       allocate_data
+ *   10, at, j, v  write_number, v at most 65,535
+ *   11, at, j     read_number
  *
  * Words that a call does not name are not looked at. The reply of call i goes to places 3i, 3i + 1 and 3i + 2 of `replies`;
  * words of `replies` behind the last reply keep their content. The value is the number of calls. Refusals, which write
@@ -236,7 +270,7 @@ struct huwekapo_reply huwekapo_replay(HUWEKAPO_BUFFERS, const uint64_t *calls, s
 
 /* The figures of a run, in the order of the printed line. */
 struct huwekapo_tally {
-    uint64_t allocations; /* accepted allocations */
+    uint64_t allocations; /* accepted allocations, those of data too */
     uint64_t blocks;      /* blocks allocated in all */
     uint64_t largest;     /* largest accepted size */
     uint64_t collections; /* full collections, forced or recorded */
@@ -246,7 +280,7 @@ struct huwekapo_tally {
 
 /* Where a run of records stands. A new run is all 0. */
 struct huwekapo_run {
-    size_t number;  /* 0 while it goes on, else the number that stopped it: 3, 4, 5, 6, 7, 9 or 10 */
+    size_t number;  /* 0 while it goes on, else the number that stopped it: 3, 4, 5, 6, 7, 9, 10 or 12 */
     size_t records; /* the records run, which is also the number of the one that stopped it, counting from 0 */
     struct huwekapo_tally tally;
 };
@@ -274,10 +308,13 @@ struct huwekapo_ran {
  *   4             reads cell c of the object in s into d
  *   5             clears d
  *   6             collects
+ *   7             allocates the size into d as 1 does, as data
+ *   8             writes the number in the size field into cell c of the data in d
  *
  * Fields that an operation does not name are 0. The first record that is refused stops the run, with the first that applies
- * of 9, 3 (operation 1), 4, 5 (operation 1, after the second try), 6 (an empty root where an object is needed), 7; and so does
- * 10, behind the last whole record. This is no refusal of the call: the number is in `run`, and the reply's is 0.
+ * of 9, 3 (operations 1 and 7), 4, 5 (operations 1 and 7, after the second try), 6 (an empty root where an object is needed), 7,
+ * 12 (operations 3 and 4 on data, 8 on what is not); and so does 10, behind the last whole record. This is no refusal of the
+ * call: the number is in `run`, and the reply's is 0.
  *
  * Accepted, the value is 0, and `run` is where the run stands after the bytes. The buffers are those that the calls of the
  * records run leave; the record that stopped the run has changed nothing, save by a collection that it forced. `waiting` is all

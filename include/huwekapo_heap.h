@@ -1,4 +1,4 @@
-/* Huwekapo's seven buffers as one struct, and the calls on it: each wrapper lends the buffers to the function of the same name
+/* Huwekapo's eight buffers as one struct, and the calls on it: each wrapper lends the buffers to the function of the same name
  * in huwekapo.h, at the lengths that belong to the struct's numbers.
  *
  * The caller has to see to it that each pointer of the struct is good for its length. huwekapo_heap_in makes the struct from one
@@ -29,13 +29,15 @@ struct huwekapo_heap {
     uint16_t *roots;
     uint16_t *waiting;
     uint16_t *sections;
+    uint8_t *data;
 };
 
-/* The numbers of 16 bits that hold all seven buffers: cells, roots, waiting and sections, and two bytes of the maps in each of
+/* The numbers of 16 bits that hold all eight buffers: cells, roots, waiting and sections, and two bytes of the maps in each of
  * the rest. */
 #define HUWEKAPO_HEAP_LENGTH(blocks, width, roots) \
     (HUWEKAPO_CELLS_LENGTH(blocks) + (roots) + HUWEKAPO_WAITING_LENGTH(blocks) + HUWEKAPO_SECTIONS_LENGTH(blocks) + \
-     (HUWEKAPO_A_LENGTH(blocks) + HUWEKAPO_B_LENGTH(blocks) + HUWEKAPO_COUNTS_LENGTH(blocks, width) + 1) / 2)
+     (HUWEKAPO_A_LENGTH(blocks) + HUWEKAPO_B_LENGTH(blocks) + HUWEKAPO_COUNTS_LENGTH(blocks, width) + \
+      HUWEKAPO_DATA_LENGTH(blocks) + 1) / 2)
 
 /* A heap in one piece of memory, of HUWEKAPO_HEAP_LENGTH numbers. It is not formatted. */
 static inline struct huwekapo_heap huwekapo_heap_in(uint16_t *memory, size_t blocks, size_t width, size_t roots) {
@@ -50,6 +52,7 @@ static inline struct huwekapo_heap huwekapo_heap_in(uint16_t *memory, size_t blo
     heap.a = (uint8_t *)(heap.sections + HUWEKAPO_SECTIONS_LENGTH(blocks));
     heap.b = heap.a + HUWEKAPO_A_LENGTH(blocks);
     heap.counts = heap.b + HUWEKAPO_B_LENGTH(blocks);
+    heap.data = heap.counts + HUWEKAPO_COUNTS_LENGTH(blocks, width);
     return heap;
 }
 
@@ -62,7 +65,8 @@ static inline struct huwekapo_heap huwekapo_heap_in(uint16_t *memory, size_t blo
     (heap)->cells, HUWEKAPO_CELLS_LENGTH((heap)->blocks), \
     (heap)->roots, (heap)->roots_length, \
     (heap)->waiting, HUWEKAPO_WAITING_LENGTH((heap)->blocks), \
-    (heap)->sections, HUWEKAPO_SECTIONS_LENGTH((heap)->blocks)
+    (heap)->sections, HUWEKAPO_SECTIONS_LENGTH((heap)->blocks), \
+    (heap)->data, HUWEKAPO_DATA_LENGTH((heap)->blocks)
 
 static inline struct huwekapo_reply huwekapo_heap_format(struct huwekapo_heap *heap) {
     return huwekapo_format(HUWEKAPO_LEND_(heap));
@@ -98,6 +102,18 @@ static inline struct huwekapo_reply huwekapo_heap_look(const struct huwekapo_hea
 
 static inline struct huwekapo_reply huwekapo_heap_free_blocks(const struct huwekapo_heap *heap) {
     return huwekapo_free_blocks(HUWEKAPO_LEND_(heap));
+}
+
+static inline struct huwekapo_reply huwekapo_heap_allocate_data(struct huwekapo_heap *heap, size_t n, size_t r) {
+    return huwekapo_allocate_data(HUWEKAPO_LEND_(heap), n, r);
+}
+
+static inline struct huwekapo_reply huwekapo_heap_write_number(struct huwekapo_heap *heap, size_t at, size_t j, uint16_t v) {
+    return huwekapo_write_number(HUWEKAPO_LEND_(heap), at, j, v);
+}
+
+static inline struct huwekapo_reply huwekapo_heap_read_number(const struct huwekapo_heap *heap, size_t at, size_t j) {
+    return huwekapo_read_number(HUWEKAPO_LEND_(heap), at, j);
 }
 
 static inline struct huwekapo_reply huwekapo_heap_replay(struct huwekapo_heap *heap, const uint64_t *calls, size_t calls_length,

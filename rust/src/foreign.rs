@@ -25,6 +25,8 @@ macro_rules! declared {
                 waiting_length: usize,
                 sections: *$lent u16,
                 sections_length: usize,
+                data: *$lent u8,
+                data_length: usize,
                 $($argument: $type,)*
             ) -> $answer;)*
         }
@@ -47,6 +49,9 @@ declared! {
     huwekapo_collect(mut, const) -> Reply;
     huwekapo_look(const, const, at: usize) -> Reply;
     huwekapo_free_blocks(const, const) -> Reply;
+    huwekapo_allocate_data(mut, mut, n: usize, r: usize) -> Reply;
+    huwekapo_write_number(mut, const, at: usize, j: usize, v: u16) -> Reply;
+    huwekapo_read_number(const, const, at: usize, j: usize) -> Reply;
     huwekapo_replay(
         mut, mut,
         calls: *const u64,

@@ -3,7 +3,7 @@
 use crate::lent::{self, Reply, Shared, Unique};
 use crate::{Ref, Refusal, SoFar};
 
-/// The seven buffers of a heap, as [`lent`](crate::lent) has them. Two are equal where all but the waiting lists are: that
+/// The eight buffers of a heap, as [`lent`](crate::lent) has them. Two are equal where all but the waiting lists are: that
 /// list is working space.
 #[derive(Clone, Debug, Default)]
 pub struct Buffers {
@@ -21,6 +21,8 @@ pub struct Buffers {
     pub waiting: Vec<Ref>,
     /// The size of the largest free chunk of each section.
     pub sections: Vec<u16>,
+    /// The D-map.
+    pub data: Vec<u8>,
 }
 
 impl PartialEq for Buffers {
@@ -33,8 +35,9 @@ impl PartialEq for Buffers {
             roots,
             waiting: _,
             sections,
+            data,
         } = self;
-        (a, b, counts, cells, roots, sections)
+        (a, b, counts, cells, roots, sections, data)
             == (
                 &other.a,
                 &other.b,
@@ -42,15 +45,17 @@ impl PartialEq for Buffers {
                 &other.cells,
                 &other.roots,
                 &other.sections,
+                &other.data,
             )
     }
 }
 
 impl Eq for Buffers {}
 
-/// A heap of some number of blocks, with counts of some width. Format, allocate, both stores, the return, collect, replay
-/// and runs of records leave `waiting` all 0, and `sections` as it must be, when accepted; check, look and free blocks write
-/// nothing. Two heaps are equal where blocks, width and all buffers but the waiting lists are.
+/// A heap of some number of blocks, with counts of some width. Format, both allocations, both stores, the return, collect,
+/// replay and runs of records leave `waiting` all 0, and `sections` as it must be, when accepted; the write of a number
+/// changes one cell and nothing else; check, look, free blocks and the read of a number write nothing. Two heaps are equal
+/// where blocks, width and all buffers but the waiting lists are.
 #[derive(Clone, Debug, PartialEq, Eq)]
 #[must_use = "a heap does nothing by itself"]
 pub struct Heap {
@@ -101,6 +106,7 @@ impl Heap {
             roots: vec![0; roots.min(65)],
             waiting: vec![0; most],
             sections: vec![0; (most / 256).max(1)],
+            data: vec![0; bytes],
         };
         let mut heap = Heap::from_buffers(blocks, width, buffers);
         heap.format()?;
@@ -141,6 +147,13 @@ impl Heap {
         &self.buffers.sections
     }
 
+    /// The D-map: 1 on the first block of each object made as data, 0 everywhere else. Block i is bit i % 8 (bit 0 is the
+    /// least) of byte i / 8.
+    #[must_use]
+    pub fn data(&self) -> &[u8] {
+        &self.buffers.data
+    }
+
     /// The buffers as they are.
     #[must_use]
     pub fn buffers(&self) -> &Buffers {
@@ -166,11 +179,7 @@ impl Heap {
 
     /// Allocates n blocks into root r. Refusals: 1, 2, 11, 3, 4, 5.
     pub fn allocate(&mut self, n: usize, r: usize) -> Result<Allocated, Refusal> {
-        let reply = lent::allocate(self.unique(), n, r);
-        value(reply).map(|block| Allocated {
-            block,
-            became_stuck: reply.second == 1,
-        })
+        allocated(lent::allocate(self.unique(), n, r))
     }
 
     /// Stores v in root r. Where the root holds v already, nothing but the waiting list is written. Refusals: 1, 2, 11, 4, 8.
@@ -179,7 +188,7 @@ impl Heap {
     }
 
     /// Stores v in cell j of the object at block `at`. Where the cell holds v already, nothing but the waiting list is
-    /// written. Refusals: 1, 2, 11, 6, 7, 8.
+    /// written. Refusals: 1, 2, 11, 6, 7, 12, 8.
     pub fn store_cell(&mut self, at: usize, j: usize, v: usize) -> Result<Stored, Refusal> {
         stored(lent::store_cell(self.unique(), at, j, v))
     }
@@ -211,6 +220,23 @@ impl Heap {
         value(lent::free_blocks(self.shared()))
     }
 
+    /// Allocates n blocks of data into root r, as [`allocate`](Heap::allocate) does. The cells are 0, and hold any number.
+    /// Refusals: 1, 2, 11, 3, 4, 5.
+    pub fn allocate_data(&mut self, n: usize, r: usize) -> Result<Allocated, Refusal> {
+        allocated(lent::allocate_data(self.unique(), n, r))
+    }
+
+    /// Writes v into cell j of the data at block `at`, and changes nothing else. Refusals: 1, 2, 11, 6, 7, 12.
+    pub fn write_number(&mut self, at: usize, j: usize, v: u16) -> Result<(), Refusal> {
+        value(lent::write_number(self.unique(), at, j, v)).map(|_| ())
+    }
+
+    /// Reads cell j of the data at block `at`. Refusals: 1, 2, 11, 6, 7, 12.
+    pub fn read_number(&self, at: usize, j: usize) -> Result<u16, Refusal> {
+        // The value is what a cell holds.
+        value(lent::read_number(self.shared(), at, j)).map(|number| number as u16)
+    }
+
     /// Formats the heap and runs a list of calls, in the form that [`lent::replay`] states; their replies go to `replies`,
     /// three words each. The value is the number of calls. Refusals, which write nothing: 1, 10, 9, 18.
     pub fn replay(&mut self, calls: &[u64], replies: &mut [u64]) -> Result<usize, Refusal> {
@@ -235,6 +261,7 @@ impl Heap {
             roots: &self.buffers.roots,
             waiting: &self.buffers.waiting,
             sections: &self.buffers.sections,
+            data: &self.buffers.data,
         }
     }
 
@@ -249,8 +276,17 @@ impl Heap {
             roots: &mut self.buffers.roots,
             waiting: &mut self.buffers.waiting,
             sections: &mut self.buffers.sections,
+            data: &mut self.buffers.data,
         }
     }
+}
+
+/// What an accepted allocation did, or the refusal.
+fn allocated(reply: Reply) -> Result<Allocated, Refusal> {
+    value(reply).map(|block| Allocated {
+        block,
+        became_stuck: reply.second == 1,
+    })
 }
 
 /// What an accepted store did, or the refusal.

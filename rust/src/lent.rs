@@ -1,13 +1,15 @@
-//! The calls on buffers that the caller lends. The heap's seven buffers, with their lengths in elements:
+//! The calls on buffers that the caller lends. The heap's eight buffers, with their lengths in elements:
 //!
 //! ```text
 //! a         blocks / 8 bytes           A-map: 1 is allocated, 0 is free
 //! b         blocks / 8 bytes           B-map: 0 on the last block of each object, 1 everywhere else
 //! counts    width * blocks / 8 bytes   count maps, the least significant bit first
-//! cells     4 * blocks numbers         cells 4i to 4i + 3 for block i: 0, or 1 + the first block of an object
-//! roots     1 to 64 numbers            filled as cells are
+//! cells     4 * blocks numbers         cells 4i to 4i + 3 for block i: 0, or 1 + the first block of an object; of an
+//!                                      object made as data any number
+//! roots     1 to 64 numbers            0, or 1 + the first block of an object
 //! waiting   blocks numbers             working space
 //! sections  blocks / 256 numbers       the size of the largest free chunk of each section, 0 where it has none
+//! data      blocks / 8 bytes           D-map: 1 on the first block of each object made as data, 0 everywhere else
 //! ```
 //!
 //! blocks is a power of two from 8 to 8,192; width, the count width, is 1 to 4 bits. Block i is bit i % 8 (bit 0 is
@@ -16,18 +18,24 @@
 //!
 //! Every call may be made with any arguments and any content of the buffers: what is wrong is refused by a number,
 //! and a refusal changes no buffer. Arguments are whole words, and nothing of them is cut off: a v of 65,537 is
-//! refused 8. Format, allocate, both stores, the return, collect, replay and runs of records leave
-//! `waiting` all 0, and `sections` as it must be, when accepted; check, look and free blocks write nothing.
+//! refused 8. Only the number that is written into data is as wide as a cell: any such number is right. Format, both
+//! allocations, both stores, the return, collect, replay and runs of records leave `waiting` all 0, and `sections` as it
+//! must be, when accepted; the write of a number changes one cell and nothing else; check, look, free blocks and the read
+//! of a number write nothing.
+//!
+//! The cells of data are never followed, counted or checked as references, whatever they hold. What roots and cells name
+//! may be data. When data is freed, its cells become 0, and its D bit too.
 
 use crate::{foreign, Ref, SoFar};
 
 /// The number of buffers.
-pub const BUFFERS: usize = 7;
+pub const BUFFERS: usize = 8;
 
 /// A number and its values. `number` is 0 where the call was accepted, else the first that applies of the refusals
 /// that the call names, in the order in which it names them. A refusal carries value 0, or the damage kind for
-/// number 2. `second` is the count that a look finds; of an accepted allocation or store it is 1 where this call brought
-/// the count of the object that it stores to the capacity, at which the object is stuck, and 0 where not. Else it is 0.
+/// number 2. `second` is the count that a look finds; of an accepted allocation, of data too, or of an accepted store of a
+/// reference it is 1 where this call brought the count of the object that it stores to the capacity, at which the object is
+/// stuck, and 0 where not. Else it is 0.
 ///
 /// [`Refusal`](crate::Refusal) has the words of the numbers.
 #[repr(C)]
@@ -53,7 +61,7 @@ pub struct Ran {
     pub run: SoFar,
 }
 
-/// The seven buffers, to be read.
+/// The eight buffers, to be read.
 #[derive(Clone, Copy, Debug)]
 pub struct Shared<'a> {
     /// The number of blocks.
@@ -74,9 +82,11 @@ pub struct Shared<'a> {
     pub waiting: &'a [Ref],
     /// The size of the largest free chunk of each section.
     pub sections: &'a [u16],
+    /// The D-map.
+    pub data: &'a [u8],
 }
 
-/// The seven buffers, to be written.
+/// The eight buffers, to be written.
 #[derive(Debug)]
 pub struct Unique<'a> {
     /// The number of blocks.
@@ -97,6 +107,8 @@ pub struct Unique<'a> {
     pub waiting: &'a mut [Ref],
     /// The size of the largest free chunk of each section.
     pub sections: &'a mut [u16],
+    /// The D-map.
+    pub data: &'a mut [u8],
 }
 
 /// Calls a function of the library with the blocks, the width, each buffer as a pointer and a length, and
@@ -124,6 +136,8 @@ macro_rules! lend {
                 heap.waiting.len(),
                 heap.sections.$pointer(),
                 heap.sections.len(),
+                heap.data.$pointer(),
+                heap.data.len(),
                 $($argument),*
             )
         }
@@ -154,7 +168,7 @@ pub fn store_root(heap: Unique, r: usize, v: usize) -> Reply {
 }
 
 /// Stores v in cell j of the object at block `at`. The value is the number of blocks freed, `second` whether the object
-/// that v names became stuck. Refusals: 1, 2, 11, 6, 7, 8.
+/// that v names became stuck. Refusals: 1, 2, 11, 6, 7, 12, 8.
 pub fn store_cell(heap: Unique, at: usize, j: usize, v: usize) -> Reply {
     lend!(huwekapo_store_cell, heap, as_mut_ptr, as_ptr, at, j, v)
 }
@@ -181,6 +195,23 @@ pub fn free_blocks(heap: Shared) -> Reply {
     lend!(huwekapo_free_blocks, heap, as_ptr, as_ptr)
 }
 
+/// Allocates n blocks of data into root r, as [`allocate`] does, and with its replies. The cells are 0.
+/// Refusals: 1, 2, 11, 3, 4, 5.
+pub fn allocate_data(heap: Unique, n: usize, r: usize) -> Reply {
+    lend!(huwekapo_allocate_data, heap, as_mut_ptr, as_mut_ptr, n, r)
+}
+
+/// Writes v into cell j of the data at block `at`, and changes nothing else, `waiting` neither. The value is 0.
+/// Refusals: 1, 2, 11, 6, 7, 12.
+pub fn write_number(heap: Unique, at: usize, j: usize, v: u16) -> Reply {
+    lend!(huwekapo_write_number, heap, as_mut_ptr, as_ptr, at, j, v)
+}
+
+/// Reads cell j of the data at block `at`. The value is the number. Refusals: 1, 2, 11, 6, 7, 12.
+pub fn read_number(heap: Shared, at: usize, j: usize) -> Reply {
+    lend!(huwekapo_read_number, heap, as_ptr, as_ptr, at, j)
+}
+
 /// Formats the heap and runs a list of calls, each an entry of four words, a code and arguments:
 ///
 /// ```text
@@ -193,6 +224,9 @@ pub fn free_blocks(heap: Shared) -> Reply {
 /// 6, at         look
 /// 7             free_blocks
 /// 8, chosen     return_roots
+/// 9, n, r       allocate_data
+/// 10, at, j, v  write_number, v at most 65,535
+/// 11, at, j     read_number
 /// ```
 ///
 /// Words that a call does not name are not looked at. The reply of call i goes to places 3i, 3i + 1 and 3i + 2 of
@@ -200,7 +234,7 @@ pub fn free_blocks(heap: Shared) -> Reply {
 /// Refusals, which write nothing: 1, 10, 9, 18.
 ///
 /// - 10: the list ends inside a call
-/// - 9: an entry is no call: its code is above 8
+/// - 9: an entry is no call: its code is above 11, or it writes a number above 65,535
 /// - 18: `replies` is too short for the replies of all calls
 pub fn replay(heap: Unique, calls: &[u64], replies: &mut [u64]) -> Reply {
     let (list, replies_at) = (calls.as_ptr(), replies.as_mut_ptr());
@@ -234,11 +268,14 @@ pub fn replay(heap: Unique, calls: &[u64], replies: &mut [u64]) -> Reply {
 /// 4             reads cell c of the object in s into d
 /// 5             clears d
 /// 6             collects
+/// 7             allocates the size into d as 1 does, as data
+/// 8             writes the number in the size field into cell c of the data in d
 /// ```
 ///
 /// Fields that an operation does not name are 0. The first record that is refused stops the run, with the first that applies
-/// of 9, 3 (operation 1), 4, 5 (operation 1, after the second try), 6 (an empty root where an object is needed), 7; and so
-/// does 10, behind the last whole record. This is no refusal of the call: the number is in the run, and the reply's is 0.
+/// of 9, 3 (operations 1 and 7), 4, 5 (operations 1 and 7, after the second try), 6 (an empty root where an object is
+/// needed), 7, 12 (operations 3 and 4 on data, 8 on what is not); and so does 10, behind the last whole record. This is no
+/// refusal of the call: the number is in the run, and the reply's is 0.
 ///
 /// Accepted, the value is 0, and the run answered is where it stands after the bytes. The record that stopped a run has
 /// changed nothing, save by a collection that it forced. A run handed in stopped is handed back as it is, and only `waiting`

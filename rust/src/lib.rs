@@ -28,6 +28,12 @@
 //! assert_eq!(heap.store_root(2, 0)?.freed, 3);
 //! assert!(!heap.store_root(2, 1)?.became_stuck);
 //! assert!(heap.store_root(3, 1)?.became_stuck);
+//!
+//! // A pixel buffer: its cells hold any number, and no reference.
+//! let pixels = heap.allocate_data(3, 2)?.block;
+//! heap.write_number(pixels, 11, 65_535)?;
+//! assert_eq!(heap.read_number(pixels, 11), Ok(65_535));
+//! assert_eq!(heap.store_cell(pixels, 0, 0), Err(Refusal::WrongKind));
 //! # Ok::<(), Refusal>(())
 //! ```
 
@@ -45,7 +51,7 @@ pub use history::{SoFar, Stopped, Tally};
 pub use refusal::{Damage, Refusal};
 pub use run::{Run, RunError};
 
-/// A cell or root: 0, or 1 + the first block of an object.
+/// A cell or root: 0, or 1 + the first block of an object. A cell of data holds any number.
 pub type Ref = u16;
 
 /// The version of this crate, and of the library that it is for.

@@ -30,6 +30,8 @@ pub enum Refusal {
     CutOff,
     /// 11: a number of `sections` is not the size of the largest free chunk of its section.
     StaleSections,
+    /// 12: a reference is stored in a cell of data, or a number is written or read where the object is not data.
+    WrongKind,
     /// 18: a replay's `replies` is too short.
     ShortReplies,
     /// 19: a run of records is out of range.
@@ -46,11 +48,13 @@ pub enum Damage {
     OpenEnd,
     /// 3: an object whose first block is not a multiple of the least power of two that is its size or more.
     Unaligned,
-    /// 4: a cell of a free block that isn't 0, or a cell or root that is neither 0 nor 1 + a first block.
+    /// 4: a cell of a free block that isn't 0, or a cell, not of data, or a root that is neither 0 nor 1 + a first block.
     DanglingReference,
     /// 5: a count other than 0 where no object starts; an object with count 0; a count below capacity that differs from
-    /// the number of all cells and roots naming the object.
+    /// the number of all roots and all cells, but those of data, naming the object.
     WrongCount,
+    /// 7: a D bit where no object starts.
+    StrayData,
 }
 
 impl Refusal {
@@ -69,6 +73,7 @@ impl Refusal {
             9 => Some(Refusal::NoCall),
             10 => Some(Refusal::CutOff),
             11 => Some(Refusal::StaleSections),
+            12 => Some(Refusal::WrongKind),
             18 => Some(Refusal::ShortReplies),
             19 => Some(Refusal::BadRun),
             number => unreachable!("the library has no refusal {number}"),
@@ -90,6 +95,7 @@ impl Refusal {
             Refusal::NoCall => 9,
             Refusal::CutOff => 10,
             Refusal::StaleSections => 11,
+            Refusal::WrongKind => 12,
             Refusal::ShortReplies => 18,
             Refusal::BadRun => 19,
         }
@@ -104,6 +110,7 @@ impl Damage {
             3 => Damage::Unaligned,
             4 => Damage::DanglingReference,
             5 => Damage::WrongCount,
+            7 => Damage::StrayData,
             kind => unreachable!("the library has no damage kind {kind}"),
         }
     }
@@ -117,6 +124,7 @@ impl Damage {
             Damage::Unaligned => 3,
             Damage::DanglingReference => 4,
             Damage::WrongCount => 5,
+            Damage::StrayData => 7,
         }
     }
 }
@@ -139,10 +147,16 @@ impl fmt::Display for Refusal {
             Refusal::NoObject => "`at` is not a first block (or not below blocks)",
             Refusal::BadCell => "j is not below 4 times the object's size",
             Refusal::BadReference => "v is neither 0 nor 1 + a first block",
-            Refusal::NoCall => "an entry is no call: its code is above 8",
+            Refusal::NoCall => {
+                "an entry is no call: its code is above 11, or it writes a number above 65,535"
+            }
             Refusal::CutOff => "the list ends inside a call",
             Refusal::StaleSections => {
                 "a number of `sections` is not the size of the largest free chunk of its section"
+            }
+            Refusal::WrongKind => {
+                "a reference is stored in a cell of data, or read from one; or a number is written or read where the \
+                 object is not data"
             }
             Refusal::ShortReplies => "`replies` is too short for the replies of all calls",
             Refusal::BadRun => {
@@ -166,13 +180,15 @@ impl fmt::Display for Damage {
                  or more"
             }
             Damage::DanglingReference => {
-                "a cell of a free block that isn't 0, or a cell or root that is neither 0 nor 1 + a first \
-                 block"
+                "a cell of a free block that isn't 0, or a cell, not of data, or a root that is neither 0 nor \
+                 1 + a first block"
             }
             Damage::WrongCount => {
                 "a count other than 0 where no object starts; an object with count 0; a count below \
-                 capacity that differs from the number of all cells and roots naming the object"
+                 capacity that differs from the number of all roots and all cells, but those of data, naming \
+                 the object"
             }
+            Damage::StrayData => "a D bit where no object starts",
         };
         write!(f, "{}: {words}", self.kind())
     }

@@ -183,13 +183,14 @@ fn equality_leaves_out_the_waiting_list() {
     assert_ne!(rubbish.buffers().waiting, heap.buffers().waiting);
     assert_eq!(rubbish, heap);
     assert_eq!(rubbish.buffers(), heap.buffers());
-    let others: [fn(&mut Buffers); 6] = [
+    let others: [fn(&mut Buffers); 7] = [
         |buffers| buffers.a[0] = 1,
         |buffers| buffers.b[0] = 1,
         |buffers| buffers.counts[0] = 1,
         |buffers| buffers.cells[0] = 1,
         |buffers| buffers.roots[0] = 1,
         |buffers| buffers.sections[0] = 1,
+        |buffers| buffers.data[0] = 1,
     ];
     for other in others.map(with) {
         assert_ne!(other, heap);
@@ -227,6 +228,11 @@ fn words() {
         Refusal::StaleSections.to_string(),
         "11: a number of `sections` is not the size of the largest free chunk of its section"
     );
+    assert_eq!(
+        Refusal::Damaged(Damage::StrayData).to_string(),
+        "2: the heap is damaged, kind 7: a D bit where no object starts"
+    );
+    assert_eq!(Refusal::WrongKind.number(), 12);
 }
 
 #[test]

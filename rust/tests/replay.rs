@@ -16,6 +16,7 @@ fn used() -> Buffers {
         roots: vec![88; 4],
         waiting: vec![99; 8],
         sections: vec![66; 1],
+        data: vec![0x99; 1],
     }
 }
 
@@ -30,6 +31,7 @@ fn lend(blocks: usize, buffers: &mut Buffers) -> Unique<'_> {
         roots: &mut buffers.roots,
         waiting: &mut buffers.waiting,
         sections: &mut buffers.sections,
+        data: &mut buffers.data,
     }
 }
 
@@ -79,7 +81,7 @@ fn on_a_heap() {
     let mut replies = [7; 14];
     for (calls, room, refusal) in [
         (&P1[..15], 12, Refusal::CutOff),
-        (&[9, 0, 0, 0][..], 3, Refusal::NoCall),
+        (&[12, 0, 0, 0][..], 3, Refusal::NoCall),
         (&P1[..], 11, Refusal::ShortReplies),
     ] {
         assert_eq!(heap.replay(calls, &mut replies[..room]), Err(refusal));
@@ -126,6 +128,48 @@ fn a_wide_value_in_a_list() {
     }
 }
 
+/// 2 blocks of data in root 0, a number in its last cell, read back with anything in the words that a read does not name;
+/// an object in root 1, whose cells are no numbers.
+#[test]
+fn numbers_in_a_list() {
+    let calls = [
+        [9, 2, 0, 9],
+        [10, 0, 7, 65_535],
+        [11, 0, 7, u64::MAX],
+        [2, 1, 1, 0],
+        [10, 2, 0, 0],
+        [4, 0, 7, 1],
+        [3, 0, 0, 0],
+    ];
+    let mut buffers = used();
+    let mut replies = [7; 21];
+    let accepted = replay(lend(8, &mut buffers), calls.as_flattened(), &mut replies);
+    assert_eq!(accepted, reply(0, 7));
+    assert_eq!(replies[..9], [0, 0, 0, 0, 0, 0, 0, 65_535, 0]);
+    assert_eq!(replies[9..], [0, 2, 0, 12, 0, 0, 12, 0, 0, 0, 2, 0]);
+    assert_eq!(buffers.data, [0]);
+    assert_eq!(buffers.cells, [0; 32]);
+}
+
+/// A number that no cell can hold is no call: the list is refused 9, also where there is no room for the replies.
+#[test]
+fn a_wide_number_in_a_list() {
+    for v in [65_536, 65_537, 1 << 32, u64::MAX] {
+        let calls = [[9, 1, 0, 0], [10, 0, 0, v]];
+        for room in [0, 5, 6] {
+            assert_eq!(refusal(8, calls.as_flattened(), room), 9);
+        }
+        assert_eq!(refusal(8, &calls.as_flattened()[..7], 6), 10);
+        assert_eq!(refusal(16, calls.as_flattened(), 6), 1);
+        // No other call has a number.
+        let calls = [[9, 1, 0, v], [11, 0, 0, v]];
+        let mut replies = [7; 6];
+        let accepted = replay(lend(8, &mut used()), calls.as_flattened(), &mut replies);
+        assert_eq!(accepted, reply(0, 2));
+        assert_eq!(replies, [0; 6]);
+    }
+}
+
 #[test]
 fn an_empty_list_formats() {
     let mut buffers = used();
@@ -142,7 +186,7 @@ fn refusals() {
     for length in 13..16 {
         assert_eq!(refusal(8, &P1[..length], 12), 10);
     }
-    for code in [9, 256, u64::MAX] {
+    for code in [12, 256, u64::MAX] {
         let mut calls = P1;
         calls[8] = code;
         assert_eq!(refusal(8, &calls, 12), 9);
@@ -155,7 +199,7 @@ fn refusals() {
 #[test]
 fn refusals_in_order() {
     let mut calls = P1;
-    calls[0] = 9;
+    calls[0] = 12;
     assert_eq!(refusal(8, &calls, 11), 9);
     assert_eq!(refusal(8, &calls[..15], 8), 10);
     assert_eq!(refusal(16, &calls[..15], 8), 1);

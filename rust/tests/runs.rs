@@ -76,7 +76,7 @@ fn line(history: &[u8]) -> String {
     run_on(report_heap(), history).0.to_string()
 }
 
-/// All seven buffers, the waiting list too.
+/// All eight buffers, the waiting list too.
 fn lists(buffers: &Buffers) -> impl PartialEq + std::fmt::Debug {
     (buffers.clone(), buffers.waiting.clone())
 }
@@ -192,7 +192,7 @@ fn every_operation() {
 /// Each number that stops a run, with the record, and what it says.
 #[test]
 fn stops() {
-    let unknown = [7, 0, 0, 0, 0, 0, 0, 0];
+    let unknown = [9, 0, 0, 0, 0, 0, 0, 0];
     let unused = [5, 0, 0, 1, 0, 0, 0, 0];
     for (number, record) in [
         (3, allocate(0, 9)),
@@ -421,6 +421,7 @@ fn refused(width: usize, buffers: &Buffers, run: SoFar, bytes: &[u8]) -> Reply {
         roots: &mut lent.roots,
         waiting: &mut lent.waiting,
         sections: &mut lent.sections,
+        data: &mut lent.data,
     };
     let Ran { reply, run } = lent::run_records(unique, run, bytes);
     assert_ne!(reply.number, 0);

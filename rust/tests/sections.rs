@@ -33,14 +33,14 @@ fn figures(heap: &Heap) -> Vec<u16> {
         .collect()
 }
 
-/// All seven buffers, the waiting list too.
+/// All eight buffers, the waiting list too.
 fn lists(buffers: &Buffers) -> impl PartialEq + std::fmt::Debug {
     (buffers.clone(), buffers.waiting.clone())
 }
 
 /// The calls that format the heap, and so look at no content, and all others.
 const FORMATTING: [&str; 2] = ["format", "replay"];
-const OTHERS: [&str; 9] = [
+const OTHERS: [&str; 12] = [
     "check",
     "allocate",
     "store_root",
@@ -49,10 +49,14 @@ const OTHERS: [&str; 9] = [
     "collect",
     "look",
     "free_blocks",
+    "allocate_data",
+    "write_number",
+    "read_number",
     "run_records",
 ];
 
-/// Makes a call whose own numbers are right, on a heap whose object of one block at block 0 is in root 0.
+/// Makes a call whose own numbers are right, on a heap whose object of one block at block 0 is in root 0, and whose data of one
+/// block at block 1 is in root 2.
 fn call(name: &str, blocks: usize, buffers: &mut Buffers) -> Reply {
     let Buffers {
         a,
@@ -62,9 +66,10 @@ fn call(name: &str, blocks: usize, buffers: &mut Buffers) -> Reply {
         roots,
         waiting,
         sections,
+        data,
     } = buffers;
     let width = 2;
-    let reading = ["check", "look", "free_blocks"];
+    let reading = ["check", "look", "free_blocks", "read_number"];
     if reading.contains(&name) {
         let shared = Shared {
             blocks,
@@ -76,10 +81,12 @@ fn call(name: &str, blocks: usize, buffers: &mut Buffers) -> Reply {
             roots,
             waiting,
             sections,
+            data,
         };
         return match name {
             "check" => lent::check(shared),
             "look" => lent::look(shared, 0),
+            "read_number" => lent::read_number(shared, 1, 3),
             _ => lent::free_blocks(shared),
         };
     }
@@ -93,6 +100,7 @@ fn call(name: &str, blocks: usize, buffers: &mut Buffers) -> Reply {
         roots,
         waiting,
         sections,
+        data,
     };
     match name {
         "format" => lent::format(unique),
@@ -102,6 +110,8 @@ fn call(name: &str, blocks: usize, buffers: &mut Buffers) -> Reply {
         "store_cell" => lent::store_cell(unique, 0, 0, 1),
         "return_roots" => lent::return_roots(unique, 1),
         "collect" => lent::collect(unique),
+        "allocate_data" => lent::allocate_data(unique, 1, 1),
+        "write_number" => lent::write_number(unique, 1, 3, 65_535),
         "run_records" => {
             let ran = lent::run_records(unique, SoFar::default(), &[6, 0, 0, 0, 0, 0, 0, 0]);
             assert!(ran.reply.number == 0 || ran.run == SoFar::default());
@@ -115,6 +125,7 @@ fn call(name: &str, blocks: usize, buffers: &mut Buffers) -> Reply {
 fn lent_to_calls(blocks: usize) -> Buffers {
     let mut heap = fresh(blocks);
     assert_eq!(heap.allocate(1, 0).map(block), Ok(0));
+    assert_eq!(heap.allocate_data(1, 2).map(block), Ok(1));
     let mut buffers = heap.into_buffers();
     buffers.waiting.fill(99);
     buffers

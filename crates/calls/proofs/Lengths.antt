@@ -13,7 +13,7 @@ product width blocks w b = mul-le-mul w b
 
 -- the lengths that belong to a heap's numbers
 pub within-heap :
-    (n w r s : ℕ) → n ≤ 8192 → w ≤ 5 → r ≤ 65 → s ≤ 32 → Within (n / 8 ∷ n / 8 ∷ w * n / 8 ∷ 4 * n ∷ r ∷ n ∷ s ∷ [])
+    (n w r s : ℕ) → n ≤ 8192 → w ≤ 5 → r ≤ 65 → s ≤ 32 → Within (n / 8 ∷ n / 8 ∷ w * n / 8 ∷ 4 * n ∷ r ∷ n ∷ s ∷ n / 8 ∷ [])
 within-heap n w r s n-max w-max r-max s-max zero = omega arith
 within-heap n w r s n-max w-max r-max s-max (suc zero) = omega arith
 within-heap n w r s n-max w-max r-max s-max (suc (suc zero)) = omega (arith, product w n w-max n-max)
@@ -21,7 +21,8 @@ within-heap n w r s n-max w-max r-max s-max (suc (suc (suc zero))) = omega arith
 within-heap n w r s n-max w-max r-max s-max (suc (suc (suc (suc zero)))) = r-max
 within-heap n w r s n-max w-max r-max s-max (suc (suc (suc (suc (suc zero))))) = n-max
 within-heap n w r s n-max w-max r-max s-max (suc (suc (suc (suc (suc (suc zero)))))) = s-max
-within-heap n w r s n-max w-max r-max s-max (suc (suc (suc (suc (suc (suc (suc i))))))) = omega arith
+within-heap n w r s n-max w-max r-max s-max (suc (suc (suc (suc (suc (suc (suc zero))))))) = omega arith
+within-heap n w r s n-max w-max r-max s-max (suc (suc (suc (suc (suc (suc (suc (suc i)))))))) = omega arith
 
 -- another length of one buffer
 pub within-set :
@@ -35,7 +36,7 @@ within-set (x ∷ xs) [] (suc k) v b l (suc i) = within-set xs [] k v (λ j. b (
 within-set (x ∷ xs) (y ∷ ys) (suc k) v b l (suc i) = within-set xs ys k v (λ j. b (suc j)) l i
 
 -- the buffers are of the largest lengths, and the lent lengths within them
-pub record Held (a b counts cells roots waiting sections lengths : List ℕ) : Type 0 where
+pub record Held (a b counts cells roots waiting sections d lengths : List ℕ) : Type 0 where
   pub length-a : length a ≡ 1024
   pub length-b : length b ≡ 1024
   pub length-counts : length counts ≡ 5120
@@ -43,4 +44,5 @@ pub record Held (a b counts cells roots waiting sections lengths : List ℕ) : T
   pub length-roots : length roots ≡ 65
   pub length-waiting : length waiting ≡ 8192
   pub length-sections : length sections ≡ 32
+  pub length-d : length d ≡ 1024
   pub within : Within lengths

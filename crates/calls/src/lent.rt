@@ -21,7 +21,7 @@ pub const MAX_CELLS: usize = 4 * MAX_BLOCKS;
 
 pub const MAX_SECTIONS: usize = MAX_BLOCKS / MAX_SECTION;
 
-pub const BUFFERS: usize = 7;
+pub const BUFFERS: usize = 8;
 
 const LARGEST: [usize; BUFFERS] = [
     MAX_BYTES,
@@ -31,6 +31,7 @@ const LARGEST: [usize; BUFFERS] = [
     MAX_ROOTS,
     MAX_BLOCKS,
     MAX_SECTIONS,
+    MAX_BYTES,
 ];
 
 // Whether a heap asks for more than the largest.
@@ -66,7 +67,16 @@ pub fn lengths(heap: Entry) -> [usize; BUFFERS]
     }
     let n = heap.x;
     let sections = section_count(n);
-    [n / 8, n / 8, heap.y * n / 8, 4 * n, heap.z, n, sections]
+    [
+        n / 8,
+        n / 8,
+        heap.y * n / 8,
+        4 * n,
+        heap.z,
+        n,
+        sections,
+        n / 8,
+    ]
 }
 
 // Another length of a buffer; false where that is out of range.

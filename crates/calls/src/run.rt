@@ -37,6 +37,9 @@ fn next_entry(lengths: &mut [usize; lent::BUFFERS], k: usize) -> Entry
     } else if kind == calls_entries::NEW && lent::is_too_large(e) {
         say_wrong(k, b"too large\n");
         e.kind = calls_entries::LENGTH;
+    } else if kind == calls_entries::WRITE_NUMBER && e.z > calls_entries::MAX_NUMBER {
+        say_wrong(k, b"number out of range\n");
+        e.kind = calls_entries::LENGTH;
     } else if kind > calls_entries::LAST_CALL
         && kind != calls_entries::LOAD
         && kind != calls_entries::NEW
@@ -70,6 +73,7 @@ pub fn run(first: Entry) {
     let mut roots = [0 as Ref; lent::MAX_ROOTS];
     let mut waiting = [0 as Ref; MAX_BLOCKS];
     let mut sections = [0 as Ref; lent::MAX_SECTIONS];
+    let mut d = [0u8; lent::MAX_BYTES];
     let mut lengths = lent::lengths(heap);
     let mut k = 0;
     while k < MOST {
@@ -81,6 +85,7 @@ pub fn run(first: Entry) {
         let lroots = lengths[4];
         let lwaiting = lengths[5];
         let lsections = lengths[6];
+        let ld = lengths[7];
         let reply = calls_entries::perform::perform(
             heap,
             &mut a[..la],
@@ -90,6 +95,7 @@ pub fn run(first: Entry) {
             &mut roots[..lroots],
             &mut waiting[..lwaiting],
             &mut sections[..lsections],
+            &mut d[..ld],
             e,
         );
         if !say_outcome(e.kind, reply, k) || e.kind == calls_entries::END {
@@ -105,6 +111,7 @@ pub fn run(first: Entry) {
             roots = [0 as Ref; lent::MAX_ROOTS];
             waiting = [0 as Ref; MAX_BLOCKS];
             sections = [0 as Ref; lent::MAX_SECTIONS];
+            d = [0u8; lent::MAX_BYTES];
             lengths = lent::lengths(e);
         }
     }

@@ -12,7 +12,7 @@ fn outcome(done: bool) -> Reply {
     replies::refusal(1)
 }
 
-// What only reads: check, look and free blocks; of a length nothing is left to do; at the end of a heap its buffers, a line each.
+// What only reads: check, look, free blocks and the read of a number; of a length nothing is left to do; at the end of a heap its buffers, a line each.
 fn read(
     n: usize,
     w: usize,
@@ -23,13 +23,28 @@ fn read(
     roots: &[Ref],
     waiting: &[Ref],
     sections: &[Ref],
+    d: &[u8],
     e: Entry,
 ) -> Reply {
     let kind = e.kind;
     match kind {
-        1 => public_read::check(n, w, a, b, counts, cells, roots, waiting, sections),
-        6 => public_read::look(n, w, a, b, counts, cells, roots, waiting, sections, e.x),
-        7 => public_read::free_blocks(n, w, a, b, counts, cells, roots, waiting, sections),
+        1 => public_read::check(n, w, a, b, counts, cells, roots, waiting, sections, d),
+        6 => public_read::look(n, w, a, b, counts, cells, roots, waiting, sections, d, e.x),
+        7 => public_read::free_blocks(n, w, a, b, counts, cells, roots, waiting, sections, d),
+        11 => public_read::read_number(
+            n,
+            w,
+            a,
+            b,
+            counts,
+            cells,
+            roots,
+            waiting,
+            sections,
+            d,
+            e.x,
+            e.y,
+        ),
         254 => outcome(true),
         _ => {
             calls_output::say_bytes(a);
@@ -38,9 +53,15 @@ fn read(
             calls_output::say_refs(cells);
             calls_output::say_refs(roots);
             calls_output::say_refs(waiting);
-            outcome(calls_output::say_refs(sections))
+            calls_output::say_refs(sections);
+            outcome(calls_output::say_bytes(d))
         }
     }
+}
+
+// The number that an entry writes. One that no cell holds comes no further than to the reading of its entry.
+fn narrow(number: usize) -> Ref {
+    (number % 65536) as Ref
 }
 
 // A load into a buffer of bytes.
@@ -71,6 +92,7 @@ pub fn perform(
     roots: &mut [Ref],
     waiting: &mut [Ref],
     sections: &mut [Ref],
+    d: &mut [u8],
     e: Entry,
 ) -> Reply {
     let n = heap.x;
@@ -88,16 +110,32 @@ pub fn perform(
             4 => load_ref(roots, y, z),
             5 => load_ref(waiting, y, z),
             6 => load_ref(sections, y, z),
+            7 => load_byte(d, y, z),
             _ => outcome(false),
         };
     }
     let chosen = x as u64;
+    let number = narrow(z);
     match kind {
-        0 => public_heap::format(n, w, a, b, counts, cells, roots, waiting, sections),
-        2 => public_heap::allocate(n, w, a, b, counts, cells, roots, waiting, sections, x, y),
-        3 => public_store::store_root(n, w, a, b, counts, cells, roots, waiting, sections, x, y),
-        4 => public_store::store_cell(n, w, a, b, counts, cells, roots, waiting, sections, x, y, z),
-        5 => public_heap::collect(n, w, a, b, counts, cells, roots, waiting, sections),
+        0 => public_heap::format(n, w, a, b, counts, cells, roots, waiting, sections, d),
+        2 => public_heap::allocate(n, w, a, b, counts, cells, roots, waiting, sections, d, x, y),
+        3 => public_store::store_root(n, w, a, b, counts, cells, roots, waiting, sections, d, x, y),
+        4 => public_store::store_cell(
+            n,
+            w,
+            a,
+            b,
+            counts,
+            cells,
+            roots,
+            waiting,
+            sections,
+            d,
+            x,
+            y,
+            z,
+        ),
+        5 => public_heap::collect(n, w, a, b, counts, cells, roots, waiting, sections, d),
         8 => public_store::return_roots(
             n,
             w,
@@ -108,8 +146,38 @@ pub fn perform(
             roots,
             waiting,
             sections,
+            d,
             chosen,
         ),
-        _ => read(n, w, a, b, counts, cells, roots, waiting, sections, e),
+        9 => public_heap::allocate_data(
+            n,
+            w,
+            a,
+            b,
+            counts,
+            cells,
+            roots,
+            waiting,
+            sections,
+            d,
+            x,
+            y,
+        ),
+        10 => public_store::write_number(
+            n,
+            w,
+            a,
+            b,
+            counts,
+            cells,
+            roots,
+            waiting,
+            sections,
+            d,
+            x,
+            y,
+            number,
+        ),
+        _ => read(n, w, a, b, counts, cells, roots, waiting, sections, d, e),
     }
 }

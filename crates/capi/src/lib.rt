@@ -21,12 +21,24 @@ pub extern "C" fn huwekapo_format(
     roots: &mut [Ref],
     waiting: &mut [Ref],
     sections: &mut [Ref],
+    d: &mut [u8],
 ) -> Reply
     ensures { λ reply.
-        ⌜ Promise blocks width Call.format (before a b counts cells roots waiting sections) reply
-        (after a b counts cells roots waiting sections) ⌝ }
+        ⌜ Promise blocks width Call.format (before a b counts cells roots waiting sections d) reply
+        (after a b counts cells roots waiting sections d) ⌝ }
 {
-    public_heap::format(blocks, width, a, b, counts, cells, roots, waiting, sections)
+    public_heap::format(
+        blocks,
+        width,
+        a,
+        b,
+        counts,
+        cells,
+        roots,
+        waiting,
+        sections,
+        d,
+    )
 }
 
 #[no_mangle]
@@ -40,12 +52,13 @@ pub extern "C" fn huwekapo_allocate(
     roots: &mut [Ref],
     waiting: &mut [Ref],
     sections: &mut [Ref],
+    d: &mut [u8],
     n: usize,
     r: usize,
 ) -> Reply
     ensures { λ reply.
-        ⌜ Promise blocks width (Call.allocate n r) (before a b counts cells roots waiting sections) reply
-        (after a b counts cells roots waiting sections) ⌝ }
+        ⌜ Promise blocks width (Call.allocate n r) (before a b counts cells roots waiting sections d) reply
+        (after a b counts cells roots waiting sections d) ⌝ }
 {
     public_heap::allocate(
         blocks,
@@ -57,6 +70,7 @@ pub extern "C" fn huwekapo_allocate(
         roots,
         waiting,
         sections,
+        d,
         n,
         r,
     )
@@ -73,12 +87,13 @@ pub extern "C" fn huwekapo_store_root(
     roots: &mut [Ref],
     waiting: &mut [Ref],
     sections: &mut [Ref],
+    d: &mut [u8],
     r: usize,
     v: usize,
 ) -> Reply
     ensures { λ reply.
-        ⌜ Promise blocks width (Call.storeRoot r v) (before a b counts cells roots waiting sections) reply
-        (after a b counts cells roots waiting sections) ⌝ }
+        ⌜ Promise blocks width (Call.storeRoot r v) (before a b counts cells roots waiting sections d) reply
+        (after a b counts cells roots waiting sections d) ⌝ }
 {
     public_store::store_root(
         blocks,
@@ -90,6 +105,7 @@ pub extern "C" fn huwekapo_store_root(
         roots,
         waiting,
         sections,
+        d,
         r,
         v,
     )
@@ -106,13 +122,14 @@ pub extern "C" fn huwekapo_store_cell(
     roots: &[Ref],
     waiting: &mut [Ref],
     sections: &mut [Ref],
+    d: &mut [u8],
     at: usize,
     j: usize,
     v: usize,
 ) -> Reply
     ensures { λ reply.
-        ⌜ Promise blocks width (Call.storeCell at j v) (before a b counts cells roots waiting sections) reply
-        (after a b counts cells roots waiting sections) ⌝ }
+        ⌜ Promise blocks width (Call.storeCell at j v) (before a b counts cells roots waiting sections d) reply
+        (after a b counts cells roots waiting sections d) ⌝ }
 {
     public_store::store_cell(
         blocks,
@@ -124,6 +141,7 @@ pub extern "C" fn huwekapo_store_cell(
         roots,
         waiting,
         sections,
+        d,
         at,
         j,
         v,
@@ -141,11 +159,12 @@ pub extern "C" fn huwekapo_return_roots(
     roots: &mut [Ref],
     waiting: &mut [Ref],
     sections: &mut [Ref],
+    d: &mut [u8],
     chosen: u64,
 ) -> Reply
     ensures { λ reply.
-        ⌜ Promise blocks width (Call.returnRoots chosen) (before a b counts cells roots waiting sections) reply
-        (after a b counts cells roots waiting sections) ⌝ }
+        ⌜ Promise blocks width (Call.returnRoots chosen) (before a b counts cells roots waiting sections d) reply
+        (after a b counts cells roots waiting sections d) ⌝ }
 {
     public_store::return_roots(
         blocks,
@@ -157,6 +176,7 @@ pub extern "C" fn huwekapo_return_roots(
         roots,
         waiting,
         sections,
+        d,
         chosen,
     )
 }
@@ -172,12 +192,24 @@ pub extern "C" fn huwekapo_collect(
     roots: &[Ref],
     waiting: &mut [Ref],
     sections: &mut [Ref],
+    d: &mut [u8],
 ) -> Reply
     ensures { λ reply.
-        ⌜ Promise blocks width Call.collect (before a b counts cells roots waiting sections) reply
-        (after a b counts cells roots waiting sections) ⌝ }
+        ⌜ Promise blocks width Call.collect (before a b counts cells roots waiting sections d) reply
+        (after a b counts cells roots waiting sections d) ⌝ }
 {
-    public_heap::collect(blocks, width, a, b, counts, cells, roots, waiting, sections)
+    public_heap::collect(
+        blocks,
+        width,
+        a,
+        b,
+        counts,
+        cells,
+        roots,
+        waiting,
+        sections,
+        d,
+    )
 }
 
 #[no_mangle]
@@ -191,12 +223,24 @@ pub extern "C" fn huwekapo_check(
     roots: &[Ref],
     waiting: &[Ref],
     sections: &[Ref],
+    d: &[u8],
 ) -> Reply
     ensures { λ reply.
-        ⌜ Promise blocks width Call.check (before a b counts cells roots waiting sections) reply
-        (after a b counts cells roots waiting sections) ⌝ }
+        ⌜ Promise blocks width Call.check (before a b counts cells roots waiting sections d) reply
+        (after a b counts cells roots waiting sections d) ⌝ }
 {
-    public_read::check(blocks, width, a, b, counts, cells, roots, waiting, sections)
+    public_read::check(
+        blocks,
+        width,
+        a,
+        b,
+        counts,
+        cells,
+        roots,
+        waiting,
+        sections,
+        d,
+    )
 }
 
 #[no_mangle]
@@ -210,12 +254,24 @@ pub extern "C" fn huwekapo_free_blocks(
     roots: &[Ref],
     waiting: &[Ref],
     sections: &[Ref],
+    d: &[u8],
 ) -> Reply
     ensures { λ reply.
-        ⌜ Promise blocks width Call.freeBlocks (before a b counts cells roots waiting sections) reply
-        (after a b counts cells roots waiting sections) ⌝ }
+        ⌜ Promise blocks width Call.freeBlocks (before a b counts cells roots waiting sections d) reply
+        (after a b counts cells roots waiting sections d) ⌝ }
 {
-    public_read::free_blocks(blocks, width, a, b, counts, cells, roots, waiting, sections)
+    public_read::free_blocks(
+        blocks,
+        width,
+        a,
+        b,
+        counts,
+        cells,
+        roots,
+        waiting,
+        sections,
+        d,
+    )
 }
 
 #[no_mangle]
@@ -229,11 +285,12 @@ pub extern "C" fn huwekapo_look(
     roots: &[Ref],
     waiting: &[Ref],
     sections: &[Ref],
+    d: &[u8],
     at: usize,
 ) -> Reply
     ensures { λ reply.
-        ⌜ Promise blocks width (Call.look at) (before a b counts cells roots waiting sections) reply
-        (after a b counts cells roots waiting sections) ⌝ }
+        ⌜ Promise blocks width (Call.look at) (before a b counts cells roots waiting sections d) reply
+        (after a b counts cells roots waiting sections d) ⌝ }
 {
     public_read::look(
         blocks,
@@ -245,7 +302,115 @@ pub extern "C" fn huwekapo_look(
         roots,
         waiting,
         sections,
+        d,
         at,
+    )
+}
+
+#[no_mangle]
+pub extern "C" fn huwekapo_allocate_data(
+    blocks: usize,
+    width: usize,
+    a: &mut [u8],
+    b: &mut [u8],
+    counts: &mut [u8],
+    cells: &mut [Ref],
+    roots: &mut [Ref],
+    waiting: &mut [Ref],
+    sections: &mut [Ref],
+    d: &mut [u8],
+    n: usize,
+    r: usize,
+) -> Reply
+    ensures { λ reply.
+        ⌜ Promise blocks width (Call.allocateData n r) (before a b counts cells roots waiting sections d) reply
+        (after a b counts cells roots waiting sections d) ⌝ }
+{
+    public_heap::allocate_data(
+        blocks,
+        width,
+        a,
+        b,
+        counts,
+        cells,
+        roots,
+        waiting,
+        sections,
+        d,
+        n,
+        r,
+    )
+}
+
+#[no_mangle]
+pub extern "C" fn huwekapo_write_number(
+    blocks: usize,
+    width: usize,
+    a: &[u8],
+    b: &[u8],
+    counts: &[u8],
+    cells: &mut [Ref],
+    roots: &[Ref],
+    waiting: &[Ref],
+    sections: &[Ref],
+    d: &[u8],
+    at: usize,
+    j: usize,
+    v: Ref,
+) -> Reply
+    ensures { λ reply.
+        ⌜ Promise blocks width (Call.writeNumber at j v) (before a b counts cells roots waiting sections d) reply
+        (after a b counts cells roots waiting sections d) ⌝ }
+{
+    public_store::write_number(
+        blocks,
+        width,
+        a,
+        b,
+        counts,
+        cells,
+        roots,
+        waiting,
+        sections,
+        d,
+        at,
+        j,
+        v,
+    )
+}
+
+#[no_mangle]
+pub extern "C" fn huwekapo_read_number(
+    blocks: usize,
+    width: usize,
+    a: &[u8],
+    b: &[u8],
+    counts: &[u8],
+    cells: &[Ref],
+    roots: &[Ref],
+    waiting: &[Ref],
+    sections: &[Ref],
+    d: &[u8],
+    at: usize,
+    j: usize,
+) -> Reply
+    ensures { λ reply.
+        ⌜ Promise blocks width (Call.readNumber at j) (before a b counts cells roots waiting sections d) reply
+        (after a b counts cells roots waiting sections d) ⌝ }
+{
+    public_read::read_number(
+        blocks,
+        width,
+        a,
+        b,
+        counts,
+        cells,
+        roots,
+        waiting,
+        sections,
+        d,
+        at,
+        j,
     )
 }
 
@@ -260,14 +425,15 @@ pub extern "C" fn huwekapo_replay(
     roots: &mut [Ref],
     waiting: &mut [Ref],
     sections: &mut [Ref],
+    d: &mut [u8],
     calls: &[u64],
     replies: &mut [u64],
 ) -> Reply
     ensures { λ reply.
         ⌜ Replayed blocks width
-        (before a b counts cells roots waiting sections)
+        (before a b counts cells roots waiting sections d)
         (now (calls .entry)) (now (replies .entry)) reply
-        (after a b counts cells roots waiting sections)
+        (after a b counts cells roots waiting sections d)
         (now (replies .exit)) ⌝ }
 {
     replay::replay(
@@ -280,6 +446,7 @@ pub extern "C" fn huwekapo_replay(
         roots,
         waiting,
         sections,
+        d,
         calls,
         replies,
     )

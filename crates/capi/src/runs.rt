@@ -16,12 +16,13 @@ pub extern "C" fn huwekapo_run_records(
     roots: &mut [Ref],
     waiting: &mut [Ref],
     sections: &mut [Ref],
+    d: &mut [u8],
     run: Run,
     bytes: &[u8],
 ) -> Ran
     ensures { λ r.
-        ⌜ Promised blocks width (now (bytes .entry)) (before a b counts cells roots waiting sections) run r
-        (after a b counts cells roots waiting sections) ⌝ }
+        ⌜ Promised blocks width (now (bytes .entry)) (before a b counts cells roots waiting sections d) run r
+        (after a b counts cells roots waiting sections d) ⌝ }
 {
     history::run_records(
         blocks,
@@ -33,6 +34,7 @@ pub extern "C" fn huwekapo_run_records(
         roots,
         waiting,
         sections,
+        d,
         run,
         bytes,
     )
