@@ -38,11 +38,19 @@ A history that can't be run to its end has no such figures. `run` raises `Stoppe
     >>> heap
     <Heap of 8 blocks, width 2, 4 roots: 6 blocks in use>
 
+Cells of an object made as data hold any 16-bit number, and no reference:
+
+    >>> heap.format()
+    >>> pixels = heap.allocate_data(2, 0)
+    >>> heap.write_number(pixels, 7, 65535)
+    >>> heap.read_number(pixels, 7), heap.data[0]
+    (65535, 1)
+
 `python3 -m huwekapo` has the commands. The heap is the library libhuwekapo.so; this package lends it buffers and hands on what it
 answers. Nothing is proved of the package itself.
 """
 
-from .unreached import Garbage, Held, garbage, in_use, objects, stuck
+from .unreached import Garbage, Held, Kinds, data, garbage, in_use, kinds, objects, stuck
 from .heap import Heap, Look, Reply
 from .history import History, run
 from .library import VERSION, Figures, LibraryMissing
@@ -58,6 +66,7 @@ __all__ = [
     "Heap",
     "Held",
     "History",
+    "Kinds",
     "LibraryMissing",
     "Look",
     "Number",
@@ -65,8 +74,10 @@ __all__ = [
     "Reply",
     "Run",
     "Stopped",
+    "data",
     "garbage",
     "in_use",
+    "kinds",
     "objects",
     "run",
     "stuck",

@@ -212,21 +212,23 @@ def _report(chosen: argparse.Namespace) -> int:
     status = STOPPED if found.stopped else ENDED
     if chosen.csv or chosen.json:
         from .measures import Measured
-        from .unreached import garbage
+        from .unreached import garbage, kinds
         from .widths import write_csv, write_json
 
         write = write_csv if chosen.csv else write_json
-        write([Measured(chosen.blocks, chosen.width, chosen.roots, found, garbage(heap))], sys.stdout)
+        measured = Measured(chosen.blocks, chosen.width, chosen.roots, found, garbage(heap), kinds(heap))
+        write([measured], sys.stdout)
         return status
     sys.stdout.write(found.line())
     if not chosen.line:
-        from .measures import FIGURE_WORDS, GARBAGE_WORDS
-        from .unreached import garbage
+        from .measures import FIGURE_WORDS, GARBAGE_WORDS, KIND_WORDS
+        from .unreached import garbage, kinds
 
         if found.stopped:
             print(f"{found.number}: {found.stop_in_words()}. The records before it:")
-        held = garbage(heap)._asdict()
+        held, by_kind = garbage(heap)._asdict(), kinds(heap)._asdict()
         named = [(FIGURE_WORDS[name], figure) for name, figure in found.figures._asdict().items()]
+        named += [(KIND_WORDS[name], part.blocks) for name, part in by_kind.items()]
         named += [(f"{GARBAGE_WORDS[name]}, in blocks", part.blocks) for name, part in held.items()]
         for words, figure in named:
             print(f"  {words:<46}{figure:>15,}")

@@ -8,7 +8,7 @@ from __future__ import annotations
 
 from typing import Callable, Dict, Iterator, List, Optional
 
-from .records import ALLOCATE, CLEAR, COPY, READ, RECORD, WRITE, record
+from .records import ALLOCATE, ALLOCATE_DATA, CLEAR, COPY, READ, RECORD, WRITE, WRITE_NUMBER, record
 
 #: Variables of a program, as many as the program `report` has roots.
 _ROOTS = 64
@@ -55,6 +55,16 @@ class _Program:
         """d = new Object"""
         self._record(ALLOCATE, d=d, size=size)
         self.variables[d] = _Object(size)
+
+    def pixels(self, size: int, d: int) -> None:
+        """d = new short[4 * size]"""
+        self._record(ALLOCATE_DATA, d=d, size=size)
+        # Its cells name nothing.
+        self.variables[d] = _Object(0)
+
+    def draw(self, number: int, c: int, d: int) -> None:
+        """d[c] = number"""
+        self._record(WRITE_NUMBER, d=d, c=c, size=number)
 
     def copy(self, s: int, d: int) -> None:
         """d = s"""
@@ -265,6 +275,34 @@ def _leak(program: _Program) -> Iterator[None]:
         yield
 
 
+def _images(program: _Program) -> Iterator[None]:
+    """A viewer: an album of pictures, each of which names its pixels, a thumbnail of them and the picture that it was made from. The
+    pixels are data, which whatever is drawn there leaves alone."""
+    album, picture, pixels, thumbnail, other = range(5)
+    program.new(4, album)
+    while True:
+        place, size = program.below(16), 4 << program.below(3)
+        program.new(1, picture)
+        program.pixels(size, pixels)
+        for _ in range(2 + program.below(4)):
+            # Numbers that would be references elsewhere are among them.
+            program.draw(program.below(65_536) if program.chance(0.5) else program.below(1024), program.below(4 * size), pixels)
+        program.write(pixels, 0, picture)
+        program.pixels(1, thumbnail)
+        program.draw(program.below(65_536), program.below(4), thumbnail)
+        program.write(thumbnail, 1, picture)
+        if program.chance(0.3) and program.read(program.below(16), album, other):
+            # A picture made from another; some know what was made of them, and are on a cycle then.
+            program.write(other, 2, picture)
+            if program.chance(0.2):
+                program.write(picture, 3, other)
+            if program.chance(0.5) and program.read(0, other, pixels):
+                program.draw(program.below(65_536), program.below(16), pixels)
+        program.write(picture, place, album)
+        program.clear(picture, pixels, thumbnail, other)
+        yield
+
+
 #: The programs by name.
 PROGRAMS: Dict[str, Callable[[_Program], Iterator[None]]] = {
     "loops": _loops,
@@ -273,6 +311,7 @@ PROGRAMS: Dict[str, Callable[[_Program], Iterator[None]]] = {
     "trees": _trees,
     "caches": _caches,
     "leak": _leak,
+    "images": _images,
 }
 
 

@@ -36,9 +36,9 @@ class Heap:
 
     blocks is a power of two from 8 to 8,192, width 1 to 4, and there are 1 to 64 roots; else `Refused` 1 is raised. Each method is one
     call of the library, and hands on what it answers: a refusal is raised as `Refused`, and has changed nothing. References are 0, or
-    1 + the first block of an object.
+    1 + the first block of an object; cells of an object made as data hold any 16-bit number.
 
-    The buffers are readable as memoryviews: `a`, `b` and `counts` of bytes, `cells`, `roots`, `waiting` and `sections` of 16-bit
+    The buffers are readable as memoryviews: `a`, `b`, `counts` and `data` of bytes, `cells`, `roots`, `waiting` and `sections` of 16-bit
     numbers. They show the heap as it is, also after later calls. A heap may be used from several threads: its calls wait for each other.
 
     Two heaps are equal where blocks, width and all buffers but the waiting lists are; `copy` makes another that is.
@@ -181,6 +181,11 @@ class Heap:
         return self._view("sections")
 
     @property
+    def data(self) -> memoryview:
+        """The D-map: 1 on the first block of each object made as data, 0 everywhere else."""
+        return self._view("data")
+
+    @property
     def section_blocks(self) -> int:
         """The blocks of a section: 256, or all where there are fewer."""
         return min(self._blocks, MAX_SECTION)
@@ -197,12 +202,29 @@ class Heap:
         """Allocates n blocks into root r. The value is the first block. Refusals: 1, 2, 11, 3, 4, 5."""
         return self._stored("allocate", n, r)
 
+    def allocate_data(self, n: int, r: int) -> int:
+        """Allocates n blocks of data into root r: its cells are 0, and hold any number. The value is the first block.
+        Refusals: 1, 2, 11, 3, 4, 5."""
+        return self._stored("allocate_data", n, r)
+
+    def write_number(self, at: int, j: int, v: int) -> None:
+        """Writes v, 0 to 65,535, into cell j of the data at block `at`, and changes nothing else. Another v is no number of a cell:
+        OverflowError. Refusals: 1, 2, 11, 6, 7, 12."""
+        if not 0 <= operator.index(v) < 1 << 16:
+            raise OverflowError(f"{v} is no 16-bit number")
+        self._value("write_number", at, j, v)
+
+    def read_number(self, at: int, j: int) -> int:
+        """The number in cell j of the data at block `at`. Refusals: 1, 2, 11, 6, 7, 12."""
+        return self._value("read_number", at, j)
+
     def store_root(self, r: int, v: int) -> int:
         """Stores v in root r. The value is the number of blocks freed. Refusals: 1, 2, 11, 4, 8."""
         return self._stored("store_root", r, v)
 
     def store_cell(self, at: int, j: int, v: int) -> int:
-        """Stores v in cell j of the object at block `at`. The value is the number of blocks freed. Refusals: 1, 2, 11, 6, 7, 8."""
+        """Stores v in cell j of the object at block `at`. The value is the number of blocks freed.
+        Refusals: 1, 2, 11, 6, 7, 12, 8."""
         return self._stored("store_cell", at, j, v)
 
     def return_roots(self, chosen: int) -> int:

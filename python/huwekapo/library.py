@@ -12,7 +12,7 @@ import os
 from typing import Any, Callable, Iterator, List, NamedTuple
 
 #: The version of the library that this package is for, and its own.
-VERSION = "0.3.0"
+VERSION = "0.4.0"
 
 #: The environment variable that names the library: its file, or the folder that it lies in.
 VARIABLE = "HUWEKAPO_LIBRARY"
@@ -52,13 +52,14 @@ BUFFERS = (
     Buffer("roots", ctypes.c_uint16, lambda blocks, width, roots: roots),
     Buffer("waiting", ctypes.c_uint16, lambda blocks, width, roots: blocks),
     Buffer("sections", ctypes.c_uint16, lambda blocks, width, roots: max(1, blocks // MAX_SECTION)),
+    Buffer("data", ctypes.c_uint8, lambda blocks, width, roots: blocks // 8),
 )
 
 
 class Figures(NamedTuple):
     """The figures of a run, in the order of the printed line."""
 
-    #: accepted allocations
+    #: accepted allocations, those of data too
     allocations: int = 0
     #: blocks allocated in all
     blocks: int = 0
@@ -107,6 +108,9 @@ FUNCTIONS: dict[str, tuple[list[Any], Any]] = {
     "collect": ([], Reply),
     "look": ([WORD], Reply),
     "free_blocks": ([], Reply),
+    "allocate_data": ([WORD, WORD], Reply),
+    "write_number": ([WORD, WORD, ctypes.c_uint16], Reply),
+    "read_number": ([WORD, WORD], Reply),
     "replay": ([ctypes.c_void_p, WORD, ctypes.c_void_p, WORD], Reply),
     "run_records": ([RunSoFar, ctypes.c_void_p, WORD], Ran),
 }

@@ -11,14 +11,19 @@ from .history import History, Progress, Source
 from .library import Figures
 from .refused import stop_in_words
 from .runs import Run
-from .unreached import Garbage, garbage
+from .unreached import Garbage, Kinds, garbage, kinds
 
 _FIGURE_COLUMNS = {"blocks": "blocks_allocated", "largest": "largest_size", "stuck": "stuck_moments"}
 
-#: The columns that have a figure of a history: empty where its run stopped, since it has none then. Garbage is that at the end, in
-#: blocks.
+#: The columns that have a figure of the printed line.
+LINE_COLUMNS = [_FIGURE_COLUMNS.get(name, name) for name in Figures._fields]
+
+#: The columns that have a figure of a history: empty where its run stopped, since it has none then. Objects, data and garbage are
+#: those at the end, in blocks.
 FIGURE_COLUMNS = [
-    *(_FIGURE_COLUMNS.get(name, name) for name in Figures._fields),
+    *LINE_COLUMNS,
+    "object_blocks",
+    "data_blocks",
     "garbage_stuck_alone",
     "garbage_cycles_alone",
     "garbage_both",
@@ -38,6 +43,9 @@ FIGURE_WORDS = {
     "stuck": "moments at which an object became stuck",
 }
 
+#: The kinds of objects in words.
+KIND_WORDS = {"objects": "blocks of objects at the end", "data": "blocks of data at the end"}
+
 #: The parts of garbage in words.
 GARBAGE_WORDS = {
     "stuck": "garbage held by stuck counts alone",
@@ -47,19 +55,20 @@ GARBAGE_WORDS = {
 
 
 class Measured(NamedTuple):
-    """A history's run on a heap of so many blocks, with counts of so many bits, and the garbage that it left."""
+    """A history's run on a heap of so many blocks, with counts of so many bits, and the garbage and the kinds of objects that it left."""
 
     blocks: int
     width: int
     roots: int
     run: Run
     garbage: Garbage
+    kinds: Kinds
 
     def figures(self) -> List[Optional[int]]:
         """The numbers of `FIGURE_COLUMNS`: none where the run stopped."""
         if self.run.stopped:
             return [None] * len(FIGURE_COLUMNS)
-        return [*self.run.figures, *(held.blocks for held in self.garbage)]
+        return [*self.run.figures, *(held.blocks for held in (*self.kinds, *self.garbage))]
 
     def columns(self) -> Dict[str, Union[int, str, None]]:
         """What each of `COLUMNS` has."""
@@ -76,7 +85,7 @@ def measure(history: Source, blocks: int, width: int, roots: int, progress: Opti
     """Runs a history on a new heap, and looks at what is left. The run may stop."""
     heap = Heap(blocks, width, roots)
     run = History.of(history).run(heap, progress, may_stop=True)
-    return Measured(blocks, width, roots, run, garbage(heap))
+    return Measured(blocks, width, roots, run, garbage(heap), kinds(heap))
 
 
 def summary(runs: Iterable[Tuple[str, int]]) -> List[str]:

@@ -12,7 +12,7 @@ from .history import History, Progress, Source
 from .measures import GARBAGE_WORDS
 from .records import RECORD
 from .runs import Run
-from .unreached import Garbage, Held, garbage, in_use
+from .unreached import Garbage, Held, in_use, survey
 
 #: Samples of each run, where no step is given.
 _SAMPLES = 400
@@ -47,6 +47,8 @@ class Sample(NamedTuple):
     garbage: Garbage
     #: full collections since the sample before
     collections: int
+    #: of the blocks in use, those of data that a root reaches
+    data: int
 
 
 class Course(NamedTuple):
@@ -78,12 +80,13 @@ def _share(records: int) -> int:
 
 def _course(history: History, blocks: int, width: int, roots: int, step: int, progress: Optional[Progress]) -> Course:
     heap = Heap(blocks, width, roots)
-    samples = [Sample(0, 0, 0, _NOTHING, 0)]
+    samples = [Sample(0, 0, 0, _NOTHING, 0, 0)]
     run = Run()
     for after, highest in history.steps(heap, step):
         collections = after.figures.collections - run.figures.collections
         if after.records > run.records or collections:
-            samples.append(Sample(after.records, in_use(heap), highest, garbage(heap), collections))
+            reached, garbage = survey(heap)
+            samples.append(Sample(after.records, in_use(heap), highest, garbage, collections, reached.data.blocks))
         run = after
         if progress:
             progress(RECORD * run.records)
@@ -181,6 +184,7 @@ def draw(courses: Sequence[Course], blocks: int, title: Optional[str], columns: 
 
 #: What a panel shows: the bands from below upwards, each with how it is filled, the line and the marks.
 _BANDS = {
+    "data reached by a root": {"facecolor": "#b7d3b0", "edgecolor": "none"},
     "reached by a root": {"facecolor": "#dfe8f2", "edgecolor": "none"},
     GARBAGE_WORDS["stuck"]: {"facecolor": "#f4b183", "edgecolor": "0.35", "hatch": "////"},
     GARBAGE_WORDS["both"]: {"facecolor": "#c9a6c9", "edgecolor": "0.35", "hatch": "xxxx"},
@@ -194,7 +198,7 @@ _STOP = "the run stopped"
 def _heights(sample: Sample) -> list[int]:
     """The blocks of each band at a sample."""
     parts = sample.garbage
-    return [sample.in_use - parts.blocks, parts.stuck.blocks, parts.both.blocks, parts.cycles.blocks]
+    return [sample.data, sample.in_use - parts.blocks - sample.data, parts.stuck.blocks, parts.both.blocks, parts.cycles.blocks]
 
 
 def _parts(courses: Sequence[Course]) -> list[str]:

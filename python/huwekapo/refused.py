@@ -21,6 +21,7 @@ class Number(enum.IntEnum):
     NO_CALL = 9
     CUT_OFF = 10
     STALE_SECTIONS = 11
+    WRONG_KIND = 12
     SHORT_REPLIES = 18
     BAD_RUN = 19
 
@@ -33,6 +34,7 @@ class Damage(enum.IntEnum):
     UNALIGNED = 3
     DANGLING_REFERENCE = 4
     WRONG_COUNT = 5
+    STRAY_DATA = 7
 
 
 _CALL_WORDS: Dict[int, str] = {
@@ -44,9 +46,11 @@ _CALL_WORDS: Dict[int, str] = {
     Number.NO_OBJECT: "`at` is not a first block (or not below blocks)",
     Number.BAD_CELL: "j is not below 4 times the object's size",
     Number.BAD_REFERENCE: "v is neither 0 nor 1 + a first block",
-    Number.NO_CALL: "an entry is no call: its code is above 8",
+    Number.NO_CALL: "an entry is no call: its code is above 11, or it writes a number above 65,535",
     Number.CUT_OFF: "the list ends inside a call",
     Number.STALE_SECTIONS: "a number of `sections` is not the size of the largest free chunk of its section",
+    Number.WRONG_KIND: "a reference is stored in a cell of data, or read from one; or a number is written or read where the object is "
+    "not data",
     Number.SHORT_REPLIES: "`replies` is too short for the replies of all calls",
     Number.BAD_RUN: "no run leaves these numbers",
 }
@@ -59,15 +63,18 @@ _RECORD_WORDS: Dict[int, str] = {
     Number.BAD_CELL: "the cell is not below 4 times the object's size",
     Number.NO_CALL: "an unknown operation, or a field that has to be 0 and is not",
     Number.CUT_OFF: "the file ends inside a record, or goes on past 4,294,967,295 records",
+    Number.WRONG_KIND: "a reference is stored in data or read from it, or a number is written where the object is not data",
 }
 
 _DAMAGE_WORDS: Dict[int, str] = {
     Damage.END_ON_FREE: "a 0 in the B-map on a free block",
     Damage.OPEN_END: "an allocated block with B bit 1 whose next block is free or past the end",
     Damage.UNALIGNED: "an object whose first block is not a multiple of the least power of two that is its size or more",
-    Damage.DANGLING_REFERENCE: "a cell of a free block that isn't 0, or a cell or root that is neither 0 nor 1 + a first block",
+    Damage.DANGLING_REFERENCE: "a cell of a free block that isn't 0, or a cell, not of data, or a root that is neither 0 nor 1 + a first "
+    "block",
     Damage.WRONG_COUNT: "a count other than 0 where no object starts; an object with count 0; a count below capacity that differs "
-    "from the number of all cells and roots naming the object",
+    "from the number of all roots and all cells, but those of data, naming the object",
+    Damage.STRAY_DATA: "a D bit where no object starts",
 }
 
 

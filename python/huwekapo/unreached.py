@@ -14,6 +14,13 @@ class Held(NamedTuple):
     blocks: int
 
 
+class Kinds(NamedTuple):
+    """Some objects by their kind: ordinary ones, and those made as data."""
+
+    objects: Held
+    data: Held
+
+
 class Garbage(NamedTuple):
     """The objects that no root reaches, by what holds them.
 
@@ -57,17 +64,44 @@ def stuck(heap: Heap) -> list[int]:
     return _blocks(at_capacity)
 
 
+def kinds(heap: Heap) -> Kinds:
+    """The objects of a heap that is not damaged, by their kind: reached or not."""
+    return _by_kind(objects(heap), data(heap))
+
+
+def data(heap: Heap) -> set[int]:
+    """The first blocks of the objects made as data, of a heap that is not damaged."""
+    return set(_blocks(_map(heap.data)))
+
+
 def garbage(heap: Heap) -> Garbage:
-    """What no root reaches, of a heap that is not damaged."""
+    """What no root reaches, of a heap that is not damaged. Cells of data are numbers, and lead nowhere."""
+    return survey(heap)[1]
+
+
+def survey(heap: Heap) -> tuple[Kinds, Garbage]:
+    """What a root reaches, by its kind, and what none does, by what holds it, of a heap that is not damaged."""
     sizes = objects(heap)
+    numbers = data(heap)
     cells = heap.cells.tolist()
+    for first in numbers:
+        cells[4 * first : 4 * (first + sizes[first])] = 4 * sizes[first] * [0]
     reached = _led_to((v - 1 for v in heap.roots.tolist() if v), sizes, cells, set())
     unreached = sizes.keys() - reached
     alone = _unnamed(unreached, sizes, cells)
     by_stuck = _led_to((first for first in stuck(heap) if first not in reached), sizes, cells, reached)
     by_cycles = unreached - alone
     parts = (alone, by_cycles - by_stuck, by_cycles & by_stuck)
-    return Garbage(*(Held(len(some), sum(sizes[first] for first in some)) for some in parts))
+    return _by_kind({first: sizes[first] for first in reached}, numbers), Garbage(*(_held(some, sizes) for some in parts))
+
+
+def _held(some: Iterable[int], sizes: dict[int, int]) -> Held:
+    found = [sizes[first] for first in some]
+    return Held(len(found), sum(found))
+
+
+def _by_kind(sizes: dict[int, int], numbers: AbstractSet[int]) -> Kinds:
+    return Kinds(_held(sizes.keys() - numbers, sizes), _held(sizes.keys() & numbers, sizes))
 
 
 def _unnamed(some: AbstractSet[int], sizes: dict[int, int], cells: list[int]) -> set[int]:

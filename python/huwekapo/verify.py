@@ -13,7 +13,7 @@ from . import library
 from .files import Place, shown
 from .heap import Heap
 from .library import REPORT_BLOCKS, REPORT_ROOTS, REPORT_WIDTH
-from .measures import FIGURE_COLUMNS
+from .measures import LINE_COLUMNS
 from .refused import Refused
 from .sweep import TABLE_COLUMNS, Row, SweepError, Task, cell, finished, histories, task_of, whole_rows, workers_for
 
@@ -123,8 +123,7 @@ def _held_against(report: str, history: Path, row: Row) -> Iterator[str]:
     with open(history, "rb") as file:
         ran = subprocess.run([report], stdin=file, stdout=subprocess.PIPE, check=False)
     line = ran.stdout.decode("ascii", "replace").rstrip("\n")
-    in_line = [name for name in FIGURE_COLUMNS if not name.startswith("garbage_")]
-    due = cell(row, "stopped") or " ".join(cell(row, name) for name in in_line)
+    due = cell(row, "stopped") or " ".join(cell(row, name) for name in LINE_COLUMNS)
     if line != due:
         yield f"the program report prints {_shown(line)}; the row's line is {_shown(due)}"
 

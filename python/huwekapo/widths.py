@@ -47,19 +47,25 @@ _HEADS = [
     ("full", "collections", "collections"),
     ("most blocks", "in use", "peak"),
     ("stuck", "moments", "stuck_moments"),
+    ("blocks of", "data", "data_blocks"),
     ("garbage held by", "stuck counts alone", "garbage_stuck_alone"),
     ("garbage held by", "cycles alone", "garbage_cycles_alone"),
     ("garbage held", "by both", "garbage_both"),
     ("", "stopped", "stopped"),
 ]
 
+#: The place of the column of data.
+_DATA = [head[2] for head in _HEADS].index("data_blocks")
+
 
 def text(measures: Iterable[Measured]) -> str:
-    """The table for reading. A run that stopped has no figures."""
+    """The table for reading. A run that stopped has no figures. The column of data is left out where no run left any."""
     rows: list[tuple[str, ...]] = [tuple(head[line] for head in _HEADS) for line in range(2)]
     for measured in measures:
         columns = measured.columns()
         rows.append(tuple(_word(columns[head[2]]) for head in _HEADS))
+    if all(row[_DATA] in ("-", "0") for row in rows[2:]):
+        rows = [row[:_DATA] + row[_DATA + 1 :] for row in rows]
     breadths = [max(map(len, column)) for column in zip(*rows)]
     lines = ["  ".join(word.rjust(breadth) for word, breadth in zip(row, breadths)).rstrip() for row in rows]
     return "\n".join(lines) + "\n"

@@ -26,4 +26,12 @@ def clear(d: int) -> bytes:
     return record(records.CLEAR, d=d)
 
 
+def allocate_data(size: int, d: int) -> bytes:
+    return record(records.ALLOCATE_DATA, d=d, size=size)
+
+
+def write_number(v: int, c: int, d: int) -> bytes:
+    return record(records.WRITE_NUMBER, d=d, c=c, size=v)
+
+
 COLLECT = record(records.COLLECT)

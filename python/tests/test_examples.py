@@ -50,6 +50,11 @@ class Examples(unittest.TestCase):
             self.assertEqual(peaks, sorted(peaks, reverse=True), name)
             self.assertGreater(peaks[0], 2 * peaks[3], name)
             self.assertEqual(by_width[name][3].garbage.cycles.blocks, 0, name)
+        # Pixels are most of what images has, and no other program has any.
+        for name, (*_, widest) in by_width.items():
+            kinds = widest.kinds
+            self.assertEqual(kinds.data.blocks > 5 * kinds.objects.blocks, name == "images", name)
+            self.assertEqual(kinds.data.blocks == 0, name != "images", name)
         # .. and don't help where there are cycles.
         for name in ["lists", "trees"]:
             self.assertEqual(by_width[name][3].garbage.stuck.blocks, 0, name)
@@ -58,7 +63,7 @@ class Examples(unittest.TestCase):
             self.assertGreater(by_width[name][0].garbage.both.blocks, 1000, name)
 
 
-DIGEST = "560cb5d595616c7c492f0d4bd99e49ef4b58db81b29b690e911e738459e7f80a"
+DIGEST = "55ee933256f726fc4d1bf8dd59bbbe08b95c6a666b68ebd7f758769e0bce253d"
 
 if __name__ == "__main__":
     unittest.main()

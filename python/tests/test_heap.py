@@ -67,6 +67,45 @@ class Calls(unittest.TestCase):
         self.assertEqual(heap.free_blocks(), 8)
         self.assertEqual(list(heap.roots), [0, 0, 0, 0])
 
+    def test_data(self) -> None:
+        heap = Heap(8, 2, 4)
+        self.assertEqual((heap.allocate_data(2, 0), heap.allocate(1, 1)), (0, 2))
+        self.assertEqual((heap.data[0], heap.cells[:8].tolist()), (1, 8 * [0]))
+        # Numbers that look like references, 65535, and the ends of what a cell holds.
+        for j, v in enumerate([3, 1, 4, 65535, 0, 256, 9, 65534]):
+            before = {buffer.name: list(getattr(heap, buffer.name)) for buffer in library.BUFFERS}
+            heap.write_number(0, j, v)
+            self.assertEqual(heap.read_number(0, j), v)
+            before["cells"][j] = v
+            # One cell, and nothing else.
+            self.assertEqual({name: list(getattr(heap, name)) for name in before}, before)
+        heap.check()
+        self.assertEqual((heap.collect(), heap.look(2), heap.look(0)), (0, Look(1, 1), Look(2, 1)))
+        for number, name, call in [
+            (12, "WRONG_KIND", lambda: heap.store_cell(0, 7, 9)),
+            (12, "WRONG_KIND", lambda: heap.write_number(2, 3, 0)),
+            (12, "WRONG_KIND", lambda: heap.read_number(2, 3)),
+            (7, "BAD_CELL", lambda: heap.store_cell(0, 8, 9)),
+            (7, "BAD_CELL", lambda: heap.read_number(2, 4)),
+            (6, "NO_OBJECT", lambda: heap.write_number(1, 0, 0)),
+            (3, "BAD_SIZE", lambda: heap.allocate_data(9, 9)),
+            (4, "BAD_ROOT", lambda: heap.allocate_data(1, 4)),
+            (5, "NO_CHUNK", lambda: heap.allocate_data(8, 3)),
+        ]:
+            with self.subTest(name=name), self.refused(number, 0, name):
+                call()
+        # ctypes alone would make 0 of it.
+        for v in [65536, 65537, 2**64, -1]:
+            with self.subTest(v=v), self.assertRaises(OverflowError):
+                heap.write_number(0, 0, v)
+        self.assertEqual(heap.read_number(0, 0), 3)
+        # Freed, it leaves nothing, and lets go of nothing: the object at 2 is there.
+        self.assertEqual(heap.store_root(0, 0), 2)
+        self.assertEqual((heap.data[0], heap.cells[:8].tolist(), heap.look(2)), (0, 8 * [0], Look(1, 1)))
+        narrow = Heap(8, 1, 4)
+        narrow.allocate_data(1, 0)
+        self.assertTrue(narrow.became_stuck)
+
     def test_became_stuck(self) -> None:
         heap = Heap(8, 2, 4)
         told = []
@@ -95,7 +134,10 @@ class Calls(unittest.TestCase):
         self.assertEqual(replies, [Reply(0, 0, 0), Reply(0, 2, 0), Reply(0, 4, 0), Reply(0, 3, 1), Reply(3, 0, 0), Reply(0, 5, 0)])
         self.assertEqual(heap.replay([]), [])
         with self.refused(9, 0, "NO_CALL"):
-            heap.replay([(9,)])
+            heap.replay([(12,)])
+        with self.refused(9, 0, "NO_CALL"):
+            heap.replay([(9, 1, 0), (10, 0, 0, 65536)])
+        self.assertEqual(heap.replay([(9, 1, 0), (10, 0, 3, 65535), (11, 0, 3)]), [Reply(0, 0, 0), Reply(0, 0, 0), Reply(0, 65535, 0)])
         with self.assertRaises(ValueError):
             heap.replay([(2, 2, 0, 0, 0)])
 
@@ -119,7 +161,7 @@ class Calls(unittest.TestCase):
         self.assertEqual(pickle.loads(pickle.dumps(Refused(2, 3))).name, "UNALIGNED")
 
     def test_damage(self) -> None:
-        fresh = {"counts": [0, 0], "cells": 32 * [0], "roots": 4 * [0], "sections": [8]}
+        fresh = {"counts": [0, 0], "cells": 32 * [0], "roots": 4 * [0], "sections": [8], "data": [0]}
         for a, b, kind in [(0, 254, "END_ON_FREE"), (1, 255, "OPEN_END"), (6, 251, "UNALIGNED")]:
             heap = Heap.from_buffers(8, 2, a=[a], b=[b], **fresh)
             with self.subTest(kind=kind), self.refused(2, Damage[kind], kind):
@@ -128,6 +170,8 @@ class Calls(unittest.TestCase):
             Heap.from_buffers(8, 2, a=[0], b=[255], **{**fresh, "roots": [1, 0, 0, 0]}).check()
         with self.refused(2, 5, "WRONG_COUNT"):
             Heap.from_buffers(8, 2, a=[0], b=[255], **{**fresh, "counts": [1, 0]}).check()
+        with self.refused(2, 7, "STRAY_DATA"):
+            Heap.from_buffers(8, 2, a=[0], b=[255], **{**fresh, "data": [1]}).check()
         Heap.from_buffers(8, 2, a=[0], b=[255], waiting=8 * [65535], **fresh).check()
         with self.refused(1, 0, "MISSHAPEN"):
             Heap.from_buffers(8, 2, a=[0, 0], b=[255], **fresh).check()
@@ -150,9 +194,9 @@ class Calls(unittest.TestCase):
 
     def test_views(self) -> None:
         heap = Heap(16, 3, 5)
-        views = {name: getattr(heap, name) for name in ["a", "b", "counts", "cells", "roots", "waiting", "sections"]}
+        views = {name: getattr(heap, name) for name in ["a", "b", "counts", "cells", "roots", "waiting", "sections", "data"]}
         lengths = {name: len(view) for name, view in views.items()}
-        self.assertEqual(lengths, {"a": 2, "b": 2, "counts": 6, "cells": 64, "roots": 5, "waiting": 16, "sections": 1})
+        self.assertEqual(lengths, {"a": 2, "b": 2, "counts": 6, "cells": 64, "roots": 5, "waiting": 16, "sections": 1, "data": 2})
         with self.assertRaises(TypeError):
             views["roots"][0] = 1
         heap.allocate(1, 4)
@@ -298,6 +342,9 @@ class Header(unittest.TestCase):
         parts = [macros[f"VERSION_{part}"] for part in ("MAJOR", "MINOR", "PATCH")]
         self.assertEqual(".".join(parts), huwekapo.__version__)
         self.assertEqual(int(macros["BUFFER_COUNT"]), len(library.BUFFERS))
+        # No macro is defined twice.
+        defined = re.findall(r"#define (\w+)", self.code)
+        self.assertEqual(len(defined), len(set(defined)))
         limits = [library.MAX_BLOCKS, library.MAX_WIDTH, library.MAX_ROOTS]
         self.assertEqual([int(macros[f"MAX_{name}"]) for name in ("BLOCKS", "WIDTH", "ROOTS")], limits)
 
@@ -312,25 +359,30 @@ class Header(unittest.TestCase):
     def test_functions(self) -> None:
         kinds = {
             "size_t": "WORD",
+            "uint16_t": "uint16",
             "uint64_t": "uint64",
             "struct huwekapo_run": "run",
             **{f"{const}{number} *": "pointer" for const in ("", "const ") for number in ("uint8_t", "uint16_t", "uint64_t")},
         }
-        declared = {library.WORD: "WORD", library.ctypes.c_uint64: "uint64", library.RunSoFar: "run", library.ctypes.c_void_p: "pointer"}
+        declared = {
+            library.ctypes.c_uint16: "uint16", library.WORD: "WORD", library.ctypes.c_uint64: "uint64", library.RunSoFar: "run",
+            library.ctypes.c_void_p: "pointer",
+        }
         # On x86-64 both are the same type of ctypes.
         if library.WORD is library.ctypes.c_uint64:
             kinds["uint64_t"] = declared[library.WORD] = "WORD"
         found = re.findall(r"struct huwekapo_(\w+) huwekapo_(\w+)\((.*?)\);", self.code, flags=re.DOTALL)
         self.assertEqual({name for _, name, _ in found}, set(library.FUNCTIONS))
         # Every function begins with the same buffers, which a macro names once.
-        macro = re.search(r"#define HUWEKAPO_BUFFERS_\(byte, number, root\)(.*?[^\\])\n", self.code, flags=re.DOTALL)
+        macro = re.search(r"#define HUWEKAPO_BUFFERS_\(byte, number, cell, root\)(.*?[^\\])\n", self.code, flags=re.DOTALL)
         assert macro
         lent = [argument.split()[-1].lstrip("*") for argument in macro.group(1).replace("\\\n", " ").split(",")]
         names = [buffer.name for buffer in library.BUFFERS]
         self.assertEqual(lent, ["blocks", "width", *(word for name in names for word in (name, f"{name}_length"))])
+        lending = ["HUWEKAPO_BUFFERS", "HUWEKAPO_BUFFERS_BUT_ROOTS", "HUWEKAPO_CONST_BUFFERS_BUT_CELLS", "HUWEKAPO_CONST_BUFFERS"]
         for answer, name, arguments in found:
             first, *others = arguments.split(",")
-            self.assertIn(first.strip(), ["HUWEKAPO_BUFFERS", "HUWEKAPO_BUFFERS_BUT_ROOTS", "HUWEKAPO_CONST_BUFFERS"], name)
+            self.assertIn(first.strip(), lending, name)
             words = [re.fullmatch(r"\s*(.*?)(\w+)\s*", argument).groups() for argument in others]  # type: ignore[union-attr]
             rest = [kinds[kind.strip()] for kind, _ in words]
             self.assertEqual(rest, [declared[kind] for kind in library.FUNCTIONS[name][0]], name)

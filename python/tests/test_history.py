@@ -15,7 +15,7 @@ from unittest import mock
 import huwekapo
 from huwekapo import Figures, Heap, History, Refused, Run, Stopped, examples, in_use
 
-from .records import COLLECT, allocate, clear, copy, read, record, write
+from .records import COLLECT, allocate, allocate_data, clear, copy, read, record, write, write_number
 
 THREE = allocate(2, 0) + allocate(1, 1) + allocate(3, 2)
 
@@ -38,6 +38,20 @@ class Lines(unittest.TestCase):
         run = huwekapo.run(io.BytesIO(cycle), 8, 1)
         self.assertEqual(run.figures, Figures(allocations=2, blocks=6, largest=4, collections=1, peak=4, stuck=2))
 
+    def test_data(self) -> None:
+        # 2 blocks of data in root 0, a number in its last cell, an object in root 1 that names it; both count as allocations.
+        start = allocate_data(2, 0) + write_number(65535, 7, 0) + allocate(1, 1) + write(0, 0, 1)
+        heap = Heap(8, 1, 4)
+        run = heap.run_records(Run(), start)
+        # Each is born stuck at width 1; a number makes nothing stuck.
+        self.assertEqual((run.line(), heap.read_number(0, 7), heap.cells[8]), ("2 3 2 0 3 2\n", 65535, 1))
+        for record_, number in [(read(0, 0, 2), 12), (write(1, 0, 0), 12), (write_number(0, 0, 1), 12), (read(8, 0, 2), 7), (read(0, 1, 2), 0)]:
+            self.assertEqual(huwekapo.run(start + record_, 8, 2, 4, may_stop=True).number, number)
+        # 7 forces a collection as 1 does: the data that is stuck and let go of makes room.
+        again = allocate_data(8, 0) + clear(0) + allocate_data(8, 1)
+        self.assertEqual(huwekapo.run(again, 8, 1, 4).line(), "2 16 8 1 8 2\n")
+        self.assertEqual(huwekapo.run(allocate_data(8, 0) + allocate_data(1, 1), 8, 1, 4, may_stop=True).figures.collections, 1)
+
     def test_stops(self) -> None:
         for number, history in [
             (3, allocate(0, 99)),
@@ -47,7 +61,14 @@ class Lines(unittest.TestCase):
             (6, read(0, 1, 2)),
             (6, write(0, 0, 1)),
             (7, write(0, 8, 0)),
-            (9, record(7)),
+            (3, allocate_data(0, 99)),
+            (4, write_number(1, 0, 64)),
+            (6, write_number(1, 0, 1)),
+            (7, write_number(1, 8, 0)),
+            (12, write_number(1, 7, 0)),
+            (9, record(9)),
+            (9, record(8, s=1)),
+            (9, record(7, size=1, c=1)),
             (9, record(5, unused=1)),
             (10, b"\x05"),
         ]:
@@ -94,7 +115,7 @@ class Runs(unittest.TestCase):
 
     def test_stopped_run(self) -> None:
         heap = Heap(8, 2, 4)
-        run = heap.run_records(Run(), record(7))
+        run = heap.run_records(Run(), record(9))
         self.assertEqual(heap.run_records(run, THREE), run)
         self.assertEqual(heap.free_blocks(), 8)
 

@@ -15,7 +15,7 @@ from huwekapo import examples
 from huwekapo.measures import GARBAGE_WORDS
 from huwekapo.plot import BREADTHS, MatplotlibMissing, course, draw, kind, plot
 
-from .records import COLLECT, allocate, clear, copy, write
+from .records import COLLECT, allocate, allocate_data, clear, copy, write, write_number
 
 try:
     import matplotlib
@@ -46,6 +46,15 @@ class Courses(unittest.TestCase):
         # A step of its own: some 400 samples.
         self.assertEqual(len(course(history, 1024, 1, 64).samples), 401)
         self.assertEqual([sample.records for sample in course(b"", 8, 1, 1).samples], [0])
+
+    def test_data(self) -> None:
+        # At width 1: data of 4 blocks, an object, the data let go, which is stuck; then data of 2 blocks. Numbers lead nowhere.
+        history = allocate_data(4, 0) + write_number(5, 0, 0) + allocate(1, 1) + clear(0) + clear(1) + allocate_data(2, 2)
+        samples = course(history, 16, 1, 4, step=1).samples
+        self.assertEqual([sample.data for sample in samples], [0, 4, 4, 4, 0, 0, 2])
+        self.assertEqual([sample.in_use for sample in samples], [0, 4, 4, 5, 5, 5, 7])
+        self.assertEqual([sample.garbage.stuck.blocks for sample in samples], [0, 0, 0, 0, 4, 5, 5])
+        self.assertEqual({sample.data for sample in course(HISTORY, 16, 1, 4, step=1).samples}, {0})
 
     def test_a_run_that_stops_early(self) -> None:
         # The step is a share of the run, and not of the file.
@@ -100,6 +109,13 @@ class Pictures(unittest.TestCase):
         found = self.bands(panel)
         self.assertEqual(found[GARBAGE_WORDS["both"]], [0, 0, 0, 0, 0, 0, 0, 0, 1, 1])
         self.assertNotIn(GARBAGE_WORDS["cycles"], found)
+
+    def test_a_band_of_data(self) -> None:
+        (panel,) = self.drawn(allocate_data(4, 0) + allocate(1, 1) + clear(0) + clear(1), 16, [1]).axes
+        self.assertEqual(
+            self.bands(panel),
+            {"data reached by a root": [4, 4, 0, 0], "reached by a root": [0, 1, 1, 0], GARBAGE_WORDS["stuck"]: [0, 0, 4, 5]},
+        )
 
     def test_steps_and_peaks(self) -> None:
         # Five records a step: the line has the most in use in each, flat, though less is in use at its end.

@@ -26,6 +26,9 @@ OTHERS: Dict[str, Callable[[Heap], object]] = {
     "collect": lambda heap: heap.collect(),
     "look": lambda heap: heap.look(0),
     "free_blocks": lambda heap: heap.free_blocks(),
+    "allocate_data": lambda heap: heap.allocate_data(1, 1),
+    "write_number": lambda heap: heap.write_number(1, 3, 65535),
+    "read_number": lambda heap: heap.read_number(1, 3),
     "run_records": lambda heap: heap.run_records(Run(), COLLECT),
 }
 
@@ -50,6 +53,7 @@ def lent(blocks: int) -> Dict[str, List[int]]:
     """The buffers of the heap for the calls above, with anything in the waiting list."""
     heap = Heap(blocks, 2, 4)
     heap.allocate(1, 0)
+    heap.allocate_data(1, 2)
     return {**buffers(heap), "waiting": blocks * [99]}
 
 

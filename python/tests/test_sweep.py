@@ -43,7 +43,8 @@ class Case(unittest.TestCase):
         return path
 
     def put_examples(self, records: int, seeds: Sequence[int] = (1, 2)) -> None:
-        for name in examples.PROGRAMS:
+        # Data among them.
+        for name in ["calls", "lists", "trees", "caches", "leak", "images"]:
             for seed in seeds:
                 self.put(f"{name}/{seed}.history", examples.example(name, records, seed))
         self.put("stopped.history", allocate(1, 0) + allocate(0, 0))
@@ -72,6 +73,8 @@ class Sweeps(Case):
             self.assertEqual((row["number"], row["records"], row["stopped"]), (str(run.number), str(run.records), run.stop()))
             # A run that stopped has no figures.
             self.assertEqual(row["peak"], "" if run.stopped else str(run.figures.peak))
+            has_data = not run.stopped and row["history"].startswith("images/")
+            self.assertEqual(row["data_blocks"] not in ("", "0"), has_data, row["history"])
             self.assertEqual(row["library"], library.build())
         stops = {row["history"]: row["stopped"] for row in rows if row["stopped"]}
         words = {"stopped.history": "refused 3 at record 1", "cut off, and with a comma.history": "refused 10 at record 1"}

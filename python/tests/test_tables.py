@@ -13,10 +13,10 @@ from pathlib import Path
 import huwekapo
 from huwekapo import examples, library
 from huwekapo.library import Figures
-from huwekapo.measures import COLUMNS, FIGURE_COLUMNS, FIGURE_WORDS, GARBAGE_WORDS, summary
+from huwekapo.measures import COLUMNS, FIGURE_COLUMNS, FIGURE_WORDS, GARBAGE_WORDS, KIND_WORDS, LINE_COLUMNS, summary
 from huwekapo.widths import text, widths, write_csv, write_json
 
-from .records import allocate, clear, copy, write
+from .records import allocate, allocate_data, clear, copy, write, write_number
 
 #: An object that is stuck at width 2 and let go, a pair that names itself, and a third object.
 STUCK = allocate(2, 0) + copy(0, 1) + copy(0, 2) + clear(0) + clear(1) + clear(2)
@@ -47,6 +47,18 @@ class Widths(unittest.TestCase):
         # A run that stopped has no figures.
         self.assertEqual([line.split(maxsplit=8) for line in stopped[2:]], [["16", w, *(6 * ["-"]), STOP] for w in ("2", "3")])
 
+    def test_data_has_a_column_where_there_is_some(self) -> None:
+        self.assertNotIn("data", text(widths(HISTORY, [16], [2, 3], 4)))
+        # Data of 2 blocks in root 1, whose number names nothing, beside 4 blocks of objects; then it is let go.
+        pixels = HISTORY + allocate_data(2, 1) + write_number(65535, 7, 1)
+        shown = text(widths(pixels, [16], [3], 4)).splitlines()
+        self.assertEqual([shown[0].split()[3:6], shown[1].split()[4:7]], [["stuck", "blocks", "of"], ["use", "moments", "data"]])
+        self.assertEqual(list(map(int, shown[2].split())), [16, 3, 0, 7, 0, 2, 0, 1, 0])
+        (row,) = widths(pixels, [16], [3], 4)
+        self.assertEqual((row.columns()["object_blocks"], row.columns()["data_blocks"]), (5, 2))
+        (row,) = widths(pixels + clear(1), [16], [3], 4)
+        self.assertEqual((row.columns()["object_blocks"], row.columns()["data_blocks"]), (5, 0))
+
     def test_csv(self) -> None:
         out = io.StringIO()
         write_csv(widths(HISTORY, [16], [2], 4), out)
@@ -65,6 +77,8 @@ class Widths(unittest.TestCase):
             "collections": "0",
             "peak": "7",
             "stuck_moments": "1",
+            "object_blocks": "7",
+            "data_blocks": "0",
             "garbage_stuck_alone": "2",
             "garbage_cycles_alone": "1",
             "garbage_both": "0",
@@ -105,7 +119,9 @@ class Widths(unittest.TestCase):
     def test_every_figure_has_words(self) -> None:
         self.assertEqual(list(Figures._fields), list(FIGURE_WORDS))
         self.assertEqual(list(huwekapo.Garbage._fields), list(GARBAGE_WORDS))
-        self.assertEqual(len(FIGURE_COLUMNS), len(FIGURE_WORDS) + len(GARBAGE_WORDS))
+        self.assertEqual(list(huwekapo.Kinds._fields), list(KIND_WORDS))
+        self.assertEqual(len(LINE_COLUMNS), len(FIGURE_WORDS))
+        self.assertEqual(len(FIGURE_COLUMNS), len(FIGURE_WORDS) + len(KIND_WORDS) + len(GARBAGE_WORDS))
 
 
 if __name__ == "__main__":

@@ -1,4 +1,4 @@
-"""What no root reaches, by what holds it; against the model, which wrote garbage.txt (`model garbage 1 80`) and runs the examples."""
+"""What no root reaches, by what holds it; against the model, which wrote garbage.txt (`model garbage 1 120`) and runs the examples."""
 
 from __future__ import annotations
 
@@ -9,7 +9,7 @@ from pathlib import Path
 
 from huwekapo import examples
 from huwekapo.measures import measure
-from huwekapo import Garbage, Heap, Held, garbage, in_use, library, objects, stuck
+from huwekapo import Garbage, Heap, Held, Kinds, data, garbage, in_use, kinds, library, objects, stuck
 
 #: A file of the model's to read instead.
 VARIABLE = "HUWEKAPO_GARBAGE"
@@ -56,6 +56,29 @@ class ByHand(unittest.TestCase):
         heap.collect()
         self.assertEqual((garbage(heap), in_use(heap)), (Garbage(NONE, NONE, NONE), 1))
 
+    def test_data_is_never_followed(self) -> None:
+        # Data of 2 blocks at 0, whose cells look like references to itself and to the object at 2, which names the data.
+        heap = Heap(8, 3, 4)
+        self.assertEqual((heap.allocate_data(2, 0), heap.allocate(1, 1)), (0, 2))
+        for j in range(8):
+            heap.write_number(0, j, 1 if j % 2 else 3)
+        heap.store_cell(2, 0, 1)
+        self.assertEqual((data(heap), kinds(heap)), ({0}, Kinds(Held(1, 1), Held(1, 2))))
+        heap.return_roots(1)
+        self.assertEqual(garbage(heap), Garbage(NONE, NONE, NONE))
+        # No cycle goes through data: its number of the object holds nothing.
+        heap.store_root(3, 1)
+        self.assertEqual(heap.store_root(1, 0), 1)
+        self.assertEqual((garbage(heap), kinds(heap)), (Garbage(NONE, NONE, NONE), Kinds(NONE, Held(1, 2))))
+        # Stuck data that was let go of is garbage as any stuck object is.
+        heap = Heap(8, 1, 4)
+        heap.allocate_data(2, 0)
+        heap.allocate(1, 1)
+        heap.write_number(0, 0, 3)
+        heap.write_number(0, 1, 1)
+        heap.return_roots(3)
+        self.assertEqual((garbage(heap), kinds(heap)), (Garbage(Held(2, 3), NONE, NONE), Kinds(Held(1, 1), Held(1, 2))))
+        self.assertEqual(heap.collect(), 3)
 
     def test_one_of_each(self) -> None:
         # 0, of 2 blocks, is stuck and names 2; 3 names itself and 4; 5 is stuck and names itself twice.
@@ -70,14 +93,14 @@ class ByHand(unittest.TestCase):
         heap.return_roots(31)
         self.assertEqual(garbage(heap), Garbage(Held(2, 3), Held(2, 2), Held(1, 1)))
         # Unlimited counts would have freed 0 and 2, and no others.
-        wide = Heap.from_buffers(16, 4, a=heap.a, b=heap.b, counts=bytes(8), cells=heap.cells, roots=bytes(5), sections=heap.sections)
+        wide = Heap.from_buffers(16, 4, a=heap.a, b=heap.b, counts=bytes(8), cells=heap.cells, roots=bytes(5), sections=heap.sections, data=bytes(2))
         self.assertEqual(objects(wide), {0: 2, 2: 1, 3: 1, 4: 1, 5: 1})
 
 
 class AgainstTheModel(unittest.TestCase):
     def test_random_heaps(self) -> None:
         path = Path(os.environ.get(VARIABLE) or Path(__file__).with_name("garbage.txt"))
-        met = {"stuck": 0, "cycles": 0, "both": 0, "all three": 0}
+        met = {"stuck": 0, "cycles": 0, "both": 0, "all three": 0, "data with numbers": 0, "data let go": 0}
         for line in path.read_text().splitlines():
             (blocks, width), *buffers, by_stuck, by_cycles, by_both = [list(map(int, field.split())) for field in line.split("|")]
             names = [buffer.name for buffer in library.BUFFERS]
@@ -89,8 +112,11 @@ class AgainstTheModel(unittest.TestCase):
             for name, held in found._asdict().items():
                 met[name] += held.objects > 0
             met["all three"] += all(held.objects for held in found)
+            sizes, made_as_data = objects(heap), kinds(heap).data
+            met["data with numbers"] += any(any(heap.cells[4 * first : 4 * (first + sizes[first])]) for first in data(heap))
             # A collection frees it all.
             self.assertEqual(heap.collect(), found.blocks)
+            met["data let go"] += kinds(heap).data != made_as_data
         self.assertTrue(all(count >= 2 for count in met.values()), met)
 
     def test_examples(self) -> None:
