@@ -29,7 +29,7 @@ const USAGE: &str = "usage:
   model history garbage N W R < FILE the same on a heap of N blocks, count width W and R roots; and below it what no root
                                      reaches then, held by stuck counts alone | by cycles alone | by both, each
                                      `objects blocks`
-  model history vectors FOLDER       some 340 histories, NAME.history and NAME.line each
+  model history vectors FOLDER       some 460 histories, NAME.history and NAME.line each
   model history check PROGRAM ..     runs a program on all of these, by file and through a pipe
   model history mixed SEED COUNT     a mixed history of COUNT records, each accepted
   model history port < FILE          the line once more, by the product's algorithms in plain Rust

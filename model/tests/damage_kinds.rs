@@ -1,4 +1,4 @@
-//! The damage kinds: every part of kinds 1 to 5 by hand, all A and B maps of eight blocks, and random damage.
+//! The damage kinds: every part of kinds 1 to 5 and 7 by hand, all A and B maps of eight blocks, and random damage.
 
 mod common;
 use common::{fresh, say};
@@ -77,6 +77,13 @@ fn each_part_of_each_kind() {
     assert_eq!(kind(|m| set_count(8, 2, m, 0, 1)), 5);
     assert_eq!(kind(|m| m.roots[3] = 1), 5);
     assert_eq!(kind(|m| m.cells[0] = 3), 5);
+    // 7: a D bit where no object starts, on a free block or inside an object.
+    assert_eq!(kind(|m| set_bit(&mut m.data, 1, 1)), 7);
+    assert_eq!(kind(|m| set_bit(&mut m.data, 3, 1)), 7);
+    assert_eq!(kind(|m| set_bit(&mut m.data, 7, 1)), 7);
+    // Not damage: data that names nothing. Data that named something: a count is too large then.
+    assert_eq!(kind(|m| set_bit(&mut m.data, 2, 1)), 0);
+    assert_eq!(kind(|m| set_bit(&mut m.data, 0, 1)), 5);
     // Not damage: a count at capacity, with any number of references, none included; the waiting list.
     assert_eq!(kind(|m| set_count(8, 2, m, 0, 3)), 0);
     assert_eq!(
@@ -102,6 +109,13 @@ fn each_part_of_each_kind() {
         }),
         4
     );
+    assert_eq!(
+        kind(|m| {
+            set_bit(&mut m.data, 1, 1);
+            set_count(8, 2, m, 2, 0);
+        }),
+        5
+    );
     let changes = CHANGES.load(Ordering::Relaxed);
     say(&format!(
         "{changes} changes to a heap, each with its damage kind"
@@ -120,7 +134,7 @@ fn all_pairs_of_maps() -> impl Iterator<Item = Memory> {
 /// With count 1, the capacity, at each first block: no damage is found exactly where demand 3's claims hold.
 #[test]
 fn all_maps_of_eight_blocks() {
-    let mut met = [0; 6];
+    let mut met = [0; 8];
     for mut memory in all_pairs_of_maps() {
         for first in first_blocks(8, &memory) {
             set_count(8, 1, &mut memory, first, 1);
@@ -129,7 +143,7 @@ fn all_maps_of_eight_blocks() {
         met[kind] += 1;
         assert_eq!(kind == 0, unsound(8, 1, &memory).is_none(), "{memory:?}");
     }
-    say(&format!("65536 pairs of maps, kinds 0 to 5: {met:?}"));
+    say(&format!("65536 pairs of maps, kinds 0 to 7: {met:?}"));
 }
 
 /// Document 02, U9: "Show that a heap passing kinds 1 and 2 has as many objects as 0 bits in the B-map." Neither
@@ -157,7 +171,7 @@ fn objects_are_the_ends_without_kinds_1_and_2() {
 /// The damaged memories that `model damaged` prints: damage and the claims agree, and each call refuses.
 #[test]
 fn random_damage() {
-    let (mut met, mut untrue) = ([0; 6], [0; 2]);
+    let (mut met, mut untrue) = ([0; 8], [0; 2]);
     for line in trace::damaged(3, 4000).lines() {
         let fields: Vec<Vec<u16>> = line
             .split('|')
@@ -178,8 +192,9 @@ fn random_damage() {
             roots: fields[5].clone(),
             waiting: fields[6].clone(),
             sections: fields[7].clone(),
+            data: bytes(8),
         };
-        let kind = fields[8][0] as usize;
+        let kind = fields[9][0] as usize;
         let is_untrue = untrue_list(blocks, &memory).is_some();
         untrue[usize::from(kind != 0)] += usize::from(is_untrue);
         met[kind] += 1;
@@ -198,6 +213,9 @@ fn random_damage() {
             Call::FreeBlocks,
             Call::Collect,
             Call::ReturnRoots { chosen: u64::MAX },
+            Call::AllocateData { n: 0, r: 9 },
+            Call::WriteNumber { a: 99, j: 99, v: 9 },
+            Call::ReadNumber { a: 99, j: 99 },
         ] {
             let reply = common::call_and_claims(blocks, width, &mut memory, call);
             assert_eq!(reply.number == 2, kind != 0);
@@ -206,8 +224,9 @@ fn random_damage() {
             assert_eq!(reply.number == 11, kind == 0 && is_untrue);
         }
     }
-    assert!(met.iter().chain(&untrue).all(|number| *number > 100));
+    let met_kinds = [0, 1, 2, 3, 4, 5, 7].map(|kind| met[kind]);
+    assert!(met_kinds.iter().chain(&untrue).all(|number| *number > 100));
     say(&format!(
-        "4000 damaged memories, kinds 0 to 5: {met:?}; untrue lists of sections without and with damage: {untrue:?}"
+        "4000 damaged memories, kinds 0 to 7: {met:?}; untrue lists of sections without and with damage: {untrue:?}"
     ));
 }

@@ -10,7 +10,7 @@ use model::texts::expect::expect;
 use model::texts::trace;
 use model::Call;
 
-const EMPTY_8_2_4: &str = "0\n0\n0 0\n0 0 0 0 0 0 0 0 0 0 0 0 0 0 0 0 0 0 0 0 0 0 0 0 0 0 0 0 0 0 0 0\n0 0 0 0\n0 0 0 0 0 0 0 0\n0\n";
+const EMPTY_8_2_4: &str = "0\n0\n0 0\n0 0 0 0 0 0 0 0 0 0 0 0 0 0 0 0 0 0 0 0 0 0 0 0 0 0 0 0 0 0 0 0\n0 0 0 0\n0 0 0 0 0 0 0 0\n0\n0\n";
 
 fn printed(header: [u64; 3], entries: &[[u64; 4]]) -> String {
     expect(&bytes(header, entries)).0
@@ -29,7 +29,7 @@ fn headers() {
         assert_eq!(printed(header, &[[0; 4]]), "header: too large\n");
     }
     // Too large is said of a header alone; a bad one is a heap that refuses.
-    assert_eq!(printed([0, 0, 0], &[[0; 4]]), "1 0 0\n\n\n\n\n\n\n0\n");
+    assert_eq!(printed([0, 0, 0], &[[0; 4]]), "1 0 0\n\n\n\n\n\n\n0\n\n");
     assert_eq!(
         printed([8, 5, 1], &[[1, 0, 0, 0]]).lines().next(),
         Some("1 0 0")
@@ -45,7 +45,15 @@ fn entries() {
     };
     assert_eq!(first([1, 0, 0, 0]).unwrap(), "2 1 0\n");
     assert_eq!(first([8, 0, 0, 0]).unwrap(), "2 1 0\n");
-    assert_eq!(first([9, 0, 0, 0]).unwrap(), "call 0: unknown call 9\n");
+    // Calls 9 to 11 (U6). A number that no cell can hold is no call.
+    for code in [9, 10, 11] {
+        assert_eq!(first([code, 0, 0, 65_535]).unwrap(), "2 1 0\n");
+    }
+    for v in [65_536, 65_537, 1 << 32, u64::MAX] {
+        let line = "call 0: number out of range\n";
+        assert_eq!(first([10, 0, 0, v]).unwrap(), line);
+    }
+    assert_eq!(first([12, 0, 0, 0]).unwrap(), "call 0: unknown call 12\n");
     let line = "call 0: unknown call 252\n";
     assert_eq!(first([252, 0, 0, 0]).unwrap(), line);
     assert_eq!([LOAD, LENGTH, NEW], [253, 254, 255]);
@@ -66,7 +74,9 @@ fn entries() {
         [3, 0, 65_536],
         [6, 1, 0],
         [6, 0, 65_536],
-        [7, 0, 0],
+        [7, 1, 0],
+        [7, 0, 256],
+        [8, 0, 0],
     ] {
         let words = [LOAD, load[0], load[1], load[2]];
         assert_eq!(first(words).unwrap(), "call 0: load out of range\n");
@@ -78,7 +88,8 @@ fn entries() {
         [4, 66],
         [5, 8193],
         [6, 33],
-        [7, 0],
+        [7, 1025],
+        [8, 0],
     ] {
         let words = [LENGTH, buffer, length, 0];
         assert_eq!(first(words).unwrap(), "call 0: length out of range\n");
@@ -86,7 +97,7 @@ fn entries() {
     assert_eq!(first([NEW, 8193, 1, 1]).unwrap(), "call 0: too large\n");
     // A new heap: the old buffers are printed first.
     let out = printed([0, 0, 0], &[[NEW, 8, 2, 4], [1, 0, 0, 0]]);
-    assert_eq!(out, format!("\n\n\n\n\n\n0\n2 1 0\n{EMPTY_8_2_4}"));
+    assert_eq!(out, format!("\n\n\n\n\n\n0\n\n2 1 0\n{EMPTY_8_2_4}"));
     // Loads and lengths print nothing, count as entries, and what lies beyond a length is kept.
     let out = printed(
         [0, 0, 2],
@@ -102,11 +113,11 @@ fn entries() {
     );
     assert_eq!(
         out,
-        "call 3: load out of range\n0 0\n\n\n\n65535 7 0 5\n\n0\n"
+        "call 3: load out of range\n0 0\n\n\n\n65535 7 0 5\n\n0\n\n"
     );
 }
 
-/// The list of sections is buffer 6, printed last: a number for each 256 blocks, one where there are fewer.
+/// The list of sections is buffer 6, printed before the D-map: a number for each 256 blocks, one where there are fewer.
 #[test]
 fn the_list_of_sections() {
     for (blocks, length) in [
@@ -120,7 +131,7 @@ fn the_list_of_sections() {
     ] {
         let out = printed([blocks, 1, 1], &[]);
         assert_eq!(out.lines().count(), BUFFERS);
-        assert_eq!(out.lines().last(), Some(&*vec!["0"; length].join(" ")));
+        assert_eq!(out.lines().nth(6), Some(&*vec!["0"; length].join(" ")));
     }
     let entries = [
         [0; 4],
@@ -133,7 +144,34 @@ fn the_list_of_sections() {
     ];
     let out = printed([512, 1, 1], &entries);
     assert!(out.starts_with("0 0 0\n11 0 0\n1 0 0\n"), "{out}");
-    assert_eq!(out.lines().last(), Some("256 65535 9"));
+    assert_eq!(out.lines().nth(3 + 6), Some("256 65535 9"));
+}
+
+/// The D-map is buffer 7, the last one: a byte for each eight blocks.
+#[test]
+fn the_d_map() {
+    for (blocks, length) in [(0, 0), (8, 1), (15, 1), (512, 64), (8192, 1024)] {
+        let out = printed([blocks, 1, 1], &[]);
+        assert_eq!(out.lines().count(), BUFFERS);
+        assert_eq!(out.lines().last(), Some(&*vec!["0"; length].join(" ")));
+    }
+    let entries = [
+        [0; 4],
+        [9, 2, 0, 0],
+        [10, 0, 7, 65_535],
+        [11, 0, 7, 0],
+        [4, 0, 0, 0],
+        [LOAD, 7, 1, 128],
+        [1, 0, 0, 0],
+        [LENGTH, 7, 1, 0],
+        [1, 0, 0, 0],
+        [LENGTH, 7, 3, 0],
+        [LOAD, 7, 2, 9],
+    ];
+    let out = printed([16, 2, 1], &entries);
+    let due = "0 0 0\n0 0 0\n0 0 0\n0 65535 0\n12 0 0\n2 7 0\n1 0 0\n";
+    assert!(out.starts_with(due), "{out}");
+    assert_eq!(out.lines().last(), Some("1 128 9"));
 }
 
 #[test]
@@ -165,23 +203,24 @@ fn the_large_file() {
     assert_eq!(file, vectors(1));
     let (out, tally) = expect(&file);
     // No call answers 9 or 10.
-    for number in (0..=8).chain([11]) {
+    for number in (0..=8).chain([11, 12]) {
         assert!(tally.numbers[number] >= 100, "{number}: {tally:?}");
     }
-    assert!(
-        tally.kinds[1..].iter().all(|number| *number >= 30),
-        "{tally:?}"
-    );
+    for kind in [1, 2, 3, 4, 5, 7] {
+        assert!(tally.kinds[kind] >= 30, "{kind}: {tally:?}");
+    }
+    assert_eq!(tally.kinds[6], 0);
     for line in [
         "cut off",
         "too large",
         "load out of range",
         "length out of range",
+        "number out of range",
         "unknown call",
     ] {
         assert!(out.contains(line), "{line}");
     }
-    assert!(file.len() < 700_000 && out.len() < 1_500_000);
+    assert!(file.len() < 750_000 && out.len() < 1_500_000);
     say(&format!(
         "the large file, {} bytes, printing {} bytes: {tally:?}",
         file.len(),
@@ -206,8 +245,8 @@ fn seeds_make_the_same_again() {
     assert!(text
         .lines()
         .skip(2)
-        .all(|line| line.split('|').count() == 9));
+        .all(|line| line.split('|').count() == 10));
     assert_eq!(text, trace::trace(5, 50, 16, 3));
     let text = trace::steps(5, 50);
-    assert!(text.lines().all(|line| line.split('|').count() == 17));
+    assert!(text.lines().all(|line| line.split('|').count() == 19));
 }

@@ -6,7 +6,7 @@ use model::history::run::run_records;
 use model::history::Run;
 use model::product::compare::Library;
 use model::product::fuzz::fuzz;
-use model::product::met::{Met, CALLS, NUMBERS};
+use model::product::met::{Met, CALLS, KINDS, NUMBERS, STOPS};
 use model::rules::replay::replay;
 use model::{apply, Call, Memory, Reply};
 
@@ -58,7 +58,7 @@ fn what_was_not_met_is_named() {
             without(&|met| met.numbers[code][*number] = 0, what);
         }
         if numbers.contains(&2) {
-            for kind in 1..=5 {
+            for kind in KINDS {
                 let what = format!("{name}, damage {kind}");
                 without(&|met| met.kinds[code][kind] = 0, what);
             }
@@ -74,7 +74,7 @@ fn what_was_not_met_is_named() {
         let what = format!("run, number {number}");
         without(&|met| met.run_numbers[number] = 0, what);
     }
-    for number in [0, 3, 4, 5, 6, 7, 9, 10] {
+    for number in STOPS {
         let what = format!("run, stopped by {number}");
         without(&|met| met.stops[number] = 0, what);
     }
@@ -85,6 +85,10 @@ fn what_was_not_met_is_named() {
     without(
         &|met| met.maps_with_figures -= 1,
         "every map with figures".to_string(),
+    );
+    without(
+        &|met| met.maps_with_data -= 1,
+        "every map with data".to_string(),
     );
     assert_eq!(Met::default().unmet().len(), named);
 }

@@ -182,7 +182,7 @@ impl Unlimited {
     /// A call that the heap accepted.
     fn call(&mut self, call: Call, reply: Reply) {
         match call {
-            Call::Allocate { n, r } => {
+            Call::Allocate { n, r } | Call::AllocateData { n, r } => {
                 let new = self.made;
                 self.made += 1;
                 self.at.insert(reply.value, new);
@@ -205,6 +205,8 @@ impl Unlimited {
                 self.down(old);
             }
             Call::Collect => self.collect(),
+            // Numbers name nothing (U6).
+            Call::WriteNumber { .. } => {}
             _ => panic!("no call of a history: {call:?}"),
         }
     }
@@ -234,9 +236,11 @@ fn tangled_history(random: &mut Random, records: usize, roots: usize) -> Vec<u8>
         let s = random.below(roots) as u8;
         let c = random.below(8) as u8;
         bytes.extend(match random.below(100) {
-            0..=29 => [1, d, 0, 0, 0, 0, 1 + random.below(2) as u8, 0],
+            0..=25 => [1, d, 0, 0, 0, 0, 1 + random.below(2) as u8, 0],
+            26..=29 => [7, d, 0, 0, 0, 0, 1 + random.below(2) as u8, 0],
             30..=44 => [2, d, s, 0, 0, 0, 0, 0],
-            45..=74 => [3, d, s, 0, c % 4, 0, 0, 0],
+            45..=70 => [3, d, s, 0, c % 4, 0, 0, 0],
+            71..=74 => [8, d, 0, 0, c % 4, 0, 1 + random.below(8) as u8, 0],
             75..=84 => [4, d, s, 0, c % 4, 0, 0, 0],
             85..=98 => [5, d, 0, 0, 0, 0, 0, 0],
             _ => [6, 0, 0, 0, 0, 0, 0, 0],
@@ -366,6 +370,7 @@ fn every_unreached_object_is_in_one_part() {
             roots: words(5),
             waiting: words(6),
             sections: words(7),
+            data: bytes(8),
         };
         let found = garbage(blocks, width, &memory);
         assert!(line.ends_with(&found.text(blocks, &memory)));

@@ -4,7 +4,9 @@ mod common;
 use common::{fresh, say};
 use model::history::figures::Figures;
 use model::history::record::bytes;
-use model::history::record::short::{allocate, clear, copy, read, write, COLLECT};
+use model::history::record::short::{
+    allocate, clear, copy, data, read, write, write_number, COLLECT,
+};
 use model::history::run::{new_heap, run_as_report, run_records, MOST_RECORDS};
 use model::history::vectors::all_but_the_longest;
 use model::history::{report, Record, Run};
@@ -30,6 +32,7 @@ fn what_a_stop_leaves() {
     let mut before = vec![allocate(9, 0)];
     before.extend(stuck);
     before.extend([allocate(3, 0), write(0, 5, 0), allocate(4, 1), copy(1, 2)]);
+    before.extend([data(2, 3), write_number(1, 7, 3)]);
     let mut stops = 0;
     for (number, record) in [
         (3, allocate(0, 0).record()),
@@ -42,7 +45,16 @@ fn what_a_stop_leaves() {
         (6, read(0, 9, 0).record()),
         (7, read(12, 0, 0).record()),
         (4, clear(64).record()),
-        (9, Record::from_bytes([7, 0, 0, 0, 0, 0, 0, 0])),
+        (3, data(0, 0).record()),
+        (4, data(1, 64).record()),
+        (5, data(8192, 2).record()),
+        (4, write_number(1, 0, 64).record()),
+        (6, write_number(1, 0, 9).record()),
+        (7, write_number(1, 8, 3).record()),
+        (12, write_number(1, 0, 0).record()),
+        (12, write(0, 0, 3).record()),
+        (12, read(7, 3, 0).record()),
+        (9, Record::from_bytes([9, 0, 0, 0, 0, 0, 0, 0])),
         (9, Record::from_bytes([6, 0, 0, 1, 0, 0, 0, 0])),
     ] {
         let mut memory = new_heap();

@@ -8,7 +8,7 @@ use model::history::{Record, Run};
 use model::lists::random::Random;
 use model::lists::runs::some_record;
 use model::rules::claims::{broken_claim, objects};
-use model::rules::heap::{capacity, count, is_allocated, is_first_block, Memory};
+use model::rules::heap::{bit, capacity, count, is_allocated, is_first_block, Memory};
 use model::rules::list_claims::{before_letting_go, unduly_stuck, Step};
 use model::{apply, Call};
 
@@ -79,7 +79,7 @@ impl Heap {
         };
         let sizes: Vec<u64> = accepted()
             .filter_map(|step| match step.call {
-                Call::Allocate { n, .. } => Some(n as u64),
+                Call::Allocate { n, .. } | Call::AllocateData { n, .. } => Some(n as u64),
                 _ => None,
             })
             .collect();
@@ -100,7 +100,7 @@ impl Heap {
     fn sticks(&self, step: &Step) -> bool {
         let (blocks, width) = (self.blocks, self.width);
         let named = match step.call {
-            Call::Allocate { .. } => step.reply.value + 1,
+            Call::Allocate { .. } | Call::AllocateData { .. } => step.reply.value + 1,
             Call::StoreRoot { v, .. } | Call::StoreCell { v, .. } => v,
             _ => 0,
         };
@@ -128,7 +128,7 @@ impl Heap {
         let after = objects(self.blocks, &step.after);
         let freed = before.difference(&after).map(|object| object.1).sum();
         match step.call {
-            Call::Allocate { .. } => {}
+            Call::Allocate { .. } | Call::AllocateData { .. } => {}
             _ => assert_eq!(step.reply.value, freed),
         }
         freed
@@ -160,6 +160,7 @@ fn conditions(blocks: usize, memory: &Memory, record: Record) -> Vec<(usize, boo
         let object = objects.find(|object| object.0 + 1 == holds(root));
         c as usize >= object.map_or(0, |object| 4 * object.1)
     };
+    let is_data = |root: u8| holds(root) != 0 && bit(&memory.data, holds(root) - 1) == 1;
     let nine = |fields: &[u16]| (9, unused != 0 || fields.iter().any(|field| *field != 0));
     let roots = (4, out(d) || out(s));
     match operation {
@@ -169,8 +170,34 @@ fn conditions(blocks: usize, memory: &Memory, record: Record) -> Vec<(usize, boo
             (4, out(d)),
         ],
         2 => vec![nine(&[c, size]), roots],
-        3 => vec![nine(&[size]), roots, (6, holds(d) == 0), (7, past(d))],
-        4 => vec![nine(&[size]), roots, (6, holds(s) == 0), (7, past(s))],
+        3 => vec![
+            nine(&[size]),
+            roots,
+            (6, holds(d) == 0),
+            (7, past(d)),
+            (12, is_data(d)),
+        ],
+        4 => vec![
+            nine(&[size]),
+            roots,
+            (6, holds(s) == 0),
+            (7, past(s)),
+            (12, is_data(s)),
+        ],
+        // U6: "allocate data into d as 1 does"
+        7 => vec![
+            nine(&[s.into(), c]),
+            (3, size == 0 || size as usize > blocks),
+            (4, out(d)),
+        ],
+        // "write the size field's number into cell c of the data in d, an empty d giving 6"
+        8 => vec![
+            nine(&[s.into()]),
+            (4, out(d)),
+            (6, holds(d) == 0),
+            (7, past(d)),
+            (12, !is_data(d)),
+        ],
         5 => vec![nine(&[s.into(), c, size]), (4, out(d))],
         6 => vec![nine(&[d.into(), s.into(), c, size])],
         _ => vec![(9, true)],
@@ -180,7 +207,7 @@ fn conditions(blocks: usize, memory: &Memory, record: Record) -> Vec<(usize, boo
 #[test]
 fn the_calls_as_made() {
     let (mut runs, mut records, mut helped, mut no_help) = (0, 0, 0, 0);
-    let mut stopped = [0; 10];
+    let mut stopped = [0; 13];
     for seed in 0..240 {
         let mut random = Random::new(seed);
         let blocks = random.pick(&[8, 8, 16, 32]);
@@ -224,7 +251,7 @@ fn the_calls_as_made() {
         assert_eq!(broken, None, "U2, seed {seed}");
     }
     assert!(helped > 50 && no_help > 50);
-    for number in [3, 4, 5, 6, 7, 9] {
+    for number in [3, 4, 5, 6, 7, 9, 12] {
         assert!(stopped[number] > 50, "{number}: {}", stopped[number]);
     }
     say(&format!(

@@ -9,7 +9,9 @@ const MODEL: &str = env!("CARGO_BIN_EXE_model");
 
 /// Some of the histories, one of them longer than a pipe holds.
 fn some() -> Vec<History> {
-    all_but_the_longest().into_iter().step_by(12).collect()
+    let all = all_but_the_longest();
+    let long = all.iter().find(|history| history.bytes.len() > 65_536);
+    all.iter().step_by(14).chain(long).cloned().collect()
 }
 
 fn checked(program: &[&str], histories: &[History]) -> Checked {

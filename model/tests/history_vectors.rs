@@ -8,7 +8,7 @@ use model::history::vectors::{all_but_the_longest, histories, History};
 use model::history::{report, Record};
 use model::rules::calls::{apply_undamaged, Call};
 use model::rules::chunks::least_power_of_two;
-use model::rules::heap::{free_count, size, Memory};
+use model::rules::heap::{free_count, is_data, size, Memory};
 use std::collections::BTreeSet;
 
 #[test]
@@ -17,7 +17,7 @@ fn names_say_what_is_printed() {
     let names: BTreeSet<&str> = all.iter().map(|history| &history.name[..]).collect();
     assert_eq!(names.len(), all.len());
     assert!(all.len() >= 300);
-    let (mut given, mut printed) = ([0; 11], 0);
+    let (mut given, mut printed) = ([0; 13], 0);
     for History { name, bytes } in &all {
         let line = report(bytes);
         let words: Vec<&str> = name.split('-').collect();
@@ -39,7 +39,7 @@ fn names_say_what_is_printed() {
             _ => assert!(!line.starts_with("refused"), "{name}: {line}"),
         }
     }
-    for number in [3, 4, 5, 6, 7, 9, 10] {
+    for number in [3, 4, 5, 6, 7, 9, 10, 12] {
         assert!(given[number] >= 4, "{number}: {}", given[number]);
     }
     let records: usize = all.iter().map(|history| history.bytes.len() / 8).sum();
@@ -107,9 +107,20 @@ enum Wrong {
     StuckByEveryReferenceMore,
     StuckObjectsAtTheEnd,
     CollectionsForStuck,
+    TwelveBeforeSeven,
+    TwelveBeforeFour,
+    NoTwelveInThree,
+    NoTwelveInFour,
+    NoTwelveInEight,
+    DataIsOrdinary,
+    NoSecondTryForData,
+    DataNotAmongTheFigures,
+    NumberIsASize,
+    NumberCounted,
+    EmptyRootOfEight,
 }
 
-const WRONG: [Wrong; 30] = [
+const WRONG: [Wrong; 41] = [
     Wrong::HighByteFirst,
     Wrong::UnusedFieldNotLookedAt,
     Wrong::Byte3NotLookedAt,
@@ -140,6 +151,17 @@ const WRONG: [Wrong; 30] = [
     Wrong::StuckByEveryReferenceMore,
     Wrong::StuckObjectsAtTheEnd,
     Wrong::CollectionsForStuck,
+    Wrong::TwelveBeforeSeven,
+    Wrong::TwelveBeforeFour,
+    Wrong::NoTwelveInThree,
+    Wrong::NoTwelveInFour,
+    Wrong::NoTwelveInEight,
+    Wrong::DataIsOrdinary,
+    Wrong::NoSecondTryForData,
+    Wrong::DataNotAmongTheFigures,
+    Wrong::NumberIsASize,
+    Wrong::NumberCounted,
+    Wrong::EmptyRootOfEight,
 ];
 
 /// A run written once more, by the numbers of bytes and fields alone, with one thing wrong.
@@ -165,7 +187,7 @@ impl Reading {
             let number = match bytes.len() {
                 8 => reading.record(bytes),
                 _ if wrong == Wrong::TailPassedOver => 0,
-                _ if wrong == Wrong::NineInTheTail && !(1..=6).contains(&bytes[0]) => 9,
+                _ if wrong == Wrong::NineInTheTail && !(1..=8).contains(&bytes[0]) => 9,
                 _ => 10,
             };
             if number != 0 {
@@ -184,7 +206,7 @@ impl Reading {
             bytes[6..8].reverse();
         }
         let record = Record::from_bytes(bytes);
-        let known = (1..=6).contains(&record.operation);
+        let known = (1..=8).contains(&record.operation);
         if wrong == Wrong::UnknownOperationPassedOver && !known {
             return 0;
         }
@@ -237,11 +259,17 @@ impl Reading {
         let n = record.size as usize;
         let holds = |root: usize| self.memory.roots.get(root).map_or(0, |v| *v as usize);
         let out = d >= 64 || s >= 64;
-        if operation == 1 {
+        if operation == 1 || operation == 7 {
             if self.wrong == Wrong::FourBeforeThree && d >= 64 {
                 return Err(4);
             }
+            if operation == 7 && self.wrong != Wrong::DataIsOrdinary {
+                return Ok(Call::AllocateData { n, r: d });
+            }
             return Ok(Call::Allocate { n, r: d });
+        }
+        if operation == 8 && self.wrong == Wrong::NumberIsASize && (n == 0 || n > BLOCKS) {
+            return Err(3);
         }
         if operation == 6 {
             return Ok(Call::Collect);
@@ -249,25 +277,44 @@ impl Reading {
         let mut needed = match operation {
             3 => Some(d),
             4 => Some(s),
+            8 if self.wrong != Wrong::EmptyRootOfEight => Some(d),
             _ => None,
         };
         if self.wrong == Wrong::EmptyRootOfTheOtherField {
             needed = needed.map(|root| d + s - root);
         }
         let is_empty = needed.is_some_and(|root| holds(root) == 0);
-        let owner = if operation == 3 { holds(d) } else { holds(s) };
+        let owner = if operation == 4 { holds(s) } else { holds(d) };
         let cells = match owner {
             0 => 0,
             v => 4 * size(BLOCKS, &self.memory, v - 1),
         };
         let is_past = needed.is_some() && c as usize >= cells;
-        let is_past = is_past && (self.wrong != Wrong::SevenNotInFour || operation == 3);
+        let is_past = is_past && (self.wrong != Wrong::SevenNotInFour || operation != 4);
+        let other_kind = needed.is_some()
+            && owner != 0
+            && is_data(&self.memory, owner - 1) != (operation == 8)
+            && match self.wrong {
+                Wrong::NoTwelveInThree => operation != 3,
+                Wrong::NoTwelveInFour => operation != 4,
+                Wrong::NoTwelveInEight => operation != 8,
+                _ => true,
+            };
         let never_good = self.wrong == Wrong::EmptyRootNeverGood && operation < 5 && holds(s) == 0;
         let conditions = match self.wrong {
-            Wrong::SixBeforeFour => [(is_empty, 6), (out, 4), (is_past, 7)],
-            Wrong::SixAndSevenExchanged => [(out, 4), (is_empty, 7), (is_past, 6)],
-            Wrong::SevenBeforeSix => [(out, 4), (is_past, 7), (is_empty, 6)],
-            _ => [(out, 4), (is_empty || never_good, 6), (is_past, 7)],
+            Wrong::SixBeforeFour => [(is_empty, 6), (out, 4), (is_past, 7), (other_kind, 12)],
+            Wrong::SixAndSevenExchanged => {
+                [(out, 4), (is_empty, 7), (is_past, 6), (other_kind, 12)]
+            }
+            Wrong::SevenBeforeSix => [(out, 4), (is_past, 7), (is_empty, 6), (other_kind, 12)],
+            Wrong::TwelveBeforeSeven => [(out, 4), (is_empty, 6), (other_kind, 12), (is_past, 7)],
+            Wrong::TwelveBeforeFour => [(other_kind, 12), (out, 4), (is_empty, 6), (is_past, 7)],
+            _ => [
+                (out, 4),
+                (is_empty || never_good, 6),
+                (is_past, 7),
+                (other_kind, 12),
+            ],
         };
         if let Some((_, number)) = conditions.into_iter().find(|(applies, _)| *applies) {
             return Err(number);
@@ -275,7 +322,8 @@ impl Reading {
         Ok(match operation {
             2 => Call::StoreRoot { r: d, v: holds(s) },
             // What the wrong readings let through.
-            3 | 4 if owner == 0 || c as usize >= cells => Call::Check,
+            3 | 4 | 8 if owner == 0 || c as usize >= cells => Call::Check,
+            3 | 4 | 8 if is_data(&self.memory, owner - 1) != (operation == 8) => Call::Check,
             3 => Call::StoreCell {
                 a: owner - 1,
                 j: c as usize,
@@ -285,13 +333,24 @@ impl Reading {
                 r: d,
                 v: self.memory.cells[4 * (owner - 1) + c as usize] as usize,
             },
+            8 => Call::WriteNumber {
+                a: owner - 1,
+                j: c as usize,
+                v: record.size,
+            },
             _ => Call::StoreRoot { r: d, v: 0 },
         })
     }
 
     fn perform(&mut self, call: Call) -> usize {
         let number = self.call(call, false);
-        if number != 5 || self.wrong == Wrong::NoSecondTry {
+        let is_data = matches!(call, Call::AllocateData { .. });
+        let once = match self.wrong {
+            Wrong::NoSecondTry => true,
+            Wrong::NoSecondTryForData => is_data,
+            _ => false,
+        };
+        if number != 5 || once {
             return number;
         }
         if self.wrong != Wrong::SecondTryWithoutCollecting {
@@ -303,7 +362,7 @@ impl Reading {
     /// Whether the call's own reference brought an object to the capacity, by the counts before and after.
     fn sticks(&self, before: &Memory, call: Call, value: usize) -> bool {
         let (named, present) = match call {
-            Call::Allocate { .. } => (value + 1, 0),
+            Call::Allocate { .. } | Call::AllocateData { .. } => (value + 1, 0),
             Call::StoreRoot { r, v } => (v, before.roots[r] as usize),
             Call::StoreCell { a, j, v } => (v, before.cells[4 * a + j] as usize),
             _ => (0, 0),
@@ -330,7 +389,11 @@ impl Reading {
             _ => self.figures[5] + usize::from(accepted && self.sticks(&before, call, reply.value)),
         };
         match call {
-            Call::Allocate { n, .. }
+            Call::AllocateData { .. } if self.wrong == Wrong::DataNotAmongTheFigures => {}
+            Call::WriteNumber { .. } if accepted && self.wrong == Wrong::NumberCounted => {
+                self.figures[0] += 1;
+            }
+            Call::Allocate { n, .. } | Call::AllocateData { n, .. }
                 if accepted || self.wrong == Wrong::RefusedAllocationCounted =>
             {
                 self.figures[0] += 1;

@@ -34,9 +34,15 @@ fn each_line() {
         ("load 119 at 0 of a", [253, 0, 0, 119]),
         ("load 9 at 8 of waiting", [253, 5, 8, 9]),
         ("load 3 at 0 of sections", [253, 6, 0, 3]),
-        ("load 9 at 8 of buffer 7", [253, 7, 8, 9]),
+        ("allocate data 2 into root 3", [9, 2, 3, 0]),
+        ("write number 7 in cell 6 of the data at 5", [10, 5, 6, 7]),
+        ("read number in cell 6 of the data at 5", [11, 5, 6, 0]),
+        ("words 10 5 6 65536", [10, 5, 6, 65_536]),
+        ("load 9 at 8 of data", [253, 7, 8, 9]),
+        ("load 9 at 8 of buffer 8", [253, 8, 8, 9]),
         ("lend 31 of cells", [254, 3, 31, 0]),
         ("lend 2 of sections", [254, 6, 2, 0]),
+        ("lend 2 of data", [254, 7, 2, 0]),
         ("new heap: 16 blocks, width 4, 1 roots", [255, 16, 4, 1]),
         ("words 2 3 4 5", [2, 3, 4, 5]),
         ("words 99 18446744073709551615 0 0", [99, u64::MAX, 0, 0]),
@@ -109,7 +115,7 @@ fn every_file_comes_back() {
         let small: Vec<u8> = (0..length)
             .map(|k| {
                 if k % 8 == 0 {
-                    random.below(10) as u8
+                    random.below(13) as u8
                 } else {
                     0
                 }

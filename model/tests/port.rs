@@ -7,7 +7,7 @@ use model::history::run::run_records;
 use model::history::vectors::all_but_the_longest;
 use model::history::Run;
 use model::lists::damaging::{some_damage, AIMS};
-use model::lists::file::{Bench, Entry};
+use model::lists::file::{Bench, Entry, BUFFERS};
 use model::lists::generate::Desk;
 use model::lists::random::Random;
 use model::lists::runs::{some_records, some_run};
@@ -75,14 +75,14 @@ fn port_is_the_model_on_sections() {
 /// 1, 2 and 11: heaps as they are, damaged, with an untrue list of sections, and with buffers of another length.
 #[test]
 fn port_checks_as_the_model_does() {
-    let mut met = [0; 12];
+    let mut met = [0; 13];
     for seed in 0..600 {
         let desk = some_used_desk(seed);
         let mut bench = desk.bench.clone();
         let mut random = desk.random.clone();
         let aim = seed as usize % (AIMS + 1);
         if aim == AIMS {
-            let buffer = random.below(7) as u64;
+            let buffer = random.below(BUFFERS) as u64;
             let length = bench.length(buffer) as u64 + 1;
             bench.set_length(buffer, length);
         } else {

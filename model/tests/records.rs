@@ -2,7 +2,9 @@
 
 mod common;
 use common::say;
-use model::history::record::short::{allocate, clear, copy, read, write, COLLECT};
+use model::history::record::short::{
+    allocate, clear, copy, data, read, write, write_number, COLLECT,
+};
 use model::history::text::{assemble, words};
 use model::history::{report, Operation, Record};
 use model::lists::random::Random;
@@ -25,7 +27,7 @@ fn bytes_to_fields() {
 }
 
 /// The bytes of each operation, written out.
-const WRITTEN: [(Operation, [u8; 8]); 6] = [
+const WRITTEN: [(Operation, [u8; 8]); 8] = [
     (
         Operation::Allocate { size: 258, d: 9 },
         [1, 9, 0, 0, 0, 0, 2, 1],
@@ -41,6 +43,18 @@ const WRITTEN: [(Operation, [u8; 8]); 6] = [
     ),
     (Operation::Clear { d: 9 }, [5, 9, 0, 0, 0, 0, 0, 0]),
     (Operation::Collect, [6, 0, 0, 0, 0, 0, 0, 0]),
+    (
+        Operation::AllocateData { size: 258, d: 9 },
+        [7, 9, 0, 0, 0, 0, 2, 1],
+    ),
+    (
+        Operation::WriteNumber {
+            number: 65_282,
+            c: 772,
+            d: 9,
+        },
+        [8, 9, 0, 0, 4, 3, 2, 255],
+    ),
 ];
 
 #[test]
@@ -57,7 +71,7 @@ fn operations() {
 #[test]
 fn unnamed_fields_are_zero() {
     // The bytes that each operation names, by its number: d, s, c and size.
-    let named: [&[usize]; 7] = [
+    let named: [&[usize]; 9] = [
         &[],
         &[1, 6, 7],
         &[1, 2],
@@ -65,6 +79,8 @@ fn unnamed_fields_are_zero() {
         &[1, 2, 4, 5],
         &[1],
         &[],
+        &[1, 6, 7],
+        &[1, 4, 5, 6, 7],
     ];
     let mut good = 0;
     let mut tried = 0;
@@ -95,7 +111,8 @@ fn unnamed_fields_are_zero() {
 fn texts() {
     let text =
         "  # three\nallocate 2 into 0\n\ncopy 0 to 1 # and so on\nwrite 1 into cell 7 of 0\n\
-                read cell 7 of 0 into 2\nclear 1\ncollect\nbytes 9 1 2 3 4 5 6 255\nbytes 1 0 0\n";
+                read cell 7 of 0 into 2\nclear 1\ncollect\nallocate data 2 into 3\nwrite number 65535 into cell 7 of 3\n\
+                bytes 9 1 2 3 4 5 6 255\nbytes 1 0 0\n";
     let operations = [
         allocate(2, 0),
         copy(0, 1),
@@ -103,12 +120,15 @@ fn texts() {
         read(7, 0, 2),
         clear(1),
         COLLECT,
+        data(2, 3),
+        write_number(65_535, 7, 3),
     ];
     let mut due = model::history::record::bytes(&operations);
     due.extend([9, 1, 2, 3, 4, 5, 6, 255, 1, 0, 0]);
     assert_eq!(assemble(text).unwrap(), due);
     let lines = "allocate 2 into 0\ncopy 0 to 1\nwrite 1 into cell 7 of 0\nread cell 7 of 0 into 2\nclear 1\n\
-                 collect\nbytes 9 1 2 3 4 5 6 255\nbytes 1 0 0\n";
+                 collect\nallocate data 2 into 3\nwrite number 65535 into cell 7 of 3\n\
+                 bytes 9 1 2 3 4 5 6 255\nbytes 1 0 0\n";
     assert_eq!(words(&due), lines);
     for (wrong, line) in [
         ("allocate 65536 into 0", 1),
@@ -121,6 +141,9 @@ fn texts() {
         ("bytes 256", 1),
         ("bytes 1 2\ncollect", 2),
         ("finalize 1", 1),
+        ("allocate data 65536 into 0", 1),
+        ("write number 65536 into cell 0 of 0", 1),
+        ("write number 1 in cell 0 of 0", 1),
     ] {
         let message = assemble(wrong).unwrap_err();
         assert!(message.starts_with(&format!("line {line}: ")), "{message}");
@@ -137,7 +160,7 @@ fn texts_are_read_back() {
         for record in bytes.chunks_mut(8) {
             // Most of them operations.
             if random.percent(70) {
-                record[0] = random.below(8) as u8;
+                record[0] = random.below(10) as u8;
                 record[1..].fill_with(|| {
                     if random.percent(60) {
                         0

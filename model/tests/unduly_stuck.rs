@@ -214,7 +214,10 @@ fn the_claim_is_false_counted_after_the_call() {
     let last = steps.last().unwrap();
     assert_eq!((last.reply.number, last.reply.value), (0, 1));
     assert_eq!(count(8, 2, &last.after, 1), 3);
-    assert_eq!(model::rules::counting::references(&last.after, 1), 2);
+    assert_eq!(
+        model::rules::counting::references(&last.after.cells, &last.after, 1),
+        2
+    );
     assert_eq!(unduly_stuck(8, 2, &steps, before_letting_go), None);
     let after = |step: &Step| step.after.clone();
     assert!(unduly_stuck(8, 2, &steps, after).is_some());

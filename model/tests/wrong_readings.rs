@@ -192,7 +192,13 @@ fn counting_from_unreached_objects() {
     assert_eq!(run(2, &mut right, &[Call::Collect]), [1]);
     assert_eq!(look(2, &mut right, 0), (0, 1, 1));
     for first in reached(N, &before) {
-        set_count(N, 2, &mut wrong, first, references(&before, first).min(3));
+        set_count(
+            N,
+            2,
+            &mut wrong,
+            first,
+            references(&before.cells, &before, first).min(3),
+        );
     }
     erase(N, 2, &mut wrong, 1);
     leave_list_true(N, &mut wrong);

@@ -134,7 +134,7 @@ impl Wrong {
     fn leaves_list(self, call: Call) -> bool {
         match call {
             Call::StoreRoot { .. } | Call::StoreCell { .. } => self == Wrong::LeftByStores,
-            Call::Allocate { .. } => self == Wrong::LeftByAllocations,
+            Call::Allocate { .. } | Call::AllocateData { .. } => self == Wrong::LeftByAllocations,
             Call::Collect => self == Wrong::LeftByCollections,
             Call::ReturnRoots { .. } => self == Wrong::LeftByReturns,
             _ => false,
@@ -178,11 +178,15 @@ impl Wrong {
         let before = memory.clone();
         leave_list_true(blocks, memory);
         let mut reply = apply(blocks, width, memory, call);
-        if let Call::Allocate { n, r } = call {
+        if let Call::Allocate { n, r } | Call::AllocateData { n, r } = call {
             if reply.number == 0 || reply.number == 5 {
                 *memory = before.clone();
                 reply = match self.find(blocks, memory, least_power_of_two(n)) {
-                    Some(first) => place(blocks, width, memory, n, r, first),
+                    Some(first) => {
+                        let as_data = matches!(call, Call::AllocateData { .. });
+                        set_bit(&mut memory.data, first, u8::from(as_data));
+                        place(blocks, width, memory, n, r, first)
+                    }
                     None => refused(5),
                 };
             }
@@ -210,7 +214,10 @@ impl Wrong {
     ) -> Vec<u16> {
         let mut due = self.figures(blocks, after);
         match (self, call) {
-            (Wrong::LeftByTheFreeOfAnAllocation, Call::Allocate { n, .. }) => {
+            (
+                Wrong::LeftByTheFreeOfAnAllocation,
+                Call::Allocate { n, .. } | Call::AllocateData { n, .. },
+            ) => {
                 let mut placed = before.clone();
                 for i in reply.value..reply.value + n {
                     set_bit(&mut placed.a, i, 1);

@@ -21,7 +21,8 @@ impl Figures {
     pub fn call(&mut self, call: Call, reply: Reply) {
         match call {
             _ if reply.number != 0 => {}
-            Call::Allocate { n, .. } => {
+            // U6: "allocate data into d as 1 does"
+            Call::Allocate { n, .. } | Call::AllocateData { n, .. } => {
                 self.allocations += 1;
                 self.blocks += n as u64;
                 self.largest = self.largest.max(n as u64);
@@ -32,7 +33,10 @@ impl Figures {
         // "Every store and allocation passes the fact on"
         let tells = matches!(
             call,
-            Call::Allocate { .. } | Call::StoreRoot { .. } | Call::StoreCell { .. }
+            Call::Allocate { .. }
+                | Call::AllocateData { .. }
+                | Call::StoreRoot { .. }
+                | Call::StoreCell { .. }
         );
         if reply.number == 0 && tells && reply.second == 1 {
             self.became_stuck += 1;

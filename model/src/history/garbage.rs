@@ -3,7 +3,7 @@
 use super::run::{run_records, Run};
 use crate::rules::calls::{apply, Call};
 use crate::rules::collection::reached;
-use crate::rules::heap::{capacity, cell_places, count, first_blocks, named, size, Memory};
+use crate::rules::heap::{capacity, count, first_blocks, named, reference_places, size, Memory};
 use std::collections::{BTreeMap, BTreeSet};
 
 /// The first blocks of the objects that no root reaches. README.md, "How many count bits are enough", has the words quoted.
@@ -53,7 +53,7 @@ fn led_to(blocks: usize, memory: &Memory, from: usize, among: &BTreeSet<usize>) 
     let mut found = BTreeSet::new();
     let mut to_follow = vec![from];
     while let Some(owner) = to_follow.pop() {
-        for v in &memory.cells[cell_places(blocks, memory, owner)] {
+        for v in &memory.cells[reference_places(blocks, memory, owner)] {
             if let Some(first) = named(blocks, memory, *v) {
                 if among.contains(&first) && found.insert(first) {
                     to_follow.push(first);

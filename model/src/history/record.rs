@@ -27,6 +27,10 @@ pub enum Operation {
     Clear { d: u8 },
     /// "6 collects."
     Collect,
+    /// Document 02, U6: "History operations 7 and 8 allocate data into d as 1 does"
+    AllocateData { size: u16, d: u8 },
+    /// "and write the size field's number into cell c of the data in d"
+    WriteNumber { number: u16, c: u16, d: u8 },
 }
 
 impl Record {
@@ -66,6 +70,8 @@ impl Record {
             4 => Operation::Read { c, s, d },
             5 => Operation::Clear { d },
             6 => Operation::Collect,
+            7 => Operation::AllocateData { size, d },
+            8 => Operation::WriteNumber { number: size, c, d },
             _ => return None,
         };
         (operation.record() == self).then_some(operation)
@@ -112,6 +118,19 @@ impl Operation {
                 operation: 6,
                 ..zero
             },
+            Operation::AllocateData { size, d } => Record {
+                operation: 7,
+                d,
+                size,
+                ..zero
+            },
+            Operation::WriteNumber { number, c, d } => Record {
+                operation: 8,
+                d,
+                c,
+                size: number,
+                ..zero
+            },
         }
     }
 }
@@ -147,4 +166,12 @@ pub mod short {
     }
 
     pub const COLLECT: Operation = Operation::Collect;
+
+    pub fn data(size: u16, d: u8) -> Operation {
+        Operation::AllocateData { size, d }
+    }
+
+    pub fn write_number(number: u16, c: u16, d: u8) -> Operation {
+        Operation::WriteNumber { number, c, d }
+    }
 }

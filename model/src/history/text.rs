@@ -46,6 +46,15 @@ fn record(words: &[&str]) -> Option<Vec<u8>> {
         },
         ["clear", d] => Operation::Clear { d: number(d)? },
         ["collect"] => Operation::Collect,
+        ["allocate", "data", size, "into", d] => Operation::AllocateData {
+            size: number(size)?,
+            d: number(d)?,
+        },
+        ["write", "number", v, "into", "cell", c, "of", d] => Operation::WriteNumber {
+            number: number(v)?,
+            c: number(c)?,
+            d: number(d)?,
+        },
         ["bytes", bytes @ ..] if (1..=8).contains(&bytes.len()) => {
             return bytes.iter().map(|byte| number(byte)).collect();
         }
@@ -74,6 +83,10 @@ fn line(bytes: &[u8]) -> String {
         Some(Operation::Read { c, s, d }) => format!("read cell {c} of {s} into {d}"),
         Some(Operation::Clear { d }) => format!("clear {d}"),
         Some(Operation::Collect) => "collect".to_string(),
+        Some(Operation::AllocateData { size, d }) => format!("allocate data {size} into {d}"),
+        Some(Operation::WriteNumber { number, c, d }) => {
+            format!("write number {number} into cell {c} of {d}")
+        }
         None => format!("bytes {}", crate::texts::expect::numbers(bytes)),
     }
 }

@@ -1,5 +1,5 @@
-//! Damage to a sound heap, as a list of numbers to write into its buffers: one way of each kind 1 to 5, lists of sections
-//! that are not true, and changes that may or may not be damage.
+//! Damage to a sound heap, as a list of numbers to write into its buffers: one way of each kind 1 to 5 and 7, lists of
+//! sections that are not true, and changes that may or may not be damage.
 
 use crate::lists::file::Bench;
 use crate::lists::random::Random;
@@ -9,12 +9,13 @@ use crate::rules::heap::{capacity, count, first_blocks, is_allocated, size, Memo
 pub type Load = (u64, usize, u64);
 
 /// The aims of `some_damage`, and the one that makes the list of sections untrue.
-pub const AIMS: usize = 8;
+pub const AIMS: usize = 9;
 pub const UNTRUE_LIST: usize = 6;
 
-/// Loads that aim at a kind 1 to 5 of damage in a used heap. Three aims are no kind: 0 changes only what may stand in a
+/// Loads that aim at a kind 1 to 5 or 7 of damage in a used heap. Three aims are no kind: 0 changes only what may stand in a
 /// sound heap, 6 makes the list of sections untrue, the last one changes anything. Where a kind isn't possible in this heap
-/// it is another, or none. Seldom the list of sections is untrue besides: damage is found before it.
+/// it is another, or none. Seldom the list of sections is untrue besides, or there is a stray D bit: other damage is found
+/// before it.
 pub fn some_damage(random: &mut Random, bench: &Bench, aim: usize) -> Vec<Load> {
     let (blocks, memory) = (bench.blocks, &bench.memory);
     let free: Vec<usize> = (0..blocks).filter(|i| !is_allocated(memory, *i)).collect();
@@ -27,6 +28,7 @@ pub fn some_damage(random: &mut Random, bench: &Bench, aim: usize) -> Vec<Load> 
         4 => bad_reference(random, blocks, memory, &free, &objects),
         5 => bad_count(random, bench, &free, &objects),
         UNTRUE_LIST => untrue_list(random, bench),
+        7 => stray_data(random, bench, &objects),
         _ => anything(random, bench),
     };
     let mut more = Vec::new();
@@ -34,6 +36,8 @@ pub fn some_damage(random: &mut Random, bench: &Bench, aim: usize) -> Vec<Load> 
         more = anything(random, bench);
     } else if aim > 0 && random.percent(15) {
         more = untrue_list(random, bench);
+    } else if aim > 0 && random.percent(15) {
+        more = stray_data(random, bench, &objects);
     }
     // Never two loads to one place: each is undone by the value before.
     more.retain(|new| loads.iter().all(|old| (old.0, old.1) != (new.0, new.1)));
@@ -209,19 +213,43 @@ fn untrue_list(random: &mut Random, bench: &Bench) -> Vec<Load> {
     vec![(6, k, value)]
 }
 
+/// Kind 7: a D bit where no object starts, of free blocks and of second blocks of objects; often in the first or the last
+/// byte.
+fn stray_data(random: &mut Random, bench: &Bench, objects: &[usize]) -> Vec<Load> {
+    let (blocks, map) = (bench.blocks, &bench.memory.data);
+    let places = match random.below(4) {
+        0 => 0..8,
+        1 => blocks - 8..blocks,
+        _ => 0..blocks,
+    };
+    let strays: Vec<usize> = places.filter(|i| !objects.contains(i)).collect();
+    let inside: Vec<usize> = strays
+        .iter()
+        .copied()
+        .filter(|i| is_allocated(&bench.memory, *i))
+        .collect();
+    if !inside.is_empty() && random.percent(50) {
+        return vec![flip(0, 7, map, random.pick(&inside))];
+    }
+    if strays.is_empty() {
+        return Vec::new();
+    }
+    vec![flip(0, 7, map, random.pick(&strays))]
+}
+
 /// One to three numbers of the heap changed at random.
 fn anything(random: &mut Random, bench: &Bench) -> Vec<Load> {
     let mut loads: Vec<Load> = Vec::new();
     for _ in 0..1 + random.below(3) {
         // All but the waiting list.
-        let buffer = random.pick(&[0, 1, 2, 3, 4, 6]);
+        let buffer = random.pick(&[0, 1, 2, 3, 4, 6, 7]);
         let index = random.below(bench.length(buffer));
         if loads.iter().any(|(b, i, _)| (*b, *i) == (buffer, index)) {
             continue;
         }
         let now = bench.number_at(buffer, index);
         let value = match buffer {
-            0..=2 => now ^ (1 << random.below(8)),
+            0..=2 | 7 => now ^ (1 << random.below(8)),
             _ => random.below(bench.blocks + 2) as u64,
         };
         loads.push((buffer, index, value));

@@ -80,18 +80,18 @@ pub fn near_full(desk: &mut Desk, count: usize) {
     while desk.entries.len() < end {
         let free = free_count(desk.blocks(), &desk.bench.memory);
         let call = match desk.random.below(10) {
-            0..=3 => Call::Allocate {
-                n: 1 + desk.random.below(free.max(1)),
-                r: desk.some_root(),
-            },
-            4 => Call::Allocate {
-                n: free.max(1),
-                r: desk.some_root(),
-            },
-            5 => Call::Allocate {
-                n: 1,
-                r: desk.some_root(),
-            },
+            0..=3 => {
+                let (n, r) = (1 + desk.random.below(free.max(1)), desk.some_root());
+                desk.allocation(n, r)
+            }
+            4 => {
+                let r = desk.some_root();
+                desk.allocation(free.max(1), r)
+            }
+            5 => {
+                let r = desk.some_root();
+                desk.allocation(1, r)
+            }
             // Kept by a cell, so that the root can take the next one.
             6..=7 => desk.some_cell_store(5),
             8 => desk.some_root_store(30),
@@ -106,6 +106,7 @@ pub fn near_full(desk: &mut Desk, count: usize) {
         if call != Call::Format {
             desk.call(call);
         }
+        desk.some_numbers();
     }
 }
 
@@ -115,8 +116,10 @@ pub fn saturation(desk: &mut Desk, count: usize) {
     desk.call(Call::Format);
     while desk.entries.len() < end {
         desk.call(Call::Allocate { n: 4, r: 0 });
-        desk.call(Call::Allocate { n: 1, r: 0 });
-        let a = desk.some_object();
+        let call = desk.allocation(1, 0);
+        desk.call(call);
+        desk.some_numbers();
+        let a = desk.some_object_as(false);
         let target = desk.some_object();
         let times = 1 + desk.random.below((1 << desk.bench.width) + 2);
         let cells = desk.cells_of(a);
@@ -157,7 +160,9 @@ pub fn cycles(desk: &mut Desk, count: usize) {
         let mut before = None;
         for _ in 0..length {
             let n = 1 + desk.random.below(2);
-            let reply = desk.call(Call::Allocate { n, r });
+            let call = desk.allocation(n, r);
+            let reply = desk.call(call);
+            desk.some_numbers();
             if reply.number != 0 {
                 desk.call(Call::Collect);
                 break;
@@ -219,10 +224,13 @@ pub fn self_references(desk: &mut Desk, count: usize) {
     while desk.entries.len() < end {
         let r = desk.random.below(desk.roots());
         let n = 1 + desk.random.below(2);
-        desk.call(Call::Allocate { n, r });
+        let call = desk.allocation(n, r);
+        desk.call(call);
         let a = desk.some_object();
         let v = 1 + a;
         let j = desk.random.below(desk.cells_of(a));
+        // Data holds its own name as a number, which keeps nothing.
+        desk.call(Call::WriteNumber { a, j, v: v as u16 });
         desk.call(Call::StoreCell { a, j, v });
         if desk.random.percent(50) {
             desk.call(Call::StoreCell { a, j, v });
@@ -282,7 +290,9 @@ pub fn deep_chains(desk: &mut Desk, count: usize) {
 fn chain(desk: &mut Desk) {
     let new_root = desk.roots().min(2) - 1;
     let length = 2 + desk.random.below(desk.blocks());
-    desk.call(Call::Allocate { n: 1, r: 0 });
+    let call = desk.allocation(1, 0);
+    desk.call(call);
+    desk.some_numbers();
     for _ in 0..length {
         let held = desk.bench.memory.roots[0] as usize;
         let reply = desk.call(Call::Allocate { n: 1, r: new_root });
@@ -310,10 +320,12 @@ fn star(desk: &mut Desk) {
     desk.call(Call::Allocate { n, r: 0 });
     let mut j = 0;
     while j + 1 < 4 * n {
-        let reply = desk.call(Call::Allocate { n: 1, r: new_root });
+        let call = desk.allocation(1, new_root);
+        let reply = desk.call(call);
         if reply.number != 0 || new_root == 0 {
             break;
         }
+        desk.some_numbers();
         let v = 1 + reply.value;
         desk.call(Call::StoreCell { a: 0, j, v });
         j += 1;

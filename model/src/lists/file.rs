@@ -10,11 +10,11 @@ pub const MOST_BLOCKS: u64 = 8192;
 pub const MOST_WIDTH: u64 = 5;
 pub const MOST_ROOTS: u64 = 65;
 
-/// The lent buffers, by number: 0 a, 1 b, 2 counts, 3 cells, 4 roots, 5 waiting, 6 sections.
-pub const BUFFERS: usize = 7;
+/// The lent buffers, by number: 0 a, 1 b, 2 counts, 3 cells, 4 roots, 5 waiting, 6 sections, 7 data.
+pub const BUFFERS: usize = 8;
 
 /// The largest length of each of them.
-pub const MOST_LENGTHS: [u64; BUFFERS] = [1024, 1024, 5 * 1024, 32768, 65, 8192, 32];
+pub const MOST_LENGTHS: [u64; BUFFERS] = [1024, 1024, 5 * 1024, 32768, 65, 8192, 32, 1024];
 
 /// Word 0 of the entries that are no calls: behind all calls to come.
 pub const LOAD: u64 = 253;
@@ -25,9 +25,22 @@ pub const NEW: u64 = 255;
 #[derive(Clone, Copy, Debug, PartialEq, Eq)]
 pub enum Entry {
     Call(Call),
-    Load { buffer: u64, index: u64, value: u64 },
-    Length { buffer: u64, length: u64 },
-    New { blocks: u64, width: u64, roots: u64 },
+    Load {
+        buffer: u64,
+        index: u64,
+        value: u64,
+    },
+    Length {
+        buffer: u64,
+        length: u64,
+    },
+    New {
+        blocks: u64,
+        width: u64,
+        roots: u64,
+    },
+    /// A number write whose number no cell can hold. "Nothing is truncated": it is no call.
+    NumberOutOfRange,
     Unknown(u64),
 }
 
@@ -53,6 +66,12 @@ impl Entry {
             6 => Entry::Call(Call::Look { a: p }),
             7 => Entry::Call(Call::FreeBlocks),
             8 => Entry::Call(Call::ReturnRoots { chosen: x }),
+            9 => Entry::Call(Call::AllocateData { n: p, r: q }),
+            10 => match u16::try_from(z) {
+                Ok(v) => Entry::Call(Call::WriteNumber { a: p, j: q, v }),
+                Err(_) => Entry::NumberOutOfRange,
+            },
+            11 => Entry::Call(Call::ReadNumber { a: p, j: q }),
             LOAD => Entry::Load {
                 buffer: x,
                 index: y,
@@ -139,7 +158,7 @@ impl Bench {
                     *self = next;
                 }
             }
-            Entry::Unknown(_) => {}
+            Entry::NumberOutOfRange | Entry::Unknown(_) => {}
         }
         None
     }
@@ -155,6 +174,7 @@ impl Bench {
             4 => load_number(&mut memory.roots, index, value),
             5 => load_number(&mut memory.waiting, index, value),
             6 => load_number(&mut memory.sections, index, value),
+            7 => load_byte(&mut memory.data, index, value),
             _ => false,
         }
     }
@@ -173,7 +193,8 @@ impl Bench {
             3 => lend(&mut memory.cells, &mut beyond.cells, length),
             4 => lend(&mut memory.roots, &mut beyond.roots, length),
             5 => lend(&mut memory.waiting, &mut beyond.waiting, length),
-            _ => lend(&mut memory.sections, &mut beyond.sections, length),
+            6 => lend(&mut memory.sections, &mut beyond.sections, length),
+            _ => lend(&mut memory.data, &mut beyond.data, length),
         }
         true
     }
@@ -188,7 +209,8 @@ impl Bench {
             3 => memory.cells[index] as u64,
             4 => memory.roots[index] as u64,
             5 => memory.waiting[index] as u64,
-            _ => memory.sections[index] as u64,
+            6 => memory.sections[index] as u64,
+            _ => memory.data[index] as u64,
         }
     }
 
@@ -202,7 +224,8 @@ impl Bench {
             3 => memory.cells.len(),
             4 => memory.roots.len(),
             5 => memory.waiting.len(),
-            _ => memory.sections.len(),
+            6 => memory.sections.len(),
+            _ => memory.data.len(),
         }
     }
 }

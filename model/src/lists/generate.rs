@@ -5,7 +5,7 @@ use crate::lists::file::{bytes, Bench, Entry, LENGTH, LOAD, NEW};
 use crate::lists::random::Random;
 use crate::rules::answers::Reply;
 use crate::rules::calls::{apply, Call};
-use crate::rules::heap::{first_blocks, misshapen, size};
+use crate::rules::heap::{first_blocks, is_data, misshapen, size};
 
 pub struct Desk {
     pub random: Random,
@@ -78,6 +78,18 @@ impl Desk {
         self.random.pick(&objects)
     }
 
+    /// A present object's first block, mostly one that is data, or mostly one that isn't; 0 where there is none.
+    pub fn some_object_as(&mut self, as_data: bool) -> usize {
+        let mut objects = self.objects();
+        if self.random.percent(88) {
+            objects.retain(|first| is_data(&self.bench.memory, *first) == as_data);
+        }
+        if objects.is_empty() {
+            return self.some_object();
+        }
+        self.random.pick(&objects)
+    }
+
     /// The number of cells of the object at a block (4 where there is none).
     pub fn cells_of(&self, a: usize) -> usize {
         if self.objects().contains(&a) {
@@ -132,10 +144,81 @@ impl Desk {
         }
     }
 
+    /// An allocation, of data in about one of five cases.
+    pub fn allocation(&mut self, n: usize, r: usize) -> Call {
+        if self.random.percent(20) {
+            return Call::AllocateData { n, r };
+        }
+        Call::Allocate { n, r }
+    }
+
     pub fn some_allocation(&mut self) -> Call {
-        Call::Allocate {
-            n: self.some_size(),
-            r: self.some_root(),
+        let (n, r) = (self.some_size(), self.some_root());
+        self.allocation(n, r)
+    }
+
+    /// A number to write into data (U6): one that names an object, or no object, or that is no name at all.
+    pub fn some_number(&mut self) -> u16 {
+        let blocks = self.blocks();
+        let number = match self.random.below(10) {
+            0..=3 => 1 + self.some_object(),
+            // Free, or the second block of an object, most of the time.
+            4..=5 => 1 + self.random.below(blocks.max(1)),
+            6 => blocks + 1 + self.random.below(4),
+            7 => 65_535,
+            8 => 0,
+            _ => self.random.below(65_536),
+        };
+        number.min(65_535) as u16
+    }
+
+    /// An object, mostly data or mostly not, and one of its cells; seldom there is no such object or cell.
+    fn some_place(&mut self, as_data: bool) -> (usize, usize) {
+        let a = if self.random.percent(4) {
+            self.random.below(self.bench.blocks + 3)
+        } else {
+            self.some_object_as(as_data)
+        };
+        let cells = self.cells_of(a);
+        let j = if self.random.percent(4) {
+            cells + self.random.below(3)
+        } else {
+            self.random.below(cells)
+        };
+        (a, j)
+    }
+
+    /// A number write, seldom of the number that is there.
+    pub fn some_number_write(&mut self) -> Call {
+        let (a, j) = self.some_place(true);
+        let present = self.bench.memory.cells.get(4 * a + j).copied();
+        let v = match present {
+            Some(v) if self.random.percent(8) => v,
+            _ => self.some_number(),
+        };
+        Call::WriteNumber { a, j, v }
+    }
+
+    pub fn some_number_read(&mut self) -> Call {
+        let (a, j) = self.some_place(true);
+        Call::ReadNumber { a, j }
+    }
+
+    /// Up to three number writes, where there is data; seldom with rubbish in the waiting list, which they keep.
+    pub fn some_numbers(&mut self) {
+        let objects = self.objects();
+        if objects
+            .iter()
+            .any(|first| is_data(&self.bench.memory, *first))
+        {
+            for _ in 0..self.random.below(4) {
+                if self.random.percent(15) {
+                    let (place, rubbish) = (self.random.below(self.blocks()), self.random.word());
+                    self.load(5, place, rubbish % 65_536);
+                }
+                let call = self.some_number_write();
+                self.call(call);
+            }
         }
     }
 
@@ -155,17 +238,7 @@ impl Desk {
     }
 
     pub fn some_cell_store(&mut self, percent_zero: usize) -> Call {
-        let a = if self.random.percent(4) {
-            self.random.below(self.bench.blocks + 3)
-        } else {
-            self.some_object()
-        };
-        let cells = self.cells_of(a);
-        let j = if self.random.percent(4) {
-            cells + self.random.below(3)
-        } else {
-            self.random.below(cells)
-        };
+        let (a, j) = self.some_place(false);
         let present = self.bench.memory.cells.get(4 * a + j).copied();
         let v = self.some_value_over(present, percent_zero);
         Call::StoreCell { a, j, v }
@@ -201,7 +274,9 @@ impl Desk {
         if self.objects().is_empty() && self.random.percent(60) {
             return self.some_allocation();
         }
-        match self.random.below(200) {
+        match self.random.below(230) {
+            200..=221 => self.some_number_write(),
+            222..=229 => self.some_number_read(),
             0..=59 => self.some_allocation(),
             60..=98 => self.some_root_store(55),
             99..=104 => self.some_return(),
@@ -215,16 +290,25 @@ impl Desk {
     }
 
     /// A call of each kind, with arguments that would mostly be accepted.
-    pub fn one_of_each(&mut self) -> [Call; 9] {
+    pub fn one_of_each(&mut self) -> [Call; 12] {
         [
             Call::Check,
-            self.some_allocation(),
+            Call::Allocate {
+                n: self.some_size(),
+                r: self.some_root(),
+            },
             self.some_root_store(50),
             self.some_cell_store(50),
             Call::Collect,
             self.some_look(),
             Call::FreeBlocks,
             self.some_return(),
+            Call::AllocateData {
+                n: self.some_size(),
+                r: self.some_root(),
+            },
+            self.some_number_write(),
+            self.some_number_read(),
             Call::Format,
         ]
     }

@@ -1,4 +1,4 @@
-//! Lists of calls, written: by hand (paper, request_vectors, section_vectors) and at random. `file` has the form in which
+//! Lists of calls, written: by hand (paper, request_vectors, section_vectors, number_vectors) and at random. `file` has the form in which
 //! they are kept, `generate` the desk at which they are written, `families` what is written there, with `wrong_families` and
 //! `section_lists`; `damaging` and `spoiling` make something wrong; `runs` has runs of records on what a list left;
 //! `vectors` is the one large file.
@@ -7,6 +7,7 @@ pub mod damaging;
 pub mod families;
 pub mod file;
 pub mod generate;
+pub mod number_vectors;
 pub mod paper;
 pub mod random;
 pub mod request_vectors;

@@ -107,17 +107,20 @@ pub fn some_record(random: &mut Random, blocks: usize, roots: usize) -> Record {
     let (d, s) = (up_to(roots, roots + 1) as u8, up_to(roots, roots + 1) as u8);
     let c = up_to(4, 20) as u16;
     let size = up_to(4, blocks + 2) as u16;
+    let number = up_to(blocks + 3, 65_536) as u16;
     let operation = match random.below(100) {
-        0..=29 => Operation::Allocate { size, d },
-        30..=49 => Operation::Copy { s, d },
-        50..=74 => Operation::Write { s, c, d },
-        75..=84 => Operation::Read { c, s, d },
-        85..=96 => Operation::Clear { d },
+        0..=21 => Operation::Allocate { size, d },
+        22..=31 => Operation::AllocateData { size, d },
+        32..=47 => Operation::Copy { s, d },
+        48..=67 => Operation::Write { s, c, d },
+        68..=77 => Operation::WriteNumber { number, c, d },
+        78..=86 => Operation::Read { c, s, d },
+        87..=96 => Operation::Clear { d },
         _ => Operation::Collect,
     };
     let mut bytes = operation.record().bytes();
     if random.percent(4) {
-        bytes[random.below(8)] = random.below(9) as u8;
+        bytes[random.below(8)] = random.below(11) as u8;
     }
     Record::from_bytes(bytes)
 }

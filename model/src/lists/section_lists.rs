@@ -24,10 +24,10 @@ pub fn sections(desk: &mut Desk, count: usize) {
 /// Calls that fill sections, leave parts of them, and let go across their borders.
 fn some_call(desk: &mut Desk) -> Call {
     match desk.random.below(20) {
-        0..=8 => Call::Allocate {
-            n: some_size(desk),
-            r: desk.some_root(),
-        },
+        0..=8 => {
+            let (n, r) = (some_size(desk), desk.some_root());
+            desk.allocation(n, r)
+        }
         // Kept by a cell, so that the root can take the next one.
         9..=12 => desk.some_cell_store(10),
         13..=15 => desk.some_root_store(60),

@@ -65,7 +65,12 @@ fn fill_unnamed(random: &mut Random, words: &mut [u64]) {
 
 /// Anything in every buffer.
 fn fill(random: &mut Random, memory: &mut Memory) {
-    for map in [&mut memory.a, &mut memory.b, &mut memory.counts] {
+    for map in [
+        &mut memory.a,
+        &mut memory.b,
+        &mut memory.counts,
+        &mut memory.data,
+    ] {
         map.fill_with(|| random.word() as u8);
     }
     for list in [
@@ -105,13 +110,31 @@ fn wrong_shape(random: &mut Random, lent: &mut Lent) {
     }
 }
 
-/// An unknown code in place of one of the calls.
+/// An unknown code in place of one of the calls, or a number write whose number no cell can hold.
 fn no_call(random: &mut Random, lent: &mut Lent) {
-    let code = random.pick(&[9, 10, 252, 253, 254, 255, 256, 258, 264, 1 << 32, u64::MAX]);
+    let unknown = [
+        12,
+        13,
+        252,
+        253,
+        254,
+        255,
+        256,
+        258,
+        264,
+        266,
+        1 << 32,
+        u64::MAX,
+    ];
+    let wide = [65_536, 65_537, 1 << 32, u64::MAX];
+    let words = match random.below(3) {
+        0 => [10, 0, 0, random.pick(&wide)],
+        _ => [random.pick(&unknown), 0, 0, 0],
+    };
     let calls = lent.words.len() / 4;
     if calls > 0 {
         let place = 4 * random.below(calls);
-        lent.words[place..place + 4].copy_from_slice(&[code, 0, 0, 0]);
+        lent.words[place..place + 4].copy_from_slice(&words);
     }
 }
 

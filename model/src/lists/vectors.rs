@@ -4,6 +4,7 @@
 use crate::lists::families::{some_shape, FAMILIES};
 use crate::lists::file::{LENGTH, LOAD, NEW};
 use crate::lists::generate::Desk;
+use crate::lists::number_vectors::numbers;
 use crate::lists::paper::{self, Step};
 use crate::lists::random::Random;
 use crate::lists::request_vectors::{moments, present_values, returns};
@@ -55,6 +56,7 @@ pub fn vectors(seed: u64) -> Vec<u8> {
     returns(&mut desk);
     moments(&mut desk);
     sections(&mut desk);
+    numbers(&mut desk);
     for round in 0..16 {
         for (_, write) in FAMILIES {
             let shape = some_shape(round, &mut desk.random);
@@ -75,8 +77,12 @@ fn complaints(desk: &mut Desk) {
     desk.new_heap([8, 2, 4]);
     desk.call(Call::Format);
     desk.call(Call::Allocate { n: 2, r: 0 });
-    for unknown in [9, 10, 252, 256, 264, 1 << 32, (1 << 32) + 8, m] {
+    for unknown in [12, 13, 252, 256, 264, 266, 1 << 32, (1 << 32) + 8, m] {
         desk.words([unknown, 1, 2, 3]);
+    }
+    // A number write whose number no cell can hold is no call, wherever it would go.
+    for [a, j, v] in [[0, 0, 65_536], [0, 0, 65_537], [m, m, 1 << 32], [1, 8, m]] {
+        desk.words([10, a, j, v]);
     }
     for load in [[0, 1, 0], [0, 0, 256], [3, 32, 0], [3, 0, 65_536]] {
         desk.words([LOAD, load[0], load[1], load[2]]);
@@ -86,7 +92,9 @@ fn complaints(desk: &mut Desk) {
         [5, 8, 1],
         [6, 1, 0],
         [6, 0, 65_536],
-        [7, 0, 0],
+        [7, 1, 0],
+        [7, 0, 256],
+        [8, 0, 0],
         [m, 0, 0],
         [0, m, 0],
         [4, 0, m],
@@ -96,7 +104,7 @@ fn complaints(desk: &mut Desk) {
     for [buffer, length] in [[0, 1025], [1, 1025], [2, 5121], [3, 32_769], [4, 66]] {
         desk.words([LENGTH, buffer, length, 0]);
     }
-    for [buffer, length] in [[5, 8193], [6, 33], [7, 0], [m, 1], [0, m]] {
+    for [buffer, length] in [[5, 8193], [6, 33], [7, 1025], [8, 0], [m, 1], [0, m]] {
         desk.words([LENGTH, buffer, length, 0]);
     }
     for shape in [
@@ -116,6 +124,9 @@ fn complaints(desk: &mut Desk) {
     desk.words([2, 1, 1, m]);
     desk.words([6, 0, m, m]);
     desk.words([8, 0, m, m]);
+    desk.words([9, 1, 2, m]);
+    desk.words([11, 3, 0, m]);
+    desk.words([3, 2, 0, m]);
     // A buffer made shorter and longer again keeps what lay beyond.
     desk.words([LOAD, 4, 3, 3]);
     desk.words([LOAD, 4, 1, 0]);
@@ -174,7 +185,7 @@ fn shapes(desk: &mut Desk) {
     }
     // The blocks of one heap with the buffers of another.
     desk.new_heap([12, 2, 4]);
-    for (buffer, length) in [(0, 2), (1, 2), (2, 4), (3, 64), (5, 16)] {
+    for (buffer, length) in [(0, 2), (1, 2), (2, 4), (3, 64), (5, 16), (7, 2)] {
         desk.length(buffer, length);
     }
     desk.call(Call::Format);

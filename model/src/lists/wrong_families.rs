@@ -156,7 +156,9 @@ pub fn huge_arguments(desk: &mut Desk, count: usize) {
         let wide = desk.some_wide_value() as u64;
         let bad_v = [blocks, blocks + 1, 32_768, 65_534, x, x, wide, wide, wide];
         let bad_v = desk.random.pick(&bad_v);
-        let words = match desk.random.below(14) {
+        let data = desk.some_object_as(true) as u64;
+        let number = desk.some_number() as u64;
+        let words = match desk.random.below(22) {
             0 => [2, x, r, 0],
             1 => [2, 1, x, 0],
             2 => [2, x, y, 0],
@@ -170,7 +172,16 @@ pub fn huge_arguments(desk: &mut Desk, count: usize) {
             10 => [4, a, x, bad_v],
             11 => [8, x, y, 0],
             12 => [8, 1 << desk.random.below(64), 0, 0],
-            _ => [6, x, 0, 0],
+            13 => [6, x, 0, 0],
+            14 => [9, x, r, 0],
+            15 => [9, 1, x, 0],
+            16 => [10, x, y, number],
+            17 => [10, data, x, number],
+            // A number that no cell can hold is no call.
+            18 => [10, data, 0, wide],
+            19 => [10, data, 0, 65_535],
+            20 => [11, x, y, wide],
+            _ => [11, data, x, 0],
         };
         desk.words(words);
     }

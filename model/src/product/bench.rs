@@ -2,6 +2,7 @@
 //! port's searches against each other (search_bench).
 
 use crate::lists::random::Random;
+use crate::product::data_bench::half_data;
 use crate::product::library::{shared, unique};
 use crate::product::port::{self, lend};
 use crate::product::search_bench;
@@ -29,6 +30,7 @@ pub fn bench() -> String {
     search_bench::searches(&mut out);
     search_bench::growth(&mut out);
     check(&mut out, &list);
+    half_data(&mut out);
     growth(&mut out);
     out
 }

@@ -1,7 +1,7 @@
 //! Random lists and damaged memories, on the model and on the product's library side by side: call by call, then the calls
 //! of the list as one replay, as they are and spoilt, then runs of records on what the list left. First come the check of
-//! every pair of maps of eight blocks, and of every A-map of eight blocks with every figure, and lists that are always the
-//! same, which meet all that can be met; then fresh ones.
+//! every pair of maps of eight blocks, of every A-map of eight blocks with every figure, of every sound pair of maps with every
+//! D-map, and lists that are always the same, which meet all that can be met; then fresh ones.
 
 use crate::lists::damaging::{some_damage, AIMS};
 use crate::lists::families::{random as random_calls, some_shape, FAMILIES};
@@ -14,6 +14,9 @@ use crate::lists::spoiling::some_replay;
 use crate::product::compare::{call_by_call, ran, replayed, Library};
 use crate::product::met::{Met, PAIRS_OF_MAPS, TOO_MANY_BLOCKS};
 use crate::product::shrink::shrink;
+use crate::rules::damage::damage;
+use crate::rules::heap::{first_blocks, Memory};
+use crate::rules::sections::figures;
 use crate::Call;
 use std::time::{Duration, Instant};
 
@@ -29,12 +32,13 @@ struct Found {
     text: String,
 }
 
-/// Checks all pairs of maps, all figures and the lists that are always the same, then runs fresh lists for so many seconds.
+/// Checks all pairs of maps, all figures, all D-maps and the lists that are always the same, then runs fresh lists for so many seconds.
 /// What was met, and a difference, as text.
 pub fn fuzz(seconds: u64, seed: u64, library: Library) -> (Met, Option<String>) {
     let mut met = Met::default();
-    let difference =
-        pairs_of_maps(library, &mut met).or_else(|| maps_with_figures(library, &mut met));
+    let difference = pairs_of_maps(library, &mut met)
+        .or_else(|| maps_with_figures(library, &mut met))
+        .or_else(|| maps_with_data(library, &mut met));
     if difference.is_some() {
         return (met, difference);
     }
@@ -91,6 +95,39 @@ fn maps_with_figures(library: Library, met: &mut Met) -> Option<String> {
             desk.call(Call::Check);
             met.maps_with_figures += 1;
         }
+        call_by_call(library, shape, &desk.entries, &mut Met::default())
+    })
+}
+
+/// The check of every pair of maps of eight blocks that passes kinds 1 to 3, with every D-map and a number that names nothing
+/// in one cell: kind 4, unless it is a cell of data; then kind 7, unless each D bit is on a first block. At width 1 a count of 1
+/// needs no reference.
+fn maps_with_data(library: Library, met: &mut Met) -> Option<String> {
+    let shape = [8, 1, 4];
+    let mut pairs = 0;
+    (0..PAIRS_OF_MAPS as u64).find_map(|pair| {
+        let mut memory = Memory::zeros(8, 1, 4);
+        [memory.a[0], memory.b[0]] = [(pair / 256) as u8, (pair % 256) as u8];
+        if (1..=3).contains(&damage(8, 1, &memory)) {
+            return None;
+        }
+        let counts: u64 = first_blocks(8, &memory).iter().map(|i| 1 << i).sum();
+        let mut desk = Desk::new(Random::new(0), shape);
+        desk.call(Call::Format);
+        desk.load(0, 0, pair / 256);
+        desk.load(1, 0, pair % 256);
+        desk.load(2, 0, counts);
+        desk.load(6, 0, figures(8, &memory)[0] as u64);
+        for data in 0..256 {
+            let block = (data as usize + pairs) % 8;
+            let place = 4 * block + block % 4;
+            desk.load(7, 0, data);
+            desk.load(3, place, 9);
+            desk.call(Call::Check);
+            desk.load(3, place, 0);
+            met.maps_with_data += 1;
+        }
+        pairs += 1;
         call_by_call(library, shape, &desk.entries, &mut Met::default())
     })
 }

@@ -28,6 +28,9 @@ pub fn apply(blocks: usize, width: usize, memory: &mut Memory, call: Call) -> Re
         Call::Look { a } => lent::look(shared(blocks, width, memory), a),
         Call::FreeBlocks => lent::free_blocks(shared(blocks, width, memory)),
         Call::ReturnRoots { chosen } => lent::return_roots(unique(blocks, width, memory), chosen),
+        Call::AllocateData { n, r } => lent::allocate_data(unique(blocks, width, memory), n, r),
+        Call::WriteNumber { a, j, v } => lent::write_number(unique(blocks, width, memory), a, j, v),
+        Call::ReadNumber { a, j } => lent::read_number(shared(blocks, width, memory), a, j),
     })
 }
 
@@ -108,6 +111,7 @@ pub fn unique(blocks: usize, width: usize, memory: &mut Memory) -> Unique<'_> {
         roots: &mut memory.roots,
         waiting: &mut memory.waiting,
         sections: &mut memory.sections,
+        data: &mut memory.data,
     }
 }
 
@@ -123,5 +127,6 @@ pub fn shared(blocks: usize, width: usize, memory: &Memory) -> Shared<'_> {
         roots: &memory.roots,
         waiting: &memory.waiting,
         sections: &memory.sections,
+        data: &memory.data,
     }
 }

@@ -7,27 +7,33 @@ use crate::rules::calls::Call;
 pub const TOO_MANY_BLOCKS: usize = 16_384;
 
 /// Each call, by its code, with the numbers that it can answer, in the documents' order.
-pub const CALLS: [(&str, &[usize]); 9] = [
+pub const CALLS: [(&str, &[usize]); 12] = [
     ("format", &[0, 1]),
     ("check", &[0, 1, 2, 11]),
     ("allocate", &[0, 1, 2, 11, 3, 4, 5]),
     ("store in a root", &[0, 1, 2, 11, 4, 8]),
-    ("store in a cell", &[0, 1, 2, 11, 6, 7, 8]),
+    ("store in a cell", &[0, 1, 2, 11, 6, 7, 12, 8]),
     ("collect", &[0, 1, 2, 11]),
     ("look", &[0, 1, 2, 11, 6]),
     ("free blocks", &[0, 1, 2, 11]),
     ("return", &[0, 1, 2, 11, 4]),
+    ("allocate data", &[0, 1, 2, 11, 3, 4, 5]),
+    ("write a number", &[0, 1, 2, 11, 6, 7, 12]),
+    ("read a number", &[0, 1, 2, 11, 6, 7, 12]),
 ];
 
 /// One more than the largest number that a call can answer.
-pub const NUMBERS: usize = 12;
+pub const NUMBERS: usize = 13;
+
+/// The kinds of damage. There is no kind 6 (U9).
+pub const KINDS: [usize; 6] = [1, 2, 3, 4, 5, 7];
 
 /// The numbers that a replay can answer, in docs/DECISIONS.md's order.
 pub const REPLAY: [usize; 5] = [0, 1, 10, 9, 18];
 
 /// The numbers that a run of records can answer, in docs/DECISIONS.md's order with U4's; and those that can stop one.
 pub const RUN: [usize; 5] = [0, 1, 2, 11, 19];
-pub const STOPS: [usize; 8] = [0, 10, 9, 3, 4, 5, 6, 7];
+pub const STOPS: [usize; 9] = [0, 10, 9, 3, 4, 5, 6, 7, 12];
 
 /// The pairs of an A-map and a B-map of eight blocks.
 pub const PAIRS_OF_MAPS: usize = 65_536;
@@ -35,14 +41,17 @@ pub const PAIRS_OF_MAPS: usize = 65_536;
 /// The A-maps of eight blocks, each with the figures 0 to 9.
 pub const MAPS_WITH_FIGURES: usize = 2_560;
 
+/// The pairs of an A-map and a B-map of eight blocks that pass kinds 1 to 3, each with every D-map.
+pub const MAPS_WITH_DATA: usize = 802 * 256;
+
 /// Calls one by one, and replays.
 #[derive(Clone, Debug, Default)]
 pub struct Met {
     pub lists: usize,
-    /// Replies by call and number, 0 to 8 and 11.
+    /// Replies by call and number, 0 to 8, 11 and 12.
     pub numbers: [[usize; NUMBERS]; CALLS.len()],
-    /// Damage kinds by call and kind, 1 to 5.
-    pub kinds: [[usize; 6]; CALLS.len()],
+    /// Damage kinds by call and kind.
+    pub kinds: [[usize; 8]; CALLS.len()],
     /// Calls on too many blocks, by call.
     pub too_many_blocks: [usize; CALLS.len()],
     /// Pairs of an A-map and a B-map that were checked.
@@ -54,10 +63,12 @@ pub struct Met {
     pub replay_numbers: [usize; 19],
     /// A-maps whose figure was checked, with each figure.
     pub maps_with_figures: usize,
+    /// Pairs of maps that were checked with each D-map.
+    pub maps_with_data: usize,
     /// Replies to runs of records by number, 0 to 19.
     pub run_numbers: [usize; 20],
-    /// Accepted runs by the number that stopped them, 0 to 10.
-    pub stops: [usize; 11],
+    /// Accepted runs by the number that stopped them, 0 to 12.
+    pub stops: [usize; 13],
 }
 
 impl Met {
@@ -89,7 +100,7 @@ impl Met {
     }
 
     /// What can be met and was not: each number of each call, each damage kind in each call that has number 2, each
-    /// call on too many blocks, each pair of maps, each map with each figure, each number of a replay and of a run, and
+    /// call on too many blocks, each pair of maps, each map with each figure and with each D-map, each number of a replay and of a run, and
     /// each that stops one.
     pub fn unmet(&self) -> Vec<String> {
         let mut unmet = Vec::new();
@@ -103,7 +114,7 @@ impl Met {
                 let count = self.numbers[code][*number];
                 expect(count, format!("{name}, number {number}"));
             }
-            for kind in (1..=5).filter(|_| numbers.contains(&2)) {
+            for kind in KINDS.into_iter().filter(|_| numbers.contains(&2)) {
                 expect(self.kinds[code][kind], format!("{name}, damage {kind}"));
             }
             let count = self.too_many_blocks[code];
@@ -124,6 +135,8 @@ impl Met {
         expect(all_pairs as usize, "every pair of maps".to_string());
         let all_figures = self.maps_with_figures == MAPS_WITH_FIGURES;
         expect(all_figures as usize, "every map with figures".to_string());
+        let all_data = self.maps_with_data == MAPS_WITH_DATA;
+        expect(all_data as usize, "every map with data".to_string());
         unmet
     }
 
@@ -135,7 +148,7 @@ impl Met {
             "lists {}, calls {}, accepted {}\n\
              refusals by number  {}\n\
              damage by kind      {}\n\
-             pairs of maps checked   {}, maps with figures {}\n\
+             pairs of maps checked   {}, maps with figures {}, with data {}\n\
              calls on 16,384 blocks  {}\n\
              replays {}, accepted {}, calls in those {}\n\
              refusals of replays {}\n\
@@ -143,10 +156,11 @@ impl Met {
             self.lists,
             (0..NUMBERS).map(number).sum::<usize>(),
             number(0),
-            by((1..=8).chain([11]), number),
-            by(1..=5, kind),
+            by((1..=8).chain([11, 12]), number),
+            by(KINDS, kind),
             self.pairs_of_maps,
             self.maps_with_figures,
+            self.maps_with_data,
             self.too_many_blocks.iter().sum::<usize>(),
             self.replays,
             self.replay_numbers[0],

@@ -1,9 +1,11 @@
 //! Against the product: its library beside the model (library, compare, fuzz, shrink, met), and its library and its
-//! program `report` beside the same algorithms in plain Rust (bench, search_bench, history_bench, timing, port).
+//! program `report` beside the same algorithms in plain Rust (bench, data_bench, search_bench, history_bench, timing, port).
 
 #[cfg(feature = "library")]
 pub mod bench;
 pub mod compare;
+#[cfg(feature = "library")]
+pub mod data_bench;
 pub mod fuzz;
 pub mod history_bench;
 #[cfg(feature = "library")]

@@ -12,7 +12,8 @@ use crate::rules::collection::sweep_and_recount;
 use crate::rules::counting::{count_up, release, Order};
 use crate::rules::damage::damage;
 use crate::rules::heap::{
-    capacity, count, free_count, is_first_block, misshapen, set_bit, set_count, size, Memory,
+    capacity, count, free_count, is_data, is_first_block, misshapen, set_bit, set_count, size,
+    Memory,
 };
 use crate::rules::sections::{figures, leave_list_true};
 
@@ -88,6 +89,7 @@ pub fn format(blocks: usize, memory: &mut Memory) -> Reply {
     memory.counts.fill(0);
     memory.cells.fill(0);
     memory.roots.fill(0);
+    memory.data.fill(0);
     leave_waiting_list_zero(memory);
     leave_list_true(blocks, memory);
     accepted(0)
@@ -98,7 +100,14 @@ pub fn check() -> Reply {
     accepted(0)
 }
 
-/// "Allocate n blocks into root r."
+/// Document 02, U6: "There are calls to allocate data": what an allocation makes.
+#[derive(Clone, Copy, Debug, PartialEq, Eq, Hash)]
+pub enum Kind {
+    Ordinary,
+    Data,
+}
+
+/// "Allocate n blocks into root r." U6: an object of either kind.
 ///
 /// "Allocate: 1, 2; 3 if n is 0 or above N; 4 if r is not below the number of roots; 5 if no chunk of s
 /// blocks is free."
@@ -106,6 +115,7 @@ pub fn allocate(
     blocks: usize,
     width: usize,
     memory: &mut Memory,
+    kind: Kind,
     n: usize,
     r: usize,
     order: Order,
@@ -131,6 +141,8 @@ pub fn allocate(
     set_bit(&mut memory.b, first + n - 1, 0);
     set_count(blocks, width, memory, first, 1);
     memory.cells[4 * first..4 * (first + n)].fill(0);
+    // U6: "1 on the first block of an object made as data."
+    set_bit(&mut memory.data, first, u8::from(kind == Kind::Data));
     // "Then the reference is stored in root r as below, except that the new object isn't counted up again."
     let old = memory.roots[r];
     memory.roots[r] = (1 + first) as u16;
@@ -145,6 +157,25 @@ pub fn allocate(
 /// "8 if v is neither 0 nor 1 + a first block." What is left, as a cell holds it.
 fn reference(blocks: usize, memory: &Memory, v: usize) -> Option<u16> {
     (v == 0 || is_first_block(blocks, memory, v - 1)).then_some(v as u16)
+}
+
+/// "6 if a is not a first block (or not below N); 7 if j is not below 4 × size", and then 12 where the object is of the other
+/// kind.
+pub fn no_such_cell(
+    blocks: usize,
+    memory: &Memory,
+    kind: Kind,
+    a: usize,
+    j: usize,
+) -> Option<usize> {
+    if !is_first_block(blocks, memory, a) {
+        return Some(6);
+    }
+    if j >= 4 * size(blocks, memory, a) {
+        return Some(7);
+    }
+    let is_of_kind = is_data(memory, a) == (kind == Kind::Data);
+    (!is_of_kind).then_some(12)
 }
 
 /// Document 02, U2: "From now on an accepted store of the value present changes no buffer but the waiting list". So
@@ -188,7 +219,8 @@ pub fn store_root(
 
 /// "Store v ... in cell j of the object at block a."
 ///
-/// "Store in a cell: 1, 2; 6 if a is not a first block (or not below N); 7 if j is not below 4 × size; 8."
+/// "Store in a cell: 1, 2; 6 if a is not a first block (or not below N); 7 if j is not below 4 × size; 8." U6: "12, a reference
+/// store or read on data, or a number on an ordinary object, placed after 7."
 pub fn store_cell(
     blocks: usize,
     width: usize,
@@ -198,11 +230,8 @@ pub fn store_cell(
     v: usize,
     order: Order,
 ) -> Reply {
-    if !is_first_block(blocks, memory, a) {
-        return refused(6);
-    }
-    if j >= 4 * size(blocks, memory, a) {
-        return refused(7);
+    if let Some(number) = no_such_cell(blocks, memory, Kind::Ordinary, a, j) {
+        return refused(number);
     }
     let Some(v) = reference(blocks, memory, v) else {
         return refused(8);
@@ -219,6 +248,24 @@ pub fn store_cell(
     leave_waiting_list_zero(memory);
     // "The value is the number of blocks freed."
     accepted_telling(free_count(blocks, memory) - free_before, stuck)
+}
+
+/// Document 02, U6: "There are calls ... to write and read one of its cells." It stores no reference, so nothing but the cell
+/// is written: the waiting list keeps its content.
+pub fn write_number(blocks: usize, memory: &mut Memory, a: usize, j: usize, v: u16) -> Reply {
+    if let Some(number) = no_such_cell(blocks, memory, Kind::Data, a, j) {
+        return refused(number);
+    }
+    memory.cells[4 * a + j] = v;
+    accepted(0)
+}
+
+/// The value is the number.
+pub fn read_number(blocks: usize, memory: &Memory, a: usize, j: usize) -> Reply {
+    match no_such_cell(blocks, memory, Kind::Data, a, j) {
+        Some(number) => refused(number),
+        None => accepted(memory.cells[4 * a + j] as usize),
+    }
 }
 
 /// Document 02, U10: "A return lets go of all local variables together. Give one call a set of roots as a 64-bit

@@ -1,6 +1,6 @@
 //! The calls as data, and their four words in a file.
 
-use crate::rules::answers::{self, Reply};
+use crate::rules::answers::{self, Kind, Reply};
 use crate::rules::counting::{longest_waiting, Order};
 use crate::rules::heap::Memory;
 use crate::rules::sections::keep_list_true;
@@ -33,6 +33,20 @@ pub enum Call {
     ReturnRoots {
         chosen: u64,
     },
+    AllocateData {
+        n: usize,
+        r: usize,
+    },
+    /// "Its cells hold any 16-bit number": every v is right.
+    WriteNumber {
+        a: usize,
+        j: usize,
+        v: u16,
+    },
+    ReadNumber {
+        a: usize,
+        j: usize,
+    },
 }
 
 impl Call {
@@ -48,12 +62,32 @@ impl Call {
             Call::Look { a } => [6, a as u64, 0, 0],
             Call::FreeBlocks => [7, 0, 0, 0],
             Call::ReturnRoots { chosen } => [8, chosen, 0, 0],
+            Call::AllocateData { n, r } => [9, n as u64, r as u64, 0],
+            Call::WriteNumber { a, j, v } => [10, a as u64, j as u64, v as u64],
+            Call::ReadNumber { a, j } => [11, a as u64, j as u64, 0],
         }
     }
 
-    /// Check, look and free blocks: "The check, the look and the free-block call write nothing."
+    /// Check, look and free blocks: "The check, the look and the free-block call write nothing." A number read neither.
     pub fn only_reads(self) -> bool {
-        matches!(self, Call::Check | Call::Look { .. } | Call::FreeBlocks)
+        matches!(
+            self,
+            Call::Check | Call::Look { .. } | Call::FreeBlocks | Call::ReadNumber { .. }
+        )
+    }
+
+    /// "each accepted call that allocates, stores a reference or may free an object": a number write does none of these, and
+    /// "a buffer it isn't said to write keeps its content".
+    pub fn clears_waiting_list(self) -> bool {
+        !self.only_reads() && !matches!(self, Call::WriteNumber { .. })
+    }
+
+    /// The blocks that an allocation asks for, of either kind.
+    pub fn allocates(self) -> Option<usize> {
+        match self {
+            Call::Allocate { n, .. } | Call::AllocateData { n, .. } => Some(n),
+            _ => None,
+        }
     }
 }
 
@@ -79,6 +113,18 @@ pub mod short {
 
     pub fn chosen(chosen: u64) -> Call {
         Call::ReturnRoots { chosen }
+    }
+
+    pub fn data(n: usize, r: usize) -> Call {
+        Call::AllocateData { n, r }
+    }
+
+    pub fn write_number(a: usize, j: usize, v: u16) -> Call {
+        Call::WriteNumber { a, j, v }
+    }
+
+    pub fn read_number(a: usize, j: usize) -> Call {
+        Call::ReadNumber { a, j }
     }
 }
 
@@ -117,7 +163,14 @@ fn carry_out(blocks: usize, width: usize, memory: &mut Memory, call: Call, order
     let reply = match call {
         Call::Format => answers::format(blocks, memory),
         Call::Check => answers::check(),
-        Call::Allocate { n, r } => answers::allocate(blocks, width, memory, n, r, order),
+        Call::Allocate { n, r } => {
+            answers::allocate(blocks, width, memory, Kind::Ordinary, n, r, order)
+        }
+        Call::AllocateData { n, r } => {
+            answers::allocate(blocks, width, memory, Kind::Data, n, r, order)
+        }
+        Call::WriteNumber { a, j, v } => answers::write_number(blocks, memory, a, j, v),
+        Call::ReadNumber { a, j } => answers::read_number(blocks, memory, a, j),
         Call::StoreRoot { r, v } => answers::store_root(blocks, width, memory, r, v, order),
         Call::StoreCell { a, j, v } => answers::store_cell(blocks, width, memory, a, j, v, order),
         Call::Collect => answers::collect(blocks, width, memory),

@@ -23,10 +23,18 @@ pub fn objects(blocks: usize, memory: &Memory) -> BTreeSet<Object> {
         .collect()
 }
 
-/// "A reference is a root, or a cell of an object, that isn't 0." All of them, by what they hold.
+/// The objects that were not made as data: the others' cells "are never followed, counted or checked as references" (document
+/// 02, U6).
+pub fn ordinary(blocks: usize, memory: &Memory) -> BTreeSet<Object> {
+    let mut found = objects(blocks, memory);
+    found.retain(|(first, _)| bit(&memory.data, *first) == 0);
+    found
+}
+
+/// "A reference is a root, or a cell of an object, that isn't 0." All of them, by what they hold. Numbers in data are none.
 pub fn all_references(blocks: usize, memory: &Memory) -> Vec<u16> {
     let mut found: Vec<u16> = memory.roots.clone();
-    for (first, size) in objects(blocks, memory) {
+    for (first, size) in ordinary(blocks, memory) {
         found.extend(&memory.cells[4 * first..4 * (first + size)]);
     }
     found.retain(|v| *v != 0);
@@ -37,10 +45,11 @@ pub fn all_references(blocks: usize, memory: &Memory) -> Vec<u16> {
 /// does, over finitely many references." Grown step by step until nothing is added.
 pub fn led_to(blocks: usize, memory: &Memory) -> BTreeSet<Object> {
     let all = objects(blocks, memory);
+    let ordinary = ordinary(blocks, memory);
     let mut led: BTreeSet<Object> = BTreeSet::new();
     loop {
         let mut names: BTreeSet<usize> = memory.roots.iter().map(|v| *v as usize).collect();
-        for (first, size) in &led {
+        for (first, size) in led.intersection(&ordinary) {
             let cells = &memory.cells[4 * first..4 * (first + size)];
             names.extend(cells.iter().map(|v| *v as usize));
         }
@@ -115,6 +124,10 @@ pub fn unsound(blocks: usize, width: usize, memory: &Memory) -> Option<String> {
         if !is_first_block(blocks, memory, block) && count(blocks, width, memory, block) != 0 {
             return Some(format!("a count at block {block}, where no object starts"));
         }
+        // "damage kind 7 is a D bit where no object starts."
+        if !is_first_block(blocks, memory, block) && bit(&memory.data, block) == 1 {
+            return Some(format!("a D bit at block {block}, where no object starts"));
+        }
         let cells = &memory.cells[4 * block..4 * block + 4];
         if !is_allocated(memory, block) && cells != [0, 0, 0, 0] {
             return Some(format!("a cell of free block {block} is not 0"));
@@ -132,9 +145,12 @@ pub fn written_in(before: &Memory, call: Call, reply: Reply) -> Memory {
             memory.roots.fill(0);
             memory.cells.fill(0);
         }
-        Call::Allocate { r, .. } => memory.roots[r] = (1 + reply.value) as u16,
+        Call::Allocate { r, .. } | Call::AllocateData { r, .. } => {
+            memory.roots[r] = (1 + reply.value) as u16;
+        }
         Call::StoreRoot { r, v } => memory.roots[r] = v as u16,
         Call::StoreCell { a, j, v } => memory.cells[4 * a + j] = v as u16,
+        Call::WriteNumber { a, j, v } => memory.cells[4 * a + j] = v,
         Call::ReturnRoots { chosen } => {
             for (r, root) in memory.roots.iter_mut().enumerate() {
                 if is_chosen(chosen, r) {
@@ -143,6 +159,7 @@ pub fn written_in(before: &Memory, call: Call, reply: Reply) -> Memory {
             }
         }
         Call::Check | Call::Collect | Call::Look { .. } | Call::FreeBlocks => {}
+        Call::ReadNumber { .. } => {}
     }
     memory
 }
@@ -171,13 +188,14 @@ fn inexact_collection(
     after: &Memory,
 ) -> Option<String> {
     let led = led_to(blocks, before);
+    let ordinary = ordinary(blocks, before);
     if objects(blocks, after) != led {
         return Some("the objects after the collection are not those that a root led to".into());
     }
     for (first, _) in &led {
         // "the smaller of the capacity and the number of roots and cells of reached objects that name it"
         let mut names: Vec<u16> = before.roots.clone();
-        for (owner, size) in &led {
+        for (owner, size) in led.intersection(&ordinary) {
             names.extend(&before.cells[4 * owner..4 * (owner + size)]);
         }
         let number = names.iter().filter(|v| **v as usize == 1 + first).count();
@@ -228,12 +246,14 @@ fn wrong_value(
         | Call::Collect
         | Call::ReturnRoots { .. } => free_before + reply.value == free_after,
         // The new object stands, and what else changed in the A-map was freed.
-        Call::Allocate { n, .. } => {
+        Call::Allocate { n, .. } | Call::AllocateData { n, .. } => {
             objects(blocks, after).contains(&(reply.value, n)) && free_before <= free_after + n
         }
+        // "to write and read one of its cells"
+        Call::ReadNumber { a, j } => reply.value == before.cells[4 * a + j] as usize,
         Call::Look { a } => objects(blocks, after).contains(&(a, reply.value)),
         Call::FreeBlocks => reply.value == free_after,
-        Call::Format | Call::Check => reply.value == 0,
+        Call::Format | Call::Check | Call::WriteNumber { .. } => reply.value == 0,
     };
     (!right || reply.second != second).then(|| format!("reply {reply:?} has a wrong value"))
 }
@@ -243,9 +263,9 @@ pub fn own_reference(call: Call, reply: Reply) -> Option<u16> {
     let v = match call {
         _ if reply.number != 0 => 0,
         Call::StoreRoot { v, .. } | Call::StoreCell { v, .. } => v,
-        Call::Allocate { .. } => 1 + reply.value,
+        Call::Allocate { .. } | Call::AllocateData { .. } => 1 + reply.value,
         Call::Format | Call::Check | Call::Collect | Call::Look { .. } | Call::FreeBlocks => 0,
-        Call::ReturnRoots { .. } => 0,
+        Call::ReturnRoots { .. } | Call::WriteNumber { .. } | Call::ReadNumber { .. } => 0,
     };
     (v != 0).then_some(v as u16)
 }
@@ -316,6 +336,47 @@ fn strange_write(
     None
 }
 
+/// Document 02, U6: "12, a reference store or read on data, or a number on an ordinary object, placed after 7." It is said of
+/// every such call that gets so far, and of no other.
+fn wrong_kind(blocks: usize, before: &Memory, call: Call, reply: Reply) -> Option<String> {
+    let (a, j, wants_data) = match call {
+        Call::StoreCell { a, j, .. } => (a, j, false),
+        Call::WriteNumber { a, j, .. } | Call::ReadNumber { a, j } => (a, j, true),
+        _ => return (reply.number == 12).then(|| "12 is said of a call on no cell".into()),
+    };
+    if [1, 2, 11].contains(&reply.number) {
+        return None;
+    }
+    let object = objects(blocks, before)
+        .into_iter()
+        .find(|(first, size)| *first == a && j < 4 * size);
+    let due = object.is_some() && (bit(&before.data, a) == 1) != wants_data;
+    (due != (reply.number == 12)).then(|| format!("12 due: {due}, reply {reply:?}"))
+}
+
+/// "has 1 on the first block of an object made as data": what stands before and after keeps its kind, a new object has the
+/// one that was asked for.
+fn other_kind(
+    blocks: usize,
+    before: &Memory,
+    call: Call,
+    reply: Reply,
+    after: &Memory,
+) -> Option<String> {
+    let stood = objects(blocks, before);
+    let wrong = objects(blocks, after).into_iter().find(|object| {
+        let is_data = bit(&after.data, object.0) == 1;
+        let is_born = call.allocates().is_some() && object.0 == reply.value;
+        let due = match call {
+            Call::AllocateData { .. } if is_born => true,
+            Call::Allocate { .. } if is_born => false,
+            _ => stood.contains(object) && bit(&before.data, object.0) == 1,
+        };
+        is_data != due
+    })?;
+    Some(format!("the object at {} has the other kind", wrong.0))
+}
+
 /// The first claim that this call broke, if any. The memory before is sound and its list of sections true, or the call is
 /// refused, or it formats.
 pub fn broken_claim(
@@ -334,22 +395,30 @@ pub fn broken_claim(
         if before != after {
             return Some("a refusal changed a buffer".into());
         }
-        let kinds = if reply.number == 2 { 1..=5 } else { 0..=0 };
+        let kinds: &[usize] = if reply.number == 2 {
+            &[1, 2, 3, 4, 5, 7]
+        } else {
+            &[0]
+        };
         if !kinds.contains(&reply.value) || reply.second != 0 {
             return Some("a refusal with a wrong value".into());
         }
-        if reply.number > 8 && reply.number != 11 {
+        if reply.number > 8 && ![11, 12].contains(&reply.number) {
             return Some("a refusal that no call has".into());
         }
-        if let (Call::Allocate { n, .. }, 5) = (call, reply.number) {
+        if let (Some(n), 5) = (call.allocates(), reply.number) {
             return wrong_chunk(blocks, before, n, reply);
         }
-        return None;
+        return wrong_kind(blocks, before, call, reply);
     }
     // "The check, the look and the free-block call write nothing."
     if call.only_reads() {
         if before != after {
             return Some("a call that only reads has written".into());
+        }
+    } else if !call.clears_waiting_list() {
+        if after.waiting != before.waiting {
+            return Some("the waiting list is not what it was".into());
         }
     } else if after.waiting.iter().any(|v| *v != 0) {
         // "Format, and each accepted call that allocates, stores a reference or may free an object ... leave
@@ -385,7 +454,13 @@ pub fn broken_claim(
     if let Some(what) = stuck_untold(blocks, width, before, call, reply, after) {
         return Some(what);
     }
-    if let Call::Allocate { n, .. } = call {
+    if let Some(what) = wrong_kind(blocks, before, call, reply) {
+        return Some(what);
+    }
+    if let Some(what) = other_kind(blocks, before, call, reply, after) {
+        return Some(what);
+    }
+    if let Some(n) = call.allocates() {
         return wrong_chunk(blocks, before, n, reply);
     }
     if call == Call::Collect {

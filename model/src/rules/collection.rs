@@ -1,7 +1,7 @@
 //! The full collection: what is reached, what is freed, what the counts become.
 
 use crate::rules::counting::erase;
-use crate::rules::heap::{capacity, cell_places, first_blocks, named, set_count, Memory};
+use crate::rules::heap::{capacity, first_blocks, named, reference_places, set_count, Memory};
 use std::collections::BTreeSet;
 
 /// "An object is reached if a root names it or a cell of a reached object does."
@@ -11,7 +11,7 @@ pub fn reached(blocks: usize, memory: &Memory) -> BTreeSet<usize> {
     while let Some(v) = to_look_at.pop() {
         if let Some(first) = named(blocks, memory, v) {
             if reached.insert(first) {
-                to_look_at.extend(&memory.cells[cell_places(blocks, memory, first)]);
+                to_look_at.extend(&memory.cells[reference_places(blocks, memory, first)]);
             }
         }
     }
@@ -23,7 +23,7 @@ pub fn reached_references(blocks: usize, memory: &Memory, reached: &BTreeSet<usi
     let mut numbers = vec![0; blocks];
     let cells = reached
         .iter()
-        .flat_map(|owner| &memory.cells[cell_places(blocks, memory, *owner)]);
+        .flat_map(|owner| &memory.cells[reference_places(blocks, memory, *owner)]);
     for v in memory.roots.iter().chain(cells) {
         if let Some(first) = named(blocks, memory, *v) {
             numbers[first] += 1;

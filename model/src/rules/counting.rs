@@ -1,10 +1,12 @@
 //! Counting up, counting down, and what a count-down to 0 frees.
 
-use crate::rules::heap::{capacity, cell_places, count, named, set_bit, set_count, size, Memory};
+use crate::rules::heap::{
+    capacity, count, named, reference_places, set_bit, set_count, size, Memory,
+};
 
-/// "the number of all cells and roots naming the object"
-pub fn references(memory: &Memory, first: usize) -> usize {
-    let from_cells = memory.cells.iter().filter(|v| **v as usize == 1 + first);
+/// "the number of all cells and roots naming the object", the cells being those that are read as references.
+pub fn references(cells: &[u16], memory: &Memory, first: usize) -> usize {
+    let from_cells = cells.iter().filter(|v| **v as usize == 1 + first);
     let from_roots = memory.roots.iter().filter(|v| **v as usize == 1 + first);
     from_cells.count() + from_roots.count()
 }
@@ -45,7 +47,7 @@ pub fn release(blocks: usize, width: usize, memory: &mut Memory, old: u16, order
     count_down(blocks, width, memory, old, &mut waiting);
     while !waiting.is_empty() {
         let first = waiting.remove(order(&waiting));
-        let cells = memory.cells[cell_places(blocks, memory, first)].to_vec();
+        let cells = memory.cells[reference_places(blocks, memory, first)].to_vec();
         erase(blocks, width, memory, first);
         for v in cells {
             count_down(blocks, width, memory, v, &mut waiting);
@@ -70,7 +72,7 @@ fn count_down(blocks: usize, width: usize, memory: &mut Memory, v: u16, waiting:
 }
 
 /// Frees one object and counts nothing down: "its A bits go to 0, its last B bit goes to 1 (004 doesn't
-/// mention this), its count and cells go to 0".
+/// mention this), its count and cells go to 0". U6: the cells of data, "with its D bit, are cleared when it is freed."
 pub fn erase(blocks: usize, width: usize, memory: &mut Memory, first: usize) {
     let size = size(blocks, memory, first);
     for i in first..first + size {
@@ -78,6 +80,7 @@ pub fn erase(blocks: usize, width: usize, memory: &mut Memory, first: usize) {
     }
     set_bit(&mut memory.b, first + size - 1, 1);
     set_count(blocks, width, memory, first, 0);
+    set_bit(&mut memory.data, first, 0);
     for place in 4 * first..4 * (first + size) {
         memory.cells[place] = 0;
     }

@@ -1,9 +1,9 @@
-//! The lent heap: seven buffers of plain numbers, and how blocks, counts and objects are read off them.
+//! The lent heap: eight buffers of plain numbers, and how blocks, counts and objects are read off them.
 //!
 //! The number of blocks and the count width are arguments everywhere; the number of roots is the length of
 //! the list of roots. All functions but `misshapen` are for memories that aren't misshapen.
 
-/// The seven lent buffers.
+/// The eight lent buffers.
 #[derive(Clone, Debug, Default, PartialEq, Eq, Hash)]
 pub struct Memory {
     /// "A-map, N/8 bytes: 1 is allocated, 0 is free."
@@ -21,10 +21,12 @@ pub struct Memory {
     /// Document 02, U4: "An added lent list of 16-bit numbers, one for each section, holds the size of its largest free
     /// aligned chunk, 0 if none."
     pub sections: Vec<u16>,
+    /// Document 02, U6: "A new D-map of N/8 bytes has 1 on the first block of an object made as data."
+    pub data: Vec<u8>,
 }
 
 impl Memory {
-    /// Seven buffers of zeros, of the lengths that belong to these numbers. It isn't a formatted heap.
+    /// Eight buffers of zeros, of the lengths that belong to these numbers. It isn't a formatted heap.
     pub fn zeros(blocks: usize, width: usize, roots: usize) -> Memory {
         Memory {
             a: vec![0; blocks / 8],
@@ -34,6 +36,7 @@ impl Memory {
             roots: vec![0; roots],
             waiting: vec![0; blocks],
             sections: vec![0; section_count(blocks)],
+            data: vec![0; blocks / 8],
         }
     }
 
@@ -45,6 +48,7 @@ impl Memory {
             && self.cells == other.cells
             && self.roots == other.roots
             && self.sections == other.sections
+            && self.data == other.data
     }
 }
 
@@ -80,6 +84,7 @@ pub fn misshapen(blocks: usize, width: usize, memory: &Memory) -> bool {
         || memory.cells.len() != 4 * blocks
         || memory.waiting.len() != blocks
         || memory.sections.len() != section_count(blocks)
+        || memory.data.len() != blocks / 8
 }
 
 /// "Block i is bit i mod 8 (bit 0 is the least) of byte i div 8 of a bitmap."
@@ -159,6 +164,21 @@ pub fn named(blocks: usize, memory: &Memory, v: u16) -> Option<usize> {
 /// 4 × size − 1, beginning with the first cell of its first block."
 pub fn cell_places(blocks: usize, memory: &Memory, first: usize) -> std::ops::Range<usize> {
     4 * first..4 * (first + size(blocks, memory, first))
+}
+
+/// U6: "A new D-map of N/8 bytes has 1 on the first block of an object made as data." The bit is asked for at the first blocks
+/// of objects alone.
+pub fn is_data(memory: &Memory, first: usize) -> bool {
+    bit(&memory.data, first) == 1
+}
+
+/// The places of an object's references. "Its cells hold any 16-bit number, are never followed, counted or checked as
+/// references": data has none.
+pub fn reference_places(blocks: usize, memory: &Memory, first: usize) -> std::ops::Range<usize> {
+    if is_data(memory, first) {
+        return 0..0;
+    }
+    cell_places(blocks, memory, first)
 }
 
 /// "the value is the number of 0 bits in the A-map"

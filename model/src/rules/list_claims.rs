@@ -4,7 +4,7 @@
 use crate::rules::answers::Reply;
 use crate::rules::calls::Call;
 use crate::rules::claims::{all_references, objects, own_reference, written_in, Object};
-use crate::rules::heap::{capacity, count, Memory};
+use crate::rules::heap::{bit, capacity, count, Memory};
 use std::collections::BTreeMap;
 
 /// A call of a list, as it was carried out.
@@ -87,4 +87,46 @@ fn filled_by(
     let all = all_references(blocks, &counted_on(step));
     let number = all.iter().filter(|reference| **reference == v).count();
     (number >= capacity(width)).then_some(v as usize - 1)
+}
+
+/// Document 02, U6, over a whole list: an object made as data is data as long as it lives, and each of its cells holds what
+/// was last written there, 0 where nothing was. What breaks it, if anything does.
+pub fn numbers_lost(blocks: usize, steps: &[Step]) -> Option<String> {
+    let mut written: BTreeMap<Object, Vec<u16>> = BTreeMap::new();
+    for (i, step) in steps.iter().enumerate() {
+        let stand = objects(blocks, &step.after);
+        written.retain(|object, _| stand.contains(object) && step.call != Call::Format);
+        if step.reply.number == 0 {
+            match step.call {
+                Call::AllocateData { n, .. } => {
+                    written.insert((step.reply.value, n), vec![0; 4 * n]);
+                }
+                Call::WriteNumber { a, j, v } => {
+                    let data = written.iter_mut().find(|(object, _)| object.0 == a);
+                    let Some((_, numbers)) = data else {
+                        return Some(format!("call {i} wrote a number into no data"));
+                    };
+                    numbers[j] = v;
+                }
+                Call::ReadNumber { a, j } => {
+                    let data = written.iter().find(|(object, _)| object.0 == a);
+                    if data.map(|(_, numbers)| numbers[j] as usize) != Some(step.reply.value) {
+                        return Some(format!("call {i} read what was not written"));
+                    }
+                }
+                _ => {}
+            }
+        }
+        for ((first, size), numbers) in &written {
+            let is_data = bit(&step.after.data, *first) == 1;
+            if !is_data || step.after.cells[4 * first..4 * (first + size)] != numbers[..] {
+                return Some(format!("the data at {first} is lost after call {i}"));
+            }
+        }
+        let bits = (0..blocks).filter(|block| bit(&step.after.data, *block) == 1);
+        if bits.count() != written.len() {
+            return Some(format!("a D bit of nothing made as data after call {i}"));
+        }
+    }
+    None
 }

@@ -25,7 +25,7 @@ pub fn replay(
     if !words.len().is_multiple_of(4) {
         return refused(10);
     }
-    // "9 where an entry is no call (an unknown code)"
+    // "9 where an entry is no call (an unknown code)": since U6 also a number write whose number no cell can hold.
     let Some(calls) = calls_in(words) else {
         return refused(9);
     };

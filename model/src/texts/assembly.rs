@@ -82,6 +82,13 @@ fn entry(words: &[&str]) -> Option<[u64; 4]> {
         ["free", "blocks"] => [7, 0, 0, 0],
         ["return", "no", "root"] => [8, 0, 0, 0],
         ["return", "roots", roots @ ..] if !roots.is_empty() => [8, chosen(roots)?, 0, 0],
+        ["allocate", "data", n, "into", "root", r] => [9, number(n)?, number(r)?, 0],
+        ["write", "number", v, "in", "cell", j, "of", "the", "data", "at", a] => {
+            [10, number(a)?, number(j)?, number(v)?]
+        }
+        ["read", "number", "in", "cell", j, "of", "the", "data", "at", a] => {
+            [11, number(a)?, number(j)?, 0]
+        }
         ["load", value, "at", index, "of", name @ ..] => {
             [LOAD, buffer(name)?, number(index)?, number(value)?]
         }

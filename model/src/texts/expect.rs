@@ -10,10 +10,10 @@ use std::fmt::{Display, Write};
 pub struct Tally {
     pub heaps: usize,
     pub calls: usize,
-    /// Replies by number, 0 to 8 and 11.
-    pub numbers: [usize; 12],
-    /// Damage kinds reported, by kind, 1 to 5.
-    pub kinds: [usize; 6],
+    /// Replies by number, 0 to 8, 11 and 12.
+    pub numbers: [usize; 13],
+    /// Damage kinds reported, by kind, 1 to 5 and 7.
+    pub kinds: [usize; 8],
     /// Lines that say what is wrong with an entry.
     pub complaints: usize,
 }
@@ -87,6 +87,7 @@ pub fn expect(file: &[u8]) -> (String, Tally) {
                 }
                 None => complain("too large"),
             },
+            Entry::NumberOutOfRange => complain("number out of range"),
             Entry::Unknown(number) => complain(&format!("unknown call {number}")),
         }
         place += 32;
@@ -96,7 +97,7 @@ pub fn expect(file: &[u8]) -> (String, Tally) {
     (out, tally)
 }
 
-/// The seven buffers, a line each.
+/// The eight buffers, a line each.
 pub fn print_buffers(out: &mut String, memory: &Memory) {
     for line in buffer_lines(memory) {
         out.push_str(&line);
@@ -104,7 +105,7 @@ pub fn print_buffers(out: &mut String, memory: &Memory) {
     }
 }
 
-/// "decimal numbers parted by one space", for each of the seven buffers.
+/// "decimal numbers parted by one space", for each of the eight buffers.
 pub fn buffer_lines(memory: &Memory) -> [String; BUFFERS] {
     [
         numbers(&memory.a),
@@ -114,6 +115,7 @@ pub fn buffer_lines(memory: &Memory) -> [String; BUFFERS] {
         numbers(&memory.roots),
         numbers(&memory.waiting),
         numbers(&memory.sections),
+        numbers(&memory.data),
     ]
 }
 

@@ -21,6 +21,7 @@ pub fn entry_in_words(words: [u64; 4]) -> String {
             width,
             roots,
         } => format!("new heap: {blocks} blocks, width {width}, {roots} roots"),
+        Entry::NumberOutOfRange => "a number write whose number no cell can hold".to_string(),
         Entry::Unknown(number) => format!("unknown call {number}"),
     }
 }
@@ -38,6 +39,11 @@ pub fn call_in_words(call: Call) -> String {
         Call::FreeBlocks => "free blocks".to_string(),
         Call::ReturnRoots { chosen: 0 } => "return, no root".to_string(),
         Call::ReturnRoots { chosen } => format!("return, roots {}", chosen_in_words(chosen)),
+        Call::AllocateData { n, r } => format!("allocate data {n} into root {r}"),
+        Call::WriteNumber { a, j, v } => {
+            format!("write number {v} in cell {j} of the data at {a}")
+        }
+        Call::ReadNumber { a, j } => format!("read number in cell {j} of the data at {a}"),
     }
 }
 
@@ -50,7 +56,9 @@ fn chosen_in_words(chosen: u64) -> String {
 
 /// The name of a buffer by its number.
 pub fn buffer_name(buffer: u64) -> String {
-    let names = ["a", "b", "counts", "cells", "roots", "waiting", "sections"];
+    let names = [
+        "a", "b", "counts", "cells", "roots", "waiting", "sections", "data",
+    ];
     match names.get(buffer as usize) {
         Some(name) => name.to_string(),
         None => format!("buffer {buffer}"),
@@ -67,8 +75,9 @@ pub fn reply_in_words(call: Call, [number, value, second]: [usize; 3]) -> String
     }
     let stuck = if second == 1 { ", stuck" } else { "" };
     match call {
-        Call::Format | Call::Check => "accepted".to_string(),
-        Call::Allocate { .. } => format!("block {value}{stuck}"),
+        Call::Format | Call::Check | Call::WriteNumber { .. } => "accepted".to_string(),
+        Call::ReadNumber { .. } => format!("number {value}"),
+        Call::Allocate { .. } | Call::AllocateData { .. } => format!("block {value}{stuck}"),
         Call::StoreRoot { .. } | Call::StoreCell { .. } => format!("blocks freed: {value}{stuck}"),
         Call::Collect | Call::ReturnRoots { .. } => format!("blocks freed: {value}"),
         Call::Look { .. } => format!("size {value}, count {second}"),
@@ -184,7 +193,7 @@ impl Shown<'_> {
         numbers?.try_into().ok()
     }
 
-    /// The seven lines of a heap of eight blocks: the bytes of its A-map and its B-map.
+    /// The eight lines of a heap of eight blocks: the bytes of its A-map and its B-map.
     fn maps(&mut self) -> Option<[usize; 2]> {
         let maps = [self.numbers::<1>(), self.numbers::<1>()];
         let others = [(); BUFFERS - 2].map(|()| self.lines.next());

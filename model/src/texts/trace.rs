@@ -11,7 +11,7 @@ use crate::rules::heap::Memory;
 use crate::texts::expect::buffer_lines;
 use std::fmt::Write;
 
-/// A random list, one call a line, with its reply and the seven buffers after it.
+/// A random list, one call a line, with its reply and the eight buffers after it.
 pub fn trace(seed: u64, count: usize, blocks: usize, width: usize) -> String {
     // Another list for each N and w, not the same one again.
     let mut random = Random::new(seed + ((blocks as u64) << 32) + ((width as u64) << 48));
@@ -148,7 +148,9 @@ fn tangle(desk: &mut Desk) {
     for _ in 0..desk.random.below(3 * desk.blocks()) {
         let n = 1 + desk.random.below(3);
         let r = desk.random.below(desk.roots());
-        let made = desk.call(Call::Allocate { n, r });
+        let call = desk.allocation(n, r);
+        let made = desk.call(call);
+        desk.some_numbers();
         let named = if made.number == 0 && desk.random.percent(60) {
             made.value
         } else {
@@ -183,7 +185,7 @@ fn tangle(desk: &mut Desk) {
     }
 }
 
-/// The seven buffers on one line.
+/// The eight buffers on one line.
 fn buffers(memory: &Memory) -> String {
     buffer_lines(memory).join(" | ")
 }

@@ -1,11 +1,13 @@
 //! Histories at random, each record chosen to fit the heap; some end with a record that doesn't.
 
 use super::Shelf;
-use crate::history::record::short::{allocate, clear, copy, read, write, COLLECT};
+use crate::history::record::short::{
+    allocate, clear, copy, data, read, write, write_number, COLLECT,
+};
 use crate::history::record::{Operation, Record};
 use crate::history::run::{new_heap, run_as_report, Run, BLOCKS, ROOTS};
 use crate::lists::random::Random;
-use crate::rules::heap::{size, Memory};
+use crate::rules::heap::{is_data, size, Memory};
 
 /// What the records of a history are like.
 #[derive(Clone, Copy)]
@@ -126,7 +128,10 @@ impl Writer {
     fn write_if_accepted(&mut self) -> bool {
         let operation = self.some_operation();
         // Only a forced collection would remain of a record that is refused.
-        let may_collect = matches!(operation, Operation::Allocate { .. });
+        let may_collect = matches!(
+            operation,
+            Operation::Allocate { .. } | Operation::AllocateData { .. }
+        );
         let before = may_collect.then(|| self.memory.clone());
         let bytes = operation.record().bytes();
         let run = run_as_report(&mut self.memory, self.run, &bytes);
@@ -141,14 +146,19 @@ impl Writer {
 
     /// One more record, which is refused.
     fn wrong_record(&mut self) {
-        let owner = self.some_object().unwrap_or_default();
-        let records: [Record; 8] = [
+        let owner = self.some_object(false).unwrap_or_default();
+        let array = self.some_object(true).unwrap_or_default();
+        let records: [Record; 12] = [
             allocate(0, 0).record(),
             allocate(1, 64).record(),
             copy(0, 200).record(),
             write(owner, 65_535, owner).record(),
             read(65_535, owner, 0).record(),
             clear(255).record(),
+            data(8193, 0).record(),
+            write_number(1, 0, owner).record(),
+            write(array, 0, array).record(),
+            read(0, array, 0).record(),
             Record {
                 unused: 1,
                 ..COLLECT.record()
@@ -162,9 +172,14 @@ impl Writer {
         self.bytes.extend(record.bytes());
     }
 
-    /// A root that holds an object, if one does.
-    fn some_object(&mut self) -> Option<u8> {
-        let held: Vec<usize> = (0..ROOTS).filter(|r| self.memory.roots[*r] != 0).collect();
+    /// A root that holds an object that is data, or one that isn't, if one does.
+    fn some_object(&mut self, as_data: bool) -> Option<u8> {
+        let memory = &self.memory;
+        let is_held = |r: &usize| match memory.roots[*r] as usize {
+            0 => false,
+            v => is_data(memory, v - 1) == as_data,
+        };
+        let held: Vec<usize> = (0..ROOTS).filter(is_held).collect();
         (!held.is_empty()).then(|| self.random.pick(&held) as u8)
     }
 
@@ -184,10 +199,28 @@ impl Writer {
         self.random.below(most) as u16
     }
 
+    /// Half of them look like references.
+    fn some_number(&mut self) -> u16 {
+        let any = self.random.word() as u16;
+        match self.random.below(4) {
+            0 => self.memory.roots[self.random.below(ROOTS)],
+            1 => any % (BLOCKS as u16 + 2),
+            2 => 65_535,
+            _ => any,
+        }
+    }
+
     fn some_operation(&mut self) -> Operation {
         let (any, other) = (self.any_root(), self.any_root());
         let size = 1 + self.random.below(self.kind.sizes) as u16;
-        let Some(owner) = self.some_object() else {
+        if self.random.percent(8) {
+            return data(size, any);
+        }
+        if let (true, Some(array)) = (self.random.percent(12), self.some_object(true)) {
+            let c = self.some_cell(array);
+            return write_number(self.some_number(), c, array);
+        }
+        let Some(owner) = self.some_object(false) else {
             return allocate(size, any);
         };
         let c = self.some_cell(owner);

@@ -50,7 +50,7 @@ fn cut_off(shelf: &mut Shelf) {
 
 /// "9 for an unknown operation"
 fn unknown_operations(shelf: &mut Shelf) {
-    for operation in [0, 7, 8, 9, 10, 128, 129, 254, 255] {
+    for operation in [0, 9, 10, 11, 128, 129, 254, 255] {
         let record = Record {
             operation,
             ..Record::default()
@@ -59,7 +59,7 @@ fn unknown_operations(shelf: &mut Shelf) {
         shelf.add(name, then(record));
     }
     // With the fields of an operation that is known.
-    for operation in [0, 7, 8, 255] {
+    for operation in [0, 9, 255] {
         let record = Record {
             operation,
             ..allocate(2, 3).record()
@@ -117,7 +117,7 @@ fn first_number(shelf: &mut Shelf) {
         shelf.add(format!("gives-{number}-alone-{name}"), file);
     }
     let unknown_and_root = Record {
-        operation: 7,
+        operation: 9,
         ..copy(64, 255).record()
     };
     shelf.add("gives-9-unknown-with-4", then(unknown_and_root));

@@ -1,10 +1,11 @@
-//! Some 340 histories that the program `report` is tested with. What must be printed for each is `report`'s line.
+//! Some 460 histories that the program `report` is tested with. What must be printed for each is `report`'s line.
 //!
 //! A name that begins `gives-N` says, from the documents, that the run stops with N at the last record, whole or cut off;
 //! one that begins `prints-A-B-C-D-E-F` has the line.
 
 mod at_random;
 mod by_heap;
+mod by_number;
 mod by_record;
 
 use super::record::{bytes, Operation};
@@ -48,6 +49,7 @@ pub fn all_but_the_longest() -> Vec<History> {
     let mut shelf = Shelf::default();
     by_record::histories(&mut shelf);
     by_heap::histories(&mut shelf);
+    by_number::histories(&mut shelf);
     at_random::histories(&mut shelf);
     shelf.histories
 }

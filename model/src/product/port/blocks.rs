@@ -1,4 +1,4 @@
-//! Bits, counts, first blocks, sizes, chunks and extents.
+//! Bits, counts, first blocks, sizes, data, chunks and extents.
 
 pub fn get_bit(map: &[u8], i: usize) -> u8 {
     (map[i / 8] >> (i % 8)) % 2
@@ -64,6 +64,43 @@ pub fn object_size(blocks: usize, b: &[u8], i: usize) -> usize {
 
 pub fn is_reference(blocks: usize, a: &[u8], b: &[u8], v: usize) -> bool {
     v == 0 || is_first(blocks, a, b, v - 1)
+}
+
+/// How many cells of the object of n blocks at block i may name others: of data none.
+pub fn naming_cells(data: &[u8], i: usize, n: usize) -> usize {
+    if get_bit(data, i) == 1 {
+        return 0;
+    }
+    4 * n
+}
+
+/// Whether the D-map has a bit. Where it has none, a walk needs not look for data.
+pub fn has_data(data: &[u8]) -> bool {
+    for byte in data {
+        if *byte != 0 {
+            return true;
+        }
+    }
+    false
+}
+
+/// Whether block i is a block of data, in a walk from block 0 upwards: `before` says it of the block before it.
+pub fn is_in_data(blocks: usize, a: &[u8], b: &[u8], data: &[u8], i: usize, before: bool) -> bool {
+    let marked = get_bit(data, i) == 1;
+    if before {
+        if get_bit(a, i) == 0 {
+            return false;
+        }
+        if !is_first(blocks, a, b, i) {
+            return true;
+        }
+        return marked;
+    }
+    // After any other block only a first block can be one.
+    if marked {
+        return is_first(blocks, a, b, i);
+    }
+    false
 }
 
 pub fn chunk_size(n: usize) -> usize {

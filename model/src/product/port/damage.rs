@@ -1,6 +1,8 @@
 //! The shape test and the damage kinds.
 
-use super::blocks::{chunk_size, get_bit, get_count, is_first, is_reference, object_size};
+use super::blocks::{
+    chunk_size, get_bit, get_count, has_data, is_first, is_in_data, is_reference, object_size,
+};
 use super::sections::{is_stale, section_length};
 use super::{acceptance, refusal, Answer, Lent};
 
@@ -20,6 +22,7 @@ pub fn is_shaped(blocks: usize, width: usize, m: &Lent) -> bool {
         && m.cells.len() == 4 * blocks
         && m.waiting.len() == blocks
         && m.sections.len() == blocks / section_length(blocks)
+        && m.data.len() == blocks / 8
 }
 
 fn has_end_on_free(blocks: usize, a: &[u8], b: &[u8]) -> bool {
@@ -53,9 +56,26 @@ fn has_unaligned(blocks: usize, a: &[u8], b: &[u8]) -> bool {
     false
 }
 
-fn has_bad_cell(blocks: usize, a: &[u8], b: &[u8], cells: &[u16]) -> bool {
-    for (j, v) in cells.iter().enumerate() {
-        if *v != 0 && (get_bit(a, j / 4) == 0 || !is_reference(blocks, a, b, *v as usize)) {
+fn has_bad_cell(blocks: usize, m: &Lent) -> bool {
+    if !has_data(m.data) {
+        return has_bad_cell_in(blocks, m, 0, 4 * blocks);
+    }
+    let mut in_data = false;
+    for i in 0..blocks {
+        in_data = is_in_data(blocks, m.a, m.b, m.data, i, in_data);
+        if !in_data && has_bad_cell_in(blocks, m, 4 * i, 4) {
+            return true;
+        }
+    }
+    false
+}
+
+/// The n cells from cell `from` on, none of them of data.
+fn has_bad_cell_in(blocks: usize, m: &Lent, from: usize, n: usize) -> bool {
+    for (k, v) in m.cells[from..from + n].iter().enumerate() {
+        if *v != 0
+            && (get_bit(m.a, (from + k) / 4) == 0 || !is_reference(blocks, m.a, m.b, *v as usize))
+        {
             return true;
         }
     }
@@ -79,6 +99,20 @@ fn tally(refs: &[u16], at: &mut [u16; MAX_BLOCKS]) {
     }
 }
 
+fn tally_cells(blocks: usize, m: &Lent, at: &mut [u16; MAX_BLOCKS]) {
+    if !has_data(m.data) {
+        tally(m.cells, at);
+        return;
+    }
+    let mut in_data = false;
+    for i in 0..blocks {
+        in_data = is_in_data(blocks, m.a, m.b, m.data, i, in_data);
+        if !in_data {
+            tally(&m.cells[4 * i..4 * i + 4], at);
+        }
+    }
+}
+
 fn is_bad_count(first: bool, count: u8, capacity: u8, references: u16) -> bool {
     if !first {
         return count != 0;
@@ -89,12 +123,24 @@ fn is_bad_count(first: bool, count: u8, capacity: u8, references: u16) -> bool {
 fn has_bad_count(blocks: usize, width: usize, m: &Lent) -> bool {
     let mut at = [0; MAX_BLOCKS];
     tally(m.roots, &mut at);
-    tally(m.cells, &mut at);
+    tally_cells(blocks, m, &mut at);
     let capacity = (1u8 << width) - 1;
     for (i, references) in at[..blocks].iter().enumerate() {
         let count = get_count(m.counts, blocks / 8, width, i);
         let first = is_first(blocks, m.a, m.b, i);
         if is_bad_count(first, count, capacity, *references) {
+            return true;
+        }
+    }
+    false
+}
+
+fn has_stray_data(blocks: usize, a: &[u8], b: &[u8], data: &[u8]) -> bool {
+    if !has_data(data) {
+        return false;
+    }
+    for i in 0..blocks {
+        if get_bit(data, i) == 1 && !is_first(blocks, a, b, i) {
             return true;
         }
     }
@@ -112,10 +158,12 @@ pub fn check(blocks: usize, width: usize, m: &Lent) -> Answer {
         2
     } else if has_unaligned(blocks, m.a, m.b) {
         3
-    } else if has_bad_cell(blocks, m.a, m.b, m.cells) || has_bad_root(blocks, m.a, m.b, m.roots) {
+    } else if has_bad_cell(blocks, m) || has_bad_root(blocks, m.a, m.b, m.roots) {
         4
     } else if has_bad_count(blocks, width, m) {
         5
+    } else if has_stray_data(blocks, m.a, m.b, m.data) {
+        7
     } else if is_stale(blocks, m.a, m.sections) {
         return refusal(11);
     } else {

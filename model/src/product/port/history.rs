@@ -1,8 +1,10 @@
 //! Runs of recorded histories: each record is planned, carried out and noted.
 
-use super::blocks::{count_zeros, object_size};
+use super::blocks::{count_zeros, get_bit, object_size};
 use super::damage::check;
-use super::replay::{allocate, format, full_collection, put_in_cell, put_in_root, search};
+use super::replay::{
+    allocate, format, full_collection, put_in_cell, put_in_root, search, write_number,
+};
 use super::{lend, refusal, Answer, Lent};
 use crate::rules::heap::Memory;
 use std::fmt;
@@ -41,9 +43,10 @@ struct Fields {
 
 enum Plan {
     Stop(usize),
-    Allocate { n: usize, r: usize },
+    Allocate { n: usize, r: usize, as_data: bool },
     StoreRoot { r: usize, v: usize },
     StoreCell { at: usize, j: usize, v: usize },
+    WriteNumber { at: usize, j: usize, v: u16 },
     Collect,
 }
 
@@ -77,6 +80,8 @@ fn unnamed_are_zero(f: &Fields) -> bool {
             3 | 4 => f.size == 0,
             5 => zero(&[f.s, f.c, f.size]),
             6 => zero(&[f.d, f.s, f.c, f.size]),
+            7 => zero(&[f.s, f.c]),
+            8 => f.s == 0,
             _ => true,
         }
 }
@@ -86,7 +91,11 @@ fn plan_of(blocks: usize, m: &Lent, f: &Fields) -> Plan {
         return Plan::Stop(9);
     }
     match f.operation {
-        1 => Plan::Allocate { n: f.size, r: f.d },
+        1 | 7 => Plan::Allocate {
+            n: f.size,
+            r: f.d,
+            as_data: f.operation == 7,
+        },
         2..=4 if m.roots.len() <= f.d || m.roots.len() <= f.s => Plan::Stop(4),
         2 => Plan::StoreRoot {
             r: f.d,
@@ -103,6 +112,7 @@ fn plan_of(blocks: usize, m: &Lent, f: &Fields) -> Plan {
         4 => match m.roots[f.s] as usize {
             0 => Plan::Stop(6),
             owner if 4 * object_size(blocks, m.b, owner - 1) <= f.c => Plan::Stop(7),
+            owner if get_bit(m.data, owner - 1) == 1 => Plan::Stop(12),
             owner => Plan::StoreRoot {
                 r: f.d,
                 v: m.cells[4 * (owner - 1) + f.c] as usize,
@@ -111,6 +121,15 @@ fn plan_of(blocks: usize, m: &Lent, f: &Fields) -> Plan {
         5 if m.roots.len() <= f.d => Plan::Stop(4),
         5 => Plan::StoreRoot { r: f.d, v: 0 },
         6 => Plan::Collect,
+        8 if m.roots.len() <= f.d => Plan::Stop(4),
+        8 => match m.roots[f.d] as usize {
+            0 => Plan::Stop(6),
+            owner => Plan::WriteNumber {
+                at: owner - 1,
+                j: f.c,
+                v: f.size as u16,
+            },
+        },
         _ => Plan::Stop(9),
     }
 }
@@ -125,12 +144,19 @@ fn done(number: usize, freed: usize, second: usize) -> Done {
     }
 }
 
-fn allocate_or_collect(blocks: usize, width: usize, m: &mut Lent, n: usize, r: usize) -> Done {
-    let (mut answer, mut freed) = allocate(&search, blocks, width, m, n, r);
+fn allocate_or_collect(
+    blocks: usize,
+    width: usize,
+    m: &mut Lent,
+    n: usize,
+    r: usize,
+    as_data: bool,
+) -> Done {
+    let (mut answer, mut freed) = allocate(&search, blocks, width, m, n, r, as_data);
     let collected = answer.number == 5;
     if collected {
         let by_collection = full_collection(blocks, width, m);
-        (answer, freed) = allocate(&search, blocks, width, m, n, r);
+        (answer, freed) = allocate(&search, blocks, width, m, n, r, as_data);
         freed += by_collection;
     }
     Done {
@@ -145,7 +171,7 @@ fn allocate_or_collect(blocks: usize, width: usize, m: &mut Lent, n: usize, r: u
 fn act(blocks: usize, width: usize, m: &mut Lent, plan: Plan) -> Done {
     match plan {
         Plan::Stop(number) => done(number, 0, 0),
-        Plan::Allocate { n, r } => allocate_or_collect(blocks, width, m, n, r),
+        Plan::Allocate { n, r, as_data } => allocate_or_collect(blocks, width, m, n, r, as_data),
         Plan::StoreRoot { r, v } => {
             let answer = put_in_root(blocks, width, m, r, v);
             done(answer.number, answer.value, answer.second)
@@ -154,6 +180,7 @@ fn act(blocks: usize, width: usize, m: &mut Lent, plan: Plan) -> Done {
             let answer = put_in_cell(blocks, width, m, at, j, v);
             done(answer.number, answer.value, answer.second)
         }
+        Plan::WriteNumber { at, j, v } => done(write_number(blocks, m, at, j, v).number, 0, 0),
         Plan::Collect => Done {
             collected: true,
             ..done(0, full_collection(blocks, width, m), 0)

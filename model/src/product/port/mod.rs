@@ -18,7 +18,7 @@ pub use replay::{full_collection, replay, replay_without_list, search_in_one_wal
 pub use sections::{find_chunk, renew, section_length, UNKNOWN};
 pub use two_passes::search_in_two_passes;
 
-/// The seven lent buffers.
+/// The eight lent buffers.
 pub struct Lent<'a> {
     pub a: &'a mut [u8],
     pub b: &'a mut [u8],
@@ -27,6 +27,7 @@ pub struct Lent<'a> {
     pub roots: &'a mut [u16],
     pub waiting: &'a mut [u16],
     pub sections: &'a mut [u16],
+    pub data: &'a mut [u8],
 }
 
 /// A memory, lent to the port.
@@ -39,6 +40,7 @@ pub fn lend(memory: &mut Memory) -> Lent<'_> {
         roots: &mut memory.roots,
         waiting: &mut memory.waiting,
         sections: &mut memory.sections,
+        data: &mut memory.data,
     }
 }
 

@@ -1,7 +1,9 @@
 //! Counting, release, the two stores, placing, and the collection. What is placed or freed leaves the figures of its
 //! sections unknown.
 
-use super::blocks::{clear_extent, get_count, is_first, mark_extent, object_size, set_count};
+use super::blocks::{
+    clear_extent, get_count, is_first, mark_extent, naming_cells, object_size, set_bit, set_count,
+};
 use super::sections::mark_unknown;
 use super::Lent;
 
@@ -60,14 +62,32 @@ fn let_go(blocks: usize, width: usize, m: &mut Lent, v: u16) -> usize {
         let n = object_size(blocks, m.b, i);
         clear_extent(m.a, m.b, i, n);
         mark_unknown(blocks, m.sections, i, n);
-        for j in 4 * i..4 * i + 4 * n {
-            let v = m.cells[j];
-            m.cells[j] = 0;
-            top = count_down(blocks, width, m.counts, m.waiting, v, top);
-        }
+        top = drop_object(blocks, width, m, i, n, top);
         freed += n;
     }
     freed
+}
+
+/// The cells and the D bit of a freed object. Cells of data named nothing.
+fn drop_object(
+    blocks: usize,
+    width: usize,
+    m: &mut Lent,
+    i: usize,
+    n: usize,
+    mut top: usize,
+) -> usize {
+    let named = naming_cells(m.data, i, n);
+    set_bit(m.data, i, 0);
+    for j in 4 * i..4 * i + named {
+        let v = m.cells[j];
+        m.cells[j] = 0;
+        top = count_down(blocks, width, m.counts, m.waiting, v, top);
+    }
+    for j in 4 * i + named..4 * i + 4 * n {
+        m.cells[j] = 0;
+    }
+    top
 }
 
 fn put_root(blocks: usize, width: usize, m: &mut Lent, r: usize, v: u16) -> usize {
@@ -119,13 +139,22 @@ pub fn store_cell(blocks: usize, width: usize, m: &mut Lent, c: usize, v: u16) -
     Stored { freed, stuck }
 }
 
-pub fn place(blocks: usize, width: usize, m: &mut Lent, n: usize, r: usize, i: usize) -> Stored {
+pub fn place(
+    blocks: usize,
+    width: usize,
+    m: &mut Lent,
+    n: usize,
+    r: usize,
+    i: usize,
+    as_data: bool,
+) -> Stored {
     mark_extent(m.a, m.b, i, n);
     mark_unknown(blocks, m.sections, i, n);
     set_count(m.counts, blocks / 8, width, i, 1);
     for j in 4 * i..4 * i + 4 * n {
         m.cells[j] = 0;
     }
+    set_bit(m.data, i, u8::from(as_data));
     let freed = put_root(blocks, width, m, r, (i + 1) as u16);
     Stored {
         freed,
@@ -173,7 +202,7 @@ fn mark(blocks: usize, width: usize, m: &mut Lent) {
         let i = m.waiting[top] as usize;
         m.waiting[top] = 0;
         let n = object_size(blocks, m.b, i);
-        for j in 4 * i..4 * i + 4 * n {
+        for j in 4 * i..4 * i + naming_cells(m.data, i, n) {
             top = visit(blocks, width, m.counts, m.waiting, m.cells[j], top);
         }
     }
@@ -191,6 +220,7 @@ pub fn collect(blocks: usize, width: usize, m: &mut Lent) -> usize {
             for j in 4 * i..4 * i + 4 * n {
                 m.cells[j] = 0;
             }
+            set_bit(m.data, i, 0);
             freed += n;
         }
     }

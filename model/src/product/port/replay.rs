@@ -2,7 +2,7 @@
 //! freed something finds the unknown figures of sections anew.
 
 use super::blocks::{
-    chunk_size, count_zeros, get_count, is_first, is_reference, lowest_chunk, object_size,
+    chunk_size, count_zeros, get_bit, get_count, is_first, is_reference, lowest_chunk, object_size,
 };
 use super::damage::is_shaped;
 use super::references::{collect, place, return_roots, store_cell, store_root, Stored};
@@ -15,6 +15,7 @@ pub fn format(blocks: usize, m: &mut Lent) {
     m.counts.fill(0);
     m.cells.fill(0);
     m.roots.fill(0);
+    m.data.fill(0);
     m.waiting.fill(0);
     m.sections.fill(section_length(blocks) as u16);
 }
@@ -42,6 +43,7 @@ pub fn allocate(
     m: &mut Lent,
     n: usize,
     r: usize,
+    as_data: bool,
 ) -> (Answer, usize) {
     if n == 0 || blocks < n {
         return (refusal(3), 0);
@@ -53,7 +55,7 @@ pub fn allocate(
     if at == blocks {
         return (refusal(5), 0);
     }
-    let placed = place(blocks, width, m, n, r, at);
+    let placed = place(blocks, width, m, n, r, at, as_data);
     renew(blocks, m.a, m.sections);
     (telling(at, placed.stuck), placed.freed)
 }
@@ -76,6 +78,20 @@ pub fn put_in_root(blocks: usize, width: usize, m: &mut Lent, r: usize, v: usize
     stored_answer(blocks, m, stored)
 }
 
+/// Whether there is a cell j of the object at a block, of data or not: else 6, 7 or 12.
+fn test_cell(blocks: usize, m: &Lent, at: usize, j: usize, of_data: bool) -> Option<Answer> {
+    if !is_first(blocks, m.a, m.b, at) {
+        return Some(refusal(6));
+    }
+    if 4 * object_size(blocks, m.b, at) <= j {
+        return Some(refusal(7));
+    }
+    if (get_bit(m.data, at) == 1) != of_data {
+        return Some(refusal(12));
+    }
+    None
+}
+
 pub fn put_in_cell(
     blocks: usize,
     width: usize,
@@ -84,17 +100,29 @@ pub fn put_in_cell(
     j: usize,
     v: usize,
 ) -> Answer {
-    if !is_first(blocks, m.a, m.b, at) {
-        return refusal(6);
-    }
-    if 4 * object_size(blocks, m.b, at) <= j {
-        return refusal(7);
+    if let Some(answer) = test_cell(blocks, m, at, j, false) {
+        return answer;
     }
     if !is_reference(blocks, m.a, m.b, v) {
         return refusal(8);
     }
     let stored = store_cell(blocks, width, m, 4 * at + j, v as u16);
     stored_answer(blocks, m, stored)
+}
+
+pub fn write_number(blocks: usize, m: &mut Lent, at: usize, j: usize, v: u16) -> Answer {
+    if let Some(answer) = test_cell(blocks, m, at, j, true) {
+        return answer;
+    }
+    m.cells[4 * at + j] = v;
+    acceptance(0)
+}
+
+fn read_number(blocks: usize, m: &Lent, at: usize, j: usize) -> Answer {
+    if let Some(answer) = test_cell(blocks, m, at, j, true) {
+        return answer;
+    }
+    acceptance(m.cells[4 * at + j] as usize)
 }
 
 fn let_go_of(blocks: usize, width: usize, m: &mut Lent, chosen: u64) -> Answer {
@@ -139,20 +167,23 @@ fn step_by(find: &impl Search, blocks: usize, width: usize, m: &mut Lent, call: 
             format(blocks, m);
             acceptance(0)
         }
-        2 => allocate(find, blocks, width, m, x, y).0,
+        2 => allocate(find, blocks, width, m, x, y, false).0,
         3 => put_in_root(blocks, width, m, x, y),
         4 => put_in_cell(blocks, width, m, x, y, call[3] as usize),
         5 => acceptance(full_collection(blocks, width, m)),
         6 => look(blocks, width, m, x),
         7 => acceptance(count_zeros(m.a)),
         8 => let_go_of(blocks, width, m, call[1]),
+        9 => allocate(find, blocks, width, m, x, y, true).0,
+        10 => write_number(blocks, m, x, y, call[3] as u16),
+        11 => read_number(blocks, m, x, y),
         _ => acceptance(0),
     }
 }
 
-/// Whether four words are a call.
+/// Whether four words are a call. A number write has a number that a cell can hold.
 fn is_call(call: &[u64]) -> bool {
-    call[0] < 9
+    call[0] < 12 && (call[0] != 10 || call[3] < 65_536)
 }
 
 /// Formats, then runs calls of four words each and writes replies of three words each.
