@@ -31,6 +31,10 @@ static void collect(void) { made(huwekapo_heap_collect(&heap)); }
 static void look(void) { made(huwekapo_heap_look(&heap, HUWEKAPO_BLOCK(heap.roots[2]))); }
 static void free_blocks(void) { made(huwekapo_heap_free_blocks(&heap)); }
 
+static void allocate_data(void) { made(huwekapo_heap_allocate_data(&heap, 3, 5)); }
+static void write_number(void) { made(huwekapo_heap_write_number(&heap, HUWEKAPO_BLOCK(heap.roots[1]), 0, 65535)); }
+static void read_number(void) { made(huwekapo_heap_read_number(&heap, HUWEKAPO_BLOCK(heap.roots[1]), 0)); }
+
 static void replay(void) {
     made(huwekapo_heap_replay(&heap, calls, HUWEKAPO_CALLS_LENGTH(CALLS), replies, HUWEKAPO_REPLIES_LENGTH(CALLS)));
 }
@@ -70,14 +74,18 @@ static void write_lists(void) {
     records[8 * (CALLS - 1)] = HUWEKAPO_RECORD_COLLECT;
 }
 
-/* A used heap: a chain of objects in root 0, and objects in the other roots. */
+/* A used heap: a chain of objects in root 0, and in the other roots data and objects by turns. */
 static void use(void) {
     static uint16_t used[sizeof memory / sizeof *memory];
     if (heap.blocks == 0) {
         heap = huwekapo_heap_in(memory, BLOCKS, WIDTH, ROOTS);
         huwekapo_heap_replay(&heap, calls, HUWEKAPO_CALLS_LENGTH(CALLS - 3), replies, sizeof replies / sizeof *replies);
         for (size_t root = 1; root < ROOTS; root++) {
-            huwekapo_heap_allocate(&heap, 1 + root % 5, root);
+            if (root % 2 == 1) {
+                made(huwekapo_heap_allocate_data(&heap, 1 + root % 5, root));
+            } else {
+                made(huwekapo_heap_allocate(&heap, 1 + root % 5, root));
+            }
         }
         memcpy(used, memory, sizeof memory);
     }
@@ -121,8 +129,9 @@ int main(void) {
         {"allocate", allocate, 18000},     {"store_root", store_root, 18000},
         {"store_cell", store_cell, 18000}, {"return_roots", return_roots, 18000},
         {"collect", collect, 18000},       {"look", look, 18000},
-        {"free_blocks", free_blocks, 18000}, {"replay", replay, 2000},
-        {"run_records", run_records, 18000},
+        {"free_blocks", free_blocks, 18000}, {"allocate_data", allocate_data, 18000},
+        {"write_number", write_number, 18000}, {"read_number", read_number, 18000},
+        {"replay", replay, 2000},          {"run_records", run_records, 18000},
     };
     write_lists();
     size_t thread = measure(nothing);
@@ -130,7 +139,7 @@ int main(void) {
         use();
         size_t bytes = measure(each[i].call) - thread;
         int same = bytes > 0 && bytes <= each[i].most;
-        printf("stack of %-12s %6zu bytes%s\n", each[i].name, bytes, same ? "" : "  MORE than the header says");
+        printf("stack of %-13s %6zu bytes%s\n", each[i].name, bytes, same ? "" : "  MORE than the header says");
         failures += !same;
     }
     return failures != 0;
