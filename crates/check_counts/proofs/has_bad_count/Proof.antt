@@ -31,7 +31,7 @@ test s = badCount (s .args .blocks) (s .args .width) (whole s)
 
 -- where the code starts from
 abbrev start : tie.After-tally-cells Inv-loop μ-loop → tie.Start Inv-loop μ-loop
-start c = c .before .before .before .before .before .before .before .before .before .before
+start c = search
 
 tally-requires : tie.Need-tally-requires Inv-loop μ-loop
 tally-requires c κs =

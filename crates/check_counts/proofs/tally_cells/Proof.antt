@@ -28,11 +28,11 @@ reads s = refAt (s .args .blocks) (s .args .a .now) (s .args .b .now) (s .args .
 
 -- where the code starts from
 abbrev start : tie.After-is-in-data Inv-loop μ-loop → tie.Start Inv-loop μ-loop
-start c = c .before .before .before .before .before .before .before .before .before
+start c = search
 
 -- .. and where there is no data
 abbrev start-none : tie.Then1 Inv-loop μ-loop → tie.Start Inv-loop μ-loop
-start-none c = c .before .before .before .before .before .before
+start-none c = search
 
 none : (c : tie.Then1 Inv-loop μ-loop) → let s = start-none c in
     (i : ℕ) → inData (s .args .blocks) (s .args .a .now) (s .args .b .now) (s .args .d .now) i ≡ false

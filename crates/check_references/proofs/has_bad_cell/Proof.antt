@@ -33,7 +33,7 @@ lent s = whole (s .args .a .now) (s .args .b .now) (s .args .cells .now) (s .arg
 
 -- where the code starts from
 abbrev start : tie.After-is-in-data Inv-loop μ-loop → tie.Start Inv-loop μ-loop
-start c = c .before .before .before .before .before .before .before .before .before
+start c = search
 
 has-data-requires : tie.Need-has-data-requires Inv-loop μ-loop
 has-data-requires c κs = tt

@@ -23,10 +23,10 @@ abbrev μ-loop : tie.MeasureT-loop
 
 -- the places: the entry, and a turn's beginning
 abbrev start : tie.After-slice-known5 Inv-loop μ-loop → tie.Start Inv-loop μ-loop
-start c = c .before .before .before .before .before .before
+start c = search
 
 abbrev turn : tie.After-sweep-one-arg5 Inv-loop μ-loop → tie.At-loop Inv-loop μ-loop
-turn c = c .before .before .before .before .before .before
+turn c = search
 
 loop-holds : tie.Need-loop-holds Inv-loop μ-loop
 unfolding sweep sweepBlocks

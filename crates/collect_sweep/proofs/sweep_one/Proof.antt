@@ -9,7 +9,7 @@ use Rattle.collect_sweep.proofs.sweep_one.Tie as tie
 
 -- where the code starts from
 abbrev start : tie.After-is-first → tie.Start
-start c = c .before .before .before .before .before .before .before .before .before
+start c = search
 
 -- the places where an object is freed: its D bit cleared, before that its cells and its extent, and before these its size read
 abbrev ended : tie.After-slice-known10 → tie.After-clear-kind
@@ -19,7 +19,7 @@ abbrev emptied : tie.After-clear-kind-arg → tie.After-clear-cells
 emptied c = c .before .before .before
 
 abbrev extent : tie.After-clear-cells → tie.After-clear-extent
-extent c = c .before .before .before .before .before .before .before .before
+extent c = search
 
 abbrev sized : tie.After-clear-extent → tie.After-object-size
 sized c = c .before .before .before .before

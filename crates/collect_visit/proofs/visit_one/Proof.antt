@@ -29,7 +29,7 @@ sub-waiting c = search needs
 
 -- where the code starts from
 abbrev start : tie.After-slice-known3 → tie.Start
-start c = c .before .before .before .before .before .before .before .before .before .before .before
+start c = search
 
 -- there is room for a push
 room : (c : tie.After-slice-known3) → start c .args .top < start c .args .blocks

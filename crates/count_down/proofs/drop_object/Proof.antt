@@ -6,10 +6,10 @@ use Rattle.count_down.proofs.drop_object.Tie as tie
 
 -- the places, from the last back
 abbrev dropped : tie.After-clear-cells → tie.After-drop-cells
-dropped c = c .before .before .before .before .before .before .before .before
+dropped c = search
 
 abbrev ended : tie.After-drop-cells → tie.After-end-kind
-ended c = c .before .before .before .before .before .before
+ended c = search
 
 mul-all : tie.Need-mul-all
 mul-all c = search needs

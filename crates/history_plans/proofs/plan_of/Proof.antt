@@ -11,7 +11,7 @@ use Rattle.history_plans.proofs.plan_of.Tie as tie
 
 -- where the code starts from
 abbrev start : tie.Else1 → tie.Start
-start c = c .before .before .before .before .before .before
+start c = search
 
 -- past the first test the unnamed fields are 0
 zero : (c : tie.Else1) → areZero (unnamed (start c .args .f)) ≡ true

@@ -7,7 +7,7 @@ use Rattle.public_example.proofs.one_life.Tie as tie
 
 -- the places at which the calls have just returned, from the end back
 abbrev collected : tie.After-slice-known39 → tie.After-collect
-collected c = c .before .before .before .before .before .before .before .before .before .before .before .before .before .before
+collected c = search
 
 abbrev stored : tie.After-slice-known39 → tie.After-store-root
 stored c = collected c .before .before .before .before .before .before .before .before .before .before .before .before .before .before .before .before .before .before .before .before .before .before .before .before .before
@@ -23,7 +23,7 @@ formatted c = accepted c .before .before .before .before .before .before .before
 
 -- .. and where the format refuses
 abbrev refused : tie.Then1 → tie.After-format
-refused c = c .before .before .before .before .before .before .before .before .before .before .before .before .before .before .before .before .before
+refused c = search
 
 format-requires : tie.Need-format-requires
 format-requires c κs = search needs

@@ -18,7 +18,7 @@ lent s =
     (s .args .sections .now) (s .args .d .now)
 
 abbrev start : tie.After-is-shaped → tie.Start
-start c = c .before .before .before .before .before .before .before .before .before
+start c = search
 
 -- past the first test its shape is right
 shape-is : (c : tie.Else1) → let s = start (c .before) in shaped (s .args .blocks) (s .args .width) (lent s) ≡ true

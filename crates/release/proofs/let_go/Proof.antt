@@ -8,14 +8,14 @@ use Rattle.release.proofs.let_go.Tie as tie
 
 -- where the code starts from
 abbrev start : tie.After-count-down-arg2 → tie.Start
-start c = c .before .before .before .before .before .before .before .before .before
+start c = search
 
 -- the places: v counted down, and what waits freed
 abbrev counted : tie.After-release-all → tie.After-count-down
-counted c = c .before .before .before .before .before .before .before .before .before .before .before .before
+counted c = search
 
 abbrev freed : tie.After-slice-known16 → tie.After-release-all
-freed c = c .before .before .before .before .before .before .before .before .before .before .before .before .before .before
+freed c = search
 
 count-down-requires : tie.Need-count-down-requires
 count-down-requires c κs =

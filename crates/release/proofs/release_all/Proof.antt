@@ -28,7 +28,7 @@ abbrev μ-loop : tie.MeasureT-loop
 
 -- the places: the entry, a turn's beginning, an object's size found, its extent cleared, its cells dropped
 abbrev start : tie.After-slice-known7 Inv-loop μ-loop → tie.Start Inv-loop μ-loop
-start c = c .before .before .before .before .before .before .before
+start c = search
 
 abbrev turn : tie.After-object-size Inv-loop μ-loop → tie.In-loop Inv-loop μ-loop
 turn c = c .before .before .before
@@ -37,10 +37,10 @@ abbrev sized : tie.After-clear-extent Inv-loop μ-loop → tie.After-object-size
 sized c = c .before .before .before .before
 
 abbrev cleared : tie.After-drop-object-arg4 Inv-loop μ-loop → tie.After-clear-extent Inv-loop μ-loop
-cleared c = c .before .before .before .before .before .before .before .before .before .before
+cleared c = search
 
 abbrev dropped : tie.After-slice-known15 Inv-loop μ-loop → tie.After-drop-object Inv-loop μ-loop
-dropped c = c .before .before .before .before .before .before .before .before
+dropped c = search
 
 loop-holds : tie.Need-loop-holds Inv-loop μ-loop
 loop-holds c =
