@@ -35,7 +35,7 @@ bit-le b (suc k) =
 pub put-zero : (b v : ℕ) → putBit b zero v ≡ b / 2 * 2 + v
 put-zero b v = omega arith
 
-put-suc : (b k v : ℕ) → putBit b (suc k) v ≡ putBit (b / 2) k v * 2 + b % 2
+pub put-suc : (b k v : ℕ) → putBit b (suc k) v ≡ putBit (b / 2) k v * 2 + b % 2
 put-suc b k v =
     omega (arith, bit-le (b / 2) k, shift-suc (bitOf b (suc k)) k, shift-suc v k, ap (λ (x : ℕ). x * 2 ^ k) (bit-suc b k))
 

@@ -3,3 +3,5 @@ pub mod Maps
 pub mod Runs
 pub mod Zeros
 pub mod Rewrites
+pub mod Digits
+pub mod Masks

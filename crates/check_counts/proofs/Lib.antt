@@ -1,2 +1,4 @@
 pub mod Counting
 pub mod Tallies
+pub mod Eights
+pub mod Visited

@@ -1,21 +1,30 @@
--- The tally of references, for contracts: a list with a place for each block of the largest heap.
-use Prim.Native.Nat.{ℕ, _+_, _*_, _/_, _≤_, _<_}
+-- The tally of references, for contracts: a list with a place for each block of the largest heap. A byte is enough: a
+-- tally stops at 255, and a count below capacity is less.
+use Prim.Native.Nat.{ℕ, _+_, _*_, _/_, _≤_, _<_, min}
 use mathlib.Core.Path.{_≡_}
+use mathlib.Core.Bool.{Bool, not, _&&_}
 use mathlib.Core.List.{List}
 use lib.Dec.{eqb}
 use lib.ListN.{length, getD}
-use Rattle.bitmap.specs.Bit.{countBelow}
+use Rattle.bitmap.specs.Bit.{bitOf, countBelow}
+use Rattle.planes.specs.Plane.{countAt}
 use Rattle.rules.specs.Heap.{maxBlocks, refAt}
 
--- n numbers more can be tallied in `at`
-pub record Room (n : ℕ) (at : List ℕ) : Type 0 where
+-- a place for each block of the largest heap, each a byte
+pub record Room (at : List ℕ) : Type 0 where
   pub long : length at ≡ maxBlocks
-  pub fits : (b : ℕ) → b < maxBlocks → getD at b 0 + n < 65536
+  pub bytes : (b : ℕ) → b < maxBlocks → getD at b 0 ≤ 255
 
--- `at` has at place b what `at₀` has there, and how many of the first n numbers that are read name block b
+-- `at` has at place b what `at₀` has there, and how many of the first n numbers that are read name block b; to
+-- 255 at most
 pub record Tallied (read : ℕ → ℕ) (n : ℕ) (at₀ at : List ℕ) : Type 0 where
   pub long : length at ≡ maxBlocks
-  pub named : (b : ℕ) → b < maxBlocks → getD at b 0 ≡ getD at₀ b 0 + countBelow (λ j. eqb (read j) (b + 1)) n
+  pub named : (b : ℕ) → b < maxBlocks → getD at b 0 ≡ min 255 (getD at₀ b 0 + countBelow (λ j. eqb (read j) (b + 1)) n)
+
+-- block s of byte k is one of `these`, and its count is not the tally's
+unfoldable pub offTally : (these k bytes width : ℕ) → (counts at : List ℕ) → ℕ → Bool
+offTally these k bytes width counts at s =
+    not (eqb (bitOf these s) 0) && not (eqb (countAt bytes width counts (8 * k + s)) (getD at (8 * k + s) 0))
 
 -- maps and cells of a heap of N blocks, whose cells are read as numbers of at most N
 pub record CellsWithin (N : ℕ) (a b d cells : List ℕ) : Type 0 where
@@ -25,11 +34,11 @@ pub record CellsWithin (N : ℕ) (a b d cells : List ℕ) : Type 0 where
   pub d-covers : N ≤ 8 * length d
   pub length-cells : length cells ≡ 4 * N
   pub cells-within : (j : ℕ) → refAt N a b d cells j ≤ N
+  pub whole-bytes : N ≡ 8 * (N / 8)
 
 -- .. with counts of w bits and at most 64 roots, each at most N
 pub record Countable (N w : ℕ) (a b counts cells roots d : List ℕ) : Type 0 where
   pub maps : CellsWithin N a b d cells
-  pub whole-bytes : N ≡ 8 * (N / 8)
   pub width-min : 1 ≤ w
   pub width-max : w ≤ 4
   pub length-counts : length counts ≡ w * (N / 8)

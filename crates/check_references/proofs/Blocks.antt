@@ -38,10 +38,10 @@ module _ (N : ℕ) (h : Memory) where
   holds from k = badHolding N (h .a) (h .b) (h .cells) (from + k)
 
   -- where no block is one of data, all cells are as they hold
-  pub all-others : ((i : ℕ) → ofData i ≡ false) → someBelow (holds 0) (4 * N) ≡ someBelow (badCell N h) (4 * N)
+  pub all-others :
+      ((i : ℕ) → ofData i ≡ false) → someBelow (badHolding N (h .a) (h .b) (h .cells)) (4 * N) ≡ someBelow (badCell N h) (4 * N)
   all-others none =
-      some-same (4 * N) (holds 0) (badCell N h)
-      (λ j l. ap (badHolding N (h .a) (h .b) (h .cells)) (omega arith) ∙ sym (other-cell j (none (j / 4))))
+      some-same (4 * N) (badHolding N (h .a) (h .b) (h .cells)) (badCell N h) (λ j l. sym (other-cell j (none (j / 4))))
     where
       some-same : (n : ℕ) (test other : ℕ → Bool) → ((j : ℕ) → j < n → test j ≡ other j) → someBelow test n ≡ someBelow other n
       some-same n test other same = elim (test-cases (someBelow other n)) [

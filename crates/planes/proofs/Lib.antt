@@ -1,2 +1,3 @@
 pub mod PlaneBits
 pub mod Counts
+pub mod Eights

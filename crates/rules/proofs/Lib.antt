@@ -14,3 +14,4 @@ pub mod Replies
 pub mod Promised
 pub mod Counting
 pub mod Unread
+pub mod Stretches

@@ -1,11 +1,13 @@
--- `bitmap::fill_bits` meets its contract: after i turns the map has the first i bits of the run written.
--- The measure is what is left of `count`.
-use mathlib.Core.Path.{_≡_, refl}
-use Prim.Native.Nat.{_≤_, _-_}
+-- `bitmap::fill_bits` meets its contract: after each turn the map has the first i bits of the run written. The measure is what is left of
+-- `count`.
+use mathlib.Core.Path.{_≡_, refl, ap, _∙_}
+use Prim.Native.Nat.{ℕ, _≤_, _-_, _+_, _/_, _%_}
 use native.Mathlib.Omega.{arith}
-use lib.ListN.{length}
+use mathlib.Core.List.{List}
+use lib.ListN.{length, getD, set, length-set}
 use Rattle.bitmap.specs.Bit.{fillBits}
-use Rattle.bitmap.proofs.Runs.{fill-more}
+use Rattle.bitmap.specs.Byte.{putRun}
+use Rattle.bitmap.proofs.Masks.{fill-byte-more}
 use Rattle.bitmap.proofs.fill_bits.Statement.{statement}
 use Rattle.bitmap.proofs.fill_bits.Tie as tie
 
@@ -19,11 +21,26 @@ loop-holds : tie.Need-loop-holds Inv-loop μ-loop
 unfolding fillBits
 loop-holds c = (omega arith, refl, refl)
 
-add-set-bit : tie.Need-add-set-bit Inv-loop μ-loop
-add-set-bit c = omega arith
+add-at : tie.Need-add-at Inv-loop μ-loop
+add-at c = omega arith
 
-set-bit-requires : tie.Need-set-bit-requires Inv-loop μ-loop
-set-bit-requires c κs = omega arith
+sub-least : tie.Need-sub-least Inv-loop μ-loop
+sub-least c = omega arith
+
+sub-least-2 : tie.Need-sub-least-2 Inv-loop μ-loop
+sub-least-2 c = omega arith
+
+least-requires : tie.Need-least-requires Inv-loop μ-loop
+least-requires c κs = tt
+
+slice-read-fill-byte : tie.Need-slice-read-fill-byte Inv-loop μ-loop
+slice-read-fill-byte c = omega arith
+
+fill-byte-requires : tie.Need-fill-byte-requires Inv-loop μ-loop
+fill-byte-requires c κs = omega arith
+
+slice-write-map : tie.Need-slice-write-map Inv-loop μ-loop
+slice-write-map c = omega arith
 
 add-i : tie.Need-add-i Inv-loop μ-loop
 add-i c = omega arith
@@ -33,9 +50,17 @@ loop-less c = omega arith
 
 loop-again : tie.Need-loop-again Inv-loop μ-loop
 loop-again c =
-    let l = c .before .before .before .before .before in
+    let l = c .before .before .before .before in
     let s = l .before .before in
-    (omega arith, cc (fill-more (s .args .map .now) (s .args .from) (l .loop .i) (s .args .v)), omega arith)
+    let at = s .args .from + l .loop .i in
+    let n = c .before .before .least .result in
+    let v = s .args .v in (
+      omega arith,
+      ap (set (l .loop .map) (at / 8)) (c .fill-byte .ensures)
+          ∙ ap (λ (m : List ℕ). set m (at / 8) (putRun (getD m (at / 8) 0) (at % 8) n v)) (l .loop .inv .1)
+          ∙ fill-byte-more (s .args .map .now) (s .args .from) (l .loop .i) n v (omega arith) (omega arith),
+      length-set (l .loop .map) (at / 8) (c .fill-byte .result) ∙ l .loop .inv .2,
+    )
 
 same-length : tie.Need-same-length Inv-loop μ-loop
 same-length c = omega arith
@@ -52,8 +77,13 @@ fill-bits-spec =
     Inv-loop
     μ-loop
     loop-holds
-    add-set-bit
-    set-bit-requires
+    add-at
+    sub-least
+    sub-least-2
+    least-requires
+    slice-read-fill-byte
+    fill-byte-requires
+    slice-write-map
     add-i
     loop-less
     loop-again

@@ -1,24 +1,28 @@
--- `check_counts::has_bad_count` meets its contract: the tally is of all references, and the test fails at every block below i.
+-- `check_counts::has_bad_count` meets its contract: the tally is of all references, and the test fails at every block below 8 k.
 -- The measure is what is left of the blocks.
 use mathlib.Core.Path.{_≡_, sym, _∙_}
 use mathlib.Core.Bool.{Bool}
-use mathlib.Core.List.{List, []}
-use Prim.Native.Nat.{ℕ, _<_, _-_, _+_}
+use mathlib.Core.List.{[]}
+use Prim.Native.Nat.{ℕ, _<_, _-_, _+_, _*_, _/_, min}
 use native.Mathlib.Omega.{arith}
-use lib.ListN.{length, getD, replicate, length-replicate, getD-replicate}
+use lib.Bits.{bitAnd}
+use lib.ListN.{getD, length-replicate, getD-replicate}
 use Rattle.rules.specs.Heap.{Memory, lentMemory, maxBlocks, references}
 use Rattle.rules.specs.Damage.{badCount}
-use Rattle.rules.proofs.Searches.{Searched, searched-start, searched-next, searched-all, searched-hit}
-use Rattle.check_counts.proofs.Tallies.{tallied-le, whole-list, bad-count-read}
+use Rattle.rules.proofs.Searches.{Searched, searched-start, searched-all}
+use Rattle.rules.proofs.Stretches.{some-further, eight-hit, eight-past}
+use Rattle.check_counts.specs.Tally.{offTally}
+use Rattle.check_counts.proofs.Tallies.{whole-list}
+use Rattle.check_counts.proofs.Eights.{Starts, eight-apart, eight-alike}
 use Rattle.check_counts.proofs.has_bad_count.Statement.{statement}
 use Rattle.check_counts.proofs.has_bad_count.Tie as tie
 
 abbrev Inv-loop : tie.InvT-loop
-Inv-loop blocks width a b counts cells roots d at capacity i₀ i =
-    Searched (badCount blocks width (lentMemory a b counts cells roots [] [] d)) blocks i
+Inv-loop blocks width a b counts cells roots d at bytes k₀ k =
+    Searched (badCount blocks width (lentMemory a b counts cells roots [] [] d)) blocks (8 * k)
 
 abbrev μ-loop : tie.MeasureT-loop
-μ-loop blocks width a b counts cells roots d at capacity i₀ i = blocks - i
+μ-loop blocks width a b counts cells roots d at bytes k₀ k = blocks - 8 * k
 
 -- what is lent, with no waiting list and no sections
 abbrev whole : tie.Start Inv-loop μ-loop → Memory
@@ -33,39 +37,10 @@ test s = badCount (s .args .blocks) (s .args .width) (whole s)
 abbrev start : tie.After-tally-cells Inv-loop μ-loop → tie.Start Inv-loop μ-loop
 start c = search
 
-tally-requires : tie.Need-tally-requires Inv-loop μ-loop
-tally-requires c κs =
-    let s = c .before .before .before .before .before .before .before in (
-      omega arith,
-      λ k l. omega (arith, s .pre .roots-within (0 + k)),
-      record {
-        long = length-replicate {A = ℕ} maxBlocks 0;
-        fits = λ b l. omega (arith, getD-replicate {A = ℕ} maxBlocks b 0 0 l);
-      },
-    )
-
-tally-cells-requires : tie.Need-tally-cells-requires Inv-loop μ-loop
-tally-cells-requires c κs =
-    let s = c .before .before .before .before .before .before .before .before .before in
-    let roots = c .before .tally .ensures in
-    let zeros : List ℕ = replicate maxBlocks 0 in (
-      s .pre .maps,
-      record {
-        long = roots .long;
-        fits = λ b l. omega (
-          arith,
-          tallied-le (λ k. getD (s .args .roots .now) (0 + k) 0) zeros (length (s .args .roots .now)) _ roots b l,
-          getD-replicate {A = ℕ} maxBlocks b 0 0 l,
-        );
-      },
-    )
-
-capacity-of-requires : tie.Need-capacity-of-requires Inv-loop μ-loop
-capacity-of-requires c κs = omega arith
-
--- every place has the number of all references that name its block
+-- every place has the number of all references that name its block, to 255 at most
 tallied : (c : tie.After-tally-cells Inv-loop μ-loop)
-    → (b : ℕ) → b < maxBlocks → getD (c .tally-cells .last .1 .1 .1 .1 .1 .0) b 0 ≡ references (start c .args .blocks) (whole (start c)) b
+    → (b : ℕ) → b < maxBlocks
+    → getD (c .tally-cells .last .1 .1 .1 .1 .1 .0) b 0 ≡ min 255 (references (start c .args .blocks) (whole (start c)) b)
 tallied c b l =
     omega (
       arith,
@@ -75,66 +50,113 @@ tallied c b l =
       getD-replicate {A = ℕ} maxBlocks b 0 0 l,
     )
 
+-- the two bytes of byte k
+starts : (c : tie.After-some-byte Inv-loop μ-loop)
+    → let l = c .before .before .before in
+    let s = start (l .before) in
+    Starts (s .args .blocks) (s .args .width) (whole s) (l .loop .k) (c .before .first-byte .result) (c .some-byte .result)
+starts c =
+    let l = c .before .before .before in
+    let s = start (l .before) in
+    record {
+      first-lt = omega arith;
+      some-lt = omega arith;
+      firsts = c .before .first-byte .ensures (s .args .blocks) (omega arith);
+      somes = c .some-byte .ensures;
+    }
+
+tally-requires : tie.Need-tally-requires Inv-loop μ-loop
+tally-requires c κs =
+    let s : tie.Start Inv-loop μ-loop = search in (
+      omega arith,
+      λ k l. omega (arith, s .pre .roots-within (0 + k)),
+      record {
+        long = length-replicate {A = ℕ} maxBlocks 0;
+        bytes = λ b l. omega (arith, getD-replicate {A = ℕ} maxBlocks b 0 0 l);
+      },
+    )
+
+tally-cells-requires : tie.Need-tally-cells-requires Inv-loop μ-loop
+tally-cells-requires c κs =
+    let s : tie.Start Inv-loop μ-loop = search in
+    let roots = c .before .tally .ensures in (
+      s .pre .maps,
+      record { long = roots .long; bytes = λ b l. omega (arith, roots .named b l) },
+    )
+
 loop-holds : tie.Need-loop-holds Inv-loop μ-loop
 loop-holds c =
-    let s = start (c .before) in
+    let s = start c in
     searched-start (test s) (s .args .blocks)
 
-get-count-requires : tie.Need-get-count-requires Inv-loop μ-loop
-get-count-requires c κs = omega arith
+first-byte-requires : tie.Need-first-byte-requires Inv-loop μ-loop
+first-byte-requires c κs = omega arith
 
-is-first-requires : tie.Need-is-first-requires Inv-loop μ-loop
-is-first-requires c κs = omega arith
-
-mul-is-bad-count : tie.Need-mul-is-bad-count Inv-loop μ-loop
-mul-is-bad-count c = omega arith
-
-array-read-is-bad-count : tie.Need-array-read-is-bad-count Inv-loop μ-loop
-array-read-is-bad-count c = omega arith
-
-is-bad-count-requires : tie.Need-is-bad-count-requires Inv-loop μ-loop
-is-bad-count-requires c κs = tt
-
--- what the code finds at block i is the rule's test
-found : (c : tie.After-is-bad-count Inv-loop μ-loop)
-    → let l = c .before .before .before .before in
-    let s = start (l .before .before) in
-    c .is-bad-count .result
-    ≡ test s (l .loop .i)
-found c =
-    let l = c .before .before .before .before in
-    let s = start (l .before .before) in
-    c .is-bad-count .ensures
-    ∙ bad-count-read (s .args .blocks) (s .args .width) (whole s) (l .loop .i)
-    _ _ _ _
-    (c .before .is-first .ensures)
-    (c .before .before .get-count .ensures .0)
-    (l .before .capacity-of .ensures .0)
-    (tallied (l .before .before) (l .loop .i) (omega arith))
+some-byte-requires : tie.Need-some-byte-requires Inv-loop μ-loop
+some-byte-requires c κs = omega arith
 
 returns : tie.Need-returns Inv-loop μ-loop
 returns c =
-    let l = c .before .before .before .before .before in
-    let s = start (l .before .before) in
-    searched-hit (test s) (s .args .blocks) (l .loop .i) (omega arith) (sym (found (c .before)) ∙ c .if1 .taken)
+    let l = c .before .before .before .before in
+    let s = start (l .before) in
+    sym
+    (some-further (test s) (8 * (l .loop .k + 1)) (s .args .blocks) (omega arith)
+    (eight-apart (s .args .blocks) (s .args .width) (whole s) (l .loop .k) _ _ (starts (c .before)) (c .if1 .taken)))
 
-add-i : tie.Need-add-i Inv-loop μ-loop
-add-i c = omega arith
+-- where the two bytes are alike, the test at the eight blocks is that of the tally
+alike : (c : tie.After-is-off-tally Inv-loop μ-loop)
+    → let full = c .before .before in
+    let l = full .before .before .before .before .before in
+    let s = start (l .before) in
+    (d : ℕ) → d < 8
+    → test s (8 * l .loop .k + d)
+    ≡ offTally (bitAnd (full .before .before .before .first-byte .result) (255 - full .full-byte .result)) (l .loop .k) (s .args .blocks / 8)
+    (s .args .width) (s .args .counts .now) (l .before .tally-cells .last .1 .1 .1 .1 .1 .0) d
+alike c =
+    let full = c .before .before in
+    let l = full .before .before .before .before .before in
+    let s = start (l .before) in
+    eight-alike (s .args .blocks) (s .args .width) (whole s) (l .loop .k) _ _ (full .full-byte .result) (l .before .tally-cells .last .1 .1 .1 .1 .1 .0)
+    (omega arith) (omega arith) (starts (full .before .before)) (full .full-byte .ensures)
+    (λ d u. tallied (l .before) (8 * l .loop .k + d) (omega arith)) (full .before .if1 .left)
+
+full-byte-requires : tie.Need-full-byte-requires Inv-loop μ-loop
+full-byte-requires c κs = omega arith
+
+is-off-tally-requires : tie.Need-is-off-tally-requires Inv-loop μ-loop
+is-off-tally-requires c κs =
+    let l = c .before .before .before .before .before .before in
+    let s = start (l .before) in
+    omega (arith, l .before .tally-cells .ensures .long, s .pre .maps .whole-bytes, s .pre .maps .blocks-max)
+
+returns-2 : tie.Need-returns-2 Inv-loop μ-loop
+returns-2 c =
+    let l = c .before .before .before .before .before .before .before .before in
+    let s = start (l .before) in
+    sym
+    (some-further (test s) (8 * (l .loop .k + 1)) (s .args .blocks)
+    (omega (arith, c .before .before .before .before .before .before .before .loop-test .taken, s .pre .maps .whole-bytes))
+    (eight-hit (test s) _ (l .loop .k) (alike (c .before)) (sym (c .before .is-off-tally .ensures) ∙ c .if2 .taken)))
+
+add-k : tie.Need-add-k Inv-loop μ-loop
+add-k c = omega arith
 
 loop-less : tie.Need-loop-less Inv-loop μ-loop
 loop-less c = omega arith
 
 loop-again : tie.Need-loop-again Inv-loop μ-loop
 loop-again c =
-    let l = c .before .before .before .before .before in
-    let s = start (l .before .before) in
-    searched-next (test s) (s .args .blocks) (l .loop .i) (l .loop .inv) (omega arith) (sym (found (c .before)) ∙ c .if1 .left)
+    let l = c .before .before .before .before .before .before .before .before in
+    let s = start (l .before) in (
+      omega (arith, c .before .before .before .before .before .before .before .loop-test .taken, s .pre .maps .whole-bytes),
+      eight-past (test s) _ (l .loop .k) (alike (c .before)) (sym (c .before .is-off-tally .ensures) ∙ c .if2 .left) (l .loop .inv .1),
+    )
 
-returns-2 : tie.Need-returns-2 Inv-loop μ-loop
-returns-2 c =
+returns-3 : tie.Need-returns-3 Inv-loop μ-loop
+returns-3 c =
     let l = c .before in
-    let s = start (l .before .before) in
-    searched-all (test s) (s .args .blocks) (l .loop .i) (l .loop .inv) (omega arith)
+    let s = start (l .before) in
+    searched-all (test s) (s .args .blocks) (8 * l .loop .k) (l .loop .inv) (omega arith)
 
 pub has-bad-count-spec : {M : Type 1} → statement M
 has-bad-count-spec =
@@ -144,15 +166,14 @@ has-bad-count-spec =
     μ-loop
     tally-requires
     tally-cells-requires
-    capacity-of-requires
     loop-holds
-    get-count-requires
-    is-first-requires
-    mul-is-bad-count
-    array-read-is-bad-count
-    is-bad-count-requires
+    first-byte-requires
+    some-byte-requires
     returns
-    add-i
+    full-byte-requires
+    is-off-tally-requires
+    returns-2
+    add-k
     loop-less
     loop-again
-    returns-2)
+    returns-3)

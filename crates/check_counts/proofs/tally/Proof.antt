@@ -8,7 +8,7 @@ use native.Mathlib.Omega.{arith}
 use lib.ListN.{getD}
 use Rattle.rules.specs.Heap.{maxBlocks}
 use Rattle.check_counts.specs.Tally.{Tallied}
-use Rattle.check_counts.proofs.Tallies.{tallied-start, tallied-none, tallied-one, tallied-le}
+use Rattle.check_counts.proofs.Tallies.{tallied-start, tallied-none, tallied-one}
 use Rattle.check_counts.proofs.tally.Statement.{statement}
 use Rattle.check_counts.proofs.tally.Tie as tie
 
@@ -23,7 +23,9 @@ abbrev μ-loop : tie.MeasureT-loop
 μ-loop refs from n at₀ k₀ at k = n - k
 
 loop-holds : tie.Need-loop-holds Inv-loop μ-loop
-loop-holds c = (omega arith, tallied-start (number (c .args .refs .now) (c .args .from)) (c .args .at .now) (c .pre .2 .long))
+loop-holds c =
+    let s = c .before in
+    (omega arith, tallied-start (number (s .args .refs .now) (s .args .from)) (s .args .at .now) (s .pre .2))
 
 add-v : tie.Need-add-v Inv-loop μ-loop
 add-v c = omega arith
@@ -37,41 +39,29 @@ shared-slice-read-v c = omega arith
 cast-v : tie.Need-cast-v Inv-loop μ-loop
 cast-v c =
     let l = c .before .before in
-    omega (arith, c .shared-slice-known .given (l .before .args .from + l .loop .k))
+    omega (arith, c .shared-slice-known2 .given (l .before .before .args .from + l .loop .k))
 
-sub-at : tie.Need-sub-at Inv-loop μ-loop
-sub-at c = omega arith
+sub-one-more : tie.Need-sub-one-more Inv-loop μ-loop
+sub-one-more c = omega arith
 
 -- what a number that is not 0 names is a block
 named : (c : tie.Then1 Inv-loop μ-loop)
     → let l = c .before .before .before in
-    let s = l .before in
+    let s = l .before .before in
     number (s .args .refs .now) (s .args .from) (l .loop .k) - 1 < maxBlocks
-named c = let l = c .before .before .before in omega (arith, l .before .pre .1 (l .loop .k) (omega arith))
+named c = let l = c .before .before .before in omega (arith, l .before .before .pre .1 (l .loop .k) (omega arith))
 
-mul-at : tie.Need-mul-at Inv-loop μ-loop
-mul-at c = omega (arith, named c)
+element-copy-out-one-more : tie.Need-element-copy-out-one-more Inv-loop μ-loop
+element-copy-out-one-more c = named c
 
-element-copy-out-at : tie.Need-element-copy-out-at Inv-loop μ-loop
-element-copy-out-at c = named c
+one-more-requires : tie.Need-one-more-requires Inv-loop μ-loop
+one-more-requires c κs = tt
 
-add-at : tie.Need-add-at Inv-loop μ-loop
-add-at c =
-    let l = c .before .before .before .before in
-    let s = l .before in
-    let reads = number (s .args .refs .now) (s .args .from) in
-    let i = reads (l .loop .k) - 1 in
-    let inside = named (c .before) in
-    omega (arith, tallied-le reads (s .args .at .now) (l .loop .k) (l .loop .at) (l .loop .inv .1) i inside, s .pre .2 .fits i inside)
-
-sub-at-2 : tie.Need-sub-at-2 Inv-loop μ-loop
-sub-at-2 c = omega arith
-
-mul-at-2 : tie.Need-mul-at-2 Inv-loop μ-loop
-mul-at-2 c = omega (arith, named (c .before))
+sub-at : tie.Need-sub-at Inv-loop μ-loop
+sub-at c = omega arith
 
 element-write-at : tie.Need-element-write-at Inv-loop μ-loop
-element-write-at c = named (c .before)
+element-write-at c = named (c .before .before)
 
 add-k : tie.Need-add-k Inv-loop μ-loop
 add-k c = omega arith
@@ -82,7 +72,7 @@ loop-less c = omega arith
 loop-again : tie.Need-loop-again Inv-loop μ-loop
 loop-again c =
     let l = c .before .before .before in
-    let s = l .before in
+    let s = l .before .before in
     let reads = number (s .args .refs .now) (s .args .from) in
     let k = l .loop .k in
     let inv = l .loop .inv in
@@ -91,14 +81,14 @@ loop-again c =
           let i = reads k - 1 in
           let inside : i < maxBlocks = omega (arith, s .pre .1 k (omega arith)) in
           let named : reads k ≡ i + 1 = omega (arith, w .0 .taken) in
-          (omega arith, rw (w .2) (tallied-one reads (s .args .at .now) k (l .loop .at) i named inside (inv .1)))
+          (omega arith, rw (w .3) (tallied-one reads (s .args .at .now) k (l .loop .at) i (w .2 .result) named inside (w .2 .ensures) (inv .1)))
       | inr w ↦ (omega arith, rw (w .1) (tallied-none reads (s .args .at .now) k (l .loop .at) (w .0 .left) (inv .1)))
     ]
 
 returns : tie.Need-returns Inv-loop μ-loop
 returns c =
     let l = c .before in
-    let s = l .before in
+    let s = l .before .before in
     let done : l .loop .k ≡ s .args .n = omega arith in
     subst (λ (k : ℕ). Tallied (number (s .args .refs .now) (s .args .from)) k (s .args .at .now) (l .loop .at)) done (l .loop .inv .1)
 
@@ -113,12 +103,10 @@ tally-spec =
     mul-v
     shared-slice-read-v
     cast-v
+    sub-one-more
+    element-copy-out-one-more
+    one-more-requires
     sub-at
-    mul-at
-    element-copy-out-at
-    add-at
-    sub-at-2
-    mul-at-2
     element-write-at
     add-k
     loop-less

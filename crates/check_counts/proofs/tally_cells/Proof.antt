@@ -44,18 +44,17 @@ none c =
 has-data-requires : tie.Need-has-data-requires Inv-loop μ-loop
 has-data-requires c κs = tt
 
-mul-tally : tie.Need-mul-tally Inv-loop μ-loop
-mul-tally c = omega arith
-
-tally-requires : tie.Need-tally-requires Inv-loop μ-loop
-tally-requires c κs =
+tally-references-requires : tie.Need-tally-references-requires Inv-loop μ-loop
+tally-references-requires c κs =
     let s = start-none (c .before) in (
-      omega arith,
-      λ k l. omega (
+      s .pre .0 .length-cells,
+      s .pre .0 .blocks-max,
+      s .pre .0 .whole-bytes,
+      λ j. omega (
         arith,
-        read-other (s .args .blocks) (s .args .a .now) (s .args .b .now) (s .args .d .now) (s .args .cells .now) (0 + k)
-            (none (c .before) ((0 + k) / 4)),
-        s .pre .0 .cells-within (0 + k),
+        read-other (s .args .blocks) (s .args .a .now) (s .args .b .now) (s .args .d .now) (s .args .cells .now) j
+            (none (c .before) (j / 4)),
+        s .pre .0 .cells-within j,
       ),
       s .pre .1,
     )
@@ -64,24 +63,24 @@ returns : tie.Need-returns Inv-loop μ-loop
 returns c =
     let s = start-none (c .before .before) in
     all-tallied (s .args .blocks) (s .args .a .now) (s .args .b .now) (s .args .d .now) (s .args .cells .now) (s .args .at .now) _
-    (none (c .before .before)) (4 * s .args .blocks) (c .tally .ensures)
+    (none (c .before .before)) (4 * s .args .blocks) (c .tally-references .ensures)
 
 loop-holds : tie.Need-loop-holds Inv-loop μ-loop
 loop-holds c =
     let s = c .before .before .before .before .before .before in (
       omega arith,
       walk-start (s .args .blocks) (s .args .a .now) (s .args .b .now) (s .args .d .now),
-      tallied-start (reads s) (s .args .at .now) (s .pre .1 .long),
+      tallied-start (reads s) (s .args .at .now) (s .pre .1),
     )
 
 is-in-data-requires : tie.Need-is-in-data-requires Inv-loop μ-loop
 is-in-data-requires c κs = (omega arith, omega arith, omega arith, omega arith, c .before .loop .inv .1)
 
-mul-tally-2 : tie.Need-mul-tally-2 Inv-loop μ-loop
-mul-tally-2 c = omega arith
+mul-tally : tie.Need-mul-tally Inv-loop μ-loop
+mul-tally c = omega arith
 
-tally-requires-2 : tie.Need-tally-requires-2 Inv-loop μ-loop
-tally-requires-2 c κs =
+tally-requires : tie.Need-tally-requires Inv-loop μ-loop
+tally-requires c κs =
     let walk = c .before .before in
     let s = start walk in
     let l = walk .before .before in
@@ -93,7 +92,7 @@ tally-requires-2 c κs =
         other-cells (s .args .blocks) (s .args .a .now) (s .args .b .now) (s .args .d .now) (s .args .cells .now) i other k u,
         s .pre .0 .cells-within (4 * i + k),
       ),
-      tallied-room (reads s) (s .args .at .now) (4 * i) 4 (4 * s .args .blocks) (l .loop .at) (omega arith) (s .pre .1) (l .loop .inv .2),
+      tallied-room (reads s) (s .args .at .now) (4 * i) (l .loop .at) (l .loop .inv .2),
     )
 
 add-i : tie.Need-add-i Inv-loop μ-loop
@@ -137,13 +136,12 @@ tally-cells-spec =
     Inv-loop
     μ-loop
     has-data-requires
-    mul-tally
-    tally-requires
+    tally-references-requires
     returns
     loop-holds
     is-in-data-requires
-    mul-tally-2
-    tally-requires-2
+    mul-tally
+    tally-requires
     add-i
     loop-less
     loop-again

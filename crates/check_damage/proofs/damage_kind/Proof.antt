@@ -193,8 +193,8 @@ has-bad-count-requires c κs =
         d-covers = omega arith;
         length-cells = len .length-cells;
         cells-within = cells;
+        whole-bytes = sym (len .whole-bytes);
       };
-      whole-bytes = sym (len .whole-bytes);
       width-min = len .width-min;
       width-max = len .width-max;
       length-counts = len .length-counts;

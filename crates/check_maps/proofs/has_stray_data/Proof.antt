@@ -1,90 +1,68 @@
--- `check_maps::has_stray_data` meets its contract: the test fails at every block below i. The measure is what
--- is left of the blocks.
-use mathlib.Core.Path.{_≡_, sym, ap, _∙_}
-use mathlib.Core.Bool.{Bool, false, not}
-use mathlib.Core.Logic.{inl, inr}
+-- `check_maps::has_stray_data` meets its contract: the byte so far is not 0 where the test passes in the bytes so far. The measure is
+-- what is left of the bytes.
+use mathlib.Core.Path.{_≡_, refl, sym, _∙_, subst}
+use mathlib.Core.Bool.{Bool, not}
 use mathlib.Core.List.{[]}
-use Prim.Native.Nat.{ℕ, _-_}
+use Prim.Native.Nat.{ℕ, _≤_, _-_, _*_, _/_}
 use native.Mathlib.Omega.{arith}
-use borrow.Author.Tests.{eq-eqb, ne-eqb, not-true}
-use Rattle.bitmap.specs.Bit.{bitAt}
+use lib.Bits.{bitAnd, and-le-r}
+use lib.Dec.{eqb}
+use lib.ListN.{getD}
 use Rattle.rules.specs.Heap.{lentMemory}
+use Rattle.rules.specs.Tools.{someBelow}
 use Rattle.rules.specs.Damage.{strayData}
-use Rattle.rules.proofs.Tests.{false-some}
-use Rattle.rules.proofs.Searches.{Searched, searched-start, searched-next, searched-all, searched-hit}
-use Rattle.map_objects.proofs.Walk.{no-bits}
+use Rattle.rules.proofs.Stretches.{Gathered, gathered-more}
+use Rattle.check_maps.proofs.Eights.{stray-eight}
 use Rattle.check_maps.proofs.has_stray_data.Statement.{statement}
 use Rattle.check_maps.proofs.has_stray_data.Tie as tie
 
 abbrev Inv-loop : tie.InvT-loop
-Inv-loop blocks a b d i₀ i = Searched (strayData blocks (lentMemory a b [] [] [] [] [] d)) blocks i
+Inv-loop blocks a b d bytes found₀ k₀ found k =
+    (k ≤ bytes) × Gathered (strayData blocks (lentMemory a b [] [] [] [] [] d)) k found
 
 abbrev μ-loop : tie.MeasureT-loop
-μ-loop blocks a b d i₀ i = blocks - i
+μ-loop blocks a b d bytes found₀ k₀ found k = bytes - k
 
 -- the rule's test, on what is lent
 abbrev test : tie.Start Inv-loop μ-loop → ℕ → Bool
 test s = strayData (s .args .blocks) (lentMemory (s .args .a .now) (s .args .b .now) [] [] [] [] [] (s .args .d .now))
 
-has-data-requires : tie.Need-has-data-requires Inv-loop μ-loop
-has-data-requires c κs = tt
-
-returns : tie.Need-returns Inv-loop μ-loop
-unfolding strayData
-returns c =
-    let s = c .before .before .before .before .before in
-    let none = sym (c .before .has-data .ensures) ∙ not-true _ (c .if1 .taken) in
-    sym (false-some (test s) (s .args .blocks) (λ i l. rw (no-bits (s .args .d .now) none i, strayData)))
-
 loop-holds : tie.Need-loop-holds Inv-loop μ-loop
-loop-holds c =
-    let s = c .before .before .before .before .before in
-    searched-start (test s) (s .args .blocks)
+unfolding someBelow
+loop-holds c = (omega arith, refl)
 
-get-bit-requires : tie.Need-get-bit-requires Inv-loop μ-loop
-get-bit-requires c κs = omega arith
+shared-slice-read-found : tie.Need-shared-slice-read-found Inv-loop μ-loop
+shared-slice-read-found c = omega arith
 
-is-first-requires : tie.Need-is-first-requires Inv-loop μ-loop
-is-first-requires c κs = omega arith
+first-byte-requires : tie.Need-first-byte-requires Inv-loop μ-loop
+first-byte-requires c κs = omega arith
 
-returns-2 : tie.Need-returns-2 Inv-loop μ-loop
-unfolding strayData
-returns-2 c =
-    let bit = c .before .before .before in
-    let l = bit .before .before in
-    let s = l .before .before .before .before .before .before in
-    let i = l .loop .i in
-    let marked = eq-eqb (bitAt (s .args .d .now) i) 1 (sym (bit .get-bit .ensures .0) ∙ c .before .before .if2 .taken) in
-    searched-hit (test s) (s .args .blocks) i (omega arith)
-    (rw (marked, strayData) (ap not (sym (c .before .is-first .ensures)) ∙ c .if3 .taken))
-
-add-i : tie.Need-add-i Inv-loop μ-loop
-add-i c = omega arith
+add-k : tie.Need-add-k Inv-loop μ-loop
+add-k c = omega arith
 
 loop-less : tie.Need-loop-less Inv-loop μ-loop
 loop-less c = omega arith
 
 loop-again : tie.Need-loop-again Inv-loop μ-loop
-unfolding strayData
 loop-again c =
+    let s : tie.Start Inv-loop μ-loop = search in
     let l = c .before .before .before in
-    let s = l .before .before .before .before .before .before in
-    let i = l .loop .i in
+    let k : ℕ = l .loop .k in
     let d = s .args .d .now in
-    let fails : test s i ≡ false =
-    elim (c .if2 .came) [
-      | inl w ↦
-          let marked = eq-eqb (bitAt d i) 1 (sym (c .before .get-bit .ensures .0) ∙ w .0 .taken) in
-          rw (marked, strayData) (ap not (sym (w .1 .ensures)) ∙ w .2 .left)
-      | inr w ↦ rw (ne-eqb (bitAt d i) 1 (λ e. w .left (c .before .get-bit .ensures .0 ∙ e)), strayData)
-    ] in
-    searched-next (test s) (s .args .blocks) i (l .loop .inv) (omega arith) fails
+    let first : ℕ = c .first-byte .result in (
+      omega arith,
+      gathered-more (test s) k (l .loop .found) (bitAnd (getD d k 0) (255 - first)) (omega (arith, and-le-r (getD d k 0) (255 - first)))
+          (stray-eight (s .args .blocks) (s .args .a .now) (s .args .b .now) d k first (omega arith)
+          (c .first-byte .ensures (s .args .blocks) (omega arith)))
+          (l .loop .inv .1),
+    )
 
-returns-3 : tie.Need-returns-3 Inv-loop μ-loop
-returns-3 c =
+returns : tie.Need-returns Inv-loop μ-loop
+returns c =
+    let s : tie.Start Inv-loop μ-loop = search in
     let l = c .before in
-    let s = l .before .before .before .before .before .before in
-    searched-all (test s) (s .args .blocks) (l .loop .i) (l .loop .inv) (omega arith)
+    let done : 8 * l .loop .k ≡ s .args .blocks = omega arith in
+    subst (λ (n : ℕ). not (eqb (l .loop .found) 0) ≡ someBelow (test s) n) done (l .loop .inv .1)
 
 pub has-stray-data-spec : {M : Type 1} → statement M
 has-stray-data-spec =
@@ -92,13 +70,10 @@ has-stray-data-spec =
     (tie.spec
     Inv-loop
     μ-loop
-    has-data-requires
-    returns
     loop-holds
-    get-bit-requires
-    is-first-requires
-    returns-2
-    add-i
+    shared-slice-read-found
+    first-byte-requires
+    add-k
     loop-less
     loop-again
-    returns-3)
+    returns)

@@ -38,17 +38,14 @@ start c = search
 has-data-requires : tie.Need-has-data-requires Inv-loop μ-loop
 has-data-requires c κs = tt
 
-mul-has-bad-cell-in : tie.Need-mul-has-bad-cell-in Inv-loop μ-loop
-mul-has-bad-cell-in c = omega arith
-
-has-bad-cell-in-requires : tie.Need-has-bad-cell-in-requires Inv-loop μ-loop
-has-bad-cell-in-requires c κs = omega arith
+has-bad-reference-requires : tie.Need-has-bad-reference-requires Inv-loop μ-loop
+has-bad-reference-requires c κs = omega arith
 
 returns : tie.Need-returns Inv-loop μ-loop
 returns c =
     let s = c .before .before .before .before .before .before .before in
     let none = sym (c .before .before .has-data .ensures) ∙ not-true _ (c .before .if1 .taken) in
-    c .has-bad-cell-in .ensures
+    c .has-bad-reference .ensures
     ∙ all-others (s .args .blocks) (lent s) (no-data (s .args .blocks) (s .args .a .now) (s .args .b .now) (s .args .d .now) none)
 
 loop-holds : tie.Need-loop-holds Inv-loop μ-loop
@@ -61,11 +58,11 @@ loop-holds c =
 is-in-data-requires : tie.Need-is-in-data-requires Inv-loop μ-loop
 is-in-data-requires c κs = (omega arith, omega arith, omega arith, omega arith, c .before .loop .inv .1)
 
-mul-has-bad-cell-in-2 : tie.Need-mul-has-bad-cell-in-2 Inv-loop μ-loop
-mul-has-bad-cell-in-2 c = omega arith
+mul-has-bad-cell-in : tie.Need-mul-has-bad-cell-in Inv-loop μ-loop
+mul-has-bad-cell-in c = omega arith
 
-has-bad-cell-in-requires-2 : tie.Need-has-bad-cell-in-requires-2 Inv-loop μ-loop
-has-bad-cell-in-requires-2 c κs = omega arith
+has-bad-cell-in-requires : tie.Need-has-bad-cell-in-requires Inv-loop μ-loop
+has-bad-cell-in-requires c κs = omega arith
 
 returns-2 : tie.Need-returns-2 Inv-loop μ-loop
 returns-2 c =
@@ -73,7 +70,7 @@ returns-2 c =
     let s = start walk in
     let other = sym (walk .is-in-data .ensures) ∙ not-true _ (c .before .before .if2 .taken) in
     other-hit (s .args .blocks) (lent s) (walk .before .before .loop .i) (omega arith) other
-    (sym (c .before .has-bad-cell-in2 .ensures) ∙ c .if3 .taken)
+    (sym (c .before .has-bad-cell-in .ensures) ∙ c .if3 .taken)
 
 add-i : tie.Need-add-i Inv-loop μ-loop
 add-i c = omega arith
@@ -110,13 +107,12 @@ has-bad-cell-spec =
     Inv-loop
     μ-loop
     has-data-requires
-    mul-has-bad-cell-in
-    has-bad-cell-in-requires
+    has-bad-reference-requires
     returns
     loop-holds
     is-in-data-requires
-    mul-has-bad-cell-in-2
-    has-bad-cell-in-requires-2
+    mul-has-bad-cell-in
+    has-bad-cell-in-requires
     returns-2
     add-i
     loop-less
