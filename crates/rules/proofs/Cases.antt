@@ -10,17 +10,22 @@ use Rattle.rules.specs.Heap.{lowestFree, refIn, firstAt, inData, refAt}
 use Rattle.rules.specs.Damage.{endOnFree, openEnd, unaligned, badCell, badRoot, badCount, strayData, damage}
 use Rattle.rules.specs.Sections.{largestFree, figure, figures, staleFigures}
 use Rattle.rules.specs.Store.{formatted, countUp, sticks, countDown, countDownEach, clearCells, freed, namingCells, release, letGo, putRoot, putCell}
-use Rattle.rules.specs.Store.{changeRoot, changeCell, storeRootIn, storeCellIn, storeSticks, clearChosen, returnIn, placed, allocateIn}
+use Rattle.rules.specs.Store.{changeRoot, changeCell, storeSticks, placed, allocateIn}
 use Rattle.rules.specs.Collection.{isCellOf, cellOfChosen, referencesFrom, reachedNext, reachedIn, reached, swept}
 use Rattle.rules.specs.Collection.{recounted, collected}
+use Rattle.rules.specs.Steps.{names, isListed, mapOf, rising, listOf, withProgress, withNone, badNext, badPlace, strayMark, rootMissed, cellMissed}
+use Rattle.rules.specs.Steps.{isUntidy, rootNames, opened, progressOf, lowest, scanned, stepsFrom, toSurvivor, survivorsDown, survivorsLetGo}
+use Rattle.rules.specs.Steps.{unmarkedFreed, closed, closes, stepped, wasMarked, namedByFreed, marksAfter, listAfter, shaded}
+use Rattle.rules.specs.Steps.{storeRootShading, storeCellShading, allocateShading, clearShading, returnShading}
 use Rattle.rules.specs.Calls.{ownRefusals, refusals, refusedWith, freeing, outcome, answer, run, lastMemory}
 use Rattle.rules.specs.Cases.{Case, fresh, freshBut, cases, readings, returns, moments, numbers, given, expected, figuresOfBytes, figuresOfSections, expectedOfSections}
 use Rattle.rules.specs.Distinctions.{eightBlocks, cellHolding, rootHolding, distinctions}
+use Rattle.rules.specs.StepCases.{withRootsOf, openList, noList, half, stepCases, givenSteps, expectedSteps}
 use Rattle.types.specs.declared.Reply.{Reply}
 
 -- what the rules give for a case: to unfold this is to open every rule
 unfoldable pub computed : Case → List Reply × ℕ × ℕ
-unfolding bitAt setBit fillBits countBelow zeros countAt setCount isPowerFrom all shape firstIn sizeFrom exponentFrom exponent chunkFree lowestFrom lowestFree refIn firstAt inData refAt holding someBelow endOnFree openEnd unaligned badCell badRoot badCount strayData firstNumber damage largestFree figure figures staleFigures formatted countUp sticks countDown countDownEach clearCells freed namingCells release letGo putRoot putCell changeRoot changeCell storeRootIn storeCellIn storeSticks clearChosen returnIn placed allocateIn isCellOf cellOfChosen referencesFrom tabulate reachedNext reachedIn reached swept recounted collected isSome ownRefusals refusals refusedWith freeing outcome answer run fresh freshBut lastMemory given expected
+unfolding bitAt setBit fillBits countBelow zeros countAt setCount isPowerFrom all shape firstIn sizeFrom exponentFrom exponent chunkFree lowestFrom lowestFree refIn firstAt inData refAt holding someBelow endOnFree openEnd unaligned badCell badRoot badCount strayData firstNumber damage largestFree figure figures staleFigures formatted countUp sticks countDown countDownEach clearCells freed namingCells release letGo putRoot putCell changeRoot changeCell storeSticks placed allocateIn isCellOf cellOfChosen referencesFrom tabulate reachedNext reachedIn reached swept recounted collected isSome names isListed mapOf rising listOf withProgress withNone badNext badPlace strayMark rootMissed cellMissed isUntidy rootNames opened progressOf lowest scanned stepsFrom toSurvivor survivorsDown survivorsLetGo unmarkedFreed closed closes stepped wasMarked namedByFreed marksAfter listAfter shaded storeRootShading storeCellShading allocateShading clearShading returnShading ownRefusals refusals refusedWith freeing outcome answer run fresh freshBut lastMemory given expected
 computed c = given c
 
 pub cases-hold : map given cases ≡ map expected cases
@@ -51,6 +56,11 @@ numbers-hold = refl
 pub distinctions-hold : map given distinctions ≡ map expected distinctions
 unfolding computed eightBlocks cellHolding rootHolding distinctions
 distinctions-hold = refl
+
+-- and those of request U8
+pub steps-hold : map givenSteps stepCases ≡ map expectedSteps stepCases
+unfolding computed eightBlocks cellHolding rootHolding withRootsOf openList noList half stepCases givenSteps expectedSteps
+steps-hold = refl
 
 -- and the figures of request U4
 pub figures-of-bytes : map (λ c. figure 8 (c .0 ∷ []) 0) figuresOfBytes ≡ map (λ c. c .1) figuresOfBytes

@@ -13,5 +13,7 @@ pub mod Sections
 pub mod Replies
 pub mod Promised
 pub mod Counting
+pub mod Plain
 pub mod Unread
+pub mod Progress
 pub mod Stretches

@@ -16,8 +16,10 @@ use Rattle.rules.specs.Heap.{Memory, shaped, isFirst, sizeAt, exponent, 
 use Rattle.rules.specs.Damage.{damage}
 use Rattle.rules.specs.Sections.{staleFigures}
 use Rattle.rules.specs.Store.{chosenBelow}
-use Rattle.rules.specs.Calls.{Call, format, check, collect, freeBlocks, allocate, storeRoot, storeCell, look, returnRoots, allocateData, writeNumber, readNumber, Answer}
-use Rattle.rules.specs.Calls.{testsHeap, allocationRefusals, cellRefusals, ownRefusals, refusals, refusedWith, refused, freeing, outcome, answer}
+use Rattle.rules.specs.Steps.{isOpen, isUntidy}
+use Rattle.rules.specs.Calls.{Call, format, check, collect, freeBlocks, allocate, storeRoot, storeCell, look, returnRoots, allocateData, writeNumber, readNumber}
+use Rattle.rules.specs.Calls.{openCollection, takeSteps, Answer, testsHeap, allocationRefusals, cellRefusals, ownRefusals, refusals, refusedWith, refused}
+use Rattle.rules.specs.Calls.{freeing, outcome, answer}
 use Rattle.rules.proofs.Tests.{and-true, true-and, and-false, false-and, first-past, first-no, first-not}
 
 -- ---- accepted or refused
@@ -38,6 +40,8 @@ module _ (N w : ℕ) (h : Memory) where
   outcome-accepts (allocateData n r) = refl
   outcome-accepts (writeNumber a j x) = refl
   outcome-accepts (readNumber a j) = refl
+  outcome-accepts openCollection = refl
+  outcome-accepts (takeSteps budget) = refl
 
   module _ (c : Call) where
     pub none-applies : refusedWith N w h c ≡ 0 → answer N w h c ≡ outcome N w h c
@@ -92,8 +96,10 @@ Passed N h (writeNumber a j x) = (isFirst N h a ≡ true) × (j < 4 * sizeAt N h
 Passed N h (readNumber a j) = (isFirst N h a ≡ true) × (j < 4 * sizeAt N h a) × (isData (h .d) a ≡ true)
 Passed N h format = Unit {0}
 Passed N h check = Unit {0}
-Passed N h collect = Unit {0}
 Passed N h freeBlocks = Unit {0}
+Passed N h collect = isOpen N h ≡ false
+Passed N h openCollection = isOpen N h ≡ false
+Passed N h (takeSteps budget) = isOpen N h ≡ true
 
 some-found : (o : Option ℕ) → isSome o ≡ true → o ≡ some (Option·getD o 0)
 unfolding isSome
@@ -143,8 +149,10 @@ module _ (N : ℕ) (h : Memory) where
       (cell .0, cell .1, first-not 12 (isData (h .d) a) _ (omega arith) (cell .2) .0)
   own-passed format e = tt
   own-passed check e = tt
-  own-passed collect e = tt
   own-passed freeBlocks e = tt
+  own-passed collect e = first-no 14 (isOpen N h) _ (omega arith) e .0
+  own-passed openCollection e = first-no 14 (isOpen N h) _ (omega arith) e .0
+  own-passed (takeSteps budget) e = first-not 14 (isOpen N h) _ (omega arith) e .0
 
   pub passed-own : (c : Call) → Passed N h c → firstNumber (ownRefusals N h c) ≡ 0
   unfolding ownRefusals firstNumber Passed isSome
@@ -160,8 +168,10 @@ module _ (N : ℕ) (h : Memory) where
   passed-own (readNumber a j) (first, place, made) = rw (first, lt-ltb j (4 * sizeAt N h a) place, made)
   passed-own format p = refl
   passed-own check p = refl
-  passed-own collect p = refl
   passed-own freeBlocks p = refl
+  passed-own collect shut = rw shut
+  passed-own openCollection shut = rw shut
+  passed-own (takeSteps budget) is-open = rw is-open
 
 -- ---- the numbers of the heap
 
@@ -170,30 +180,34 @@ module _ (N w : ℕ) (h : Memory) where
   stale = staleFigures N (h .a) (h .sections)
 
   module _ (c : Call) where
-    -- where no number applies: 1 does not, 2 and 11 don't where the call tests for them, its own don't
+    -- where no number applies: 1 does not, 2, 11 and 13 don't where the call tests for them, its own don't
     heap-passed : refusedWith N w h c ≡ 0
-        → (shaped N w h ≡ true) × (testsHeap c && not (eqb (damage N w h) 0) ≡ false) × (testsHeap c && stale ≡ false) × (firstNumber (ownRefusals N h c) ≡ 0)
+        → (shaped N w h ≡ true) × (testsHeap c && not (eqb (damage N w h) 0) ≡ false) × (testsHeap c && stale ≡ false)
+        × (testsHeap c && isUntidy N h ≡ false) × (firstNumber (ownRefusals N h c) ≡ 0)
     unfolding refusedWith refusals
     heap-passed e =
         let shape = first-not 1 (shaped N w h) _ (omega arith) e in
         let kind = first-no 2 (testsHeap c && not (eqb (damage N w h) 0)) _ (omega arith) (shape .1) in
         let list = first-no 11 (testsHeap c && stale) _ (omega arith) (kind .1) in
-        (shape .0, kind .0, list .0, list .1)
+        let marks = first-no 13 (testsHeap c && isUntidy N h) _ (omega arith) (list .1) in
+        (shape .0, kind .0, list .0, marks .0, marks .1)
 
     pub shape-passed : refusedWith N w h c ≡ 0 → shaped N w h ≡ true
     shape-passed e = heap-passed e .0
 
     pub passed : refusedWith N w h c ≡ 0 → Passed N h c
-    passed e = own-passed N h c (heap-passed e .3)
+    passed e = own-passed N h c (heap-passed e .4)
 
     -- an undamaged heap is answered by the call's own numbers
     pub own-number :
-        shaped N w h ≡ true → damage N w h ≡ 0 → stale ≡ false → refusedWith N w h c ≡ firstNumber (ownRefusals N h c)
+        shaped N w h ≡ true → damage N w h ≡ 0 → stale ≡ false → isUntidy N h ≡ false
+        → refusedWith N w h c ≡ firstNumber (ownRefusals N h c)
     unfolding refusedWith refusals
-    own-number shape undamaged fresh =
+    own-number shape undamaged fresh tidy =
         first-past 1 (not (shaped N w h)) _ (ap not shape)
         ∙ first-past 2 (testsHeap c && not (eqb (damage N w h) 0)) _ (false-and (testsHeap c) _ (λ _. ap not (eq-eqb (damage N w h) 0 undamaged)))
         ∙ first-past 11 (testsHeap c && stale) _ (false-and (testsHeap c) stale (λ _. fresh))
+        ∙ first-past 13 (testsHeap c && isUntidy N h) _ (false-and (testsHeap c) (isUntidy N h) (λ _. tidy))
 
   -- format tests the shape alone
   pub format-accepted : shaped N w h ≡ true → answer N w h format ≡ outcome N w h format
@@ -205,10 +219,14 @@ module _ (N w : ℕ) (h : Memory) where
 
   module _ (c : Call) (tests : testsHeap c ≡ true) where
     -- what is accepted by a call that tests the heap is undamaged
-    pub undamaged-passed : refusedWith N w h c ≡ 0 → (shaped N w h ≡ true) × (damage N w h ≡ 0) × (stale ≡ false)
+    pub undamaged-passed : refusedWith N w h c ≡ 0 → (shaped N w h ≡ true) × (damage N w h ≡ 0) × (stale ≡ false) × (isUntidy N h ≡ false)
     undamaged-passed e =
-        let all = heap-passed c e in
-        (all .0, eqb-true (damage N w h) 0 (not-no _ (and-false (testsHeap c) _ (all .1) tests)), and-false (testsHeap c) stale (all .2) tests)
+        let all = heap-passed c e in (
+          all .0,
+          eqb-true (damage N w h) 0 (not-no _ (and-false (testsHeap c) _ (all .1) tests)),
+          and-false (testsHeap c) stale (all .2) tests,
+          and-false (testsHeap c) (isUntidy N h) (all .3) tests,
+        )
       where
         not-no : (t : Bool) → not t ≡ false → t ≡ true
         not-no true e = refl
@@ -216,16 +234,17 @@ module _ (N w : ℕ) (h : Memory) where
 
     same-number : refusedWith N w h check ≢ 0 → refusedWith N w h c ≡ refusedWith N w h check
     unfolding refusedWith refusals ownRefusals firstNumber
-    same-number = rw tests (go (shaped N w h) (eqb (damage N w h) 0) stale)
+    same-number = rw tests (go (shaped N w h) (eqb (damage N w h) 0) stale (isUntidy N h))
       where
-        heap : (s t u : Bool) → List (ℕ × Bool) → ℕ
-        heap s t u own = firstNumber ((1, not s) ∷ (2, not t) ∷ (11, u) ∷ own)
+        heap : (s t u v : Bool) → List (ℕ × Bool) → ℕ
+        heap s t u v own = firstNumber ((1, not s) ∷ (2, not t) ∷ (11, u) ∷ (13, v) ∷ own)
 
-        go : (s t u : Bool) → heap s t u [] ≢ 0 → heap s t u (ownRefusals N h c) ≡ heap s t u []
-        go true true false p = absurd (p refl)
-        go true true true p = refl
-        go true false u p = refl
-        go false t u p = refl
+        go : (s t u v : Bool) → heap s t u v [] ≢ 0 → heap s t u v (ownRefusals N h c) ≡ heap s t u v []
+        go true true false false p = absurd (p refl)
+        go true true false true p = refl
+        go true true true v p = refl
+        go true false u v p = refl
+        go false t u v p = refl
 
     -- where the check refuses, the call is refused alike
     pub refused-as-check : (answer N w h check .0 .number ≡ 0 → ⊥) → answer N w h c ≡ answer N w h check

@@ -32,6 +32,8 @@ pub record Shaped (N w : ℕ) (h : Memory) : Type 0 where
   pub length-waiting : length (h .waiting) ≡ N
   pub length-sections : length (h .sections) ≡ sectionCount N
   pub length-d : length (h .d) ≡ N / 8
+  pub length-marks : length (h .marks) ≡ N / 8
+  pub length-list : length (h .list) ≡ N + 1
 
 -- ---- a power of two
 
@@ -87,7 +89,7 @@ tests N w h =
     isBlocks N ∷ leb 1 w ∷ leb w 4 ∷ leb 1 (length (h .roots)) ∷ leb (length (h .roots)) 64
     ∷ eqb (length (h .a)) (N / 8) ∷ eqb (length (h .b)) (N / 8) ∷ eqb (length (h .counts)) (w * (N / 8))
     ∷ eqb (length (h .cells)) (4 * N) ∷ eqb (length (h .waiting)) N ∷ eqb (length (h .sections)) (sectionCount N)
-    ∷ eqb (length (h .d)) (N / 8) ∷ []
+    ∷ eqb (length (h .d)) (N / 8) ∷ eqb (length (h .marks)) (N / 8) ∷ eqb (length (h .list)) (N + 1) ∷ []
 
 pub shape-facts : (N w : ℕ) (h : Memory) → shaped N w h ≡ true → Shaped N w h
 unfolding shape
@@ -107,6 +109,8 @@ shape-facts N w h e = record {
   length-waiting = eqb-true (length (h .waiting)) N (at 9);
   length-sections = eqb-true (length (h .sections)) (sectionCount N) (at 10);
   length-d = eqb-true (length (h .d)) (N / 8) (at 11);
+  length-marks = eqb-true (length (h .marks)) (N / 8) (at 12);
+  length-list = eqb-true (length (h .list)) (N + 1) (at 13);
 }
   where
     at : (i : ℕ) → getD (tests N w h) i true ≡ true
@@ -136,7 +140,9 @@ shape-test N w h s =
     (also (eq-eqb (length (h .cells)) (4 * N) (s .length-cells))
     (also (eq-eqb (length (h .waiting)) N (s .length-waiting))
     (also (eq-eqb (length (h .sections)) (sectionCount N) (s .length-sections))
-    (also (eq-eqb (length (h .d)) (N / 8) (s .length-d)) done))))))))))))
+    (also (eq-eqb (length (h .d)) (N / 8) (s .length-d))
+    (also (eq-eqb (length (h .marks)) (N / 8) (s .length-marks))
+    (also (eq-eqb (length (h .list)) (N + 1) (s .length-list)) done))))))))))))))
 
 pub shaped-blocks : (N w : ℕ) (h : Memory) → Shaped N w h → isBlocks N ≡ true
 shaped-blocks N w h s = blocks-test N (s .power .0) (s .power .1) (s .blocks-min) (s .blocks-max)
@@ -160,4 +166,6 @@ formatted-shaped N w h s = record {
   length-waiting = length-replicate N 0;
   length-sections = length-figures N (replicate (N / 8) 0);
   length-d = length-replicate (N / 8) 0;
+  length-marks = length-replicate (N / 8) 0;
+  length-list = length-replicate (N + 1) 0;
 }

@@ -164,11 +164,14 @@ first-other n [] nonzero done e = nonzero (sym e ∙ first-none [] done)
 first-other n ((k, true) ∷ ks) nonzero (also m rest) e = m (sym (first-found k true ks refl) ∙ e)
 first-other n ((k, false) ∷ ks) nonzero (also m rest) e = first-other n ks nonzero rest (sym (first-past k false ks refl) ∙ e)
 
--- where none is found the first test does not pass, and none of the others does
-pub first-no : (k : ℕ) (t : Bool) (ks : List (ℕ × Bool)) → k ≢ 0 → firstNumber ((k, t) ∷ ks) ≡ 0 → (t ≡ false) × (firstNumber ks ≡ 0)
+-- where another number than the first is found, or none, the first test does not pass, and the others find it
+pub first-after : (n k : ℕ) (t : Bool) (ks : List (ℕ × Bool)) → k ≢ n → firstNumber ((k, t) ∷ ks) ≡ n → (t ≡ false) × (firstNumber ks ≡ n)
 unfolding firstNumber
-first-no k true ks nonzero e = absurd (nonzero e)
-first-no k false ks nonzero e = (refl, e)
+first-after n k true ks other e = absurd (other e)
+first-after n k false ks other e = (refl, e)
+
+pub first-no : (k : ℕ) (t : Bool) (ks : List (ℕ × Bool)) → k ≢ 0 → firstNumber ((k, t) ∷ ks) ≡ 0 → (t ≡ false) × (firstNumber ks ≡ 0)
+first-no k t ks nonzero e = first-after 0 k t ks nonzero e
 
 pub first-not : (k : ℕ) (t : Bool) (ks : List (ℕ × Bool)) → k ≢ 0 → firstNumber ((k, not t) ∷ ks) ≡ 0 → (t ≡ true) × (firstNumber ks ≡ 0)
 unfolding firstNumber

@@ -1,4 +1,5 @@
--- No wrong answer of the list is promised: each differs from the rules' answer in a number of the reply or in one of the eight lists.
+-- No wrong answer of the list is promised: each differs from the rules' answer in a number of the reply or in
+-- one of the ten lists.
 use mathlib.Core.Path.{_≡_, refl, sym, ap, subst, _∙_}
 use mathlib.Core.Logic.{_≢_}
 use mathlib.Core.Bool.{Bool, true, false, not, _&&_, false≢true}
@@ -12,7 +13,8 @@ use Rattle.rules.specs.Store.{formatted}
 use Rattle.rules.specs.Calls.{Answer, answer}
 use Rattle.rules.specs.Cases.{fresh, freshBut}
 use Rattle.rules.specs.Distinctions.{eightBlocks, cellHolding, rootHolding}
-use Rattle.rules.specs.WrongAnswers.{Question, PromisedTo, used, listed, chained, stale, shared, stuck, alone, cyclic, collectedCyclic, unreached, numbered, numberedCells}
+use Rattle.rules.specs.WrongAnswers.{Question, PromisedTo, used, listed, collecting, chained, stale, shared, stuck, alone, cyclic, collectedCyclic}
+use Rattle.rules.specs.WrongAnswers.{unreached, numbered, numberedCells}
 use Rattle.rules.specs.WrongAnswers.{allocatedTwo, allocatedThree, allocatedOver, wrongAnswers}
 use Rattle.types.specs.declared.Reply.{Reply}
 use Rattle.rules.proofs.Cases.{computed}
@@ -33,7 +35,7 @@ sameMemory : Memory → Memory → Bool
 sameMemory h g =
     sameNumbers (h .a) (g .a) && sameNumbers (h .b) (g .b) && sameNumbers (h .counts) (g .counts) && sameNumbers (h .cells) (g .cells)
     && sameNumbers (h .roots) (g .roots) && sameNumbers (h .waiting) (g .waiting)
-    && sameNumbers (h .sections) (g .sections) && sameNumbers (h .d) (g .d)
+    && sameNumbers (h .sections) (g .sections) && sameNumbers (h .d) (g .d) && sameNumbers (h .marks) (g .marks) && sameNumbers (h .list) (g .list)
 
 sameAnswer : Answer → Answer → Bool
 sameAnswer x y = sameReply (x .0) (y .0) && sameMemory (x .1) (y .1)
@@ -58,6 +60,8 @@ one-answer (r, h) =
       one-numbers (h .waiting),
       one-numbers (h .sections),
       one-numbers (h .d),
+      one-numbers (h .marks),
+      one-numbers (h .list),
     )
 
 differ : (x y : Answer) → not (sameAnswer x y) ≡ true → x ≢ y
@@ -110,7 +114,7 @@ each-told (q ∷ qs) rights differs =
 
 -- to unfold this is to open the list and its heaps
 opened : List Question
-unfolding formatted fresh freshBut eightBlocks cellHolding rootHolding used listed chained stale unreached numbered numberedCells shared stuck alone cyclic collectedCyclic allocatedTwo allocatedThree allocatedOver wrongAnswers
+unfolding formatted fresh freshBut eightBlocks cellHolding rootHolding used listed collecting chained stale unreached numbered numberedCells shared stuck alone cyclic collectedCyclic allocatedTwo allocatedThree allocatedOver wrongAnswers
 opened = wrongAnswers
 
 rights-hold : map asked wrongAnswers ≡ map (λ q. q .right) wrongAnswers

@@ -10,8 +10,10 @@ use Rattle.rules.specs.Tools.{isSome, firstNumber}
 use Rattle.rules.specs.Heap.{Memory, withCells, withWaiting, withSections, shaped, countOf, isFirst, sizeAt, exponent, lowestFree, isRef, isData}
 use Rattle.rules.specs.Damage.{damage}
 use Rattle.rules.specs.Sections.{figures, staleFigures}
-use Rattle.rules.specs.Store.{formatted, storeRootIn, storeCellIn, storeSticks, chosenBelow, returnIn, birthSticks, allocateIn}
+use Rattle.rules.specs.Store.{formatted, storeSticks, chosenBelow, birthSticks}
 use Rattle.rules.specs.Collection.{collected}
+use Rattle.rules.specs.Steps.{isOpen, isUntidy, opened, progressOf, stepsFrom, stepped}
+use Rattle.rules.specs.Steps.{storeRootShading, storeCellShading, allocateShading, returnShading}
 use Rattle.types.specs.declared.Reply.{Reply}
 
 -- the calls with their own arguments
@@ -26,6 +28,9 @@ pub data Call : Type 0 where
   allocateData : (n r : ℕ) → Call
   writeNumber : (at j x : ℕ) → Call
   readNumber : (at j : ℕ) → Call
+  -- request U8: a collection "is opened and stepped"
+  openCollection : Call
+  takeSteps : (budget : ℕ) → Call
 
 -- an allocation, of an object made as data or of an ordinary one
 abbrev pub allocateAs : (asData : Bool) → (n r : ℕ) → Call
@@ -59,6 +64,8 @@ testsHeap (returnRoots chosen) = true
 testsHeap (allocateData n r) = true
 testsHeap (writeNumber at j x) = true
 testsHeap (readNumber at j) = true
+testsHeap openCollection = true
+testsHeap (takeSteps budget) = true
 
 -- of an allocation: "3 if n is 0 or above N; 4 if r is not below the number of roots; 5 if no chunk of s
 -- blocks is free"
@@ -87,16 +94,21 @@ ownRefusals N h (writeNumber at j x) = cellRefusals N h at j ((12, not (isData (
 ownRefusals N h (readNumber at j) = cellRefusals N h at j ((12, not (isData (h .d) at)) ∷ [])
 ownRefusals N h format = []
 ownRefusals N h check = []
-ownRefusals N h collect = []
 ownRefusals N h freeBlocks = []
+-- request U8: "14, a step with none open, or an opening or full collection with one open, after 13"
+ownRefusals N h collect = (14, isOpen N h) ∷ []
+ownRefusals N h openCollection = (14, isOpen N h) ∷ []
+ownRefusals N h (takeSteps budget) = (14, not (isOpen N h)) ∷ []
 
--- all numbers of a call: "1 if N, w, the number of roots or any buffer's length is not as above"; "2 if the heap is damaged"; request U4:
--- "11, the list doesn't match the maps, next after 2"; then its own
+-- all numbers of a call: "1 if N, w, the number of roots or any buffer's length is not as above"; "2 if the
+-- heap is damaged"; request U4: "11, the list doesn't match the maps, next after 2"; request U8: 13, "next
+-- after 11"; then its own
 unfoldable pub refusals : ℕ → ℕ → Memory → Call → List (ℕ × Bool)
 refusals N w h c =
     (1, not (shaped N w h))
     ∷ (2, testsHeap c && not (eqb (damage N w h) 0))
     ∷ (11, testsHeap c && staleFigures N (h .a) (h .sections))
+    ∷ (13, testsHeap c && isUntidy N h)
     ∷ ownRefusals N h c
 
 -- "Each list is in order, and the first number that applies is given"; 0 where none does
@@ -114,8 +126,8 @@ refused N w h number = (reply number (elim (eqb number 2) [ true ↦ damage N w 
 abbrev pub settled : ℕ → Memory → Memory
 settled N h = withSections (figures N (h .a)) (withWaiting (replicate N 0) h)
 
--- "The value is the number of blocks freed": 0 bits of the A-map after the call less those before. The second value of a store is 1 where
--- an object became stuck and 0 where not (request U5); that of another call is 0.
+-- "The value is the number of blocks freed": 0 bits of the A-map after the call less those before. The second
+-- value of a store is 1 where an object became stuck and 0 where not (request U5).
 unfoldable pub freeing : ℕ → Memory → Memory → (second : ℕ) → Answer
 freeing N h g second = (reply 0 (zeros (g .a) - zeros (h .a)) second, settled N g)
 
@@ -124,7 +136,7 @@ freeing N h g second = (reply 0 (zeros (g .a) - zeros (h .a)) second, settled N 
 abbrev pub allocated : ℕ → ℕ → (asData : Bool) → Memory → (n r : ℕ) → Answer
 allocated N w asData h n r =
     let i = Option·getD (lowestFree N (exponent n) (h .a)) 0 in
-    (reply 0 i (one (birthSticks w)), settled N (allocateIn N w asData h n r i))
+    (reply 0 i (one (birthSticks w)), settled N (allocateShading N w asData h n r i))
 
 -- "Cells of an object are numbered .. beginning with the first cell of its first block": cell j of the object at block `at` is number 4 * at + j
 -- of all cells.
@@ -135,17 +147,23 @@ outcome N w h freeBlocks = accepted h (zeros (h .a))
 outcome N w h collect = freeing N h (collected N w h) 0
 outcome N w h (allocate n r) = allocated N w false h n r
 outcome N w h (storeRoot r v) =
-    freeing N h (storeRootIn N w h r v) (one (storeSticks N w (h .counts) (getD (h .roots) r 0) v))
+    freeing N h (storeRootShading N w h r v) (one (storeSticks N w (h .counts) (getD (h .roots) r 0) v))
 outcome N w h (storeCell at j v) =
-    freeing N h (storeCellIn N w h (4 * at + j) v) (one (storeSticks N w (h .counts) (getD (h .cells) (4 * at + j) 0) v))
+    freeing N h (storeCellShading N w h at j v) (one (storeSticks N w (h .counts) (getD (h .cells) (4 * at + j) 0) v))
 outcome N w h (look at) = (reply 0 (sizeAt N h at) (countOf N w h at), h)
 -- request U10: "Its value is the blocks freed in all."
-outcome N w h (returnRoots chosen) = freeing N h (returnIn N w h chosen (length (h .roots))) 0
+outcome N w h (returnRoots chosen) = freeing N h (returnShading N w h chosen (length (h .roots))) 0
 outcome N w h (allocateData n r) = allocated N w true h n r
 -- A number write allocates nothing, stores no reference and frees nothing: the waiting list keeps its
 -- content, as every buffer but the cell.
 outcome N w h (writeNumber at j x) = accepted (withCells (set (h .cells) (4 * at + j) x) h) 0
 outcome N w h (readNumber at j) = accepted h (getD (h .cells) (4 * at + j) 0)
+outcome N w h openCollection = accepted (opened N h) 0
+-- request U8: "It replies with the steps taken .. and the blocks freed."
+outcome N w h (takeSteps budget) =
+    let t = stepsFrom budget N h (progressOf N h) in
+    let g = stepped N w h budget (t .reached) in
+    (reply 0 (t .steps) (zeros (g .a) - zeros (h .a)), settled N g)
 
 -- ---- the answer
 

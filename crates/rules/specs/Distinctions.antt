@@ -9,10 +9,10 @@ use Rattle.rules.specs.Calls.{format, check, collect, freeBlocks, alloca
 use Rattle.rules.specs.Cases.{Case, case, fresh, freshBut, gives, sticking, shows, refuses, damaged}
 
 -- a heap of 8 blocks and width 2, its list of sections true: the byte of each of the four maps, the cells and
--- the roots; no data
+-- the roots; no data, no collection open
 unfoldable pub eightBlocks : (a b low high : ℕ) → (cells roots : List ℕ) → Memory
 eightBlocks a b low high cells roots =
-    lentMemory (a ∷ []) (b ∷ []) (low ∷ high ∷ []) cells roots (replicate 8 0) (figures 8 (a ∷ [])) (0 ∷ [])
+    lentMemory (a ∷ []) (b ∷ []) (low ∷ high ∷ []) cells roots (replicate 8 0) (figures 8 (a ∷ [])) (0 ∷ []) (0 ∷ []) (replicate 9 0)
 
 -- the 32 cells, all 0 but number j
 unfoldable pub cellHolding : (j v : ℕ) → List ℕ

@@ -10,9 +10,9 @@ use Rattle.bitmap.specs.Bit.{bitAt, countBelow}
 use Rattle.planes.specs.Plane.{countAt}
 use Rattle.rules.specs.Tools.{all, holding}
 
--- the eight lent buffers; `waiting` is the "Waiting list: N unsigned 16-bit numbers of working space",
+-- the ten lent buffers; `waiting` is the "Waiting list: N unsigned 16-bit numbers of working space",
 -- `sections` request U4's "added lent list of 16-bit numbers, one for each section", `d` request U6's "new
--- D-map of N/8 bytes"
+-- D-map of N/8 bytes", `marks` and `list` request U8's "new mark map of N/8 bytes" and its "second list"
 pub record Memory : Type 0 where
   pub a : List ℕ
   pub b : List ℕ
@@ -22,39 +22,58 @@ pub record Memory : Type 0 where
   pub waiting : List ℕ
   pub sections : List ℕ
   pub d : List ℕ
+  pub marks : List ℕ
+  pub list : List ℕ
 
-abbrev pub lentMemory : (a b counts cells roots waiting sections d : List ℕ) → Memory
-lentMemory a b counts cells roots waiting sections d =
-    record { a = a; b = b; counts = counts; cells = cells; roots = roots; waiting = waiting; sections = sections; d = d }
+abbrev pub lentMemory : (a b counts cells roots waiting sections d marks list : List ℕ) → Memory
+lentMemory a b counts cells roots waiting sections d marks list =
+    record {
+      a = a;
+      b = b;
+      counts = counts;
+      cells = cells;
+      roots = roots;
+      waiting = waiting;
+      sections = sections;
+      d = d;
+      marks = marks;
+      list = list;
+    }
 
--- document 01's six lists, for contracts of code that leaves the list of sections and the D-map alone
+-- document 01's six lists, for contracts of code that leaves those of the requests alone
 abbrev pub memory : (a b counts cells roots waiting : List ℕ) → Memory
-memory a b counts cells roots waiting = lentMemory a b counts cells roots waiting [] []
+memory a b counts cells roots waiting = lentMemory a b counts cells roots waiting [] [] [] []
 
 -- a memory with one buffer replaced
 abbrev pub withA : List ℕ → Memory → Memory
-withA x h = lentMemory x (h .b) (h .counts) (h .cells) (h .roots) (h .waiting) (h .sections) (h .d)
+withA x h = lentMemory x (h .b) (h .counts) (h .cells) (h .roots) (h .waiting) (h .sections) (h .d) (h .marks) (h .list)
 
 abbrev pub withB : List ℕ → Memory → Memory
-withB x h = lentMemory (h .a) x (h .counts) (h .cells) (h .roots) (h .waiting) (h .sections) (h .d)
+withB x h = lentMemory (h .a) x (h .counts) (h .cells) (h .roots) (h .waiting) (h .sections) (h .d) (h .marks) (h .list)
 
 abbrev pub withCounts : List ℕ → Memory → Memory
-withCounts x h = lentMemory (h .a) (h .b) x (h .cells) (h .roots) (h .waiting) (h .sections) (h .d)
+withCounts x h = lentMemory (h .a) (h .b) x (h .cells) (h .roots) (h .waiting) (h .sections) (h .d) (h .marks) (h .list)
 
 abbrev pub withCells : List ℕ → Memory → Memory
-withCells x h = lentMemory (h .a) (h .b) (h .counts) x (h .roots) (h .waiting) (h .sections) (h .d)
+withCells x h = lentMemory (h .a) (h .b) (h .counts) x (h .roots) (h .waiting) (h .sections) (h .d) (h .marks) (h .list)
 
 abbrev pub withRoots : List ℕ → Memory → Memory
-withRoots x h = lentMemory (h .a) (h .b) (h .counts) (h .cells) x (h .waiting) (h .sections) (h .d)
+withRoots x h = lentMemory (h .a) (h .b) (h .counts) (h .cells) x (h .waiting) (h .sections) (h .d) (h .marks) (h .list)
 
 abbrev pub withWaiting : List ℕ → Memory → Memory
-withWaiting x h = lentMemory (h .a) (h .b) (h .counts) (h .cells) (h .roots) x (h .sections) (h .d)
+withWaiting x h = lentMemory (h .a) (h .b) (h .counts) (h .cells) (h .roots) x (h .sections) (h .d) (h .marks) (h .list)
 
 abbrev pub withSections : List ℕ → Memory → Memory
-withSections x h = lentMemory (h .a) (h .b) (h .counts) (h .cells) (h .roots) (h .waiting) x (h .d)
+withSections x h = lentMemory (h .a) (h .b) (h .counts) (h .cells) (h .roots) (h .waiting) x (h .d) (h .marks) (h .list)
 
 abbrev pub withD : List ℕ → Memory → Memory
-withD x h = lentMemory (h .a) (h .b) (h .counts) (h .cells) (h .roots) (h .waiting) (h .sections) x
+withD x h = lentMemory (h .a) (h .b) (h .counts) (h .cells) (h .roots) (h .waiting) (h .sections) x (h .marks) (h .list)
+
+abbrev pub withMarks : List ℕ → Memory → Memory
+withMarks x h = lentMemory (h .a) (h .b) (h .counts) (h .cells) (h .roots) (h .waiting) (h .sections) (h .d) x (h .list)
+
+abbrev pub withList : List ℕ → Memory → Memory
+withList x h = lentMemory (h .a) (h .b) (h .counts) (h .cells) (h .roots) (h .waiting) (h .sections) (h .d) (h .marks) x
 
 -- ---- sizes
 
@@ -83,17 +102,17 @@ abbrev pub sectionCount : ℕ → ℕ
 sectionCount N = N / sectionLength N
 
 -- N, w ("1 to 4 bits"), the number of roots ("1 to 64") and each buffer's length are as they have to be
-unfoldable pub shape : (N w a b counts cells roots waiting sections d : ℕ) → Bool
-shape N w a b counts cells roots waiting sections d =
+unfoldable pub shape : (N w a b counts cells roots waiting sections d marks list : ℕ) → Bool
+shape N w a b counts cells roots waiting sections d marks list =
     all
     (isBlocks N ∷ leb 1 w ∷ leb w 4 ∷ leb 1 roots ∷ leb roots 64
     ∷ eqb a (N / 8) ∷ eqb b (N / 8) ∷ eqb counts (w * (N / 8)) ∷ eqb cells (4 * N) ∷ eqb waiting N ∷ eqb sections (sectionCount N)
-    ∷ eqb d (N / 8) ∷ [])
+    ∷ eqb d (N / 8) ∷ eqb marks (N / 8) ∷ eqb list (N + 1) ∷ [])
 
 abbrev pub shaped : ℕ → ℕ → Memory → Bool
 shaped N w h =
     shape N w (length (h .a)) (length (h .b)) (length (h .counts)) (length (h .cells)) (length (h .roots)) (length (h .waiting))
-    (length (h .sections)) (length (h .d))
+    (length (h .sections)) (length (h .d)) (length (h .marks)) (length (h .list))
 
 -- "The capacity is 2^w − 1."
 abbrev pub capacity : ℕ → ℕ

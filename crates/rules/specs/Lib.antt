@@ -5,8 +5,10 @@ pub mod Damage
 pub mod Sections
 pub mod Store
 pub mod Collection
+pub mod Steps
 pub mod Calls
 pub mod Promise
 pub mod Cases
 pub mod Distinctions
+pub mod StepCases
 pub mod WrongAnswers

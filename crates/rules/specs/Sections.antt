@@ -1,5 +1,5 @@
 -- Request U4, "Sections with a largest size": the figure of each section, read off the A-map.
-use Prim.Native.Nat.{ℕ, zero, suc, _+_, _*_, _/_, _^_, min, max}
+use Prim.Native.Nat.{ℕ, zero, suc, _+_, _*_, _/_, _^_, max}
 use mathlib.Core.Bool.{Bool, true, false, not}
 use mathlib.Core.List.{List}
 use mathlib.Core.Option.{Option, none, some}

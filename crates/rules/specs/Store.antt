@@ -9,12 +9,13 @@ use Rattle.planes.specs.Plane.{countAt, setCount}
 use Rattle.rules.specs.Heap.{Memory, lentMemory, withA, withB, withCounts, withCells, withRoots, withD, capacity, sizeAt, isData}
 use Rattle.rules.specs.Sections.{figures}
 
--- "A-map 0, B-map all ones, everything else 0." And request U4: "every accepted call, format too, leaves the list true".
+-- "A-map 0, B-map all ones, everything else 0." And request U4: "every accepted call, format too, leaves the
+-- list true". The mark map and the second list are among "everything else": no collection is open.
 unfoldable pub formatted : (N w roots : ℕ) → Memory
 formatted N w roots =
     let a : List ℕ = replicate (N / 8) 0 in
     lentMemory a (replicate (N / 8) 255) (replicate (w * (N / 8)) 0) (replicate (4 * N) 0) (replicate roots 0) (replicate N 0)
-    (figures N a) (replicate (N / 8) 0)
+    (figures N a) (replicate (N / 8) 0) (replicate (N / 8) 0) (replicate (N + 1) 0)
 
 -- ---- counting
 
@@ -120,13 +121,6 @@ changeRoot N w h r v = putRoot N w (withCounts (countUp N w (h .counts) v) h) r 
 unfoldable pub changeCell : ℕ → ℕ → Memory → ℕ → ℕ → Memory
 changeCell N w h c v = putCell N w (withCounts (countUp N w (h .counts) v) h) c v
 
--- request U2: "an accepted store of the value present changes no buffer but the waiting list"
-unfoldable pub storeRootIn : ℕ → ℕ → Memory → ℕ → ℕ → Memory
-storeRootIn N w h r v = elim (eqb (getD (h .roots) r 0) v) [ true ↦ h | false ↦ changeRoot N w h r v ]
-
-unfoldable pub storeCellIn : ℕ → ℕ → Memory → ℕ → ℕ → Memory
-storeCellIn N w h c v = elim (eqb (getD (h .cells) c 0) v) [ true ↦ h | false ↦ changeCell N w h c v ]
-
 -- request U5: "Every store .. passes the fact on", here v stored over `old`. A store of the value present counts nothing up.
 unfoldable pub storeSticks : (N w : ℕ) → (counts : List ℕ) → (old v : ℕ) → Bool
 storeSticks N w counts old v = not (eqb old v) && sticks N w counts v
@@ -140,16 +134,6 @@ isChosen chosen r = eqb (bitOf chosen r) 1
 -- no bit of the set "is at or past" place n
 abbrev pub chosenBelow : (chosen n : ℕ) → Bool
 chosenBelow chosen n = eqb (chosen / 2 ^ n) 0
-
--- root r is cleared, by a store of 0, where it is one of the set
-unfoldable pub clearChosen : ℕ → ℕ → Memory → (chosen r : ℕ) → Memory
-clearChosen N w h chosen r = elim (isChosen chosen r) [ true ↦ storeRootIn N w h r 0 | false ↦ h ]
-
--- "A return lets go of all local variables together": the roots of the set that are below n, cleared one after another, the lowest first.
--- Any other order ends in the same heap (proved as `ReturnInAnyOrder`, theory/specs/Returns.antt).
-unfoldable pub returnIn : ℕ → ℕ → Memory → (chosen n : ℕ) → Memory
-returnIn N w h chosen zero = h
-returnIn N w h chosen (suc n) = clearChosen N w (returnIn N w h chosen n) chosen n
 
 -- ---- allocation
 

@@ -4,9 +4,9 @@
 use Prim.Native.Nat.{ℕ}
 use mathlib.Core.List.{List, [], _∷_}
 use lib.ListN.{set, replicate}
-use Rattle.rules.specs.Heap.{Memory, withA, withB, withCounts, withCells, withRoots, withWaiting, withSections, withD}
-use Rattle.rules.specs.Calls.{Call, format, check, collect, freeBlocks, allocate, storeRoot, storeCell, look, returnRoots, Answer, reply}
-use Rattle.rules.specs.Calls.{allocateData, writeNumber, readNumber}
+use Rattle.rules.specs.Heap.{Memory, withA, withB, withCounts, withCells, withRoots, withWaiting, withSections, withD, withMarks, withList}
+use Rattle.rules.specs.Calls.{Call, format, check, collect, freeBlocks, allocate, storeRoot, storeCell, look, returnRoots, openCollection, takeSteps}
+use Rattle.rules.specs.Calls.{Answer, reply, allocateData, writeNumber, readNumber}
 use Rattle.rules.specs.Promise.{Promise}
 use Rattle.rules.specs.Cases.{fresh, freshBut, gives, sticking, shows, refuses, damaged}
 use Rattle.rules.specs.Distinctions.{eightBlocks, cellHolding, rootHolding}
@@ -63,6 +63,10 @@ cyclic = eightBlocks 15 241 5 8 (set (set (cellHolding 0 3) 7 4) 8 1) (rootHoldi
 -- Z alone
 unfoldable pub collectedCyclic : Memory
 collectedCyclic = eightBlocks 8 247 8 0 (replicate 32 0) (rootHolding 0 4)
+
+-- request U8: with the byte of the mark map and the first place of the second list, a collection being open
+unfoldable pub collecting : (marks first : ℕ) → Memory → Memory
+collecting marks first h = withMarks (marks ∷ []) (withList (first ∷ 0 ∷ 0 ∷ 0 ∷ 0 ∷ 0 ∷ 0 ∷ 0 ∷ 1 ∷ []) h)
 
 -- chained, with 2 blocks more at 4 in root 1
 unfoldable pub allocatedTwo : Memory
@@ -393,4 +397,63 @@ wrongAnswers =
     ∷ question 2 stale (allocateData 0 9) (refuses 11, stale) ((refuses 3, stale) ∷ (refuses 4, stale) ∷ [])
     ∷ question 2 stale (writeNumber 1 9 9) (refuses 11, stale) ((refuses 6, stale) ∷ (refuses 7, stale) ∷ (refuses 12, stale) ∷ [])
     ∷ question 2 stale (readNumber 1 9) (refuses 11, stale) ((refuses 6, stale) ∷ (refuses 7, stale) ∷ (refuses 12, stale) ∷ [])
+    -- request U8: X is marked and listed, and the waiting list kept
+    ∷ question 2 (used chained) openCollection (gives 0, used (collecting 1 1 chained))
+    -- refuses everything; never writes; doesn't mark; doesn't list; marks Y too; not open; clears the waiting
+    -- list; tells how many
+    ((refuses 14, used chained) ∷ (gives 0, used chained) ∷ (gives 0, used (collecting 0 1 chained)) ∷ (gives 0, used (collecting 1 0 chained))
+    ∷ (gives 0, used (collecting 5 1 chained)) ∷ (gives 0, used (withMarks (1 ∷ []) chained)) ∷ (gives 0, collecting 1 1 chained)
+    ∷ (gives 1, used (collecting 1 1 chained)) ∷ [])
+    -- one step: X is taken off, and Y marked and listed
+    ∷ question 2 (used (collecting 1 1 chained)) (takeSteps 1) (reply 0 1 0, collecting 5 3 chained)
+    -- refuses everything; never writes; doesn't mark Y; doesn't list it; leaves X; goes on; no steps told;
+    -- waiting list left
+    ((refuses 14, used (collecting 1 1 chained)) ∷ (reply 0 1 0, used (collecting 1 1 chained)) ∷ (reply 0 1 0, collecting 1 0 chained)
+    ∷ (reply 0 1 0, collecting 5 0 chained) ∷ (reply 0 1 0, collecting 5 1 chained) ∷ (reply 0 2 0, chained) ∷ (reply 0 0 0, collecting 5 3 chained)
+    ∷ (reply 0 1 0, used (collecting 5 3 chained)) ∷ [])
+    -- more steps than there are objects: the close
+    ∷ question 2 (used (collecting 1 1 chained)) (takeSteps 9) (reply 0 2 0, chained)
+    -- the budget for the steps; not closed; marks left; everything freed; Y freed
+    ((reply 0 9 0, chained) ∷ (reply 0 2 0, collecting 5 0 chained) ∷ (reply 0 2 0, withMarks (5 ∷ []) chained) ∷ (reply 0 2 3, fresh 2)
+    ∷ (reply 0 2 1, alone) ∷ [])
+    -- no step
+    ∷ question 2 (used (collecting 5 0 shared)) (takeSteps 0) (reply 0 0 0, collecting 5 0 shared) ((reply 0 0 0, shared) ∷ [])
+    -- the close frees X and Y, and counts Z down, which X named
+    ∷ question 2 (used (collecting 8 4 cyclic)) (takeSteps 1) (reply 0 1 3, collectedCyclic)
+    -- frees nothing; figures exchanged, left out, not read off the A-map; Z not counted down; not closed
+    ((reply 0 1 0, cyclic) ∷ (reply 0 3 1, collectedCyclic) ∷ (reply 0 1 0, collectedCyclic) ∷ (reply 0 1 2, collectedCyclic)
+    ∷ (reply 0 1 3, eightBlocks 8 247 0 8 (replicate 32 0) (rootHolding 0 4)) ∷ (reply 0 1 3, collecting 8 0 collectedCyclic) ∷ [])
+    -- X lets go of Y, which is freed: it leaves map and list
+    ∷ question 2 (used (collecting 5 3 chained)) (storeCell 0 7 0) (gives 1, collecting 1 0 (eightBlocks 3 253 1 0 (replicate 32 0) (rootHolding 0 1)))
+    -- its mark left; its place left; both; none open any more
+    ((gives 1, collecting 5 0 alone) ∷ (gives 1, collecting 1 3 alone) ∷ (gives 1, collecting 5 3 alone) ∷ (gives 1, alone) ∷ [])
+    -- data allocated while one is open: marked, and not listed
+    ∷ question 2 (used (collecting 5 0 chained)) (allocateData 2 1) (gives 4, collecting 21 0 (withD (16 ∷ []) allocatedTwo))
+    -- not marked; on both blocks; listed; no data; none open any more
+    ((gives 4, collecting 5 0 (withD (16 ∷ []) allocatedTwo)) ∷ (gives 4, collecting 53 0 (withD (16 ∷ []) allocatedTwo))
+    ∷ (gives 4, collecting 21 5 (withD (16 ∷ []) allocatedTwo)) ∷ (gives 4, collecting 21 0 allocatedTwo) ∷ (gives 4, withD (16 ∷ []) allocatedTwo)
+    ∷ (refuses 14, used (collecting 5 0 chained)) ∷ [])
+    -- a number written while one is open
+    ∷ question 2 (used (collecting 1 1 numbered)) (writeNumber 0 0 1) (gives 0, used (collecting 1 1 (numberedCells 0 1)))
+    -- refused; the waiting list cleared; taken off the list; none open any more
+    ((refuses 14, used (collecting 1 1 numbered)) ∷ (gives 0, collecting 1 1 (numberedCells 0 1)) ∷ (gives 0, used (collecting 1 0 (numberedCells 0 1)))
+    ∷ (gives 0, used (numberedCells 0 1)) ∷ [])
+    -- a step on data, whose number 9 names nothing: the close
+    ∷ question 2 (used (collecting 1 1 numbered)) (takeSteps 2) (reply 0 1 0, numbered)
+    -- data costs no step; the budget for the steps; freed; its numbers, or its D bit, cleared; the number
+    -- taken for a block
+    ((reply 0 0 0, numbered) ∷ (reply 0 2 0, numbered) ∷ (reply 0 1 2, fresh 2) ∷ (reply 0 1 0, withCells (replicate 32 0) numbered)
+    ∷ (reply 0 1 0, withD (0 ∷ []) numbered) ∷ (refuses 13, used (collecting 1 1 numbered)) ∷ [])
+    -- "14": with one open, with none open
+    ∷ question 2 (used (collecting 8 4 cyclic)) collect (refuses 14, used (collecting 8 4 cyclic))
+    ((gives 3, collectedCyclic) ∷ (gives 3, collecting 8 4 collectedCyclic) ∷ (refuses 13, used (collecting 8 4 cyclic)) ∷ (gives 0, used (collecting 8 4 cyclic)) ∷ [])
+    ∷ question 2 (used (collecting 8 0 cyclic)) openCollection (refuses 14, used (collecting 8 0 cyclic)) ((gives 0, used (collecting 8 4 cyclic)) ∷ [])
+    ∷ question 2 (used chained) (takeSteps 1) (refuses 14, used chained) ((reply 0 0 0, chained) ∷ (reply 0 1 0, chained) ∷ [])
+    -- "13": X, marked and not listed, names Y, which is not marked; in every call but format
+    ∷ question 2 (collecting 1 0 chained) check (refuses 13, collecting 1 0 chained)
+    ((gives 0, collecting 1 0 chained) ∷ (refuses 11, collecting 1 0 chained) ∷ (refuses 14, collecting 1 0 chained) ∷ (refuses 13, chained) ∷ [])
+    ∷ question 2 (collecting 1 0 chained) (look 1) (refuses 13, collecting 1 0 chained) ((refuses 6, collecting 1 0 chained) ∷ [])
+    ∷ question 2 (collecting 1 0 chained) collect (refuses 13, collecting 1 0 chained) ((refuses 14, collecting 1 0 chained) ∷ [])
+    ∷ question 2 (collecting 1 0 chained) (takeSteps 1) (refuses 13, collecting 1 0 chained) ((reply 0 0 1, alone) ∷ [])
+    ∷ question 2 (collecting 1 0 chained) format (gives 0, fresh 2) ((refuses 13, collecting 1 0 chained) ∷ (gives 0, collecting 0 0 (fresh 2)) ∷ [])
     ∷ []

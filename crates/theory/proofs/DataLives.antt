@@ -23,7 +23,8 @@ use Rattle.theory.proofs.EachCall.Answers.{answer-fit}
 use Rattle.theory.proofs.EachCall.Makes.{allocations-make}
 use Rattle.theory.proofs.EachCall.Numbers.{numbers-written}
 use Rattle.theory.proofs.EachCall.Stay.{answer-stays}
-use Rattle.theory.proofs.Demand.{finds-fit, stays-fit, found, stands}
+use Rattle.theory.proofs.Calls.{finds-fit, stays-fit}
+use Rattle.theory.proofs.Demand.{found, stands}
 
 -- ---- one call
 

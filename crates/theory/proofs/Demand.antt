@@ -8,7 +8,6 @@ use native.Mathlib.Omega.{arith}
 use Rattle.planes.proofs.Counts.{count-lt}
 use Rattle.rules.specs.Heap.{Memory, withWaiting, capacity, countOf}
 use Rattle.rules.specs.Calls.{Call, Answer, answer, run, lastMemory}
-use Rattle.rules.specs.Promise.{Promise}
 use Rattle.rules.proofs.Shape.{shape-facts}
 use Rattle.theory.specs.Words.{Object, heapOf, Made, leftBy, callsOf, answersOf, compared}
 use Rattle.theory.specs.Stuck.{LivesOn, SomeWrote}
@@ -16,52 +15,12 @@ use Rattle.theory.specs.Demand.{Finds, Chain, Holds, Claim, Demand3}
 use Rattle.theory.specs.Statements.{ChainsAppend, EveryListHasAChain}
 use Rattle.theory.specs.Balance.{inUse, blocksAllocated, blocksFreed}
 use Rattle.theory.proofs.Memories.Fit.{Fit, formatted-fit}
-use Rattle.theory.proofs.Memories.ViewRelease.{reshaped}
 use Rattle.theory.proofs.Memories.Soundness.{healthy-sound}
 use Rattle.theory.proofs.EachCall.AnyWaiting.{waiting-unread}
-use Rattle.theory.proofs.EachCall.Served.{Served}
 use Rattle.theory.proofs.EachCall.Balance.{answer-even}
-use Rattle.theory.proofs.EachCall.Answers.{answer-served, answer-fit}
-
--- ---- one call
-
--- what a call finds is fit if what the one before it left is
-pub finds-fit : (N w : ℕ) {h g : Memory} → Finds N h g → Fit N w h → Fit N w g
-finds-fit N w {h} {g} finds fit =
-    let healthy = fit .healthy in
-    subst (λ (k : Memory). Fit N w k) (ap (withWaiting (g .waiting)) (sym (finds .same-heap)))
-    (record {
-      healthy = record {
-        shape = reshaped N w h (withWaiting (g .waiting) h) (healthy .shape) refl refl refl refl refl
-            (finds .space ∙ sym (healthy .shape .length-waiting)) refl refl;
-        represents = healthy .represents;
-        whole = healthy .whole;
-        aligned = healthy .aligned;
-        bare = healthy .bare;
-      };
-      listed = fit .listed;
-    })
-
--- a call that kept its promise was answered as the rules say
-promised :
-    (N w : ℕ) (m : Made) → Promise N w (m .call) (m .before) (m .reply) (m .after)
-    → _≡_ {A = Answer} (m .reply, m .after) (answer N w (m .before) (m .call))
-promised N w m promise = λ i. (promise .reply-is i, promise .after-is i)
-
--- what is asked of one call, of a call that kept its promise
-serves :
-    (N w : ℕ) {h : Memory} → Fit N w h → (m : Made) → Finds N h (m .before) → Promise N w (m .call) (m .before) (m .reply) (m .after)
-    → Served N w (m .call) (m .before) (m .reply, m .after)
-serves N w fit m finds promise =
-    subst (λ (x : Answer). Served N w (m .call) (m .before) x) (sym (promised N w m promise))
-    (answer-served N w (m .before) (finds-fit N w finds fit) (m .call))
-
--- and it leaves a fit memory
-pub stays-fit :
-    (N w : ℕ) {h : Memory} → Fit N w h → (m : Made) → Finds N h (m .before) → Promise N w (m .call) (m .before) (m .reply) (m .after)
-    → Fit N w (m .after)
-stays-fit N w fit m finds promise =
-    subst (λ (k : Memory). Fit N w k) (sym (promise .after-is)) (answer-fit N w (m .before) (finds-fit N w finds fit) (m .call))
+use Rattle.theory.proofs.EachCall.Answers.{answer-fit}
+use Rattle.theory.proofs.Calls.{finds-fit, serves, stays-fit}
+use Rattle.theory.proofs.Collecting.{collected-in-steps}
 
 -- ---- the plain machine
 
@@ -143,6 +102,9 @@ claim N w h fit made chain =
       stuck = λ earlier between others e b n lives low top.
           let from = made-after N w earlier fit (subst (λ (l : List Made). Chain N w h l) e chain) in
           some-wrote N w b n between others (from .0) (from .1) lives low top;
+      in-steps = λ earlier m later e.
+          let from = made-after N w earlier fit (subst (λ (l : List Made). Chain N w h l) e chain) in
+          collected-in-steps N w m later (from .0) (from .1);
     }
 
 pub demand3 : Demand3

@@ -11,3 +11,10 @@ pub mod Sweep
 pub mod Calls
 pub mod Stuck
 pub mod Returns
+pub mod Tidy
+pub mod Apart
+pub mod Pale
+pub mod Scan
+pub mod Stored
+pub mod MarkOrders
+pub mod Close

@@ -4,6 +4,9 @@ pub mod View
 pub mod Slots
 pub mod Healthy
 pub mod Formatted
+pub mod TidyHeap
+pub mod Naming
+pub mod Shades
 pub mod Fit
 pub mod Leads
 pub mod Soundness
@@ -16,5 +19,10 @@ pub mod ViewSweep
 pub mod Rounds
 pub mod Recount
 pub mod ViewCollection
+pub mod ViewClose
+pub mod OnePass
+pub mod Scanning
+pub mod Events
+pub mod MarkOrders
 pub mod SameView
 pub mod Orders

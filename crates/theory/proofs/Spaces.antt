@@ -1,13 +1,12 @@
 -- A call that is lent a waiting list of another length is refused with 1 and changes nothing, so the calls around it are a chain without it.
 use mathlib.Core.Path.{_≡_, refl, sym, ap, _∙_, subst}
 use mathlib.Core.Logic.{_≢_}
-use mathlib.Core.Bool.{true, false, not}
+use mathlib.Core.Bool.{not}
 use mathlib.Core.List.{List, [], _∷_, _++_}
 use Prim.Native.Nat.{ℕ}
 use native.Mathlib.Decide.{ℕ-discrete}
 use native.Mathlib.Omega.{arith}
 use lib.ListN.{length}
-use lib.Dec.{eqb}
 use borrow.Author.Tests.{eq-eqb, ne-eqb}
 use Rattle.rules.specs.Heap.{Memory, withWaiting, shaped}
 use Rattle.rules.specs.Calls.{Call, Answer, reply, refusals, refusedWith, answer, lastMemory}
@@ -16,7 +15,7 @@ use Rattle.rules.proofs.Tests.{false-unless, first-found}
 use Rattle.rules.proofs.Shape.{shape-facts}
 use Rattle.rules.proofs.Replies.{refused-with}
 use Rattle.theory.specs.Words.{heapOf, Made, leftBy}
-use Rattle.theory.specs.Demand.{Finds, Chain}
+use Rattle.theory.specs.Demand.{Chain}
 use Rattle.theory.specs.Spaces.{AnySpaces, withSpace, ClaimOfAll, EveryListWithAnySpaces}
 use Rattle.theory.proofs.Memories.Fit.{Fit}
 use Rattle.theory.proofs.Demand.{claim}

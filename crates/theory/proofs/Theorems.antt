@@ -16,6 +16,7 @@ use Rattle.rules.specs.Heap.{Memory, shaped, exponent}
 use Rattle.rules.specs.Store.{formatted, letGo, putRoot, putCell, changeRoot, changeCell, placed, allocateIn}
 use Rattle.types.specs.declared.Reply.{Reply}
 use Rattle.rules.specs.Promise.{Promise}
+use Rattle.rules.specs.Steps.{Progress, progressOf, stepsFrom, unmarkedFreed}
 use Rattle.rules.specs.Calls.{Call, format, allocate, allocateData, allocateAs, Answer, allocationRefusals, ownRefusals, outcome, answer}
 use Rattle.theory.specs.Demand.{Demand3}
 use Rattle.rules.proofs.Replies.{number-is, accepted-none, accepted-outcome, Passed, shape-passed, passed, refused-as-check}
@@ -27,11 +28,11 @@ use Rattle.theory.specs.Statements.{LeastPower, NStepsSuffice, ReachedIs
 use Rattle.theory.specs.Statements.{ClaimFromUndamaged, ClaimFromFormat}
 use Rattle.theory.specs.Spaces.{ClaimWithAnySpaces}
 use Rattle.theory.specs.Words.{Object}
-use Rattle.theory.specs.Orders.{OrderUnseen}
+use Rattle.theory.specs.Orders.{OrderUnseen, CloseOrderUnseen}
 use Rattle.theory.specs.Balance.{BlocksBalance}
-use Rattle.theory.specs.Returns.{ReturnInAnyOrder, ReturnRefusedExactly}
-use Rattle.theory.specs.Moments.{NoneUntold, CollectionSticksNone}
-use Rattle.theory.specs.Data.{DataNeverFollowed, TwelveExactly, NumbersStay}
+use Rattle.theory.specs.Returns.{ReturnInAnyOrder, ReturnInAscendingOrder, ReturnRefusedExactly}
+use Rattle.theory.specs.Moments.{NoneUntold, CollectionSticksNone, StepsStickNone}
+use Rattle.theory.specs.Data.{DataNeverFollowed, DataNamesNothing, TwelveExactly, NumbersStay}
 use Rattle.theory.specs.Theory.{Theory}
 use Rattle.theory.proofs.Maps.Extents.{Represents, sizesOf, inner, represents-delimited}
 use Rattle.rules.proofs.Sections.{sections-find-lowest}
@@ -42,17 +43,24 @@ use Rattle.theory.proofs.Maps.Totals.{objects-ends}
 use Rattle.theory.proofs.Maps.Undamaged.{kinds-delimited}
 use Rattle.theory.proofs.Memories.Healthy.{Healthy, healthy-facts}
 use Rattle.theory.proofs.Memories.Fit.{undamaged-fit, fit-undamaged, formatted-fit}
+use Rattle.theory.proofs.Memories.Naming.{data-names}
 use Rattle.theory.proofs.Memories.Fuel.{steps-suffice}
 use Rattle.theory.proofs.Memories.Orders.{one-end}
+use Rattle.theory.proofs.Memories.ViewClose as close
+use Rattle.theory.proofs.Memories.Scanning.{steps-from-open, list-empty}
 use Rattle.theory.proofs.Memories.Stores.{store-root, store-cell, allocate-root}
 use Rattle.theory.proofs.Memories.Rounds.{reached-led, led-reached}
-use Rattle.theory.proofs.EachCall.Accepted.{fit-number}
+use Rattle.theory.proofs.EachCall.Accepted.{fit-number, accepted-fit}
 use Rattle.theory.proofs.EachCall.Answers.{answer-fit}
 use Rattle.theory.proofs.EachCall.Five.{five-to-allocations}
 use Rattle.theory.proofs.EachCall.TrueList.{list-left-true}
 use Rattle.theory.proofs.Memories.Leads.{object-size, size-object}
 use Rattle.theory.proofs.EachCall.AnyWaiting.{waiting-unread}
 use Rattle.theory.proofs.EachCall.ReturnOrders.{same-as-singly, return-refused}
+use Rattle.theory.proofs.EachCall.ReturnAscending.{in-ascending-order}
+use Rattle.theory.proofs.EachCall.NoSteps.{no-steps-no-change, all-unless-ran-out}
+use Rattle.theory.proofs.EachCall.Refusals.{thirteen-exactly, fourteen-exactly}
+use Rattle.theory.proofs.EachCall.MarksAnyOrder.{marks-order-unseen}
 use Rattle.theory.proofs.Demand.{every-list, chains-append, claim, demand3, balance}
 use Rattle.theory.proofs.Spaces.{claim-of-all, every-list-with-any-spaces}
 use Rattle.theory.proofs.DataLives.{data-while-it-lives}
@@ -60,7 +68,9 @@ use Rattle.theory.proofs.EachCall.Balance.{blocks-add-up}
 use Rattle.theory.proofs.EachCall.Numbers.{cells-read, numbers-written, twelve}
 use Rattle.theory.proofs.EachCall.Stay.{answer-stays}
 use Rattle.theory.proofs.EachCall.Makes.{allocations-make}
+use Rattle.theory.proofs.EachCall.Born.{born-marked}
 use Rattle.theory.proofs.EachCall.Moments as moments
+use Rattle.theory.proofs.EachCall.StepsStick as sticking
 
 intact-healthy : (N w : ℕ) (h : Memory) → Intact N w h → Healthy N w h
 intact-healthy N w h u = healthy-facts N w h (u .right-shape) (u .no-damage)
@@ -131,9 +141,22 @@ order-unseen N w h u =
           one-end N w _ _ (allocate-root N w h fine n i (omega arith) (room N (h .a) n i found) asData r l .releasing);
     }
 
+pub close-order-unseen : CloseOrderUnseen
+unfolding unmarkedFreed
+close-order-unseen N w h u is-open budget e =
+    let fit = undamaged-fit N w h u in
+    let reached : Progress = (stepsFrom budget N h (progressOf N h)) .reached in
+    let steps = steps-from-open N w h (fit .healthy) is-open (fit .tidy) budget in
+    let tidy = list-empty N w h (fit .healthy) is-open (fit .tidy) budget reached (steps .tidy) e in
+    let ready = close.releasing N w h (fit .healthy) (reached .marks) tidy in
+    record { order = one-end N w _ _ ready; enough = λ steps more. steps-suffice N w steps _ _ ready more }
+
 -- request U10
 pub return-in-any-order : ReturnInAnyOrder
-return-in-any-order N w h u = same-as-singly N w h (undamaged-fit N w h u)
+return-in-any-order N w h u shut chosen = same-as-singly N w h (undamaged-fit N w h u) chosen shut
+
+pub return-in-ascending-order : ReturnInAscendingOrder
+return-in-ascending-order N w h u chosen = in-ascending-order N w h chosen (undamaged-fit N w h u)
 
 pub return-refused-exactly : ReturnRefusedExactly
 return-refused-exactly N w h u = return-refused N w h (undamaged-fit N w h u)
@@ -215,9 +238,15 @@ none-untold N w h u call b n = moments.none-untold N w h (undamaged-fit N w h u)
 pub collection-sticks-none : CollectionSticksNone
 collection-sticks-none N w h u = moments.collection-sticks-none N w h (undamaged-fit N w h u)
 
+pub steps-stick-none : StepsStickNone
+steps-stick-none N w h u budget b first low = sticking.steps-stick-none N w h (undamaged-fit N w h u) b first low budget
+
 -- request U6
 pub data-never-followed : DataNeverFollowed
 data-never-followed N w h u = cells-read N w h (intact-healthy N w h u)
+
+pub data-names-nothing : DataNamesNothing
+data-names-nothing N w h u b n object made i = data-names N h (intact-healthy N w h u .represents) b (object .first) made i
 
 pub twelve-exactly : TwelveExactly
 twelve-exactly N w h u at n j object l =
@@ -240,6 +269,7 @@ theory =
       format-makes-undamaged = format-makes-undamaged;
       waiting-unread = waiting-unread;
       refused-as-check = refused-as-check;
+      accepted-undamaged = λ N w h call tests e. fit-undamaged N w h (accepted-fit N w h call tests e);
       five-to-allocations = five-to-allocations;
       least-power = least-power;
       reached-is-led = reached-is-led;
@@ -249,10 +279,18 @@ theory =
       ends-on-last = ends-on-last;
       objects-are-ends = objects-are-ends;
       order-unseen = order-unseen;
+      close-order-unseen = close-order-unseen;
       blocks-balance = blocks-balance;
       blocks-add-up = blocks-add-up;
       return-in-any-order = return-in-any-order;
+      return-in-ascending-order = return-in-ascending-order;
       return-refused-exactly = return-refused-exactly;
+      no-steps-no-change = no-steps-no-change;
+      all-unless-ran-out = all-unless-ran-out;
+      born-marked = born-marked;
+      marks-order-unseen = marks-order-unseen;
+      thirteen-exactly = thirteen-exactly;
+      fourteen-exactly = fourteen-exactly;
       sections-find-lowest = sections-find-lowest;
       figures-are-largest = figures-are-largest;
       stale-exactly = stale-exactly;
@@ -260,7 +298,9 @@ theory =
       stuck-told = moments.stuck-told;
       none-untold = none-untold;
       collection-sticks-none = collection-sticks-none;
+      steps-stick-none = steps-stick-none;
       data-never-followed = data-never-followed;
+      data-names-nothing = data-names-nothing;
       allocations-make = allocations-make;
       numbers-written = numbers-written;
       twelve-exactly = twelve-exactly;

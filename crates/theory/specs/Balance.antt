@@ -7,8 +7,8 @@ use mathlib.Core.List.{List, [], _∷_}
 use lib.Dec.{eqb}
 use Rattle.bitmap.specs.Bit.{zeros}
 use Rattle.rules.specs.Heap.{Memory, isFirst, sizeAt}
-use Rattle.rules.specs.Calls.{Call, format, check, collect, freeBlocks, allocate, storeRoot, storeCell, look, returnRoots, answer}
-use Rattle.rules.specs.Calls.{allocateData, writeNumber, readNumber, allocateAs}
+use Rattle.rules.specs.Calls.{Call, format, check, collect, freeBlocks, allocate, storeRoot, storeCell, look, returnRoots, openCollection, takeSteps}
+use Rattle.rules.specs.Calls.{allocateData, writeNumber, readNumber, allocateAs, answer}
 use Rattle.types.specs.declared.Reply.{Reply}
 use Rattle.theory.specs.Words.{Made, leftBy}
 use Rattle.theory.specs.Demand.{Chain}
@@ -47,6 +47,8 @@ allocates (returnRoots chosen) = 0
 allocates (allocateData n r) = n
 allocates (writeNumber at j x) = 0
 allocates (readNumber at j) = 0
+allocates openCollection = 0
+allocates (takeSteps budget) = 0
 
 -- a refused call allocates nothing
 unfoldable pub allocatedBy : Call → Reply → ℕ
@@ -82,6 +84,10 @@ pub record FreedAddUp (N w : ℕ) (h : Memory) : Type 0 where
   pub store-cell : (at j v : ℕ) → let x = answer N w h (storeCell at j v) in x .0 .number ≡ 0 → FreedValue N h (x .0) (x .1)
   pub return-roots : (chosen : ℕ) → let x = answer N w h (returnRoots chosen) in x .0 .number ≡ 0 → FreedValue N h (x .0) (x .1)
   pub collection : let x = answer N w h collect in x .0 .number ≡ 0 → FreedValue N h (x .0) (x .1)
+  -- request U8: the second value of a call that takes steps is "the blocks freed"
+  pub steps :
+      (budget : ℕ) → let x = answer N w h (takeSteps budget) in
+      x .0 .number ≡ 0 → (x .0 .second ≡ freedBlocks N h (x .1)) × (zeros (h .a) + x .0 .second ≡ zeros (x .1 .a))
   pub allocation :
       (asData : Bool) (n r : ℕ) → let x = answer N w h (allocateAs asData n r) in
       x .0 .number ≡ 0 → zeros (h .a) + freedBlocks N h (x .1) ≡ zeros (x .1 .a) + n

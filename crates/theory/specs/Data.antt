@@ -7,6 +7,7 @@ use mathlib.Core.List.{List, [], _∷_, _++_}
 use lib.ListN.{getD, set}
 use Rattle.bitmap.specs.Bit.{bitAt}
 use Rattle.rules.specs.Heap.{Memory, withCells, isData, reference}
+use Rattle.rules.specs.Steps.{names}
 use Rattle.rules.specs.Calls.{Call, storeCell, allocateData, writeNumber, readNumber, allocateAs, reply, answer}
 use Rattle.theory.specs.Words.{Object, Made, leftBy}
 use Rattle.theory.specs.Stuck.{LivesOn}
@@ -23,6 +24,12 @@ pub record CellsRead (N : ℕ) (h : Memory) : Type 0 where
 
 abbrev pub DataNeverFollowed : Type 0
 DataNeverFollowed = (N w : ℕ) (h : Memory) → Intact N w h → CellsRead N h
+
+-- Request U8: an object of data names nothing, whatever numbers stand in it. So number 13 asks nothing of it,
+-- a step that takes it off the list marks and lists nothing, and where it is freed its cells mark nothing.
+abbrev pub DataNamesNothing : Type 0
+DataNamesNothing =
+    (N w : ℕ) (h : Memory) → Intact N w h → (b n : ℕ) → Object N h b n → isData (h .d) b ≡ true → (i : ℕ) → names N h b i ≡ false
 
 -- "A new D-map .. has 1 on the first block of an object made as data": what an accepted allocation makes at
 -- the block that it gives, an object of as many blocks as were asked for, data or not as it was asked for,

@@ -1,4 +1,5 @@
--- Demand 3: one claim about a whole list of calls. Its words are in Words.antt, the part that request U2 added in Stuck.antt.
+-- Demand 3: one claim about a whole list of calls. Its words are in Words.antt, the parts that requests U2
+-- and U8 added in Stuck.antt and Steps.antt.
 use Prim.Native.Nat.{ℕ, _*_, _/_, _%_, _^_, _<_, min}
 use mathlib.Core.Path.{_≡_}
 use mathlib.Core.Logic.{_⊎_, _↔_}
@@ -15,6 +16,7 @@ use Rattle.rules.specs.Promise.{Promise}
 use Rattle.types.specs.declared.Reply.{Reply}
 use Rattle.theory.specs.Words.{Object, Names, Leads, numberOfReferences, InExtent, stored, heapOf, Made, callsOf, answersOf, compared}
 use Rattle.theory.specs.Stuck.{StuckByReferences}
+use Rattle.theory.specs.Steps.{CollectedInSteps}
 
 -- ---- at every moment
 
@@ -85,6 +87,7 @@ pub record Claim (N w : ℕ) (start : Memory) (made : List Made) : Type 0 where
   pub machine : compared (answersOf made) ≡ compared (run N w start (callsOf made))
   pub holds : Holds N w start made
   pub stuck : StuckByReferences N w start made
+  pub in-steps : CollectedInSteps N made
 
 -- "Demand 3 is a single claim about the whole list, and not one for each call. The list starts from a heap as an accepted format leaves
 -- it, and may be empty."

@@ -1,9 +1,12 @@
 pub mod Words
 pub mod Stuck
+pub mod Steps
 pub mod Demand
 pub mod Statements
 pub mod Spaces
 pub mod Orders
+pub mod Marks
+pub mod Refusals
 pub mod Balance
 pub mod Returns
 pub mod Sections

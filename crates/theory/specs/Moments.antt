@@ -8,8 +8,8 @@ use lib.ListN.{getD}
 use lib.Dec.{eqb}
 use Rattle.rules.specs.Heap.{Memory, withCounts, capacity, countOf, isFirst}
 use Rattle.rules.specs.Store.{countUp, placed}
-use Rattle.rules.specs.Calls.{Call, format, check, collect, freeBlocks, allocate, storeRoot, storeCell, look, returnRoots, answer}
-use Rattle.rules.specs.Calls.{allocateData, writeNumber, readNumber, allocateAs}
+use Rattle.rules.specs.Calls.{Call, format, check, collect, freeBlocks, allocate, storeRoot, storeCell, look, returnRoots, openCollection, takeSteps}
+use Rattle.rules.specs.Calls.{allocateData, writeNumber, readNumber, allocateAs, answer}
 use Rattle.types.specs.declared.Reply.{Reply}
 use Rattle.theory.specs.Words.{Object}
 use Rattle.theory.specs.Stuck.{writes}
@@ -31,6 +31,8 @@ counted N w (look at) h x = h
 counted N w (returnRoots chosen) h x = h
 counted N w (writeNumber at j v) h x = h
 counted N w (readNumber at j) h x = h
+counted N w openCollection h x = h
+counted N w (takeSteps budget) h x = h
 
 -- "this very step brought the count to the capacity, a birth at width 1 included": the object at b, between the heap h before the call and
 -- a heap g with the reference counted
@@ -74,3 +76,9 @@ abbrev pub CollectionSticksNone : Type 0
 CollectionSticksNone =
     (N w : ℕ) (h : Memory) → Undamaged N w h → (b : ℕ) → isFirst N h b ≡ true → countOf N w h b < capacity w
     → countOf N w (answer N w h collect .1) b < capacity w
+
+-- a collection in small steps neither (request U8): its steps, and its close
+abbrev pub StepsStickNone : Type 0
+StepsStickNone =
+    (N w : ℕ) (h : Memory) → Undamaged N w h → (budget b : ℕ) → isFirst N h b ≡ true → countOf N w h b < capacity w
+    → countOf N w (answer N w h (takeSteps budget) .1) b < capacity w

@@ -8,8 +8,10 @@ use mathlib.Core.Option.{some}
 use lib.ListN.{length, getD, set}
 use Rattle.bitmap.specs.Bit.{zeros}
 use Rattle.rules.specs.Heap.{Memory, withCounts, withCells, withRoots, isFirst, sizeAt, isRef, isData, exponent, lowestFree}
-use Rattle.rules.specs.Store.{work, countUp, countDown, workAfter, memoryAfter, changeRoot, changeCell, placed, allocateIn}
-use Rattle.theory.specs.Statements.{Intact}
+use Rattle.rules.specs.Store.{work, countUp, countDown, workAfter, memoryAfter, release, changeRoot, changeCell, placed, allocateIn}
+use Rattle.rules.specs.Collection.{swept}
+use Rattle.rules.specs.Steps.{isOpen, progressOf, stepsFrom, survivorsLetGo, unmarkedFreed, closes}
+use Rattle.theory.specs.Statements.{Intact, Undamaged}
 
 -- An order, step by step. In memory h the objects of `waiting` wait. k of them, or of those that come to wait on the way, are taken one
 -- after another, at each step any one that waits then, and freed as the rules free one (`workAfter`, `memoryAfter`). They have n blocks in
@@ -37,9 +39,9 @@ pub record OneEnd (N w : ℕ) (h : Memory) (waiting : List ℕ) (end : Memory) :
 abbrev pub LetGoAlike : ℕ → ℕ → Memory → (v : ℕ) → (end : Memory) → Type 0
 LetGoAlike N w h v end = let s = countDown N w (work (h .counts) []) v in OneEnd N w (withCounts (s .counts) h) (s .stack) end
 
--- The three places where the rules let go: a store in a root, a store in a cell, an allocation. Each lets go in a memory with the call's own
--- reference counted and written, whose A-map is the one before the call, with the new object in an allocation. So in a store the blocks
--- counted are the value.
+-- Three places where the rules let go: a store in a root, a store in a cell, an allocation. Each lets go in a
+-- memory with the call's own reference counted and written, whose A-map is the one before the call, with the
+-- new object in an allocation. So in a store the blocks counted are the value.
 pub record AnyOrder (N w : ℕ) (h : Memory) : Type 0 where
   pub in-root : (r v : ℕ) → r < length (h .roots) → isRef N h v ≡ true
       → let written : Memory = withRoots (set (h .roots) r v) (withCounts (countUp N w (h .counts) v) h) in
@@ -54,3 +56,23 @@ pub record AnyOrder (N w : ℕ) (h : Memory) : Type 0 where
 -- the order can't be seen
 abbrev pub OrderUnseen : Type 0
 OrderUnseen = (N w : ℕ) (h : Memory) → Intact N w h → AnyOrder N w h
+
+-- The fourth is the close of a collection in small steps (request U8): g is what is left of h without its
+-- unmarked objects, and the survivors that these named are counted down there. In what order those that come
+-- to 0 are freed can't be seen, and the N steps of `release` are enough.
+pub record CloseInAnyOrder (N w : ℕ) (h : Memory) (marks : List Bool) : Type 0 where
+  pub order :
+      let g = swept N w h marks N in
+      let s = survivorsLetGo N w marks h (work (g .counts) []) N in
+      OneEnd N w (withCounts (s .counts) g) (s .stack) (unmarkedFreed N w marks h)
+  pub enough : (steps : ℕ) → N ≤ steps →
+      let g = swept N w h marks N in
+      let s = survivorsLetGo N w marks h (work (g .counts) []) N in
+      release steps N w (withCounts (s .counts) g) (s .stack) ≡ unmarkedFreed N w marks h
+
+-- of every call that closes one
+abbrev pub CloseOrderUnseen : Type 0
+CloseOrderUnseen =
+    (N w : ℕ) (h : Memory) → Undamaged N w h → isOpen N h ≡ true → (budget : ℕ) →
+    let p = (stepsFrom budget N h (progressOf N h)) .reached in
+    closes budget p ≡ true → CloseInAnyOrder N w h (p .marks)

@@ -1,13 +1,17 @@
--- Request U10, "A method returns": "It is refused with 4 if any bit is at or past the number of roots. Its value is the blocks freed in all.
--- With no collection open, the heap afterwards is that of clearing them singly in whatever order".
-use Prim.Native.Nat.{ℕ, _+_, _≤_}
+-- Request U10, "A method returns": "It is refused with 4 if any bit is at or past the number of roots. Its
+-- value is the blocks freed in all. With no collection open, the heap afterwards is that of clearing them
+-- singly in whatever order; with one open, in ascending order."
+use Prim.Native.Nat.{ℕ, zero, suc, _+_, _≤_}
 use mathlib.Core.Path.{_≡_}
+use mathlib.Core.Bool.{true, false}
 use mathlib.Core.Logic.{_↔_}
-use mathlib.Core.List.{List, [], _∷_, map}
+use mathlib.Core.List.{List, [], _∷_, _++_, map}
 use lib.ListN.{length, replicate}
 use Rattle.bitmap.specs.Bit.{bitOf}
 use Rattle.rules.specs.Tools.{holding}
 use Rattle.rules.specs.Heap.{Memory, withWaiting}
+use Rattle.rules.specs.Store.{isChosen}
+use Rattle.rules.specs.Steps.{isOpen}
 use Rattle.rules.specs.Calls.{storeRoot, returnRoots, Answer, answer, run, lastMemory}
 use Rattle.theory.specs.Statements.{Undamaged}
 
@@ -30,11 +34,22 @@ pub record SameAsSingly (N w : ℕ) (h : Memory) (chosen : ℕ) (order : List �
   pub heap : withWaiting (replicate N 0) (lastMemory h (clearedSingly N w h order)) ≡ answer N w h (returnRoots chosen) .1
   pub value : freedInAll (clearedSingly N w h order) ≡ answer N w h (returnRoots chosen) .0 .value
 
--- every accepted set, in every order of its roots
+-- every accepted set, in every order of its roots: "With no collection open"
 abbrev pub ReturnInAnyOrder : Type 0
 ReturnInAnyOrder =
-    (N w : ℕ) (h : Memory) → Undamaged N w h → (chosen : ℕ) → answer N w h (returnRoots chosen) .0 .number ≡ 0
+    (N w : ℕ) (h : Memory) → Undamaged N w h → isOpen N h ≡ false → (chosen : ℕ) → answer N w h (returnRoots chosen) .0 .number ≡ 0
     → (order : List ℕ) → EachOnce chosen order → SameAsSingly N w h chosen order
+
+-- the roots of the set that are below n, in ascending order
+unfoldable pub ascending : (chosen n : ℕ) → List ℕ
+ascending chosen zero = []
+ascending chosen (suc n) = ascending chosen n ++ elim (isChosen chosen n) [ true ↦ n ∷ [] | false ↦ [] ]
+
+-- "with one open, in ascending order"; and so with none open, too
+abbrev pub ReturnInAscendingOrder : Type 0
+ReturnInAscendingOrder =
+    (N w : ℕ) (h : Memory) → Undamaged N w h → (chosen : ℕ) → answer N w h (returnRoots chosen) .0 .number ≡ 0
+    → SameAsSingly N w h chosen (ascending chosen (length (h .roots)))
 
 -- "refused with 4 if any bit is at or past the number of roots", and only then
 abbrev pub ReturnRefusedExactly : Type 0

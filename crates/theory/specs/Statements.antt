@@ -11,6 +11,7 @@ use Rattle.rules.specs.Heap.{Memory, withCounts, withCells, withRoots, shaped, 
 use Rattle.rules.specs.Tools.{someBelow}
 use Rattle.rules.specs.Damage.{endOnFree, openEnd, damage}
 use Rattle.rules.specs.Sections.{staleFigures}
+use Rattle.rules.specs.Steps.{isUntidy}
 use Rattle.rules.specs.Store.{formatted, countUp, letGoIn, changeRoot, changeCell, placed, allocateIn}
 use Rattle.rules.specs.Calls.{Call, format, check, allocateAs, testsHeap, answer}
 use Rattle.rules.specs.Collection.{marked, reached}
@@ -24,10 +25,12 @@ pub record Intact (N w : ℕ) (h : Memory) : Type 0 where
   pub right-shape : shaped N w h ≡ true
   pub no-damage : damage N w h ≡ 0
 
--- .. and a true list of sections: refused with none of 1, 2 and 11
+-- .. and a true list of sections, and marks and a second list as they have to be: refused with none of 1, 2,
+-- 11 and 13
 pub record Undamaged (N w : ℕ) (h : Memory) : Type 0 where
   pub intact : Intact N w h
   pub true-list : staleFigures N (h .a) (h .sections) ≡ false
+  pub tidy : isUntidy N h ≡ false
 
 -- "the proved fact that calls keep a heap undamaged"; a format makes one
 abbrev pub CallsKeepUndamaged : Type 0
@@ -36,12 +39,17 @@ CallsKeepUndamaged = (N w : ℕ) (h : Memory) → Undamaged N w h → (call : Ca
 abbrev pub FormatMakesUndamaged : Type 0
 FormatMakesUndamaged = (N w : ℕ) (h : Memory) → shaped N w h ≡ true → Undamaged N w (formatted N w (length (h .roots)))
 
--- "1 as before; 2 if the heap is damaged"; "11 .. next after 2": where the check refuses, every call that tests the heap is refused alike, with
--- the same value, and changes no buffer
+-- "1 as before; 2 if the heap is damaged"; "11 .. next after 2"; "13 .. next after 11": where the check
+-- refuses, every call that tests the heap is refused alike, with the same value, and changes no buffer
 abbrev pub RefusedAsCheck : Type 0
 RefusedAsCheck =
     (N w : ℕ) (h : Memory) (call : Call) → testsHeap call ≡ true → (answer N w h check .0 .number ≡ 0 → ⊥)
     → answer N w h call ≡ answer N w h check
+
+-- only an undamaged heap is accepted, by every call that tests the heap
+abbrev pub AcceptedUndamaged : Type 0
+AcceptedUndamaged =
+    (N w : ℕ) (h : Memory) (call : Call) → testsHeap call ≡ true → answer N w h call .0 .number ≡ 0 → Undamaged N w h
 
 -- 5 is given to allocations alone, of data too: so a run that collects and tries again "When allocation gives
 -- 5" has to look at the number only (`turnOf`, history_turns/specs/Turns.antt)

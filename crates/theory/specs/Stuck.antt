@@ -3,7 +3,7 @@ use Prim.Native.Nat.{ℕ, _+_, _≤_, _<_}
 use mathlib.Core.Path.{_≡_}
 use mathlib.Core.List.{List, [], _∷_, _++_}
 use Rattle.rules.specs.Heap.{Memory, capacity, countOf}
-use Rattle.rules.specs.Calls.{Call, format, check, collect, freeBlocks, allocate, storeRoot, storeCell, look, returnRoots}
+use Rattle.rules.specs.Calls.{Call, format, check, collect, freeBlocks, allocate, storeRoot, storeCell, look, returnRoots, openCollection, takeSteps}
 use Rattle.rules.specs.Calls.{allocateData, writeNumber, readNumber}
 use Rattle.types.specs.declared.Reply.{Reply}
 use Rattle.theory.specs.Words.{Object, numberOfReferences, stored, Made, leftBy}
@@ -23,6 +23,8 @@ writes (returnRoots chosen) x = 0
 writes (allocateData n r) x = 1 + x .value
 writes (writeNumber at j v) x = 0
 writes (readNumber at j) x = 0
+writes openCollection x = 0
+writes (takeSteps budget) x = 0
 
 -- "wrote a reference after which, before that call let anything go, the object had at least that many references": what the call wrote
 -- names the object at b, and with it written the object has as many references as the capacity, or more

@@ -1,15 +1,18 @@
 -- All that the theory states, as one record, which has one proof (`theory`, proofs/Theorems.antt): no statement can be dropped unnoticed.
 use Rattle.theory.specs.Demand.{Demand3}
-use Rattle.theory.specs.Statements.{CallsKeepUndamaged, FormatMakesUndamaged, RefusedAsCheck, FiveToAllocations, EndsOnLast, LeastPower, RefusedExactly, LowestTaken}
+use Rattle.theory.specs.Statements.{CallsKeepUndamaged, FormatMakesUndamaged, RefusedAsCheck, AcceptedUndamaged, FiveToAllocations, EndsOnLast, LeastPower, RefusedExactly, LowestTaken}
 use Rattle.theory.specs.Statements.{ReachedIsLed, EveryListHasAChain, ChainsAppend, ClaimFromUndamaged, ClaimFromFormat, WaitingUnread}
 use Rattle.theory.specs.Statements.{NStepsSuffice, ObjectsAreEnds}
 use Rattle.theory.specs.Spaces.{ClaimWithAnySpaces, EveryListWithAnySpaces}
-use Rattle.theory.specs.Orders.{OrderUnseen}
+use Rattle.theory.specs.Orders.{OrderUnseen, CloseOrderUnseen}
 use Rattle.theory.specs.Balance.{BlocksBalance, BlocksAddUp}
-use Rattle.theory.specs.Returns.{ReturnInAnyOrder, ReturnRefusedExactly}
+use Rattle.theory.specs.Returns.{ReturnInAnyOrder, ReturnInAscendingOrder, ReturnRefusedExactly}
+use Rattle.theory.specs.Steps.{NoStepsNoChange, AllUnlessRanOut, BornMarked}
+use Rattle.theory.specs.Refusals.{ThirteenExactly, FourteenExactly}
+use Rattle.theory.specs.Marks.{MarksOrderUnseen}
 use Rattle.theory.specs.Sections.{SectionsFindLowest, FiguresAreLargest, StaleExactly, ListLeftTrue}
-use Rattle.theory.specs.Moments.{StuckTold, NoneUntold, CollectionSticksNone}
-use Rattle.theory.specs.Data.{DataNeverFollowed, AllocationsMake, NumbersWritten, TwelveExactly, NumbersStay, DataWhileItLives}
+use Rattle.theory.specs.Moments.{StuckTold, NoneUntold, CollectionSticksNone, StepsStickNone}
+use Rattle.theory.specs.Data.{DataNeverFollowed, DataNamesNothing, AllocationsMake, NumbersWritten, TwelveExactly, NumbersStay, DataWhileItLives}
 
 pub record Theory : Type 0 where
   -- demand 3, and what makes it usable
@@ -26,6 +29,7 @@ pub record Theory : Type 0 where
   pub waiting-unread : WaitingUnread
   -- what calls are refused with
   pub refused-as-check : RefusedAsCheck
+  pub accepted-undamaged : AcceptedUndamaged
   pub five-to-allocations : FiveToAllocations
   -- the definitions that try only so often
   pub least-power : LeastPower
@@ -39,10 +43,18 @@ pub record Theory : Type 0 where
   pub objects-are-ends : ObjectsAreEnds
   -- requests
   pub order-unseen : OrderUnseen
+  pub close-order-unseen : CloseOrderUnseen
   pub blocks-balance : BlocksBalance
   pub blocks-add-up : BlocksAddUp
   pub return-in-any-order : ReturnInAnyOrder
+  pub return-in-ascending-order : ReturnInAscendingOrder
   pub return-refused-exactly : ReturnRefusedExactly
+  pub no-steps-no-change : NoStepsNoChange
+  pub all-unless-ran-out : AllUnlessRanOut
+  pub born-marked : BornMarked
+  pub marks-order-unseen : MarksOrderUnseen
+  pub thirteen-exactly : ThirteenExactly
+  pub fourteen-exactly : FourteenExactly
   pub sections-find-lowest : SectionsFindLowest
   pub figures-are-largest : FiguresAreLargest
   pub stale-exactly : StaleExactly
@@ -50,7 +62,9 @@ pub record Theory : Type 0 where
   pub stuck-told : StuckTold
   pub none-untold : NoneUntold
   pub collection-sticks-none : CollectionSticksNone
+  pub steps-stick-none : StepsStickNone
   pub data-never-followed : DataNeverFollowed
+  pub data-names-nothing : DataNamesNothing
   pub allocations-make : AllocationsMake
   pub numbers-written : NumbersWritten
   pub twelve-exactly : TwelveExactly

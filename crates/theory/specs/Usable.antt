@@ -12,7 +12,7 @@ use Rattle.types.specs.declared.Outcome.{Outcome}
 use Rattle.theory.specs.Statements.{Undamaged}
 use Rattle.theory.specs.Balance.{freedBlocks}
 
--- refused with none of 1, 2 and 11, and the waiting list is cleared
+-- refused with none of 1, 2, 11 and 13, and the waiting list is cleared
 pub record Usable (N w : ℕ) (h : Memory) : Type 0 where
   pub undamaged : Undamaged N w h
   pub idle : h .waiting ≡ replicate N 0

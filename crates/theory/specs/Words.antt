@@ -9,8 +9,8 @@ use Rattle.rules.specs.Heap.{Memory, withCells, withRoots, withWaiting, isFirst
 use Rattle.rules.specs.Store.{isChosen}
 use Rattle.rules.specs.Tools.{tabulate}
 use Rattle.rules.specs.Collection.{referencesFrom}
-use Rattle.rules.specs.Calls.{Call, format, check, collect, freeBlocks, allocate, storeRoot, storeCell, look, returnRoots, Answer, lastMemory}
-use Rattle.rules.specs.Calls.{allocateData, writeNumber, readNumber}
+use Rattle.rules.specs.Calls.{Call, format, check, collect, freeBlocks, allocate, storeRoot, storeCell, look, returnRoots, openCollection, takeSteps}
+use Rattle.rules.specs.Calls.{allocateData, writeNumber, readNumber, Answer, lastMemory}
 use Rattle.types.specs.declared.Reply.{Reply}
 
 -- an object of n blocks whose first block is b
@@ -57,6 +57,8 @@ written h check x = h
 written h collect x = h
 written h freeBlocks x = h
 written h (look at) x = h
+written h openCollection x = h
+written h (takeSteps budget) x = h
 written h (returnRoots chosen) x = withRoots (rootsWithout chosen (h .roots)) h
 written h (allocateData n r) x = withRoots (set (h .roots) r (1 + x .value)) h
 written h (writeNumber at j v) x = withCells (set (h .cells) (4 * at + j) v) h

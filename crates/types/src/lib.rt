@@ -27,8 +27,8 @@ pub fn capacity_of(width: usize) -> u8
 }
 
 // "A reply is a number and a value (two values for the look)." An allocation and the two stores have two as well: `second` is 1 where the
-// call brought a count to the capacity (request U5), else 0. In every other reply it is 0. It is laid out as in C, so that the exported calls
-// hand it on as it is.
+// call brought a count to the capacity (request U5), else 0. Of a call that takes steps it is the blocks freed (request U8). In every other
+// reply it is 0. It is laid out as in C, so that the exported calls hand it on as it is.
 #[repr(C)]
 pub struct Reply {
     pub number: usize,

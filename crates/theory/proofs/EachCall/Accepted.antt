@@ -16,11 +16,11 @@ module _ (N w : ℕ) (h : Memory) where
   pub accepted-fit : (c : Call) → testsHeap c ≡ true → answer N w h c .0 .number ≡ 0 → Fit N w h
   accepted-fit c tests e =
       let all = undamaged-passed N w h c tests (accepted-none N w h c e) in
-      undamaged-fit N w h (record { intact = record { right-shape = all .0; no-damage = all .1 }; true-list = all .2 })
+      undamaged-fit N w h (record { intact = record { right-shape = all .0; no-damage = all .1 }; true-list = all .2; tidy = all .3 })
 
   module _ (fit : Fit N w h) where
     pub fit-number : (c : Call) → refusedWith N w h c ≡ firstNumber (ownRefusals N h c)
-    fit-number c = let u = fit-undamaged N w h fit in own-number N w h c (u .intact .right-shape) (u .intact .no-damage) (u .true-list)
+    fit-number c = let u = fit-undamaged N w h fit in own-number N w h c (u .intact .right-shape) (u .intact .no-damage) (u .true-list) (u .tidy)
 
     pub fit-accepted : (c : Call) → Passed N h c → answer N w h c ≡ outcome N w h c
     fit-accepted c p = none-applies N w h c (fit-number c ∙ passed-own N h c p)

@@ -3,37 +3,55 @@ use mathlib.Core.Path.{refl}
 use mathlib.Core.Bool.{true, false}
 use Prim.Native.Nat.{ℕ}
 use Rattle.rules.specs.Heap.{Memory}
-use Rattle.rules.specs.Calls.{Call, format, check, collect, freeBlocks, allocate, storeRoot, storeCell, look, returnRoots, outcome, answer}
-use Rattle.rules.specs.Calls.{allocateData, writeNumber, readNumber}
+use Rattle.rules.specs.Calls.{Call, format, check, collect, freeBlocks, allocate, storeRoot, storeCell, look, returnRoots, openCollection, takeSteps}
+use Rattle.rules.specs.Calls.{allocateData, writeNumber, readNumber, outcome, answer}
 use Rattle.rules.proofs.Replies.{answer-either, Passed, passed}
-use Rattle.theory.proofs.Memories.Healthy.{Healthy}
 use Rattle.theory.proofs.Memories.Fit.{Fit}
 use Rattle.theory.proofs.EachCall.Served.{no-collection, Served, unchanged, refused-served, number-served, format-served}
 use Rattle.theory.proofs.EachCall.StoresServed.{storeRoot-served, storeCell-served, allocate-served}
+use Rattle.theory.proofs.EachCall.Shading.{Sized, shape-sized, settled-beside, freeing-beside, store-root-shading, store-cell-shading}
+use Rattle.theory.proofs.EachCall.Shading.{allocate-shading, return-shading}
+use Rattle.theory.proofs.EachCall.StepsServed.{open-served, steps-served}
+use Rattle.theory.proofs.EachCall.TidyKept.{answer-tidy}
 use Rattle.theory.proofs.EachCall.ReturnsServed.{return-served}
 use Rattle.theory.proofs.EachCall.CollectionServed.{collect-served}
 use Rattle.theory.proofs.EachCall.TrueList.{answer-listed}
 
-outcome-served : (N w : ℕ) (h : Memory) → Healthy N w h → (c : Call) → Passed N h c → Served N w c h (outcome N w h c)
-unfolding outcome Passed
-outcome-served N w h healthy format p = format-served N w h healthy
-outcome-served N w h healthy check p = unchanged N w h healthy check _ (no-collection check refl)
-outcome-served N w h healthy freeBlocks p = unchanged N w h healthy freeBlocks _ (no-collection freeBlocks refl)
-outcome-served N w h healthy collect p = collect-served N w h healthy
-outcome-served N w h healthy (allocate n r) (low, high, place, found) = allocate-served N w h healthy n r _ low high place found false _
-outcome-served N w h healthy (storeRoot r v) (place, ref) = storeRoot-served N w h healthy r v place ref _
-outcome-served N w h healthy (storeCell a j v) (first, place, ordinary, ref) = storeCell-served N w h healthy a j v first place ordinary ref _
-outcome-served N w h healthy (look a) p = unchanged N w h healthy (look a) _ (no-collection (look a) refl)
-outcome-served N w h healthy (returnRoots chosen) p = return-served N w h healthy chosen
-outcome-served N w h healthy (allocateData n r) (low, high, place, found) = allocate-served N w h healthy n r _ low high place found true _
-outcome-served N w h healthy (writeNumber a j x) (first, place, made) = number-served N w h healthy a j x first place made
-outcome-served N w h healthy (readNumber a j) p = unchanged N w h healthy (readNumber a j) _ (no-collection (readNumber a j) refl)
+module _ (N w : ℕ) (h : Memory) (fit : Fit N w h) where
+  sized : Sized N h
+  sized = shape-sized N w h (fit .healthy .shape)
 
-pub answer-served : (N w : ℕ) (h : Memory) → Fit N w h → (c : Call) → Served N w c h (answer N w h c)
-answer-served N w h fit c =
-    answer-either N w h c (λ x. Served N w c h x) (refused-served N w h (fit .healthy) c)
-    (λ e. outcome-served N w h (fit .healthy) c (passed N w h c e))
+  outcome-served : (c : Call) → Passed N h c → Served N w c h (outcome N w h c)
+  unfolding outcome Passed
+  outcome-served format p = format-served N w h (fit .healthy)
+  outcome-served check p = unchanged N w h (fit .healthy) check _ (no-collection check refl)
+  outcome-served freeBlocks p = unchanged N w h (fit .healthy) freeBlocks _ (no-collection freeBlocks refl)
+  outcome-served collect p = collect-served N w h (fit .healthy)
+  outcome-served (allocate n r) (low, high, place, found) =
+      settled-beside N w (allocate n r) h _ refl _ _ (allocate-shading N w h sized false n r _)
+      (allocate-served N w h (fit .healthy) n r _ low high place found false _)
+  outcome-served (storeRoot r v) (place, ref) =
+      freeing-beside N w (storeRoot r v) h _ _ _ refl (store-root-shading N w h sized r v)
+      (storeRoot-served N w h (fit .healthy) r v place ref _)
+  outcome-served (storeCell a j v) (first, place, ordinary, ref) =
+      freeing-beside N w (storeCell a j v) h _ _ _ refl (store-cell-shading N w h sized a j v)
+      (storeCell-served N w h (fit .healthy) a j v first place ordinary ref _)
+  outcome-served (look a) p = unchanged N w h (fit .healthy) (look a) _ (no-collection (look a) refl)
+  outcome-served (returnRoots chosen) p =
+      freeing-beside N w (returnRoots chosen) h _ _ _ refl (return-shading N w h sized chosen _) (return-served N w h (fit .healthy) chosen)
+  outcome-served (allocateData n r) (low, high, place, found) =
+      settled-beside N w (allocateData n r) h _ refl _ _ (allocate-shading N w h sized true n r _)
+      (allocate-served N w h (fit .healthy) n r _ low high place found true _)
+  outcome-served (writeNumber a j x) (first, place, made) = number-served N w h (fit .healthy) a j x first place made
+  outcome-served (readNumber a j) p = unchanged N w h (fit .healthy) (readNumber a j) _ (no-collection (readNumber a j) refl)
+  outcome-served openCollection p = open-served N w h (fit .healthy)
+  outcome-served (takeSteps budget) p = steps-served N w h fit p budget _
+
+  pub answer-served : (c : Call) → Served N w c h (answer N w h c)
+  answer-served c =
+      answer-either N w h c (λ x. Served N w c h x) (refused-served N w h (fit .healthy) c) (λ e. outcome-served c (passed N w h c e))
 
 -- and it leaves the memory fit
 pub answer-fit : (N w : ℕ) (h : Memory) → Fit N w h → (c : Call) → Fit N w (answer N w h c .1)
-answer-fit N w h fit c = record { healthy = answer-served N w h fit c .keep; listed = answer-listed N w h (fit .listed) c }
+answer-fit N w h fit c =
+    record { healthy = answer-served N w h fit c .keep; listed = answer-listed N w h (fit .listed) c; tidy = answer-tidy N w h fit c }

@@ -4,21 +4,25 @@ use mathlib.Core.Path.{_≡_, refl, sym, ap, subst}
 use mathlib.Core.Bool.{Bool, true, false}
 use mathlib.Core.List.{List}
 use mathlib.Core.Option.{Option·getD}
-use Prim.Native.Nat.{ℕ, _+_, _*_}
+use Prim.Native.Nat.{ℕ, _+_, _-_, _*_}
 use lib.Dec.{eqb}
 use lib.ListN.{length, getD}
 use Rattle.bitmap.specs.Bit.{one, zeros}
 use Rattle.rules.specs.Heap.{Memory, withWaiting, shape, shaped, countOf, sizeAt, exponent, lowestFree}
 use Rattle.rules.specs.Damage.{endOnFree, openEnd, unaligned, badCell, badRoot, badCount, strayData, damage}
-use Rattle.rules.specs.Store.{storeRootIn, storeCellIn, returnIn, birthSticks, allocateIn}
+use Rattle.rules.specs.Store.{birthSticks}
 use Rattle.rules.specs.Collection.{collected}
-use Rattle.rules.specs.Calls.{Call, format, check, collect, freeBlocks, allocate, storeRoot, storeCell, look, returnRoots, Answer}
-use Rattle.rules.specs.Calls.{allocateData, writeNumber, readNumber, allocated}
+use Rattle.rules.specs.Steps.{isListed, opened, StepsTaken, progressOf, stepsFrom, stepped}
+use Rattle.rules.specs.Steps.{storeRootShading, storeCellShading, allocateShading, returnShading}
+use Rattle.rules.specs.Calls.{Call, format, check, collect, freeBlocks, allocate, storeRoot, storeCell, look, returnRoots, openCollection, takeSteps}
+use Rattle.rules.specs.Calls.{allocateData, writeNumber, readNumber, allocated, Answer}
 use Rattle.rules.specs.Calls.{reply, ownRefusals, refusals, refusedWith, refused, settled, freeing, outcome, answer}
 use Rattle.types.specs.declared.Reply.{Reply}
-use Rattle.rules.proofs.Unread.{store-root-beside, store-cell-beside, return-beside, allocate-beside, collect-beside}
+use Rattle.rules.proofs.Unread.{store-root-aside, store-cell-aside, return-aside, allocate-aside, collect-beside, open-aside, steps-aside}
+use Rattle.rules.proofs.Unread.{stepped-aside}
 use Rattle.theory.specs.Words.{heapOf}
 use Rattle.theory.specs.Statements.{WaitingUnread}
+use Rattle.theory.proofs.Memories.TidyHeap.{waiting-untidy}
 
 -- what is compared of two answers
 record Alike (x y : Answer) : Type 0 where
@@ -34,7 +38,7 @@ module _ (N w : ℕ) (h : Memory) (x : List ℕ) (same-length : length x ≡ len
       ap
       (λ (n : ℕ).
       shape N w (length (h .a)) (length (h .b)) (length (h .counts)) (length (h .cells)) (length (h .roots)) n (length (h .sections))
-      (length (h .d)))
+      (length (h .d)) (length (h .marks)) (length (h .list)))
       same-length
 
   same-damage : damage N w g ≡ damage N w h
@@ -59,10 +63,12 @@ module _ (N w : ℕ) (h : Memory) (x : List ℕ) (same-length : length x ≡ len
   same-own (allocateData n r) = refl
   same-own (writeNumber a j v) = refl
   same-own (readNumber a j) = refl
+  same-own openCollection = refl
+  same-own (takeSteps budget) = refl
 
   same-number : (c : Call) → refusedWith N w g c ≡ refusedWith N w h c
   unfolding refusedWith refusals
-  same-number c = rw (same-shape, same-damage, same-own c)
+  same-number c = rw (same-shape, same-damage, waiting-untidy N x h, same-own c)
 
   refused-alike : (number : ℕ) → Alike (refused N w g number) (refused N w h number)
   unfolding damage endOnFree openEnd unaligned badCell badRoot badCount strayData
@@ -77,11 +83,11 @@ module _ (N w : ℕ) (h : Memory) (x : List ℕ) (same-length : length x ≡ len
   allocation-alike asData n r =
       let i = Option·getD (lowestFree N (exponent n) (h .a)) 0 in
       let said : Reply = reply 0 i (one (birthSticks w)) in
-      subst (λ (k : Memory). Alike (said, settled N k) (said, settled N (allocateIn N w asData h n r i)))
-      (sym (allocate-beside N w (withWaiting x) h asData n r i)) (record { reply-is = refl; heap-is = refl })
+      subst (λ (k : Memory). Alike (said, settled N k) (said, settled N (allocateShading N w asData h n r i)))
+      (sym (allocate-aside N w (withWaiting x) h asData n r i)) (record { reply-is = refl; heap-is = refl })
 
   outcome-alike : (c : Call) → Alike (outcome N w g c) (outcome N w h c)
-  unfolding outcome
+  unfolding outcome progressOf isListed
   outcome-alike format = record { reply-is = refl; heap-is = refl }
   outcome-alike check = unchanged-alike (reply 0 0 0)
   outcome-alike freeBlocks = unchanged-alike (reply 0 (zeros (h .a)) 0)
@@ -91,13 +97,27 @@ module _ (N w : ℕ) (h : Memory) (x : List ℕ) (same-length : length x ≡ len
   outcome-alike (writeNumber a j v) = record { reply-is = refl; heap-is = refl }
   outcome-alike (readNumber a j) = unchanged-alike (reply 0 (getD (h .cells) (4 * a + j) 0) 0)
   outcome-alike (storeRoot r v) =
-      freeing-alike (storeRootIn N w g r v) (storeRootIn N w h r v) _ (store-root-beside N w (withWaiting x) h r v)
+      freeing-alike (storeRootShading N w g r v) (storeRootShading N w h r v) _ (store-root-aside N w (withWaiting x) h r v)
   outcome-alike (storeCell a j v) =
-      freeing-alike (storeCellIn N w g (4 * a + j) v) (storeCellIn N w h (4 * a + j) v) _ (store-cell-beside N w (withWaiting x) h (4 * a + j) v)
+      freeing-alike (storeCellShading N w g a j v) (storeCellShading N w h a j v) _ (store-cell-aside N w (withWaiting x) h a j v)
   outcome-alike (look a) = unchanged-alike (reply 0 (sizeAt N h a) (countOf N w h a))
   outcome-alike (returnRoots chosen) =
-      freeing-alike (returnIn N w g chosen (length (h .roots))) (returnIn N w h chosen (length (h .roots))) 0
-      (return-beside N w (withWaiting x) h chosen (length (h .roots)))
+      freeing-alike (returnShading N w g chosen (length (h .roots))) (returnShading N w h chosen (length (h .roots))) 0
+      (return-aside N w (withWaiting x) h chosen (length (h .roots)))
+  outcome-alike openCollection =
+      subst (λ (k : Memory). Alike (reply 0 0 0, k) (reply 0 0 0, opened N h)) (sym (open-aside N w (withWaiting x) h))
+      (record { reply-is = refl; heap-is = refl })
+  outcome-alike (takeSteps budget) =
+      let t : StepsTaken = stepsFrom budget N h (progressOf N h) in
+      subst
+      (λ (u : StepsTaken).
+      let k : Memory = stepped N w g budget (u .reached) in
+      Alike (reply 0 (u .steps) (zeros (k .a) - zeros (h .a)), settled N k) (outcome N w h (takeSteps budget)))
+      (sym (steps-aside N w (withWaiting x) h budget (progressOf N h)))
+      (subst
+      (λ (k : Memory). Alike (reply 0 (t .steps) (zeros (k .a) - zeros (h .a)), settled N k) (outcome N w h (takeSteps budget)))
+      (sym (stepped-aside N w (withWaiting x) h budget (t .reached)))
+      (record { reply-is = refl; heap-is = refl }))
 
   answer-alike : (c : Call) → Alike (answer N w g c) (answer N w h c)
   unfolding answer

@@ -13,12 +13,13 @@ use lib.Dec.{eqb}
 use borrow.Author.Tests.{eq-eqb, ne-eqb}
 use Rattle.bitmap.specs.Bit.{zeros}
 use Rattle.rules.specs.Heap.{Memory, withCells, capacity, isFirst, sizeAt, exponent, lowestFree, isRef, isData}
-use Rattle.rules.specs.Store.{formatted, placed, putRoot, putCell, changeRoot, changeCell, storeRootIn, storeCellIn, allocateIn}
-use Rattle.rules.specs.Store.{returnIn}
+use Rattle.rules.specs.Store.{formatted, placed, putRoot, putCell, changeRoot, changeCell, allocateIn}
+use Rattle.rules.proofs.Plain.{storeRootIn, storeCellIn, returnIn}
 use Rattle.rules.specs.Collection.{collected}
-use Rattle.rules.specs.Calls.{Call, format, check, collect, freeBlocks, allocate, storeRoot, storeCell, look, returnRoots, Answer, reply, accepted, refused}
-use Rattle.rules.specs.Calls.{allocateData, writeNumber, readNumber, allocateAs}
-use Rattle.rules.specs.Calls.{testsHeap, freeing, settled, outcome, answer}
+use Rattle.rules.specs.Steps.{isOpen, opened, progressOf, stepsFrom, withProgress, stepped}
+use Rattle.rules.specs.Calls.{Call, format, check, collect, freeBlocks, allocate, storeRoot, storeCell, look, returnRoots, openCollection, takeSteps}
+use Rattle.rules.specs.Calls.{allocateData, writeNumber, readNumber, allocateAs, Answer}
+use Rattle.rules.specs.Calls.{reply, accepted, refused, testsHeap, freeing, settled, outcome, answer}
 use Rattle.types.specs.declared.Reply.{Reply}
 use Rattle.rules.proofs.Replies.{answer-either, accepted-outcome, Passed, passed}
 use Rattle.theory.proofs.Memories.Fit.{Fit}
@@ -45,6 +46,8 @@ use Rattle.theory.proofs.Memories.Stores.{positive, ref-object, store-r
 use Rattle.theory.proofs.EachCall.Accepted.{accepted-fit}
 use Rattle.theory.proofs.EachCall.Clearing.{InSet, returned}
 use Rattle.theory.proofs.EachCall.Answers.{answer-served}
+use Rattle.theory.proofs.EachCall.Shading.{Sized, shape-sized, Shading, store-root-shading, store-cell-shading, allocate-shading, return-shading}
+use Rattle.theory.proofs.EachCall.StepsServed.{steps-served, steps-or-gone}
 
 -- ---- sums
 
@@ -308,22 +311,58 @@ module _ (N w : ℕ) (h : Memory) (fit : Fit N w h) where
               (elim (runs-leave cap roots (λ j. ⊥) pos (ends .runs) .objects b) [ inl e ↦ inl (e ∙ other) | inr e ↦ inr (e .0) ]));
         }
 
+  -- ---- request U8
+
+  sized : Sized N h
+  sized = shape-sized N w h (healthy .shape)
+
+  -- the mark map and the second list are not read
+  settled-even : (c : Call) (x : Reply) (g g′ : Memory) → Shading N g g′ → Even N c h (x, settled N g) → Even N c h (x, settled N g′)
+  unfolding freedBlocks freedAt
+  settled-even c x g g′ s even = subst (λ (k : Memory). Even N c h (x, settled N k)) (sym (s .is)) (record { kept = even .kept })
+
+  freeing-even :
+      (c : Call) (g g′ : Memory) (second : ℕ) → Shading N g g′ → Even N c h (freeing N h g second) → Even N c h (freeing N h g′ second)
+  unfolding freeing freedBlocks freedAt
+  freeing-even c g g′ second s even = subst (λ (k : Memory). Even N c h (freeing N h k second)) (sym (s .is)) (record { kept = even .kept })
+
+  open-even : Even N openCollection h (accepted (opened N h) 0)
+  unfolding allocates opened withProgress
+  open-even = plain openCollection _ (opened N h) refl (same-blocks (opened N h) refl refl)
+
+  steps-even :
+      isOpen N h ≡ true → (budget second : ℕ)
+      → let t = stepsFrom budget N h (progressOf N h) in
+      Even N (takeSteps budget) h (reply 0 (t .steps) second, settled N (stepped N w h budget (t .reached)))
+  unfolding allocates
+  steps-even is-open budget second =
+      let g : Memory = stepped N w h budget ((stepsFrom budget N h (progressOf N h)) .reached) in
+      plain (takeSteps budget) _ (settled N g) refl
+      (balance-freed N h (settled N g) sizes (sizesOf N (g .a) (g .b)) (healthy .represents)
+      (steps-served N w h fit is-open budget second .keep .represents) (steps-or-gone N w h fit is-open budget))
+
   outcome-even : (c : Call) → Passed N h c → Even N c h (outcome N w h c)
   unfolding outcome Passed allocates
   outcome-even format p = format-even
   outcome-even check p = plain check _ h refl (same-blocks h refl refl)
   outcome-even freeBlocks p = plain freeBlocks _ h refl (same-blocks h refl refl)
   outcome-even collect p = collect-even
-  outcome-even (allocate n r) (low, high, place, found) = allocate-even n r _ low place found false _
-  outcome-even (allocateData n r) (low, high, place, found) = allocate-even n r _ low place found true _
+  outcome-even (allocate n r) (low, high, place, found) =
+      settled-even (allocate n r) _ _ _ (allocate-shading N w h sized false n r _) (allocate-even n r _ low place found false _)
+  outcome-even (allocateData n r) (low, high, place, found) =
+      settled-even (allocateData n r) _ _ _ (allocate-shading N w h sized true n r _) (allocate-even n r _ low place found true _)
   outcome-even (writeNumber a j x) p =
       let g : Memory = withCells (set (h .cells) (4 * a + j) x) h in
       plain (writeNumber a j x) (reply 0 0 0) g refl (same-blocks g refl refl)
   outcome-even (readNumber a j) p = plain (readNumber a j) _ h refl (same-blocks h refl refl)
-  outcome-even (storeRoot r v) (place, ref) = store-root-even r v _ place ref
-  outcome-even (storeCell a j v) (first, place, ordinary, ref) = store-cell-even a j v _ first place ordinary ref
+  outcome-even (storeRoot r v) (place, ref) =
+      freeing-even (storeRoot r v) _ _ _ (store-root-shading N w h sized r v) (store-root-even r v _ place ref)
+  outcome-even (storeCell a j v) (first, place, ordinary, ref) =
+      freeing-even (storeCell a j v) _ _ _ (store-cell-shading N w h sized a j v) (store-cell-even a j v _ first place ordinary ref)
   outcome-even (look a) p = plain (look a) _ h refl (same-blocks h refl refl)
-  outcome-even (returnRoots chosen) p = return-even chosen
+  outcome-even (returnRoots chosen) p = freeing-even (returnRoots chosen) _ _ _ (return-shading N w h sized chosen _) (return-even chosen)
+  outcome-even openCollection p = open-even
+  outcome-even (takeSteps budget) p = steps-even p budget _
 
   pub answer-even : (c : Call) → Even N c h (answer N w h c)
   answer-even c = answer-either N w h c (λ x. Even N c h x) (refused-even c) (λ e. outcome-even c (passed N w h c e))
@@ -352,6 +391,18 @@ module _ (N w : ℕ) (h : Memory) where
       let even = even-zeros c (accepted-fit N w h c tests e) e in
       record { by-objects = omega (arith, grown, even, nothing); by-zeros = omega (arith, grown, even, nothing) }
 
+  -- request U8: the blocks freed are the second value
+  steps-value :
+      (budget : ℕ) → let x = answer N w h (takeSteps budget) in
+      x .0 .number ≡ 0 → (x .0 .second ≡ freedBlocks N h (x .1)) × (zeros (h .a) + x .0 .second ≡ zeros (x .1 .a))
+  unfolding outcome allocates
+  steps-value budget e =
+      let c : Call = takeSteps budget in
+      let grown =
+      subst (λ (x : Answer). x .0 .second ≡ zeros (x .1 .a) - zeros (h .a)) (sym (accepted-outcome N w h c e)) refl in
+      let even = even-zeros c (accepted-fit N w h c refl e) e in
+      (omega (arith, grown, even), omega (arith, grown, even))
+
 pub blocks-add-up : BlocksAddUp
 unfolding outcome freeing allocates
 blocks-add-up N w h =
@@ -360,6 +411,7 @@ blocks-add-up N w h =
       store-cell = λ a j v. freed-value N w h (storeCell a j v) refl refl refl;
       return-roots = λ chosen. freed-value N w h (returnRoots chosen) refl refl refl;
       collection = freed-value N w h collect refl refl refl;
+      steps = steps-value N w h;
       allocation = allocation;
     }
   where

@@ -13,7 +13,8 @@ use borrow.Author.Tests.{eqb-true, eqb-false}
 use Rattle.bitmap.specs.Bit.{bitOf, zeros}
 use Rattle.bitmap.proofs.Rewrites.{same}
 use Rattle.rules.specs.Heap.{Memory, withRoots, capacity, isRef}
-use Rattle.rules.specs.Store.{work, countUp, letGo, putRoot, changeRoot, storeRootIn, isChosen, clearChosen, returnIn}
+use Rattle.rules.specs.Store.{work, countUp, letGo, putRoot, changeRoot, isChosen}
+use Rattle.rules.proofs.Plain.{storeRootIn, clearChosen, returnIn}
 use Rattle.rules.specs.Calls.{settled}
 use Rattle.rules.proofs.Objects.{ref-test}
 use Rattle.theory.proofs.Graphs.Graph as graph

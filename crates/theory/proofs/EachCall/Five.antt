@@ -1,11 +1,12 @@
 -- Number 5 is given to allocations alone: no other call has it in its list of refusals.
-use mathlib.Core.Path.{_≡_, refl, sym, _∙_}
+use mathlib.Core.Path.{refl, sym, _∙_}
 use mathlib.Core.Logic.{_≢_}
 use mathlib.Core.Bool.{true, false}
 use Prim.Native.Nat.{ℕ}
 use native.Mathlib.Omega.{arith}
 use Rattle.rules.specs.Heap.{Memory}
 use Rattle.rules.specs.Calls.{format, check, collect, freeBlocks, allocate, storeRoot, storeCell, look, returnRoots, allocateData, writeNumber, readNumber}
+use Rattle.rules.specs.Calls.{openCollection, takeSteps}
 use Rattle.rules.specs.Calls.{Call, ownRefusals, refusals, refusedWith, answer}
 use Rattle.rules.proofs.Tests.{Each, done, also, first-other}
 use Rattle.rules.proofs.Replies.{number-is}
@@ -15,7 +16,7 @@ pub not-five :
     (N w : ℕ) (h : Memory) (call : Call) → Each (λ k. k .0 ≢ 5) (ownRefusals N h call) → answer N w h call .0 .number ≢ 5
 unfolding refusedWith refusals
 not-five N w h call own e =
-    first-other 5 _ (omega arith) (also (omega arith) (also (omega arith) (also (omega arith) own))) (sym (number-is N w h call) ∙ e)
+    first-other 5 _ (omega arith) (also (omega arith) (also (omega arith) (also (omega arith) (also (omega arith) own)))) (sym (number-is N w h call) ∙ e)
 
 pub store-root-not-five : (N w : ℕ) (h : Memory) (r v : ℕ) → answer N w h (storeRoot r v) .0 .number ≢ 5
 unfolding ownRefusals
@@ -39,5 +40,7 @@ five-to-allocations N w h (look at) e = absurd (not-five N w h (look at) (also (
 five-to-allocations N w h (returnRoots chosen) e = absurd (not-five N w h (returnRoots chosen) (also (omega arith) done) e)
 five-to-allocations N w h format e = absurd (not-five N w h format done e)
 five-to-allocations N w h check e = absurd (not-five N w h check done e)
-five-to-allocations N w h collect e = absurd (not-five N w h collect done e)
+five-to-allocations N w h collect e = absurd (not-five N w h collect (also (omega arith) done) e)
+five-to-allocations N w h openCollection e = absurd (not-five N w h openCollection (also (omega arith) done) e)
+five-to-allocations N w h (takeSteps budget) e = absurd (not-five N w h (takeSteps budget) (also (omega arith) done) e)
 five-to-allocations N w h freeBlocks e = absurd (not-five N w h freeBlocks done e)

@@ -12,11 +12,12 @@ use Rattle.bitmap.specs.Bit.{one}
 use Rattle.bitmap.proofs.Maps.{bit-set-same}
 use Rattle.rules.specs.Heap.{Memory, withRoots, capacity, exponent, lowestFree}
 use Rattle.rules.specs.Store.{putRoot, placed, allocateIn}
+use Rattle.rules.specs.Steps.{allocateShading}
 use Rattle.rules.specs.Calls.{Call, allocate, allocateData, Answer, settled, outcome}
 use Rattle.rules.proofs.Replies.{accepted-none, accepted-outcome, Passed, passed}
 use Rattle.theory.specs.Words.{Object}
 use Rattle.theory.specs.Data.{Makes, AllocationsMake}
-use Rattle.theory.proofs.Maps.Extents.{sizesOf, length-sizes-of}
+use Rattle.theory.proofs.Maps.Extents.{Represents, sizesOf, length-sizes-of}
 use Rattle.theory.proofs.Maps.LowestChunk.{Room, room}
 use Rattle.theory.proofs.Graphs.Graph as graph
 use Rattle.theory.proofs.Graphs.Graph.{Graph, size, place}
@@ -29,6 +30,7 @@ use Rattle.theory.proofs.Memories.Healthy.{Healthy}
 use Rattle.theory.proofs.Memories.Leads.{size-object}
 use Rattle.theory.proofs.Memories.Stores.{memoryLeft, LetsGo, positive, room-vacant, allocate-root}
 use Rattle.theory.proofs.EachCall.Accepted.{accepted-fit}
+use Rattle.theory.proofs.EachCall.Shading.{shape-sized, allocate-shading}
 use Rattle.theory.proofs.EachCall.Stay.{let-go-rewrites}
 
 kind-bit : (t : Bool) → eqb (one t) 1 ≡ t
@@ -52,6 +54,10 @@ module _ (N w : ℕ) (h : Memory) (healthy : Healthy N w h) (asData : Bool) (n r
   lets-go : LetsGo N w (length (h .roots)) written (getD (h .roots) r 0) (graph.allocate (capacity w) (length (h .roots)) (view N w h) i n r)
   lets-go = allocate-root N w h healthy n i nonzero space asData r l
 
+  stands-for : Represents N (end .a) (end .b) (sizesIn N end)
+  unfolding allocateIn putRoot placed
+  stands-for = lets-go .shows .represents
+
   -- root r names it, so it stands
   size-there : getD (sizesIn N end) i 0 ≡ n
   unfolding allocateIn putRoot placed graph.allocate
@@ -73,14 +79,16 @@ module _ (N w : ℕ) (h : Memory) (healthy : Healthy N w h) (asData : Bool) (n r
   kept =
       let-go-rewrites N w (length (h .roots)) written (getD (h .roots) r 0) lets-go .keeps i (λ z. nonzero (sym size-there ∙ z))
 
+  pub stands-there : Object N end i n
+  stands-there =
+      subst (λ (m : ℕ). Object N end i m) size-there
+      (size-object N end (sizesIn N end) stands-for i (λ z. nonzero (sym size-there ∙ z)))
+
   makes : Makes N asData n i (settled N end)
   unfolding allocateIn putRoot placed
   makes =
-      let there : Object N end i n =
-      subst (λ (m : ℕ). Object N end i m) size-there
-      (size-object N end (sizesIn N end) (lets-go .shows .represents) i (λ z. nonzero (sym size-there ∙ z))) in
       record {
-        object = record { first = there .first; size = there .size };
+        object = record { first = stands-there .first; size = stands-there .size };
         kind =
             ap (λ (v : ℕ). eqb v 1)
             (kept .kind
@@ -91,15 +99,23 @@ module _ (N w : ℕ) (h : Memory) (healthy : Healthy N w h) (asData : Bool) (n r
             ∙ cleared-in (h .cells) (4 * i) (4 * n) (4 * i + j) (omega arith, omega arith);
       }
 
+  -- with a collection open the marks and the second list change besides
+  shaded-makes : Makes N asData n i (settled N (allocateShading N w asData h n r i))
+  shaded-makes =
+      let made = makes in
+      subst (λ (g : Memory). Makes N asData n i (settled N g))
+      (sym (allocate-shading N w h (shape-sized N w h (healthy .shape)) asData n r i .is))
+      (record { object = record { first = made .object .first; size = made .object .size }; kind = made .kind; cells = made .cells })
+
 pub allocations-make : AllocationsMake
 unfolding outcome Passed
 allocations-make N w h true n r accepted =
     let c : Call = allocateData n r in
     let p = passed N w h c (accepted-none N w h c accepted) in
     subst (λ (x : Answer). Makes N true n (x .0 .value) (x .1)) (sym (accepted-outcome N w h c accepted))
-    (makes N w h (accepted-fit N w h c refl accepted .healthy) true n r _ (p .0) (p .2) (p .3))
+    (shaded-makes N w h (accepted-fit N w h c refl accepted .healthy) true n r _ (p .0) (p .2) (p .3))
 allocations-make N w h false n r accepted =
     let c : Call = allocate n r in
     let p = passed N w h c (accepted-none N w h c accepted) in
     subst (λ (x : Answer). Makes N false n (x .0 .value) (x .1)) (sym (accepted-outcome N w h c accepted))
-    (makes N w h (accepted-fit N w h c refl accepted .healthy) false n r _ (p .0) (p .2) (p .3))
+    (shaded-makes N w h (accepted-fit N w h c refl accepted .healthy) false n r _ (p .0) (p .2) (p .3))

@@ -4,6 +4,7 @@ use mathlib.Core.Path.{_≡_, refl, sym, ap, _∙_, subst}
 use mathlib.Core.Logic.{_≢_, _⊎_, _↔_, inl, inr}
 use mathlib.Core.Bool.{Bool, true, false, not, _&&_, true≢false}
 use mathlib.Core.Option.{some}
+use mathlib.Core.List.{[]}
 use Prim.Native.Nat.{ℕ, zero, suc, _+_, _-_, _*_, _/_, _≤_, _<_, min}
 use native.Mathlib.Decide.{ℕ-discrete}
 use native.Mathlib.Omega.{arith}
@@ -14,14 +15,16 @@ use borrow.Author.Tests.{ne-eqb, eqb-true, eqb-false}
 use Rattle.bitmap.specs.Bit.{one, zeros}
 use Rattle.planes.proofs.Counts.{count-lt}
 use Rattle.rules.specs.Heap.{Memory, withCounts, capacity, countOf, isFirst, sizeAt, exponent, lowestFree, isRef, isData}
-use Rattle.rules.specs.Store.{countUp, sticks, putRoot, putCell, changeRoot, changeCell, storeRootIn, storeCellIn, storeSticks, birthSticks}
+use Rattle.rules.specs.Store.{countUp, sticks, putRoot, putCell, changeRoot, changeCell, storeSticks, birthSticks}
+use Rattle.rules.proofs.Plain.{storeRootIn, storeCellIn}
 use Rattle.rules.specs.Store.{placed, allocateIn}
 use Rattle.rules.specs.Collection.{collected}
-use Rattle.rules.specs.Calls.{Call, format, check, collect, freeBlocks, allocate, storeRoot, storeCell, look, returnRoots, Answer, reply}
-use Rattle.rules.specs.Calls.{allocateData, writeNumber, readNumber, allocateAs}
-use Rattle.rules.specs.Calls.{testsHeap, settled, freeing, outcome, answer}
+use Rattle.rules.specs.Steps.{isOpen}
+use Rattle.rules.specs.Calls.{Call, format, check, collect, freeBlocks, allocate, storeRoot, storeCell, look, returnRoots, openCollection, takeSteps}
+use Rattle.rules.specs.Calls.{allocateData, writeNumber, readNumber, allocateAs, Answer}
+use Rattle.rules.specs.Calls.{reply, testsHeap, ownRefusals, settled, freeing, outcome, answer}
 use Rattle.types.specs.declared.Reply.{Reply}
-use Rattle.rules.proofs.Tests.{test-cases}
+use Rattle.rules.proofs.Tests.{test-cases, first-found}
 use Rattle.rules.proofs.Replies.{accepted-none, accepted-outcome, Passed, passed}
 use Rattle.rules.proofs.Objects.{first-facts}
 use Rattle.rules.proofs.Tabulate.{length-tabulate}
@@ -44,7 +47,8 @@ use Rattle.theory.proofs.Memories.ViewRelease.{Shows}
 use Rattle.theory.proofs.Memories.Stores.{positive, ref-object, raised-shows, store-root, cell-place, store-cell}
 use Rattle.theory.proofs.Memories.Stores.{room-vacant, placed-shows, allocate-root}
 use Rattle.theory.proofs.Memories.Fit.{Fit}
-use Rattle.theory.proofs.EachCall.Accepted.{accepted-fit, fit-accepted}
+use Rattle.theory.proofs.EachCall.Accepted.{accepted-fit, fit-accepted, fit-refused}
+use Rattle.theory.proofs.EachCall.Shading.{shape-sized, Shading, store-root-shading, store-cell-shading, allocate-shading}
 use Rattle.theory.proofs.EachCall.StoresServed.{store-healthy, allocate-served}
 use Rattle.theory.proofs.EachCall.CollectionServed.{unstuck, collect-served}
 use Rattle.theory.proofs.EachCall.Answers.{answer-served}
@@ -307,6 +311,35 @@ module _ (N w : ℕ) (h : Memory) (healthy : Healthy N w h) where
           yes-or-no = one-or-none (birthSticks w);
         }
 
+-- ---- the mark map and the second list (request U8) are not read
+
+module _ (N w : ℕ) (c : Call) (h : Memory) where
+  settled-tells : (x : Reply) (g g′ : Memory) → Shading N g g′ → Tells N w c h x (settled N g) → Tells N w c h x (settled N g′)
+  settled-tells x g g′ s t =
+      subst (λ (k : Memory). Tells N w c h x (settled N k)) (sym (s .is))
+      (record {
+        once-counted = t .once-counted;
+        afterwards = (
+          λ yes.
+              let found = t .afterwards .0 yes in
+              let at = found .1 in
+              (found .0, record { reference = at .reference; below = at .below; stands = at .stands; full = at .full }),
+          λ stuck.
+              let at = stuck .1 in
+              t .afterwards .1 (stuck .0, record { reference = at .reference; below = at .below; stands = at .stands; full = at .full }),
+        );
+        yes-or-no = t .yes-or-no;
+      })
+
+  freeing-tells :
+      (g g′ : Memory) (second : ℕ) → Shading N g g′ → let x = freeing N h g second in Tells N w c h (x .0) (x .1)
+      → let y = freeing N h g′ second in Tells N w c h (y .0) (y .1)
+  unfolding freeing
+  freeing-tells g g′ second s t =
+      subst (λ (k : Memory). let y = freeing N h k second in Tells N w c h (y .0) (y .1)) (sym (s .is))
+      (settled-tells (freeing N h g second .0) g _
+      (record { marks = s .marks; list = s .list; is = refl; length-marks = s .length-marks; length-list = s .length-list }) t)
+
 -- ---- the calls, whatever the heap and the arguments
 
 -- the outcome tells, on a healthy memory; so does every accepted answer
@@ -323,16 +356,24 @@ unfolding outcome Passed
 stuck-told N w h =
     record {
       allocation = allocation;
-      store-root = λ r v. tells N w h (storeRoot r v) refl (λ healthy p. root-tells N w h healthy r v (p .0) (p .1));
-      store-cell = λ a j v. tells N w h (storeCell a j v) refl (λ healthy p. cell-tells N w h healthy a j v (p .0) (p .1) (p .2) (p .3));
+      store-root = λ r v. tells N w h (storeRoot r v) refl (λ healthy p.
+          freeing-tells N w (storeRoot r v) h _ _ _ (store-root-shading N w h (shape-sized N w h (healthy .shape)) r v)
+          (root-tells N w h healthy r v (p .0) (p .1)));
+      store-cell = λ a j v. tells N w h (storeCell a j v) refl (λ healthy p.
+          freeing-tells N w (storeCell a j v) h _ _ _ (store-cell-shading N w h (shape-sized N w h (healthy .shape)) a j v)
+          (cell-tells N w h healthy a j v (p .0) (p .1) (p .2) (p .3)));
     }
   where
     allocation : (asData : Bool) (n r : ℕ) → let x = answer N w h (allocateAs asData n r) in
         x .0 .number ≡ 0 → Tells N w (allocateAs asData n r) h (x .0) (x .1)
     allocation true n r =
-        tells N w h (allocateData n r) refl (λ healthy p. allocate-tells N w h healthy true n r _ (p .0) (p .1) (p .2) (p .3))
+        tells N w h (allocateData n r) refl (λ healthy p.
+        settled-tells N w (allocateData n r) h _ _ _ (allocate-shading N w h (shape-sized N w h (healthy .shape)) true n r _)
+        (allocate-tells N w h healthy true n r _ (p .0) (p .1) (p .2) (p .3)))
     allocation false n r =
-        tells N w h (allocate n r) refl (λ healthy p. allocate-tells N w h healthy false n r _ (p .0) (p .1) (p .2) (p .3))
+        tells N w h (allocate n r) refl (λ healthy p.
+        settled-tells N w (allocate n r) h _ _ _ (allocate-shading N w h (shape-sized N w h (healthy .shape)) false n r _)
+        (allocate-tells N w h healthy false n r _ (p .0) (p .1) (p .2) (p .3)))
 
 -- ---- no moment goes untold
 
@@ -369,15 +410,17 @@ module _ (N w : ℕ) (h : Memory) (fit : Fit N w h) where
       go (returnRoots chosen) was is low top wrote = absurd (omega (arith, wrote .reference))
       go (writeNumber a j x) was is low top wrote = absurd (omega (arith, wrote .reference))
       go (readNumber a j) was is low top wrote = absurd (omega (arith, wrote .reference))
+      go openCollection was is low top wrote = absurd (omega (arith, wrote .reference))
+      go (takeSteps budget) was is low top wrote = absurd (omega (arith, wrote .reference))
 
   -- ---- the collection
 
-  pub collection-sticks-none :
-      (b : ℕ) → isFirst N h b ≡ true → countOf N w h b < capacity w → countOf N w (answer N w h collect .1) b < capacity w
+  accepted-none-stuck :
+      isOpen N h ≡ false → (b : ℕ) → isFirst N h b ≡ true → countOf N w h b < capacity w → countOf N w (answer N w h collect .1) b < capacity w
   unfolding outcome freeing Passed
-  collection-sticks-none b was low =
+  accepted-none-stuck none b was low =
       let left : Memory = settled N (collected N w h) in
-      let answered = ap (λ (x : Answer). countOf N w (x .1) b) (fit-accepted N w h fit collect tt) in
+      let answered = ap (λ (x : Answer). countOf N w (x .1) b) (fit-accepted N w h fit collect none) in
       let bounded = count-lt (N / 8) w (left .counts) b in
       elim (test-cases (isFirst N left b)) [
         | inl is ↦ elim (ℕ-discrete (countOf N w left b) (capacity w)) [
@@ -392,4 +435,16 @@ module _ (N w : ℕ) (h : Memory) (fit : Fit N w h) where
                   .no-count b (first-facts N (h .a) (h .b) b was .inside) gone,
               positive N w h healthy,
             )
+      ]
+
+  -- with one open it is refused
+  pub collection-sticks-none :
+      (b : ℕ) → isFirst N h b ≡ true → countOf N w h b < capacity w → countOf N w (answer N w h collect .1) b < capacity w
+  unfolding ownRefusals
+  collection-sticks-none b was low =
+      elim (test-cases (isOpen N h)) [
+        | inl e ↦
+            let refused = fit-refused N w h fit collect (λ z. omega (arith, first-found 14 (isOpen N h) [] e, z)) in
+            rw (ap (λ (x : Answer). countOf N w (x .1) b) refused) low
+        | inr e ↦ accepted-none-stuck e b was low
       ]

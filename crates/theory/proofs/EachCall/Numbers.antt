@@ -21,6 +21,7 @@ use Rattle.theory.proofs.Graphs.Stretch.{Inside}
 use Rattle.rules.proofs.Reading.{read-free}
 use Rattle.theory.proofs.Memories.Reading.{data-read, ordinary-read}
 use Rattle.theory.proofs.Memories.Healthy.{Healthy}
+use Rattle.theory.proofs.Memories.TidyHeap.{read-untidy}
 use Rattle.theory.proofs.Memories.Fit.{Fit}
 use Rattle.theory.proofs.Memories.Leads.{object-size}
 use Rattle.theory.proofs.Memories.Stores.{cell-below}
@@ -52,7 +53,12 @@ module _ (N w : ℕ) (h : Memory) (fit : Fit N w h) (at j x : ℕ) (first : isFi
   left = withCells (set (h .cells) (4 * at + j) x) h
 
   left-fit : Fit N w left
-  left-fit = record { healthy = number-healthy N w h (fit .healthy) at j x first l made; listed = fit .listed }
+  left-fit =
+      record {
+        healthy = number-healthy N w h (fit .healthy) at j x first l made;
+        listed = fit .listed;
+        tidy = read-untidy N h (set (h .cells) (4 * at + j) x) (number-references N w h (fit .healthy) at j x first l made) ∙ fit .tidy;
+      }
 
   number-stands : NumberStands N w h at j x left
   unfolding outcome Passed

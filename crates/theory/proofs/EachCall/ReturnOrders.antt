@@ -14,8 +14,11 @@ use Rattle.bitmap.proofs.Bits.{bit-lt, bits-past, some-bit-past}
 use Rattle.rules.specs.Tools.{firstNumber}
 use Rattle.rules.specs.Heap.{Memory, capacity, withWaiting, withSections}
 use Rattle.rules.specs.Sections.{figures}
-use Rattle.rules.specs.Store.{storeRootIn, storeSticks, chosenBelow, returnIn}
+use Rattle.rules.specs.Store.{storeSticks, chosenBelow}
+use Rattle.rules.proofs.Plain.{storeRootIn, returnIn}
+use Rattle.rules.specs.Steps.{isOpen}
 use Rattle.rules.specs.Calls.{storeRoot, returnRoots, Answer, ownRefusals, settled, freeing, outcome, answer, run, lastMemory}
+use Rattle.rules.proofs.Unread.{Keeps, store-root-keeps, return-keeps}
 use Rattle.rules.proofs.Replies.{number-is, accepted-none, accepted-outcome, Passed, passed}
 use Rattle.theory.specs.Returns.{freedInAll, clearedSingly, EachOnce, SameAsSingly}
 use Rattle.theory.proofs.Graphs.Occurrences.{equals-same, equals-cases, occurrences, occurrences-nil, occurrences-cons}
@@ -24,6 +27,8 @@ use Rattle.theory.proofs.Memories.View.{view}
 use Rattle.theory.proofs.Memories.Slots.{occurrences-holding}
 use Rattle.theory.proofs.Memories.Healthy.{Healthy}
 use Rattle.theory.proofs.Memories.Fit.{Listed, Fit}
+use Rattle.theory.proofs.Memories.TidyHeap.{settled-untidy, none-passes}
+use Rattle.theory.proofs.EachCall.TidyKept.{store-root-none, return-none, keeps-none}
 use Rattle.theory.proofs.Memories.SameView.{same-memory}
 use Rattle.theory.proofs.Memories.Stores.{positive}
 use Rattle.theory.proofs.EachCall.Accepted.{fit-number, fit-accepted}
@@ -32,10 +37,12 @@ use Rattle.theory.proofs.EachCall.Clearing.{none-ref, Cleared, cleared-
 -- ---- roots cleared singly
 
 clear-answered :
-    (N w : ℕ) (g : Memory) → Fit N w g → (r : ℕ) → r < length (g .roots)
+    (N w : ℕ) (g : Memory) → Fit N w g → isOpen N g ≡ false → (r : ℕ) → r < length (g .roots)
     → answer N w g (storeRoot r 0) ≡ freeing N g (storeRootIn N w g r 0) (one (storeSticks N w (g .counts) (getD (g .roots) r 0) 0))
 unfolding outcome Passed
-clear-answered N w g fit r l = fit-accepted N w g fit (storeRoot r 0) (l, none-ref N g)
+clear-answered N w g fit none r l =
+    fit-accepted N w g fit (storeRoot r 0) (l, none-ref N g)
+    ∙ ap (λ (k : Memory). freeing N g k (one (storeSticks N w (g .counts) (getD (g .roots) r 0) 0))) (store-root-none N w g none r 0)
 
 -- root i stands in the list
 abbrev Ordered : List ℕ → ℕ → Type 0
@@ -46,30 +53,34 @@ record ClearedBy (N w : ℕ) (S : ℕ → Type 0) (order : List ℕ) (g g′ : M
   cleared : Cleared N w S (Ordered order) g g′
   blocks : zeros (g′ .a) ≡ zeros (g .a) + freedInAll answers
   listed : Listed N g′
+  keeps : Keeps g g′
 
 singly :
-    (N w : ℕ) (S : ℕ → Type 0) (order : List ℕ) (g : Memory) → Fit N w g
+    (N w : ℕ) (S : ℕ → Type 0) (order : List ℕ) (g : Memory) → Fit N w g → isOpen N g ≡ false
     → ((i : ℕ) → Ordered order i → (i < length (g .roots)) × S i)
     → ClearedBy N w S order g (lastMemory g (clearedSingly N w g order)) (clearedSingly N w g order)
 unfolding run lastMemory freedInAll freeing
-singly N w S [] g fit each =
+singly N w S [] g fit shut each =
     let none = cleared-none N w S g (fit .healthy) in
     record {
       cleared = cleared-then N w S (λ i. ⊥) (λ i. ⊥) (Ordered []) g g g none none (λ i o. absurd (omega (arith, occurrences-nil i)));
       blocks = omega arith;
       listed = fit .listed;
+      keeps = record { marks = refl; list = refl };
     }
-singly N w S (r ∷ order) g fit each =
+singly N w S (r ∷ order) g fit shut each =
     let here = each r (omega (arith, occurrences-cons r r order, equals-same r r refl)) in
     let one = root-cleared N w S g (fit .healthy) r (here .0) (here .1) in
     let next : Memory = settled N (storeRootIn N w g r 0) in
     let first = cleared-settled N w S (λ i. i ≡ r) g (storeRootIn N w g r 0) one in
+    let same = store-root-keeps N w g r 0 in
+    let tidied = settled-untidy N (storeRootIn N w g r 0) ∙ none-passes N g (storeRootIn N w g r 0) shut (same .marks) (same .list) (fit .tidy) in
     let more =
-    singly N w S order next (record { healthy = first .healthy; listed = refl })
+    singly N w S order next (record { healthy = first .healthy; listed = refl; tidy = tidied }) (keeps-none N g (storeRootIn N w g r 0) same shut)
     (λ i o. let at = each i (omega (arith, occurrences-cons i r order)) in (omega (arith, first .roots-are, at .0), at .1)) in
     subst
     (λ (x : Answer). ClearedBy N w S (r ∷ order) g (lastMemory (x .1) (clearedSingly N w (x .1) order)) (x ∷ clearedSingly N w (x .1) order))
-    (sym (clear-answered N w g fit r (here .0)))
+    (sym (clear-answered N w g fit shut r (here .0)))
     (record {
       cleared =
           cleared-then N w S (λ i. i ≡ r) (Ordered order) (Ordered (r ∷ order)) g next (lastMemory next (clearedSingly N w next order)) first
@@ -77,11 +88,13 @@ singly N w S (r ∷ order) g fit each =
           (λ i o. elim (equals-cases r i) [ inl c ↦ inl (sym (c .0)) | inr c ↦ inr (omega (arith, occurrences-cons i r order, c .1)) ]);
       blocks = omega (arith, more .blocks, one .grows);
       listed = more .listed;
+      keeps = record { marks = more .keeps .marks ∙ same .marks; list = more .keeps .list ∙ same .list };
     })
 
 -- ---- the return
 
-module _ (N w : ℕ) (h : Memory) (fit : Fit N w h) (chosen : ℕ) (passed : chosen / 2 ^ length (h .roots) ≡ 0) (order : List ℕ)
+module _ (N w : ℕ) (h : Memory) (fit : Fit N w h) (shut : isOpen N h ≡ false) (chosen : ℕ) (passed : chosen / 2 ^ length (h .roots) ≡ 0)
+    (order : List ℕ)
     (each : EachOnce chosen order) where
   abbrev healthy : Healthy N w h
   healthy = fit .healthy
@@ -113,7 +126,7 @@ module _ (N w : ℕ) (h : Memory) (fit : Fit N w h) (chosen : ℕ) (passed : cho
   chosen-listed i s = omega (arith, each i, occurrences-holding i order, s .1)
 
   ran : ClearedBy N w Chosen order h last (clearedSingly N w h order)
-  ran = singly N w Chosen order h fit (λ i o. (listed-chosen i o .0, listed-chosen i o))
+  ran = singly N w Chosen order h fit shut (λ i o. (listed-chosen i o .0, listed-chosen i o))
 
   same-view : view N w last ≡ view N w end
   same-view =
@@ -132,7 +145,11 @@ module _ (N w : ℕ) (h : Memory) (fit : Fit N w h) (chosen : ℕ) (passed : cho
       let together = cleared-settled N w Chosen Chosen h end all in
       same-memory N w h (singles .healthy .shape) (together .healthy .shape) (singles .healthy .represents) (together .healthy .represents)
       (singles .healthy .bare) (together .healthy .bare) (singles .rewrites) (together .rewrites)
-      (singles .roots-are ∙ sym (together .roots-are)) refl (ap (figures N)) same-view
+      (singles .roots-are ∙ sym (together .roots-are)) refl (ap (figures N))
+      (ran .keeps .marks ∙ sym (left .marks)) (ran .keeps .list ∙ sym (left .list)) same-view
+    where
+      left : Keeps h end
+      left = return-keeps N w h chosen (length (h .roots))
 
   same-blocks : freedInAll (clearedSingly N w h order) ≡ zeros (end .a) - zeros (h .a)
   same-blocks = omega (arith, ran .blocks, ap (λ (m : Memory). zeros (m .a)) same-heap)
@@ -153,12 +170,13 @@ module _ (N w : ℕ) (h : Memory) (fit : Fit N w h) (chosen : ℕ) where
   test = chosenBelow chosen (length (h .roots))
 
   pub same-as-singly :
-      answer N w h (returnRoots chosen) .0 .number ≡ 0 → (order : List ℕ) → EachOnce chosen order → SameAsSingly N w h chosen order
+      isOpen N h ≡ false → answer N w h (returnRoots chosen) .0 .number ≡ 0 → (order : List ℕ) → EachOnce chosen order → SameAsSingly N w h chosen order
   unfolding outcome Passed
-  same-as-singly accepted order each =
+  same-as-singly shut accepted order each =
       let passes : test ≡ true = passed N w h (returnRoots chosen) (accepted-none N w h (returnRoots chosen) accepted) in
-      return-is N w h fit chosen (eqb-true (chosen / 2 ^ length (h .roots)) 0 passes) order each
-      (accepted-outcome N w h (returnRoots chosen) accepted)
+      return-is N w h fit shut chosen (eqb-true (chosen / 2 ^ length (h .roots)) 0 passes) order each
+      (accepted-outcome N w h (returnRoots chosen) accepted
+      ∙ ap (λ (k : Memory). freeing N h k 0) (return-none N w h shut chosen (length (h .roots))))
 
   pub return-refused : (answer N w h (returnRoots chosen) .0 .number ≡ 4) ↔ ((r : ℕ) × (length (h .roots) ≤ r) × (bitOf chosen r ≡ 1))
   unfolding ownRefusals firstNumber

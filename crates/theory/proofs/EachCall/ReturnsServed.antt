@@ -10,7 +10,8 @@ use lib.ListN.{length, getD}
 use borrow.Author.Tests.{eqb-false}
 use Rattle.bitmap.specs.Bit.{bitOf}
 use Rattle.rules.specs.Heap.{Memory, withRoots, capacity}
-use Rattle.rules.specs.Store.{isChosen, returnIn}
+use Rattle.rules.specs.Store.{isChosen}
+use Rattle.rules.proofs.Plain.{returnIn}
 use Rattle.rules.specs.Calls.{returnRoots, settled, freeing}
 use Rattle.rules.proofs.Objects.{first-facts}
 use Rattle.theory.specs.Words.{Object, rootsWithout, written, stored}
@@ -32,7 +33,7 @@ use Rattle.theory.proofs.EachCall.Clearing.{Cleared, InSet, returned}
 rootLeft : (chosen : ℕ) → List ℕ → ℕ → ℕ
 rootLeft chosen roots r = elim (isChosen chosen r) [ true ↦ 0 | false ↦ getD roots r 0 ]
 
-length-without : (chosen : ℕ) (roots : List ℕ) → length (rootsWithout chosen roots) ≡ length roots
+pub length-without : (chosen : ℕ) (roots : List ℕ) → length (rootsWithout chosen roots) ≡ length roots
 unfolding rootsWithout rootLeft
 length-without chosen roots = length-tabulate (length roots) (rootLeft chosen roots)
 

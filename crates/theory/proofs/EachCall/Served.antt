@@ -9,8 +9,9 @@ use native.Mathlib.Omega.{arith}
 use lib.ListN.{length, getD, set, length-set, length-replicate}
 use Rattle.rules.specs.Heap.{Memory, withCells, capacity, countOf, isFirst, sizeAt, isData, reference}
 use Rattle.rules.specs.Store.{formatted}
-use Rattle.rules.specs.Calls.{Call, format, check, collect, freeBlocks, allocate, storeRoot, storeCell, look, returnRoots, Answer, reply, accepted, refused, settled}
-use Rattle.rules.specs.Calls.{allocateData, writeNumber, readNumber}
+use Rattle.rules.specs.Calls.{Call, format, check, collect, freeBlocks, allocate, storeRoot, storeCell, look, returnRoots, openCollection, takeSteps}
+use Rattle.rules.specs.Calls.{allocateData, writeNumber, readNumber, Answer}
+use Rattle.rules.specs.Calls.{reply, accepted, refused, settled}
 use Rattle.theory.specs.Words.{Object, Leads, root, cell, written, stored}
 use Rattle.theory.specs.Stuck.{Wrote}
 use Rattle.theory.specs.Demand.{NoEarlyFree, Collects}
@@ -47,6 +48,8 @@ collecting (returnRoots chosen) = false
 collecting (allocateData n r) = false
 collecting (writeNumber a j x) = false
 collecting (readNumber a j) = false
+collecting openCollection = false
+collecting (takeSteps budget) = false
 
 pub no-collection : {A : Type 0} (c : Call) → collecting c ≡ false → c ≡ collect → A
 no-collection c other is = absurd (true≢false (ap collecting (sym is) ∙ other))
@@ -64,7 +67,7 @@ settled-healthy N w h healthy =
     record {
       shape = reshaped N w h (settled N h) (healthy .shape) refl refl refl refl refl
           (length-replicate N 0 ∙ sym (healthy .shape .length-waiting)) (length-figures N (h .a) ∙ sym (healthy .shape .length-sections))
-          refl;
+          refl refl refl;
       represents = healthy .represents;
       whole = healthy .whole;
       aligned = healthy .aligned;
@@ -107,7 +110,7 @@ module _ (N w : ℕ) (h : Memory) (healthy : Healthy N w h) where
     number-references =
         number-written N (h .a) (h .b) sizes (healthy .represents) (h .d) (h .cells) a c x (cell-of N w h healthy a j first l) made
 
-    number-view : view N w left ≡ view N w h
+    pub number-view : view N w left ≡ view N w h
     number-view =
         graph-is refl refl
         (ap (λ (refs : List ℕ). h .roots ++ refs)
@@ -117,7 +120,7 @@ module _ (N w : ℕ) (h : Memory) (healthy : Healthy N w h) where
     pub number-healthy : Healthy N w left
     number-healthy =
         record {
-          shape = reshaped N w h left (healthy .shape) refl refl refl (length-set (h .cells) c x) refl refl refl refl;
+          shape = reshaped N w h left (healthy .shape) refl refl refl (length-set (h .cells) c x) refl refl refl refl refl refl;
           represents = healthy .represents;
           whole = subst (λ (k : Graph). Whole (capacity w) (length (h .roots)) k) (sym number-view) (healthy .whole);
           aligned = healthy .aligned;

@@ -1,6 +1,6 @@
 -- Request U6: an object that stands before a call and after it stays data, or ordinary, and the numbers in its cells stay, but for the one that
 -- a number write writes.
-use mathlib.Core.Path.{_≡_, refl, sym, ap, _∙_}
+use mathlib.Core.Path.{_≡_, refl, sym, ap, _∙_, subst}
 use mathlib.Core.Logic.{_≢_, inl, inr}
 use mathlib.Core.Bool.{Bool, true, false, true≢false}
 use mathlib.Core.List.{List}
@@ -14,9 +14,11 @@ use lib.Seq.{getD-set-other}
 use Rattle.bitmap.specs.Bit.{bitAt, one}
 use Rattle.bitmap.proofs.Maps.{bit-set-other}
 use Rattle.rules.specs.Heap.{Memory, withCounts, withCells, withRoots, capacity, isFirst, sizeAt, exponent, lowestFree, isRef, isData}
-use Rattle.rules.specs.Store.{countUp, letGo, putRoot, putCell, changeRoot, changeCell, storeRootIn, storeCellIn, returnIn, placed, allocateIn}
-use Rattle.rules.specs.Collection.{collected}
-use Rattle.rules.specs.Calls.{Call, format, check, collect, freeBlocks, allocate, storeRoot, storeCell, look, returnRoots}
+use Rattle.rules.specs.Store.{countUp, letGo, putRoot, putCell, changeRoot, changeCell, placed, allocateIn}
+use Rattle.rules.proofs.Plain.{storeRootIn, storeCellIn, returnIn}
+use Rattle.rules.specs.Collection.{marked, collected}
+use Rattle.rules.specs.Steps.{withNone, withProgress, opened, Progress, progressOf, stepsFrom, closed, closes, stepped}
+use Rattle.rules.specs.Calls.{Call, format, check, collect, freeBlocks, allocate, storeRoot, storeCell, look, returnRoots, openCollection, takeSteps}
 use Rattle.rules.specs.Calls.{allocateData, writeNumber, readNumber, settled, freeing, outcome, answer}
 use Rattle.rules.proofs.Replies.{answer-either, Passed, passed}
 use Rattle.theory.specs.Words.{Object}
@@ -27,6 +29,7 @@ use Rattle.theory.proofs.Maps.LowestChunk.{Room, room}
 use Rattle.theory.proofs.Graphs.Graph as graph
 use Rattle.theory.proofs.Graphs.Graph.{Graph}
 use Rattle.theory.proofs.Graphs.Stretch.{Outside}
+use Rattle.theory.proofs.Graphs.Tidy.{Tidy}
 use Rattle.theory.proofs.Memories.Reading.{one-lt, cleared-out}
 use Rattle.theory.proofs.Memories.Keeping.{sizesIn, Kept}
 use Rattle.theory.proofs.Memories.View.{view}
@@ -38,7 +41,10 @@ use Rattle.theory.proofs.Memories.Stores.{memoryLeft, LetsGo, store-roo
 use Rattle.theory.proofs.Memories.SameView.{Rewrites}
 use Rattle.theory.proofs.Memories.Orders.{release-rewrites}
 use Rattle.theory.proofs.Memories.ViewCollection.{collect-swept, collected-shows}
+use Rattle.theory.proofs.Memories.ViewClose.{close-shows, close-keeps}
+use Rattle.theory.proofs.Memories.Scanning.{steps-from-open, list-empty}
 use Rattle.theory.proofs.EachCall.Clearing.{returned}
+use Rattle.theory.proofs.EachCall.Shading.{Shading, Sized, shape-sized, store-root-shading, store-cell-shading, allocate-shading, return-shading}
 
 -- what letting go leaves
 pub let-go-rewrites : (N w r : ℕ) (g : Memory) (v : ℕ) {k : Graph} → LetsGo N w r g v k → Rewrites N (memoryLeft N w g v) (letGo N w g v)
@@ -78,6 +84,14 @@ module _ (N w : ℕ) (h : Memory) (healthy : Healthy N w h) where
   stay-settled call g stay b n was is =
       let so = stay b n was (record { first = is .first; size = is .size }) in
       record { same-kind = so .same-kind; same-numbers = so .same-numbers }
+
+  -- the marks and the second list have no part in it (request U8)
+  stay-shading : (call : Call) (g g′ : Memory) → Shading N g g′ → Stay call (settled N g) → Stay call (settled N g′)
+  stay-shading call g g′ s stay =
+      subst (λ (k : Memory). Stay call (settled N k)) (sym (s .is))
+      (λ b n was is.
+      let so = stay b n was (record { first = is .first; size = is .size }) in
+      record { same-kind = so .same-kind; same-numbers = so .same-numbers })
 
   -- where two objects stand, their cells are apart
   cells-apart : (a m b n j k : ℕ) → Object N h a m → Object N h b n → a ≢ b → j < 4 * m → k < 4 * n → 4 * b + k ≢ 4 * a + j
@@ -224,22 +238,65 @@ module _ (N w : ℕ) (h : Memory) (healthy : Healthy N w h) where
       (λ x stands. let kept = collect-swept N w h healthy .keeps x stands in record { size = kept .size; kind = kept .kind; cells = kept .cells })
       (λ b n was. refl) (λ b n was made j l. refl))
 
-  -- ---- every call
+  -- ---- steps and the close (request U8)
 
-  outcome-stays : (c : Call) → Passed N h c → Stay c (outcome N w h c .1)
+  open-stays : Stay openCollection (opened N h)
+  unfolding opened withProgress
+  open-stays = stay-same openCollection (opened N h) refl refl
+
+  steps-stay : (budget : ℕ) (p : Progress)
+      → (closes budget p ≡ true → Tidy (length (h .roots)) (view N w h) (marked (p .marks)) (λ b. false))
+      → Stay (takeSteps budget) (settled N (stepped N w h budget p))
+  unfolding stepped closed withNone withProgress
+  steps-stay budget p tidy = stay-settled (takeSteps budget) (stepped N w h budget p) (go (closes budget p) refl)
+    where
+      go : (t : Bool) → closes budget p ≡ t
+          → Stay (takeSteps budget)
+          (elim t [ true ↦ closed N w (p .marks) h | false ↦ withProgress N (marked (p .marks)) (marked (p .list)) h ])
+      go true e =
+          stay-through (takeSteps budget) h (closed N w (p .marks) h) (close-shows N w h healthy (p .marks) (tidy e) .represents)
+          (λ x stands.
+          let kept = close-keeps N w h healthy (p .marks) (tidy e) x stands in
+          record { size = kept .size; kind = kept .kind; cells = kept .cells })
+          (λ b n was. refl) (λ b n was made j l. refl)
+      go false e =
+          stay-same (takeSteps budget) (withProgress N (marked (p .marks)) (marked (p .list)) h) refl refl
+
+-- ---- every call
+
+module _ (N w : ℕ) (h : Memory) (fit : Fit N w h) where
+  sized : Sized N h
+  sized = shape-sized N w h (fit .healthy .shape)
+
+  outcome-stays : (c : Call) → Passed N h c → Stay N w h (fit .healthy) c (outcome N w h c .1)
   unfolding outcome freeing Passed
-  outcome-stays format p = λ b n was is. absurd (no-object N w h (healthy .shape) b (is .first))
-  outcome-stays check p = stay-same check h refl refl
-  outcome-stays collect p = collect-stays
-  outcome-stays freeBlocks p = stay-same freeBlocks h refl refl
-  outcome-stays (allocate n r) (low, high, place, found) = allocate-stays false (allocate n r) n r _ low place found
-  outcome-stays (storeRoot r v) (place, ref) = store-root-stays r v place ref
-  outcome-stays (storeCell a j v) (first, place, ordinary, ref) = store-cell-stays a j v first place ordinary ref
-  outcome-stays (look a) p = stay-same (look a) h refl refl
-  outcome-stays (returnRoots chosen) p = return-stays chosen
-  outcome-stays (allocateData n r) (low, high, place, found) = allocate-stays true (allocateData n r) n r _ low place found
-  outcome-stays (writeNumber a j x) (first, place, made) = number-stays a j x first place
-  outcome-stays (readNumber a j) p = stay-same (readNumber a j) h refl refl
+  outcome-stays format p = λ b n was is. absurd (no-object N w h (fit .healthy .shape) b (is .first))
+  outcome-stays check p = stay-same N w h (fit .healthy) check h refl refl
+  outcome-stays collect p = collect-stays N w h (fit .healthy)
+  outcome-stays freeBlocks p = stay-same N w h (fit .healthy) freeBlocks h refl refl
+  outcome-stays (allocate n r) (low, high, place, found) =
+      stay-shading N w h (fit .healthy) (allocate n r) _ _ (allocate-shading N w h sized false n r _)
+      (allocate-stays N w h (fit .healthy) false (allocate n r) n r _ low place found)
+  outcome-stays (storeRoot r v) (place, ref) =
+      stay-shading N w h (fit .healthy) (storeRoot r v) _ _ (store-root-shading N w h sized r v)
+      (store-root-stays N w h (fit .healthy) r v place ref)
+  outcome-stays (storeCell a j v) (first, place, ordinary, ref) =
+      stay-shading N w h (fit .healthy) (storeCell a j v) _ _ (store-cell-shading N w h sized a j v)
+      (store-cell-stays N w h (fit .healthy) a j v first place ordinary ref)
+  outcome-stays (look a) p = stay-same N w h (fit .healthy) (look a) h refl refl
+  outcome-stays (returnRoots chosen) p =
+      stay-shading N w h (fit .healthy) (returnRoots chosen) _ _ (return-shading N w h sized chosen (length (h .roots)))
+      (return-stays N w h (fit .healthy) chosen)
+  outcome-stays (allocateData n r) (low, high, place, found) =
+      stay-shading N w h (fit .healthy) (allocateData n r) _ _ (allocate-shading N w h sized true n r _)
+      (allocate-stays N w h (fit .healthy) true (allocateData n r) n r _ low place found)
+  outcome-stays (writeNumber a j x) (first, place, made) = number-stays N w h (fit .healthy) a j x first place
+  outcome-stays (readNumber a j) p = stay-same N w h (fit .healthy) (readNumber a j) h refl refl
+  outcome-stays openCollection p = open-stays N w h (fit .healthy)
+  outcome-stays (takeSteps budget) is-open =
+      let reached : Progress = (stepsFrom budget N h (progressOf N h)) .reached in
+      steps-stay N w h (fit .healthy) budget reached
+      (list-empty N w h (fit .healthy) is-open (fit .tidy) budget reached (steps-from-open N w h (fit .healthy) is-open (fit .tidy) budget .tidy))
 
 pub answer-stays :
     (N w : ℕ) (h : Memory) → Fit N w h → (c : Call) (b n : ℕ) → let g = answer N w h c .1 in
@@ -247,4 +304,4 @@ pub answer-stays :
 answer-stays N w h fit c =
     answer-either N w h c (λ x. (b n : ℕ) → Object N h b n → Object N (x .1) b n → StaysSo h (x .1) c b n)
     (λ number nonzero. stay-same N w h (fit .healthy) c h refl refl)
-    (λ e. outcome-stays N w h (fit .healthy) c (passed N w h c e))
+    (λ e. outcome-stays N w h fit c (passed N w h c e))

@@ -14,7 +14,8 @@ use borrow.Author.Tests.{eqb-false}
 use Rattle.bitmap.specs.Bit.{bitAt, zeros}
 use lib.Seq.{set-append-left, getD-set-same, getD-set-other}
 use Rattle.rules.specs.Heap.{Memory, withCells, withRoots, capacity, countOf, isFirst, sizeAt, exponent, lowestFree, isRef, isData}
-use Rattle.rules.specs.Store.{placed, putRoot, putCell, changeRoot, changeCell, storeRootIn, storeCellIn, allocateIn}
+use Rattle.rules.specs.Store.{placed, putRoot, putCell, changeRoot, changeCell, allocateIn}
+use Rattle.rules.proofs.Plain.{storeRootIn, storeCellIn}
 use Rattle.rules.specs.Calls.{Call, allocateAs, storeRoot, storeCell, reply, settled, freeing}
 use Rattle.theory.specs.Words.{Object, Leads, numberOfReferences, written, stored}
 use Rattle.theory.specs.Stuck.{writes}
@@ -51,7 +52,7 @@ pub healthy-after :
     (N w r : ℕ) (g : Memory) (k : Graph) → Shows N w r g k → Whole (capacity w) r k → Aligned (k .sizes) → Healthy N w (settled N g)
 healthy-after N w r g k shows whole aligned = record {
   shape = reshaped N w g (settled N g) (shows .shape) refl refl refl refl refl (length-replicate N 0 ∙ sym (shows .shape .length-waiting))
-      (length-figures N (g .a) ∙ sym (shows .shape .length-sections)) refl;
+      (length-figures N (g .a) ∙ sym (shows .shape .length-sections)) refl refl refl;
   represents = shows .represents;
   whole = subst (λ (m : Graph). Whole (capacity w) (length (g .roots)) m) (sym (shows .view-is)) (rw (shows .roots-are) whole);
   aligned = subst (λ (m : Graph). Aligned (m .sizes)) (sym (shows .view-is)) aligned;

@@ -4,8 +4,9 @@ use mathlib.Core.Bool.{true}
 use Prim.Native.Nat.{ℕ}
 use Rattle.rules.specs.Heap.{Memory}
 use Rattle.rules.specs.Store.{formatted}
-use Rattle.rules.specs.Calls.{Call, format, check, collect, freeBlocks, allocate, storeRoot, storeCell, look, returnRoots, Answer}
-use Rattle.rules.specs.Calls.{allocateData, writeNumber, readNumber}
+use Rattle.rules.specs.Steps.{withProgress, opened}
+use Rattle.rules.specs.Calls.{Call, format, check, collect, freeBlocks, allocate, storeRoot, storeCell, look, returnRoots, openCollection, takeSteps}
+use Rattle.rules.specs.Calls.{allocateData, writeNumber, readNumber, Answer}
 use Rattle.rules.specs.Calls.{testsHeap, freeing, outcome, answer}
 use Rattle.rules.proofs.Replies.{answer-either, accepted-outcome}
 use Rattle.theory.specs.Sections.{ListLeftTrue}
@@ -14,7 +15,7 @@ use Rattle.theory.proofs.EachCall.Accepted.{accepted-fit}
 
 -- a list that a call tests is true where the call goes on; every other outcome makes it so
 outcome-listed : (N w : ℕ) (h : Memory) (c : Call) → (testsHeap c ≡ true → Listed N h) → Listed N (outcome N w h c .1)
-unfolding outcome freeing formatted
+unfolding outcome freeing formatted opened withProgress
 outcome-listed N w h format listed = refl
 outcome-listed N w h check listed = listed refl
 outcome-listed N w h freeBlocks listed = listed refl
@@ -27,6 +28,8 @@ outcome-listed N w h (returnRoots chosen) listed = refl
 outcome-listed N w h (allocateData n r) listed = refl
 outcome-listed N w h (writeNumber a j x) listed = listed refl
 outcome-listed N w h (readNumber a j) listed = listed refl
+outcome-listed N w h openCollection listed = listed refl
+outcome-listed N w h (takeSteps budget) listed = refl
 
 -- a list that was true is true after every call, a refused one too
 pub answer-listed : (N w : ℕ) (h : Memory) → Listed N h → (c : Call) → Listed N (answer N w h c .1)

@@ -74,13 +74,13 @@ module _ (cap : ℕ) (pos : 0 < cap) (r : ℕ) (h : Graph) (i v : ℕ) (held : B
   written : Balanced cap (write h i v) (slot h i)
   written = write-balanced cap pos h i v place-inside held
 
-  swap-balanced : Balanced cap (swap cap h i v) 0
+  pub swap-balanced : Balanced cap (swap cap h i v) 0
   swap-balanced = lower-balanced cap pos (write h i v) (slot h i) written
 
   swap-waits : Waits (swap cap h i v) (swapStack cap h i)
   swap-waits = lower-waits cap pos (write h i v) (slot h i) [] written waits
 
-  swap-shape : Shape r (swap cap h i v)
+  pub swap-shape : Shape r (swap cap h i v)
   swap-shape =
       record {
         disjoint = shape .disjoint;

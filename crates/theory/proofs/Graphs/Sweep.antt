@@ -46,7 +46,7 @@ unfolding sweepOne
 sweep-kept r h x n = rw (ne-eqb (count h x) 0 n, sweepOne)
 
 -- what a sweep of the blocks below n leaves
-record SweptBelow (r : ℕ) (h k : Graph) (n : ℕ) : Type 0 where
+pub record SweptBelow (r : ℕ) (h k : Graph) (n : ℕ) : Type 0 where
   pub same-counts : k .counts ≡ h .counts
   pub kept : (y : ℕ) → (count h y ≢ 0) ⊎ (n ≤ y) → size k y ≡ size h y
   pub gone : (y : ℕ) → count h y ≡ 0 → y < n → size k y ≡ 0
@@ -130,7 +130,7 @@ module _ (r : ℕ) (h k : Graph) (n : ℕ) (p : SweptBelow r h k n) where
       same : count k n ≡ count h n
       same = ap (λ (l : List ℕ). getD l n 0) (p .same-counts)
 
-swept : (r : ℕ) (h : Graph) (n : ℕ) → SweptBelow r h (sweep r h n) n
+pub swept : (r : ℕ) (h : Graph) (n : ℕ) → SweptBelow r h (sweep r h n) n
 unfolding sweep
 swept r h zero =
     record {

@@ -22,7 +22,7 @@ use Rattle.theory.proofs.Memories.SameView.{Rewrites, rewrites-same, re
 -- ---- an order, step by step
 
 -- whoever is taken could have stood first
-taken-first :
+pub taken-first :
     (N w : ℕ) (h : Memory) (front back : List ℕ) (i : ℕ) → Releasing N w h (front ++ (i ∷ back)) → Releasing N w h (i ∷ (front ++ back))
 taken-first N w h front back i before =
     record {
@@ -43,7 +43,7 @@ taken-first N w h front back i before =
     }
 
 -- one object less
-fewer-objects :
+pub fewer-objects :
     (N w : ℕ) (h : Memory) (x : ℕ) (rest : List ℕ) → Releasing N w h (x ∷ rest)
     → suc (occurrences 0 (sizesOf N (h .a) (h .b))) ≡ occurrences 0 (sizesOf N ((memoryAfter N w h x rest) .a) ((memoryAfter N w h x rest) .b))
 unfolding freed
@@ -62,6 +62,8 @@ record Carried (N w k n : ℕ) (h : Memory) (g : Memory) (left : List ℕ) : Typ
   same-roots : g .roots ≡ h .roots
   same-waiting : g .waiting ≡ h .waiting
   same-sections : g .sections ≡ h .sections
+  same-marks : g .marks ≡ h .marks
+  same-list : g .list ≡ h .list
   blocks : zeros (g .a) ≡ zeros (h .a) + n
   objects : k + occurrences 0 (sizesOf N (h .a) (h .b)) ≡ occurrences 0 (sizesOf N (g .a) (g .b))
 
@@ -77,6 +79,8 @@ carried N w Taken.none before =
       same-roots = refl;
       same-waiting = refl;
       same-sections = refl;
+      same-marks = refl;
+      same-list = refl;
       blocks = omega arith;
       objects = omega arith;
     }
@@ -94,6 +98,8 @@ carried N w (Taken.next {k} {n} {total} {h} {g} {waiting} {left} front i back e 
       same-roots = more .same-roots;
       same-waiting = more .same-waiting;
       same-sections = more .same-sections;
+      same-marks = more .same-marks;
+      same-list = more .same-list;
       blocks = omega (arith, more .blocks, freed-zeros N w h i (front ++ back) first, t);
       objects = omega (arith, more .objects, fewer-objects N w h i (front ++ back) first);
     }
@@ -137,7 +143,7 @@ module _ (N w : ℕ) (h : Memory) (waiting : List ℕ) (before : Releasing N w h
       same-memory N w h (c .releasing .shape) (d .releasing .shape) (c .releasing .represents) (d .releasing .represents)
       (c .releasing .bare) (d .releasing .bare) (c .written) (d .written)
       (ap length (c .same-roots ∙ sym (d .same-roots))) (c .same-waiting ∙ sym (d .same-waiting))
-      (λ e. c .same-sections ∙ sym (d .same-sections))
+      (λ e. c .same-sections ∙ sym (d .same-sections)) (c .same-marks ∙ sym (d .same-marks)) (c .same-list ∙ sym (d .same-list))
       (same-end (capacity w) (before .positive) (length (h .roots)) (λ j. ⊥) (view N w h) (before .balanced) (view N w g) (view N w end)
       (end-of k n g t) (end-of l m end u))
 

@@ -11,7 +11,7 @@ use native.Mathlib.Omega.{arith}
 use lib.Dec.{eqb}
 use lib.ListN.{length, getD, set, length-set}
 use lib.Seq.{getD-set-same, getD-set-other, ext-getD}
-use borrow.Author.Tests.{eq-eqb, ne-eqb}
+use borrow.Author.Tests.{ne-eqb}
 use Rattle.bitmap.specs.Bit.{bitAt, one, setBit, fillBits}
 use Rattle.bitmap.proofs.Maps.{length-set-bit, bit-past-end, bit-set-same, bit-set-other}
 use Rattle.bitmap.proofs.Runs.{bit-fill-out}
@@ -22,7 +22,7 @@ use Rattle.rules.proofs.Chunks.{Free}
 use Rattle.rules.proofs.Objects.{bit-cases}
 use Rattle.rules.proofs.Reading.{free-no-data, read-data, read-other, read-zero, read-same}
 use Rattle.rules.proofs.Tabulate.{length-tabulate, getD-tabulate}
-use Rattle.rules.proofs.Tests.{test-cases, false-unless}
+use Rattle.rules.proofs.Tests.{false-unless}
 use Rattle.theory.proofs.Maps.Extents.{Represents, first-size, size-is-first}
 use Rattle.theory.proofs.Maps.Moves.{clear-of, freed-represents, placed-represents}
 use Rattle.theory.proofs.Graphs.Stretch.{Inside, Outside, side, stretch, stretch-length, stretch-out, clear, clear-in}

@@ -9,12 +9,13 @@ use native.Mathlib.Decide.{ℕ-discrete}
 use native.Mathlib.Omega.{arith}
 use lib.ListN.{length}
 use lib.Pow.{pow-pos}
+use borrow.Author.Tests.{not-true}
 use Rattle.planes.specs.Plane.{countAt, setCount}
 use Rattle.planes.proofs.Counts.{count-set-same, count-set-other, length-set-count}
 use Rattle.rules.specs.Heap.{Memory, capacity, countOf, isFirst, sizeAt}
 use Rattle.rules.specs.Store.{freed}
 use Rattle.rules.specs.Collection.{marked, referencesFrom, swept, recounted}
-use Rattle.rules.proofs.Tests.{test-cases}
+use Rattle.rules.proofs.Tests.{test-cases, and-true}
 use Rattle.theory.proofs.Memories.ViewSweep.{swept-goes, swept-stays}
 
 module _ (N w : ℕ) (whole : 8 * (N / 8) ≡ N) (h : Memory) (marks : List Bool) where
@@ -75,6 +76,20 @@ module _ (N w : ℕ) (whole : 8 * (N / 8) ≡ N) (h : Memory) (marks : List Bool
             → (countOf N w h b ≡ 0) ⊎ ((b < n) × (isFirst N h b && not (marked marks b) ≡ true))
         earlier (inl z) d = inl z
         earlier (inr (v, e)) d = elim (ℕ-discrete b n) [ yes q ↦ absurd (d q e) | no q ↦ inr (omega arith, e) ]
+
+    -- and that of a marked object stays
+    pub swept-counted : (n b : ℕ) → n ≤ N → b < N → marked marks b ≡ true → countOf N w (swept N w h marks n) b ≡ countOf N w h b
+    unfolding swept
+    swept-counted zero b l u m = refl
+    swept-counted (suc n) b l u m =
+        elim (test-cases (isFirst N h n && not (marked marks n))) [
+          | inl e ↦
+              let d : b ≢ n =
+              λ q. true≢false (sym m ∙ ap (marked marks) q ∙ not-true (marked marks n) (and-true (isFirst N h n) (not (marked marks n)) e .1)) in
+              ap (λ (g : Memory). countOf N w g b) (swept-goes N w h marks n e)
+              ∙ freed-other (swept N w h marks n) n (sizeAt N h n) b l u d ∙ swept-counted n b (omega arith) u m
+          | inr e ↦ ap (λ (g : Memory). countOf N w g b) (swept-stays N w h marks n e) ∙ swept-counted n b (omega arith) u m
+        ]
 
   -- ---- the recount
 

@@ -99,7 +99,8 @@ module _ (N w : ℕ) (h : Memory) {g k : Memory} (shape : Shaped N w g) (other-s
     (bare-g : Bare N (g .a) (g .b) (g .d) (g .cells)) (bare-k : Bare N (k .a) (k .b) (k .d) (k .cells))
     (from-g : Rewrites N h g) (from-k : Rewrites N h k)
     (roots-length : length (g .roots) ≡ length (k .roots)) (same-waiting : g .waiting ≡ k .waiting)
-    (same-sections : g .a ≡ k .a → g .sections ≡ k .sections) (one : view N w g ≡ view N w k) where
+    (same-sections : g .a ≡ k .a → g .sections ≡ k .sections) (same-marks : g .marks ≡ k .marks) (same-list : g .list ≡ k .list)
+    (one : view N w g ≡ view N w k) where
   pub same-memory : g ≡ k
   same-memory =
       λ i.
@@ -112,6 +113,8 @@ module _ (N w : ℕ) (h : Memory) {g k : Memory} (shape : Shaped N w g) (other-s
         waiting = same-waiting i;
         sections = same-sections maps-a i;
         d = d-are i;
+        marks = same-marks i;
+        list = same-list i;
       }
     where
       also : Represents N (k .a) (k .b) (sizesOf N (g .a) (g .b))

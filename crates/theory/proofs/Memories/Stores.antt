@@ -80,7 +80,7 @@ module _ (N w r : ℕ) (pos : 0 < capacity w) (k : Graph) (i v : ℕ) (blocks : 
       releasing : Releasing N w (memoryLeft N w g (slot k i)) ((workLeft N w g (slot k i)) .stack)
       releasing = record {
         shape = reshaped N w g (memoryLeft N w g (slot k i)) (shows .shape) refl refl
-            (down .length-is ∙ sym (shows .shape .length-counts)) refl refl refl refl refl;
+            (down .length-is ∙ sym (shows .shape .length-counts)) refl refl refl refl refl refl refl;
         represents = shows .represents;
         positive = pos;
         balanced = subst (λ (m : Graph). Balanced (capacity w) m 0) (sym lowered)
@@ -98,7 +98,7 @@ module _ (N w r : ℕ) (pos : 0 < capacity w) (k : Graph) (i v : ℕ) (blocks : 
       rw (sym (root-slot N h i root) ∙ ap (λ (m : Graph). slot m i) (shows .view-is))
       (lets-go (withRoots (set (h .roots) i v) h)
       record {
-        shape = reshaped N w h (withRoots (set (h .roots) i v) h) (shows .shape) refl refl refl refl (length-set (h .roots) i v) refl refl refl;
+        shape = reshaped N w h (withRoots (set (h .roots) i v) h) (shows .shape) refl refl refl refl (length-set (h .roots) i v) refl refl refl refl refl;
         represents = shows .represents;
         roots-are = length-set (h .roots) i v ∙ shows .roots-are;
         view-is = graph-is (ap (λ (m : Graph). m .sizes) (shows .view-is)) (ap (λ (m : Graph). m .counts) (shows .view-is))
@@ -118,7 +118,7 @@ module _ (N w r : ℕ) (pos : 0 < capacity w) (k : Graph) (i v : ℕ) (blocks : 
       rw (sym read ∙ ap (λ (s : ℕ). getD (slotsIn N h) s 0) (sym e) ∙ ap (λ (m : Graph). slot m i) (shows .view-is))
       (lets-go (withCells (set (h .cells) c v) h)
       record {
-        shape = reshaped N w h (withCells (set (h .cells) c v) h) (shows .shape) refl refl refl (length-set (h .cells) c v) refl refl refl refl;
+        shape = reshaped N w h (withCells (set (h .cells) c v) h) (shows .shape) refl refl refl (length-set (h .cells) c v) refl refl refl refl refl refl;
         represents = shows .represents;
         roots-are = shows .roots-are;
         view-is = graph-is (ap (λ (m : Graph). m .sizes) (shows .view-is)) (ap (λ (m : Graph). m .counts) (shows .view-is))
@@ -205,7 +205,7 @@ module _ (N w : ℕ) (h : Memory) (healthy : Healthy N w h) where
         let shape = healthy .shape in
         record {
           shape = reshaped N w h (withCounts (countUp N w (h .counts) v) h) shape refl refl
-              (length-up N w (shape .whole-bytes) (h .counts) (shape .length-counts) v) refl refl refl refl refl;
+              (length-up N w (shape .whole-bytes) (h .counts) (shape .length-counts) v) refl refl refl refl refl refl refl;
           represents = healthy .represents;
           roots-are = refl;
           view-is = graph-is refl (counts-up N w (shape .whole-bytes) (h .counts) (shape .length-counts) v ref-le) refl;
@@ -262,7 +262,7 @@ module _ (N w : ℕ) (h : Memory) (healthy : Healthy N w h) where
         record {
           shape = reshaped N w h (placed N w asData h i n) shape (length-fill (h .a) i n 1) (length-set-bit (h .b) (i + n - 1) 0)
               (length-set-count (N / 8) w (h .counts) i 1) (length-clear-cells (h .cells) (4 * i) (4 * n)) refl refl refl
-              (length-set-bit (h .d) i (one asData));
+              (length-set-bit (h .d) i (one asData)) refl refl;
           represents = rw (← sizes-are) maps-placed;
           roots-are = refl;
           view-is = graph-is (sym sizes-are)

@@ -213,6 +213,8 @@ module _ (N w : ℕ) (h : Memory) (healthy : Healthy N w h) where
             refl
             refl
             refl
+            refl
+            refl
             refl;
         represents =
             rw (← represents-is N (left .a) (left .b) (after .sizes) (collect-swept .represents)) (collect-swept .represents);

@@ -33,8 +33,8 @@ pub reshaped :
     (N w : ℕ) (h g : Memory) → Shaped N w h → length (g .a) ≡ length (h .a) → length (g .b) ≡ length (h .b)
     → length (g .counts) ≡ length (h .counts) → length (g .cells) ≡ length (h .cells) → length (g .roots) ≡ length (h .roots)
     → length (g .waiting) ≡ length (h .waiting) → length (g .sections) ≡ length (h .sections) → length (g .d) ≡ length (h .d)
-    → Shaped N w g
-reshaped N w h g s a b counts cells roots waiting sections d = record {
+    → length (g .marks) ≡ length (h .marks) → length (g .list) ≡ length (h .list) → Shaped N w g
+reshaped N w h g s a b counts cells roots waiting sections d marks list = record {
   power = s .power;
   blocks-min = s .blocks-min;
   blocks-max = s .blocks-max;
@@ -50,6 +50,8 @@ reshaped N w h g s a b counts cells roots waiting sections d = record {
   length-waiting = waiting ∙ s .length-waiting;
   length-sections = sections ∙ s .length-sections;
   length-d = d ∙ s .length-d;
+  length-marks = marks ∙ s .length-marks;
+  length-list = list ∙ s .length-list;
 }
 
 -- the memory h is as its shape demands, has r roots and shows the graph k
@@ -181,7 +183,7 @@ module _ (N w : ℕ) (h : Memory) (x : ℕ) (rest : List ℕ) (before : Releasin
       record {
         shape = reshaped N w h (memoryAfter N w h x rest) shape (length-fill (h .a) x (sizeAt N h x) 0)
             (length-set-bit (h .b) (x + sizeAt N h x - 1) 1) (work-after .length-is ∙ sym (shape .length-counts))
-            (length-clear-cells (h .cells) (4 * x) (4 * sizeAt N h x)) refl refl refl (length-set-bit (h .d) x 0);
+            (length-clear-cells (h .cells) (4 * x) (4 * sizeAt N h x)) refl refl refl (length-set-bit (h .d) x 0) refl refl;
         represents = rw (← sizes-after) maps-after;
         positive = before .positive;
         balanced =

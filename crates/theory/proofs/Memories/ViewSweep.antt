@@ -5,18 +5,21 @@ use mathlib.Core.Logic.{_≢_, inl, inr}
 use mathlib.Core.Bool.{Bool, true, false, not, _&&_}
 use mathlib.Core.List.{List, _++_}
 use Prim.Native.Nat.{ℕ, zero, suc, _+_, _-_, _*_, _/_, _≤_, _<_}
-use native.Mathlib.Decide.{ℕ-discrete}
+use native.Mathlib.Decide.{ℕ-discrete, decLt}
 use native.Mathlib.Omega.{arith}
-use lib.ListN.{length, getD, set}
+use lib.ListN.{length, getD, set, List·getD-eq-default}
 use lib.Seq.{getD-set-other, set-getD}
 use borrow.Author.Tests.{not-true, not-false}
+use Rattle.bitmap.specs.Bit.{one}
 use Rattle.bitmap.proofs.Maps.{length-set-bit}
 use Rattle.bitmap.proofs.Runs.{length-fill}
 use Rattle.planes.proofs.Counts.{length-set-count}
 use Rattle.rules.specs.Heap.{Memory, isFirst, sizeAt}
 use Rattle.rules.specs.Store.{freed}
+use Rattle.rules.specs.Tools.{tabulate}
 use Rattle.rules.specs.Collection.{marked, swept}
 use Rattle.rules.proofs.Tests.{test-cases, and-true, and-false}
+use Rattle.rules.proofs.Tabulate.{length-tabulate, getD-tabulate}
 use Rattle.rules.proofs.Shape.{Shaped}
 use Rattle.rules.proofs.Objects.{size-some}
 use Rattle.theory.proofs.Maps.Extents.{Represents, sizesOf, size-not-first, size-first}
@@ -37,6 +40,8 @@ pub record Swept (N w : ℕ) (h g : Memory) (k : Graph) : Type 0 where
   pub same-roots : g .roots ≡ h .roots
   pub same-waiting : g .waiting ≡ h .waiting
   pub same-sections : g .sections ≡ h .sections
+  pub same-marks : g .marks ≡ h .marks
+  pub same-list : g .list ≡ h .list
   pub slots-are : slotsIn N g ≡ k .slots
   pub bare : Bare N (g .a) (g .b) (g .d) (g .cells)
   -- what stands is as it was
@@ -59,11 +64,13 @@ freed-swept N w h g k p x n e some =
           refl
           refl
           refl
-          (length-set-bit (g .d) x 0);
+          (length-set-bit (g .d) x 0) refl refl;
       represents = freed-represents N (g .a) (g .b) (k .sizes) (p .represents) x n e some;
       same-roots = p .same-roots;
       same-waiting = p .same-waiting;
       same-sections = p .same-sections;
+      same-marks = p .same-marks;
+      same-list = p .same-list;
       slots-are =
           rw (e, ← p .slots-are, ← p .same-roots)
           (ap (λ (l : List ℕ). g .roots ++ l) (freed-read N (g .a) (g .b) (k .sizes) (g .d) (g .cells) (p .represents) x n e some)
@@ -86,7 +93,7 @@ erase-none r k x z =
 -- ---- the graph's sweep
 
 -- the blocks from n on are not swept yet
-sweep-later : (r : ℕ) (k : Graph) (n y : ℕ) → n ≤ y → size (sweep r k n) y ≡ size k y
+pub sweep-later : (r : ℕ) (k : Graph) (n y : ℕ) → n ≤ y → size (sweep r k n) y ≡ size k y
 unfolding sweep
 sweep-later r k zero y l = refl
 sweep-later r k (suc n) y l =
@@ -106,6 +113,25 @@ sweep-counts r k (suc n) =
       | yes z ↦ ap (λ (m : Graph). m .counts) (sweep-gone r (sweep r k n) n z) ∙ sweep-counts r k n
       | no c ↦ ap (λ (m : Graph). m .counts) (sweep-kept r (sweep r k n) n c) ∙ sweep-counts r k n
     ]
+
+-- ---- marks as counts
+
+-- 1 for each marked block, for a sweep by marks
+unfoldable pub asCounts : ℕ → List Bool → List ℕ
+asCounts N marks = tabulate N (λ b. one (marked marks b))
+
+module _ (N : ℕ) (marks : List Bool) (within : (b : ℕ) → marked marks b ≡ true → b < N) where
+  pub as-counts-marked : (b : ℕ) → marked marks b ≡ true → getD (asCounts N marks) b 0 ≢ 0
+  unfolding asCounts
+  as-counts-marked b m z = omega (arith, getD-tabulate 0 N (λ b. one (marked marks b)) b (within b m), ap one m)
+
+  pub as-counts-unmarked : (b : ℕ) → marked marks b ≡ false → getD (asCounts N marks) b 0 ≡ 0
+  unfolding asCounts
+  as-counts-unmarked b u =
+      elim (decLt b N) [
+        | yes l ↦ getD-tabulate 0 N (λ b. one (marked marks b)) b l ∙ ap one u
+        | no l ↦ List·getD-eq-default (asCounts N marks) 0 {n = b} (omega (arith, length-tabulate N (λ b. one (marked marks b))))
+      ]
 
 -- ---- the sweep of the rules
 
@@ -179,6 +205,8 @@ module _ (N w : ℕ) (h : Memory) (shape : Shaped N w h) (represents : Represent
         same-roots = refl;
         same-waiting = refl;
         same-sections = refl;
+        same-marks = refl;
+        same-list = refl;
         slots-are = refl;
         bare = bare;
         keeps = λ x stands. kept-same N h x;

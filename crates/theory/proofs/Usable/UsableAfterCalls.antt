@@ -4,8 +4,9 @@ use Prim.Native.Nat.{ℕ}
 use lib.ListN.{replicate}
 use Rattle.rules.specs.Heap.{Memory}
 use Rattle.rules.specs.Store.{formatted}
-use Rattle.rules.specs.Calls.{Call, format, check, collect, freeBlocks, allocate, storeRoot, storeCell, look, returnRoots, allocateData, writeNumber, readNumber}
-use Rattle.rules.specs.Calls.{Answer, freeing, outcome, answer}
+use Rattle.rules.specs.Steps.{opened, withProgress}
+use Rattle.rules.specs.Calls.{Call, format, check, collect, freeBlocks, allocate, storeRoot, storeCell, look, returnRoots, openCollection, takeSteps}
+use Rattle.rules.specs.Calls.{allocateData, writeNumber, readNumber, Answer, freeing, outcome, answer}
 use Rattle.rules.specs.Promise.{Promise}
 use Rattle.types.specs.declared.Reply.{Reply}
 use Rattle.rules.proofs.Replies.{answer-either}
@@ -17,7 +18,7 @@ module _ {N w : ℕ} {h : Memory} (usable : Usable N w h) where
   Idle x = x .1 .waiting ≡ replicate N 0
 
   outcome-idle : (c : Call) → Idle (outcome N w h c)
-  unfolding outcome freeing formatted
+  unfolding outcome freeing formatted opened withProgress
   outcome-idle format = refl
   outcome-idle check = usable .idle
   outcome-idle freeBlocks = usable .idle
@@ -30,6 +31,8 @@ module _ {N w : ℕ} {h : Memory} (usable : Usable N w h) where
   outcome-idle (allocateData n r) = refl
   outcome-idle (writeNumber a j x) = usable .idle
   outcome-idle (readNumber a j) = usable .idle
+  outcome-idle openCollection = usable .idle
+  outcome-idle (takeSteps budget) = refl
 
   answer-idle : (c : Call) → Idle (answer N w h c)
   answer-idle c = answer-either N w h c Idle (λ number nonzero. usable .idle) (λ _. outcome-idle c)

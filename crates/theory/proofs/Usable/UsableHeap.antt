@@ -13,6 +13,7 @@ use Rattle.theory.specs.Statements.{Undamaged}
 use Rattle.theory.proofs.Memories.Healthy.{Healthy}
 use Rattle.theory.proofs.Memories.Fit.{Fit, undamaged-fit}
 use Rattle.theory.proofs.Memories.ViewRelease.{reshaped}
+use Rattle.theory.proofs.Memories.TidyHeap.{waiting-untidy}
 use Rattle.theory.specs.Usable.{Usable}
 
 module _ {N w : ℕ} {h : Memory} where
@@ -26,10 +27,11 @@ module _ {N w : ℕ} {h : Memory} where
           intact = record {
             right-shape =
                 shape-test N w cleared
-                (reshaped N w h cleared facts refl refl refl refl refl (length-replicate N 0 ∙ sym (facts .length-waiting)) refl refl);
+                (reshaped N w h cleared facts refl refl refl refl refl (length-replicate N 0 ∙ sym (facts .length-waiting)) refl refl refl refl);
             no-damage = fit .intact .no-damage;
           };
           true-list = fit .true-list;
+          tidy = waiting-untidy N (replicate N 0) h ∙ fit .tidy;
         };
         idle = refl;
       }

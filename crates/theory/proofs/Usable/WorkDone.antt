@@ -7,6 +7,7 @@ use borrow.Author.Tests.{eq-eqb, ne-eqb}
 use Rattle.bitmap.specs.Bit.{one, zeros}
 use Rattle.rules.specs.Heap.{Memory}
 use Rattle.rules.specs.Collection.{collected}
+use Rattle.rules.specs.Steps.{isOpen}
 use Rattle.rules.specs.Calls.{Call, collect, Answer, reply, freeing, settled, outcome, answer}
 use Rattle.rules.specs.Promise.{Promise}
 use Rattle.types.specs.declared.Reply.{Reply}
@@ -78,6 +79,7 @@ module _ {N w : ℕ} {h : Memory} {c : Call} (frees : let y = answer N w h c in 
 
 -- ---- a collection
 
-pub collect-answered : {N w : ℕ} {h : Memory} → Fit N w h → answer N w h collect ≡ freeing N h (collected N w h) 0
+pub collect-answered :
+    {N w : ℕ} {h : Memory} → Fit N w h → isOpen N h ≡ false → answer N w h collect ≡ freeing N h (collected N w h) 0
 unfolding outcome Passed
-collect-answered {N} {w} {h} fit = fit-accepted N w h fit collect tt
+collect-answered {N} {w} {h} fit shut = fit-accepted N w h fit collect shut
