@@ -137,7 +137,7 @@ pub fn has_bad_count(
         ⌜ r ≡ someBelow
         (badCount blocks width
         (lentMemory (now (a .entry)) (now (b .entry)) (now (counts .entry)) (now (cells .entry)) (now (roots .entry)) [] []
-        (now (d .entry))))
+        (now (d .entry)) [] []))
         blocks ⌝ }
 {
     let mut at = [0u8; MAX_BLOCKS];

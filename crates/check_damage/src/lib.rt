@@ -7,8 +7,8 @@ ghost use Rattle.rules.specs.Heap.{shaped, lentMemory};
 ghost use Rattle.rules.specs.Damage.{damage};
 use types::Ref;
 
-// The damage kind of a heap of right shape, or 0. Each kind is tested over the whole heap before the next. No kind reads the waiting list
-// or the sections: the answer is the same whatever they hold.
+// The damage kind of a heap of right shape, or 0. Each kind is tested over the whole heap before the next. No kind reads the waiting list,
+// the sections, the marks or the second list: the answer is the same whatever they hold.
 pub fn damage_kind(
     blocks: usize,
     width: usize,
@@ -19,14 +19,14 @@ pub fn damage_kind(
     roots: &[Ref],
     d: &[u8],
 ) -> usize
-    requires { ⌜ ((waiting : List ℕ) × (sections : List ℕ)
+    requires { ⌜ ((waiting : List ℕ) × (sections : List ℕ) × (marks : List ℕ) × (list : List ℕ)
         × (shaped blocks width
-        (lentMemory (now a) (now b) (now counts) (now cells) (now roots) waiting sections (now d)) ≡ true)) ⌝ }
+        (lentMemory (now a) (now b) (now counts) (now cells) (now roots) waiting sections (now d) marks list) ≡ true)) ⌝ }
     ensures { λ r.
-        ⌜ ((waiting sections : List ℕ)
+        ⌜ ((waiting sections marks list : List ℕ)
         → r ≡ damage blocks width
         (lentMemory (now (a .entry)) (now (b .entry)) (now (counts .entry)) (now (cells .entry)) (now (roots .entry))
-        waiting sections (now (d .entry)))) ⌝ }
+        waiting sections (now (d .entry)) marks list)) ⌝ }
 {
     if check_maps::has_end_on_free(blocks, a, b) {
         return 1;

@@ -145,7 +145,7 @@ strays x f hx hf =
 
 pub stray-eight : (N : ℕ) (a b d : List ℕ) (k first : ℕ) → first < 256
     → ((s : ℕ) → s < 8 → firstIn N a b (8 * k + s) ≡ not (eqb (bitOf first s) 0))
-    → EightTests (strayData N (lentMemory a b [] [] [] [] [] d)) k (bitAnd (getD d k 0) (255 - first))
+    → EightTests (strayData N (lentMemory a b [] [] [] [] [] d [] [])) k (bitAnd (getD d k 0) (255 - first))
 unfolding strayData
 stray-eight N a b d k first small firsts s l =
     let x : ℕ = bitAt d (8 * k + s) in

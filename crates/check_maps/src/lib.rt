@@ -165,7 +165,7 @@ pub fn has_stray_data(blocks: usize, a: &[u8], b: &[u8], d: &[u8]) -> bool
         × (blocks ≡ 8 * (blocks / 8)) ⌝ }
     ensures { λ r.
         ⌜ r ≡ someBelow
-        (strayData blocks (lentMemory (now (a .entry)) (now (b .entry)) [] [] [] [] [] (now (d .entry)))) blocks ⌝ }
+        (strayData blocks (lentMemory (now (a .entry)) (now (b .entry)) [] [] [] [] [] (now (d .entry)) [] [])) blocks ⌝ }
 {
     let bytes = blocks / 8;
     let mut found: u8 = 0;

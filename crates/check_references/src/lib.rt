@@ -18,7 +18,7 @@ pub fn has_bad_cell(blocks: usize, a: &[u8], b: &[u8], cells: &[Ref], d: &[u8]) 
         × (blocks ≤ 8 * length (now d)) × (blocks ≤ maxBlocks) × (blocks ≡ 8 * (blocks / 8)) ⌝ }
     ensures { λ r.
         ⌜ r ≡ someBelow
-        (badCell blocks (lentMemory (now (a .entry)) (now (b .entry)) [] (now (cells .entry)) [] [] [] (now (d .entry))))
+        (badCell blocks (lentMemory (now (a .entry)) (now (b .entry)) [] (now (cells .entry)) [] [] [] (now (d .entry)) [] []))
         (4 * blocks) ⌝ }
 {
     if !numbers::has_data(d) {

@@ -31,8 +31,10 @@ pub fn is_shaped(
     waiting: usize,
     sections: usize,
     d: usize,
+    marks: usize,
+    list: usize,
 ) -> bool
-    ensures { λ r. ⌜ r ≡ shape blocks width a b counts cells roots waiting sections d ⌝ }
+    ensures { λ r. ⌜ r ≡ shape blocks width a b counts cells roots waiting sections d marks list ⌝ }
 {
     if !is_blocks(blocks) {
         return false;
@@ -67,5 +69,11 @@ pub fn is_shaped(
     if sections != section_figures::section_count(blocks) {
         return false;
     }
-    d == blocks / 8
+    if d != blocks / 8 {
+        return false;
+    }
+    if marks != blocks / 8 {
+        return false;
+    }
+    list == blocks + 1
 }

@@ -14,14 +14,13 @@ use crate::objects;
 pub fn has_data(d: &[u8]) -> bool
     ensures { λ r. ⌜ r ≡ someBelow (λ i. not (eqb (getD (now (d .entry)) i 0) 0)) (length (now (d .entry))) ⌝ }
 {
+    let mut any: u8 = 0;
     let mut i = 0;
     while i < d.len() {
-        if d[i] != 0 {
-            return true;
-        }
+        any = any | d[i];
         i += 1;
     }
-    false
+    any != 0
 }
 
 // Whether block i is a block of data, in a walk from block 0 upwards: `before` says it of the block before

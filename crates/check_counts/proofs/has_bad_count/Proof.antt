@@ -19,7 +19,7 @@ use Rattle.check_counts.proofs.has_bad_count.Tie as tie
 
 abbrev Inv-loop : tie.InvT-loop
 Inv-loop blocks width a b counts cells roots d at bytes k₀ k =
-    Searched (badCount blocks width (lentMemory a b counts cells roots [] [] d)) blocks (8 * k)
+    Searched (badCount blocks width (lentMemory a b counts cells roots [] [] d [] [])) blocks (8 * k)
 
 abbrev μ-loop : tie.MeasureT-loop
 μ-loop blocks width a b counts cells roots d at bytes k₀ k = blocks - 8 * k
@@ -28,6 +28,7 @@ abbrev μ-loop : tie.MeasureT-loop
 abbrev whole : tie.Start Inv-loop μ-loop → Memory
 whole s =
     lentMemory (s .args .a .now) (s .args .b .now) (s .args .counts .now) (s .args .cells .now) (s .args .roots .now) [] [] (s .args .d .now)
+    [] []
 
 -- the rule's test there
 abbrev test : tie.Start Inv-loop μ-loop → ℕ → Bool

@@ -13,14 +13,15 @@ use Rattle.rules.proofs.Shape.{Shaped, shape-facts}
 use Rattle.check_damage.proofs.damage_kind.Statement.{statement}
 use Rattle.check_damage.proofs.damage_kind.Tie as tie
 
--- ---- the seven tests, in the code's order; kind 4 has two. No test reads the waiting list or the sections.
+-- ---- the seven tests, in the code's order; kind 4 has two. No test reads the waiting list, the sections,
+-- the marks or the second list.
 
-module _ (waiting sections : List ℕ) where
-  -- the eight buffers
+module _ (waiting sections marks list : List ℕ) where
+  -- the ten buffers
   abbrev whole : tie.Start → Memory
   whole s =
       lentMemory (s .args .a .now) (s .args .b .now) (s .args .counts .now) (s .args .cells .now) (s .args .roots .now) waiting sections
-      (s .args .d .now)
+      (s .args .d .now) marks list
 
   -- the rule's tests
   abbrev rule-1 : tie.Start → Bool
@@ -44,12 +45,12 @@ module _ (waiting sections : List ℕ) where
   abbrev rule-7 : tie.Start → Bool
   rule-7 s = someBelow (strayData (s .args .blocks) (whole s)) (s .args .blocks)
 
--- the eight buffers of right shape
+-- the ten buffers of right shape
 abbrev found : tie.Start → Memory
-found s = whole (s .pre .0) (s .pre .1) s
+found s = whole (s .pre .0) (s .pre .1) (s .pre .2) (s .pre .3) s
 
 right : (s : tie.Start) → Shaped (s .args .blocks) (s .args .width) (found s)
-right s = shape-facts (s .args .blocks) (s .args .width) (found s) (s .pre .2)
+right s = shape-facts (s .args .blocks) (s .args .width) (found s) (s .pre .4)
 
 -- where the code starts from
 abbrev entry : tie.After-shared-slice-known6 → tie.Start
@@ -76,56 +77,56 @@ start-6 c = start-5 (c .before .before)
 abbrev start-7 : tie.After-has-stray-data → tie.Start
 start-7 c = start-6 (c .before .before)
 
-module _ (waiting sections : List ℕ) where
+module _ (waiting sections marks list : List ℕ) where
   -- what each call returns
-  test-1 : (c : tie.After-has-end-on-free) → c .has-end-on-free .result ≡ rule-1 waiting sections (start-1 c)
+  test-1 : (c : tie.After-has-end-on-free) → c .has-end-on-free .result ≡ rule-1 waiting sections marks list (start-1 c)
   unfolding endOnFree
   test-1 c = c .has-end-on-free .ensures
 
-  test-2 : (c : tie.After-has-open-end) → c .has-open-end .result ≡ rule-2 waiting sections (start-2 c)
+  test-2 : (c : tie.After-has-open-end) → c .has-open-end .result ≡ rule-2 waiting sections marks list (start-2 c)
   unfolding openEnd
   test-2 c = c .has-open-end .ensures
 
-  test-3 : (c : tie.After-has-unaligned) → c .has-unaligned .result ≡ rule-3 waiting sections (start-3 c)
+  test-3 : (c : tie.After-has-unaligned) → c .has-unaligned .result ≡ rule-3 waiting sections marks list (start-3 c)
   unfolding unaligned
   test-3 c = c .has-unaligned .ensures
 
-  test-4 : (c : tie.After-has-bad-cell) → c .has-bad-cell .result ≡ rule-4 waiting sections (start-4 c)
+  test-4 : (c : tie.After-has-bad-cell) → c .has-bad-cell .result ≡ rule-4 waiting sections marks list (start-4 c)
   unfolding badCell
   test-4 c = c .has-bad-cell .ensures
 
-  test-5 : (c : tie.After-has-bad-root) → c .has-bad-root .result ≡ rule-5 waiting sections (start-5 c)
+  test-5 : (c : tie.After-has-bad-root) → c .has-bad-root .result ≡ rule-5 waiting sections marks list (start-5 c)
   unfolding badRoot
   test-5 c = c .has-bad-root .ensures
 
-  test-6 : (c : tie.After-has-bad-count) → c .has-bad-count .result ≡ rule-6 waiting sections (start-6 c)
+  test-6 : (c : tie.After-has-bad-count) → c .has-bad-count .result ≡ rule-6 waiting sections marks list (start-6 c)
   unfolding badCount
   test-6 c = c .has-bad-count .ensures
 
-  test-7 : (c : tie.After-has-stray-data) → c .has-stray-data .result ≡ rule-7 waiting sections (start-7 c)
+  test-7 : (c : tie.After-has-stray-data) → c .has-stray-data .result ≡ rule-7 waiting sections marks list (start-7 c)
   unfolding strayData
   test-7 c = c .has-stray-data .ensures
 
   -- past the test
-  fails-1 : (c : tie.Else1) → rule-1 waiting sections (start-1 (c .before)) ≡ false
+  fails-1 : (c : tie.Else1) → rule-1 waiting sections marks list (start-1 (c .before)) ≡ false
   fails-1 c = sym (test-1 (c .before)) ∙ c .if1 .left
 
-  fails-2 : (c : tie.Else2) → rule-2 waiting sections (start-2 (c .before)) ≡ false
+  fails-2 : (c : tie.Else2) → rule-2 waiting sections marks list (start-2 (c .before)) ≡ false
   fails-2 c = sym (test-2 (c .before)) ∙ c .if2 .left
 
-  fails-3 : (c : tie.Else3) → rule-3 waiting sections (start-3 (c .before)) ≡ false
+  fails-3 : (c : tie.Else3) → rule-3 waiting sections marks list (start-3 (c .before)) ≡ false
   fails-3 c = sym (test-3 (c .before)) ∙ c .if3 .left
 
-  fails-4 : (c : tie.Else4) → rule-4 waiting sections (start-4 (c .before)) ≡ false
+  fails-4 : (c : tie.Else4) → rule-4 waiting sections marks list (start-4 (c .before)) ≡ false
   fails-4 c = sym (test-4 (c .before)) ∙ c .if4 .left
 
-  fails-5 : (c : tie.Else5) → rule-5 waiting sections (start-5 (c .before)) ≡ false
+  fails-5 : (c : tie.Else5) → rule-5 waiting sections marks list (start-5 (c .before)) ≡ false
   fails-5 c = sym (test-5 (c .before)) ∙ c .if5 .left
 
-  fails-6 : (c : tie.Else6) → rule-6 waiting sections (start-6 (c .before)) ≡ false
+  fails-6 : (c : tie.Else6) → rule-6 waiting sections marks list (start-6 (c .before)) ≡ false
   fails-6 c = sym (test-6 (c .before)) ∙ c .if6 .left
 
-  fails-7 : (c : tie.Else7) → rule-7 waiting sections (start-7 (c .before)) ≡ false
+  fails-7 : (c : tie.Else7) → rule-7 waiting sections marks list (start-7 (c .before)) ≡ false
   fails-7 c = sym (test-7 (c .before)) ∙ c .if7 .left
 
 -- ---- the needs
@@ -135,56 +136,56 @@ has-end-on-free-requires c κs = let len = right (entry c) in omega arith
 
 returns : tie.Need-returns
 unfolding damage firstNumber
-returns c = λ w x.
-    rw (sym (test-1 w x (c .before)) ∙ c .if1 .taken, damage, firstNumber)
+returns c = λ w x m l.
+    rw (sym (test-1 w x m l (c .before)) ∙ c .if1 .taken, damage, firstNumber)
 
 has-open-end-requires : tie.Need-has-open-end-requires
 has-open-end-requires c κs = let len = right (start-1 (c .before)) in omega arith
 
 returns-2 : tie.Need-returns-2
 unfolding damage firstNumber
-returns-2 c = λ w x.
+returns-2 c = λ w x m l.
     let c1 = c .before .before in
-    rw (fails-1 w x c1, sym (test-2 w x (c .before)) ∙ c .if2 .taken, damage, firstNumber)
+    rw (fails-1 w x m l c1, sym (test-2 w x m l (c .before)) ∙ c .if2 .taken, damage, firstNumber)
 
 has-unaligned-requires : tie.Need-has-unaligned-requires
 has-unaligned-requires c κs = let len = right (start-2 (c .before)) in omega arith
 
 returns-3 : tie.Need-returns-3
 unfolding damage firstNumber
-returns-3 c = λ w x.
+returns-3 c = λ w x m l.
     let c2 = c .before .before in
     let c1 = c2 .before .before in
-    rw (fails-1 w x c1, fails-2 w x c2, sym (test-3 w x (c .before)) ∙ c .if3 .taken, damage, firstNumber)
+    rw (fails-1 w x m l c1, fails-2 w x m l c2, sym (test-3 w x m l (c .before)) ∙ c .if3 .taken, damage, firstNumber)
 
 has-bad-cell-requires : tie.Need-has-bad-cell-requires
 has-bad-cell-requires c κs = let len = right (start-3 (c .before)) in omega arith
 
 returns-4 : tie.Need-returns-4
 unfolding damage firstNumber
-returns-4 c = λ w x.
+returns-4 c = λ w x m l.
     let c3 = c .before .before in
     let c2 = c3 .before .before in
     let c1 = c2 .before .before in
-    rw (fails-1 w x c1, fails-2 w x c2, fails-3 w x c3, sym (test-4 w x (c .before)) ∙ c .if4 .taken, damage, firstNumber)
+    rw (fails-1 w x m l c1, fails-2 w x m l c2, fails-3 w x m l c3, sym (test-4 w x m l (c .before)) ∙ c .if4 .taken, damage, firstNumber)
 
 has-bad-root-requires : tie.Need-has-bad-root-requires
 has-bad-root-requires c κs = let len = right (start-4 (c .before)) in omega arith
 
 returns-5 : tie.Need-returns-5
 unfolding damage firstNumber
-returns-5 c = λ w x.
+returns-5 c = λ w x m l.
     let c4 = c .before .before in
     let c3 = c4 .before .before in
     let c2 = c3 .before .before in
     let c1 = c2 .before .before in
-    rw (fails-1 w x c1, fails-2 w x c2, fails-3 w x c3, fails-4 w x c4, sym (test-5 w x (c .before)) ∙ c .if5 .taken, damage, firstNumber)
+    rw (fails-1 w x m l c1, fails-2 w x m l c2, fails-3 w x m l c3, fails-4 w x m l c4, sym (test-5 w x m l (c .before)) ∙ c .if5 .taken, damage, firstNumber)
 
 has-bad-count-requires : tie.Need-has-bad-count-requires
 has-bad-count-requires c κs =
     let s = start-5 (c .before) in
     let len = right s in
-    let cells = cells-within (s .args .blocks) (found s) (omega arith) (fails-4 (s .pre .0) (s .pre .1) (c .before .before)) in
+    let cells = cells-within (s .args .blocks) (found s) (omega arith) (fails-4 (s .pre .0) (s .pre .1) (s .pre .2) (s .pre .3) (c .before .before)) in
     record {
       maps = record {
         blocks-max = len .blocks-max;
@@ -199,25 +200,25 @@ has-bad-count-requires c κs =
       width-max = len .width-max;
       length-counts = len .length-counts;
       roots-max = len .roots-max;
-      roots-within = roots-within (s .args .blocks) (found s) (fails-5 (s .pre .0) (s .pre .1) c);
+      roots-within = roots-within (s .args .blocks) (found s) (fails-5 (s .pre .0) (s .pre .1) (s .pre .2) (s .pre .3) c);
     }
 
 returns-6 : tie.Need-returns-6
 unfolding damage firstNumber
-returns-6 c = λ w x.
+returns-6 c = λ w x m l.
     let c5 = c .before .before in
     let c4 = c5 .before .before in
     let c3 = c4 .before .before in
     let c2 = c3 .before .before in
     let c1 = c2 .before .before in
-    rw (fails-1 w x c1, fails-2 w x c2, fails-3 w x c3, fails-4 w x c4, fails-5 w x c5, sym (test-6 w x (c .before)) ∙ c .if6 .taken, damage, firstNumber)
+    rw (fails-1 w x m l c1, fails-2 w x m l c2, fails-3 w x m l c3, fails-4 w x m l c4, fails-5 w x m l c5, sym (test-6 w x m l (c .before)) ∙ c .if6 .taken, damage, firstNumber)
 
 has-stray-data-requires : tie.Need-has-stray-data-requires
 has-stray-data-requires c κs = let len = right (start-6 (c .before)) in omega arith
 
 returns-7 : tie.Need-returns-7
 unfolding damage firstNumber
-returns-7 c = λ w x.
+returns-7 c = λ w x m l.
     let c6 = c .before .before in
     let c5 = c6 .before .before in
     let c4 = c5 .before .before in
@@ -225,20 +226,20 @@ returns-7 c = λ w x.
     let c2 = c3 .before .before in
     let c1 = c2 .before .before in
     rw (
-      fails-1 w x c1,
-      fails-2 w x c2,
-      fails-3 w x c3,
-      fails-4 w x c4,
-      fails-5 w x c5,
-      fails-6 w x c6,
-      sym (test-7 w x (c .before)) ∙ c .if7 .taken,
+      fails-1 w x m l c1,
+      fails-2 w x m l c2,
+      fails-3 w x m l c3,
+      fails-4 w x m l c4,
+      fails-5 w x m l c5,
+      fails-6 w x m l c6,
+      sym (test-7 w x m l (c .before)) ∙ c .if7 .taken,
       damage,
       firstNumber,
     )
 
 returns-8 : tie.Need-returns-8
 unfolding damage firstNumber
-returns-8 c = λ w x.
+returns-8 c = λ w x m l.
     let c6 = c .before .before in
     let c5 = c6 .before .before in
     let c4 = c5 .before .before in
@@ -246,13 +247,13 @@ returns-8 c = λ w x.
     let c2 = c3 .before .before in
     let c1 = c2 .before .before in
     rw (
-      fails-1 w x c1,
-      fails-2 w x c2,
-      fails-3 w x c3,
-      fails-4 w x c4,
-      fails-5 w x c5,
-      fails-6 w x c6,
-      fails-7 w x c,
+      fails-1 w x m l c1,
+      fails-2 w x m l c2,
+      fails-3 w x m l c3,
+      fails-4 w x m l c4,
+      fails-5 w x m l c5,
+      fails-6 w x m l c6,
+      fails-7 w x m l c,
       damage,
       firstNumber,
     )

@@ -18,14 +18,14 @@ use Rattle.check_maps.proofs.has_stray_data.Tie as tie
 
 abbrev Inv-loop : tie.InvT-loop
 Inv-loop blocks a b d bytes found₀ k₀ found k =
-    (k ≤ bytes) × Gathered (strayData blocks (lentMemory a b [] [] [] [] [] d)) k found
+    (k ≤ bytes) × Gathered (strayData blocks (lentMemory a b [] [] [] [] [] d [] [])) k found
 
 abbrev μ-loop : tie.MeasureT-loop
 μ-loop blocks a b d bytes found₀ k₀ found k = bytes - k
 
 -- the rule's test, on what is lent
 abbrev test : tie.Start Inv-loop μ-loop → ℕ → Bool
-test s = strayData (s .args .blocks) (lentMemory (s .args .a .now) (s .args .b .now) [] [] [] [] [] (s .args .d .now))
+test s = strayData (s .args .blocks) (lentMemory (s .args .a .now) (s .args .b .now) [] [] [] [] [] (s .args .d .now) [] [])
 
 loop-holds : tie.Need-loop-holds Inv-loop μ-loop
 unfolding someBelow

@@ -18,7 +18,7 @@ use Rattle.check_references.proofs.has_bad_cell.Tie as tie
 
 -- what is lent, with nothing in the other lists
 abbrev whole : (a b cells d : List ℕ) → Memory
-whole a b cells d = lentMemory a b [] cells [] [] [] d
+whole a b cells d = lentMemory a b [] cells [] [] [] d [] []
 
 abbrev Inv-loop : tie.InvT-loop
 Inv-loop blocks a b cells d in-data₀ i₀ in-data i =

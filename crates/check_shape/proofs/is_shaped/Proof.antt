@@ -2,7 +2,7 @@
 use mathlib.Core.Path.{_≡_, sym, ap, _∙_}
 use mathlib.Core.Bool.{Bool, true}
 use mathlib.Core.List.{List, [], _∷_}
-use Prim.Native.Nat.{_*_, _/_}
+use Prim.Native.Nat.{_+_, _*_, _/_}
 use native.Mathlib.Nat.{mul-le-mul-right}
 use native.Mathlib.Omega.{arith}
 use lib.Dec.{leb, eqb}
@@ -30,14 +30,20 @@ tests s =
     ∷ eqb (s .args .waiting) (s .args .blocks)
     ∷ eqb (s .args .sections) (sectionCount (s .args .blocks))
     ∷ eqb (s .args .d) (s .args .blocks / 8)
+    ∷ eqb (s .args .marks) (s .args .blocks / 8)
+    ∷ eqb (s .args .list) (s .args .blocks + 1)
     ∷ []
 
--- the places: from past the third test, of the width, back to the entry; and from past the seventh, of the maps, back to the third
+-- the places: from past the third test, of the width, back to the entry; from past the seventh, of the maps, back to the third; and from
+-- past the eleventh, of the sections, back to the seventh
 abbrev start : tie.Else3 → tie.Start
 start c = c .before .before .before .before
 
 abbrev third : tie.Else7 → tie.Else3
 third c = c .before .before .before .before
+
+abbrev seventh : tie.Else11 → tie.Else7
+seventh c = c .before .before .before .before .before
 
 is-blocks-requires : tie.Need-is-blocks-requires
 is-blocks-requires c κs = search needs
@@ -127,9 +133,27 @@ returns-11 c =
     (ne-eqb (s .args .sections) (sectionCount (s .args .blocks)) (λ e. omega (arith, c .before .section-count .ensures))))
 
 returns-12 : tie.Need-returns-12
-unfolding shape all
+unfolding shape
 returns-12 c =
-    let e = c .before .before in
+    let s = start (third (seventh (c .before))) in
+    sym (all-failed (tests s) 11 (ne-eqb (s .args .d) (s .args .blocks / 8) (c .if12 .taken)))
+
+returns-13 : tie.Need-returns-13
+unfolding shape
+returns-13 c =
+    let s = start (third (seventh (c .before .before))) in
+    sym (all-failed (tests s) 12 (ne-eqb (s .args .marks) (s .args .blocks / 8) (c .if13 .taken)))
+
+add-result : tie.Need-add-result
+add-result c =
+    let e = third (seventh (c .before .before)) .before .before in
+    omega (arith, blocks-le (e .before .before .args .blocks) (right-blocks e))
+
+returns-14 : tie.Need-returns-14
+unfolding shape all
+returns-14 c =
+    let sections = c .before .before in
+    let e = sections .before .before in
     let maps = e .before .before .before in
     let width = third maps in
     let s = start width in
@@ -144,10 +168,12 @@ returns-12 c =
       eq-eqb (s .args .counts) (s .args .width * (s .args .blocks / 8)) (e .before .before .if8 .left),
       eq-eqb (s .args .cells) (4 * s .args .blocks) (e .before .if9 .left),
       eq-eqb (s .args .waiting) (s .args .blocks) (e .if10 .left),
-      eq-eqb (s .args .sections) (sectionCount (s .args .blocks)) (omega (arith, c .before .section-count .ensures)),
+      eq-eqb (s .args .sections) (sectionCount (s .args .blocks)) (omega (arith, sections .before .section-count .ensures)),
+      eq-eqb (s .args .d) (s .args .blocks / 8) (c .before .if12 .left),
+      eq-eqb (s .args .marks) (s .args .blocks / 8) (c .if13 .left),
       shape,
       all,
-    ) (sym (all-one (eqb (s .args .d) (s .args .blocks / 8))))
+    ) (sym (all-one (eqb (s .args .list) (s .args .blocks + 1))))
 
 pub is-shaped-spec : {M : Type 1} → statement M
 is-shaped-spec =
@@ -168,4 +194,7 @@ is-shaped-spec =
     returns-10
     section-count-requires
     returns-11
-    returns-12)
+    returns-12
+    returns-13
+    add-result
+    returns-14)

@@ -1,0 +1,4 @@
+pub mod Shades
+pub mod Goings
+pub mod Progresses
+pub mod Flags

@@ -1,0 +1,4 @@
+pub mod Bits
+pub mod Rising
+pub mod Mixing
+pub mod MapOf
