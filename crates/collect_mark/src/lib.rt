@@ -26,7 +26,7 @@ fn scan_all(
         × (length (now b) ≡ blocks / 8) × (length (now cells) ≡ 4 * blocks) × (length (now d) ≡ blocks / 8) ⌝ }
     ensures { λ _.
         ⌜ (now (counts .exit)
-        ≡ scan blocks blocks width (lentMemory [] (now (b .entry)) [] (now (cells .entry)) [] [] [] (now (d .entry)))
+        ≡ scan blocks blocks width (lentMemory [] (now (b .entry)) [] (now (cells .entry)) [] [] [] (now (d .entry)) [] [])
         (now (counts .entry)) (topFirst (now (waiting .entry)) top))
         × (now (waiting .exit) ≡ replicate blocks 0) ⌝ }
 {
@@ -57,7 +57,7 @@ pub fn mark(
     ensures { λ _.
         ⌜ (now (counts .exit)
         ≡ markCounts blocks width
-        (lentMemory [] (now (b .entry)) [] (now (cells .entry)) (now (roots .entry)) [] [] (now (d .entry))))
+        (lentMemory [] (now (b .entry)) [] (now (cells .entry)) (now (roots .entry)) [] [] (now (d .entry)) [] []))
         × (now (waiting .exit) ≡ replicate blocks 0) ⌝ }
 {
     bitmap::fill_bytes(counts, 0);

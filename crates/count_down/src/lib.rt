@@ -5,6 +5,7 @@ ghost use lib.ListN.{length};
 ghost use Rattle.bitmap.specs.Bit.{setBit};
 ghost use Rattle.rules.specs.Heap.{maxBlocks};
 ghost use Rattle.rules.specs.Store.{work, countDown, countDownEach, clearCells, namingCells};
+ghost use Rattle.step_marks.specs.Marks.{freedMarks};
 ghost use Rattle.count_up.specs.Ready.{Planes};
 ghost use Rattle.count_up.specs.Stack.{topFirst, counted, remaining, Stack, Worked};
 use types::Ref;
@@ -95,7 +96,8 @@ fn end_kind(d: &mut [u8], i: usize, n: usize) -> usize
 }
 
 // The cells and the D bit of the object of n blocks at block i, which is freed, are cleared, and what its cells named is counted
-// down. Cells of data named nothing.
+// down; while a collection is open (`shade`) the object leaves the mark map, and what its cells named is marked. Cells of data
+// named nothing.
 pub fn drop_object(
     blocks: usize,
     width: usize,
@@ -103,12 +105,15 @@ pub fn drop_object(
     cells: &mut [Ref],
     waiting: &mut [Ref],
     d: &mut [u8],
+    marks: &mut [u8],
     i: usize,
     n: usize,
     top: usize,
+    shade: bool,
 ) -> usize
     requires { ⌜ Planes blocks width (now counts) × Stack counted blocks width (now counts) (now waiting) top
-        × (i + n ≤ blocks) × (i < blocks) × (length (now cells) ≡ 4 * blocks) × (blocks ≤ 8 * length (now d)) ⌝ }
+        × (i + n ≤ blocks) × (i < blocks) × (length (now cells) ≡ 4 * blocks) × (blocks ≤ 8 * length (now d))
+        × (blocks ≤ 8 * length (now marks)) ⌝ }
     ensures { λ r.
         ⌜ Worked counted blocks width
         (countDownEach blocks width (work (now (counts .entry)) (topFirst (now (waiting .entry)) top)) (now (cells .entry)) (4 * i)
@@ -116,10 +121,13 @@ pub fn drop_object(
         (remaining counted blocks width (now (counts .entry)) top)
         (now (counts .exit)) (now (waiting .exit)) r
         × (now (cells .exit) ≡ clearCells (now (cells .entry)) (4 * i) (4 * n))
-        × (now (d .exit) ≡ setBit (now (d .entry)) i 0) ⌝ }
+        × (now (d .exit) ≡ setBit (now (d .entry)) i 0)
+        × (now (marks .exit)
+        ≡ freedMarks shade blocks (now (marks .entry)) (now (cells .entry)) i (namingCells (now (d .entry)) i n)) ⌝ }
 {
     let all = 4 * n;
     let named = end_kind(d, i, n);
+    step_marks::shade_freed(blocks, cells, marks, i, named, shade);
     let t = drop_cells(blocks, width, counts, cells, waiting, 4 * i, named, top);
     map_extents::clear_cells(cells, 4 * i + named, all - named);
     t

@@ -1,7 +1,7 @@
 -- What counting, stores and collection ask of the lent lists: their lengths, a cleared waiting list, and no figure of a section that is
 -- wrong. What cells and roots hold is left open: a number past the heap names no object, and is passed over. An undamaged heap of right shape
 -- meets it once its waiting list is cleared. For contracts of inner functions.
-use Prim.Native.Nat.{ℕ, _*_, _/_, _≤_}
+use Prim.Native.Nat.{ℕ, _+_, _*_, _/_, _≤_}
 use mathlib.Core.Path.{_≡_}
 use mathlib.Core.List.{List, []}
 use lib.ListN.{length, replicate}
@@ -28,7 +28,9 @@ pub record Ready (N w : ℕ) (h : Memory) : Type 0 where
   pub extents : Extents N (h .a) (h .b) (h .cells) (h .d)
   pub idle : h .waiting ≡ replicate N 0
   pub coherent : Coherent N (h .a) (h .sections)
+  pub marks-length : length (h .marks) ≡ N / 8
+  pub list-length : length (h .list) ≡ N + 1
 
--- the memory as code that frees objects knows it: roots and list of sections are not in it
+-- the memory as code that frees objects knows it: roots, list of sections, mark map and second list are not in it
 abbrev pub partMemory : (a b counts cells waiting d : List ℕ) → Memory
-partMemory a b counts cells waiting d = lentMemory a b counts cells [] waiting [] d
+partMemory a b counts cells waiting d = lentMemory a b counts cells [] waiting [] d [] []

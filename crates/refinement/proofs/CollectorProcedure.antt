@@ -43,7 +43,12 @@ module _ (N w : ℕ) (h : Memory) (healthy : Healthy N w h) where
 
   remarked-shape : Shaped N w remarked
   remarked-shape =
-      reshaped N w h remarked (healthy .shape) refl refl (mark-counts-shows N w h healthy .0 ∙ sym (healthy .shape .length-counts)) refl refl refl refl refl
+      reshaped N w h remarked (healthy .shape) refl refl (mark-counts-shows N w h healthy .0 ∙ sym (healthy .shape .length-counts)) refl refl
+      refl
+      refl
+      refl
+      refl
+      refl
 
   remarked-view : view N w remarked ≡ markedGraph (capacity w) r (view N w h)
   remarked-view = graph-is refl (mark-counts-shows N w h healthy .1) refl
@@ -83,6 +88,8 @@ module _ (N w : ℕ) (h : Memory) (healthy : Healthy N w h) where
         waiting = (end-stage .swept .same-waiting ∙ sym (collect-swept N w h healthy .same-waiting)) i;
         sections = (end-stage .swept .same-sections ∙ sym (collect-swept N w h healthy .same-sections)) i;
         d = same-d i;
+        marks = (end-stage .swept .same-marks ∙ sym (collect-swept N w h healthy .same-marks)) i;
+        list = (end-stage .swept .same-list ∙ sym (collect-swept N w h healthy .same-list)) i;
       }
     where
       by : Bytewise (collectBy N w h)

@@ -141,6 +141,8 @@ module _ (N w : ℕ) (h : Memory) (shape : Shaped N w h) (represents : Represent
           same-roots = refl;
           same-waiting = refl;
           same-sections = refl;
+          same-marks = refl;
+          same-list = refl;
           slots-are = refl;
           bare = bare;
           keeps = λ x stands. kept-same N h x;

@@ -3,8 +3,4 @@ pub mod ViewMarking
 pub mod CollectorSweep
 pub mod Bytewise
 pub mod CollectorProcedure
-pub mod StoreBlocks
-pub mod Presence
-pub mod FreedBlocks
 pub mod ReadyHeap
-pub mod PlacedBlocks

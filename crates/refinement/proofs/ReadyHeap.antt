@@ -34,6 +34,8 @@ fit-ready N w h fit =
       };
       idle = refl;
       coherent = coherent-true N (h .a) (h .sections) (shaped-blocks N w h shape) (fit .listed);
+      marks-length = shape .length-marks;
+      list-length = shape .length-list;
     }
 
 module _ {N w : ℕ} {h : Memory} (usable : Usable N w h) where

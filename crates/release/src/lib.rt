@@ -1,17 +1,21 @@
-// Letting go of a reference: the object that it names is freed where no reference is left, and so is all that only freed objects name. The
-// figures of sections in which blocks become free are left unknown.
+// Letting go of a reference: the object that it names is freed where no reference is left, and so is all that only freed objects name.
+// The figures of sections in which blocks become free are left unknown. While a collection in small steps is open (`shade`) the mark map
+// goes along.
 ghost use mathlib.Core.Path.{_≡_};
 ghost use mathlib.Core.List.{[]};
-ghost use lib.ListN.{replicate};
+ghost use Prim.Native.Nat.{_*_, _/_, _≤_};
+ghost use lib.ListN.{length, replicate};
+ghost use Rattle.rules.specs.Heap.{maxBlocks};
 ghost use Rattle.rules.specs.Store.{release, letGo};
 ghost use Rattle.section_figures.specs.Figures.{Coherent, Upkeep};
 ghost use Rattle.count_up.specs.Ready.{Planes, Extents, partMemory};
 ghost use Rattle.count_up.specs.Stack.{topFirst, counted, Stack};
 ghost use Rattle.release.specs.Blocks.{releasedBlocks, letGoBlocks};
+ghost use Rattle.release.specs.Marks.{releasedMarks, letGoMarks};
 use types::Ref;
 
 // Frees the objects on the stack, and those whose counts come to 0 by that. The number of blocks freed.
-fn release_all(
+pub fn release_all(
     blocks: usize,
     width: usize,
     a: &mut [u8],
@@ -21,10 +25,13 @@ fn release_all(
     waiting: &mut [Ref],
     sections: &mut [Ref],
     d: &mut [u8],
+    marks: &mut [u8],
     top: usize,
+    shade: bool,
 ) -> usize
     requires { ⌜ Planes blocks width (now counts) × Extents blocks (now a) (now b) (now cells) (now d)
-        × Stack counted blocks width (now counts) (now waiting) top × Coherent blocks (now a) (now sections) ⌝ }
+        × Stack counted blocks width (now counts) (now waiting) top × Coherent blocks (now a) (now sections)
+        × (length (now marks) ≡ blocks / 8) ⌝ }
     ensures { λ r.
         ⌜ (partMemory (now (a .exit)) (now (b .exit)) (now (counts .exit)) (now (cells .exit)) [] (now (d .exit))
         ≡ release blocks blocks width
@@ -35,7 +42,12 @@ fn release_all(
         (partMemory (now (a .entry)) (now (b .entry)) (now (counts .entry)) (now (cells .entry)) [] (now (d .entry)))
         (topFirst (now (waiting .entry)) top))
         × (now (waiting .exit) ≡ replicate blocks 0)
-        × Upkeep blocks r (now (a .entry)) (now (sections .entry)) (now (a .exit)) (now (sections .exit)) ⌝ }
+        × Upkeep blocks r (now (a .entry)) (now (sections .entry)) (now (a .exit)) (now (sections .exit))
+        × (now (marks .exit)
+        ≡ releasedMarks shade blocks blocks width
+        (partMemory (now (a .entry)) (now (b .entry)) (now (counts .entry)) (now (cells .entry)) [] (now (d .entry)))
+        (topFirst (now (waiting .entry)) top) (now (marks .entry)))
+        × (r ≤ maxBlocks * maxBlocks) ⌝ }
 {
     let mut freed: usize = 0;
     let mut t = top;
@@ -45,7 +57,19 @@ fn release_all(
         waiting[t] = 0;
         let n = map_objects::objects::object_size(blocks, b, i);
         section_extents::clear_extent(blocks, a, b, sections, i, n);
-        t = count_down::drop_object(blocks, width, counts, cells, waiting, d, i, n, t);
+        t = count_down::drop_object(
+            blocks,
+            width,
+            counts,
+            cells,
+            waiting,
+            d,
+            marks,
+            i,
+            n,
+            t,
+            shade,
+        );
         freed += n;
     }
     freed
@@ -62,10 +86,12 @@ pub fn let_go(
     waiting: &mut [Ref],
     sections: &mut [Ref],
     d: &mut [u8],
+    marks: &mut [u8],
     v: Ref,
+    shade: bool,
 ) -> usize
     requires { ⌜ Planes blocks width (now counts) × Extents blocks (now a) (now b) (now cells) (now d) × (now waiting ≡ replicate blocks 0)
-        × Coherent blocks (now a) (now sections) ⌝ }
+        × Coherent blocks (now a) (now sections) × (length (now marks) ≡ blocks / 8) ⌝ }
     ensures { λ r.
         ⌜ (partMemory (now (a .exit)) (now (b .exit)) (now (counts .exit)) (now (cells .exit)) (now (waiting .exit)) (now (d .exit))
         ≡ letGo blocks width
@@ -73,7 +99,11 @@ pub fn let_go(
         × (r
         ≡ letGoBlocks blocks width
         (partMemory (now (a .entry)) (now (b .entry)) (now (counts .entry)) (now (cells .entry)) (now (waiting .entry)) (now (d .entry))) v)
-        × Upkeep blocks r (now (a .entry)) (now (sections .entry)) (now (a .exit)) (now (sections .exit)) ⌝ }
+        × Upkeep blocks r (now (a .entry)) (now (sections .entry)) (now (a .exit)) (now (sections .exit))
+        × (now (marks .exit)
+        ≡ letGoMarks shade blocks width
+        (partMemory (now (a .entry)) (now (b .entry)) (now (counts .entry)) (now (cells .entry)) (now (waiting .entry)) (now (d .entry))) v
+        (now (marks .entry))) ⌝ }
 {
     let top = count_down::count_down(blocks, width, counts, waiting, v, 0);
     release_all(
@@ -86,6 +116,8 @@ pub fn let_go(
         waiting,
         sections,
         d,
+        marks,
         top,
+        shade,
     )
 }

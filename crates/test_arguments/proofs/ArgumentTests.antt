@@ -12,7 +12,8 @@ use lib.ListN.{length, getD}
 use borrow.Author.Tests.{eq-eqb, ne-eqb, ltb-true}
 use Rattle.rules.specs.Tools.{firstNumber}
 use Rattle.rules.specs.Heap.{Memory, memory, lentMemory, countOf, isFirst, sizeAt, isRef, isData}
-use Rattle.rules.specs.Calls.{Call, storeRoot, storeCell, look, returnRoots, writeNumber, readNumber, Answer}
+use Rattle.rules.specs.Calls.{Call, collect, storeRoot, storeCell, look, returnRoots, writeNumber, readNumber, openCollection, takeSteps, Answer}
+use Rattle.rules.specs.Steps.{isOpen}
 use Rattle.rules.specs.Calls.{reply, cellRefusals, ownRefusals, outcome, answer}
 use Rattle.rules.specs.Promise.{Promise}
 use Rattle.types.specs.declared.Reply.{Reply}
@@ -22,7 +23,8 @@ use Rattle.rules.proofs.Objects.{first-facts, size-le, ref-facts}
 use Rattle.rules.proofs.Promised.{promised}
 use Rattle.theory.proofs.Memories.Fit.{Fit}
 use Rattle.theory.proofs.EachCall.Accepted.{fit-accepted, fit-refused}
-use Rattle.test_arguments.specs.Replies.{ownTest, storeRootTest, storeCellTest, cellTest, numberTest, readReply, returnTest, lookReply}
+use Rattle.test_arguments.specs.Replies.{ownTest, storeRootTest, storeCellTest, cellTest, numberTest, readReply}
+use Rattle.test_arguments.specs.Replies.{returnTest, shutTest, openTest, lookReply}
 
 -- ---- any call
 
@@ -148,7 +150,7 @@ cell-passed {N} {h} {a} {j} {v} e =
 
 -- the test reads the maps alone
 pub cell-tested :
-    {N : ℕ} {h : Memory} {a j v : ℕ} {x : Reply} → x ≡ storeCellTest N (lentMemory (h .a) (h .b) [] [] [] [] [] (h .d)) a j v
+    {N : ℕ} {h : Memory} {a j v : ℕ} {x : Reply} → x ≡ storeCellTest N (lentMemory (h .a) (h .b) [] [] [] [] [] (h .d) [] []) a j v
     → Tested N h (storeCell a j v) x
 unfolding ownTest ownRefusals
 cell-tested tested = record { is-test = tested }
@@ -174,14 +176,14 @@ number-passed {N} {h} {a} {j} e =
 
 -- the test reads the maps alone, whatever number is written
 pub number-tested :
-    {N : ℕ} {h : Memory} {a j v : ℕ} {x : Reply} → x ≡ numberTest N (lentMemory (h .a) (h .b) [] [] [] [] [] (h .d)) a j
+    {N : ℕ} {h : Memory} {a j v : ℕ} {x : Reply} → x ≡ numberTest N (lentMemory (h .a) (h .b) [] [] [] [] [] (h .d) [] []) a j
     → Tested N h (writeNumber a j v) x
 unfolding ownTest ownRefusals
 number-tested tested = record { is-test = tested }
 
 -- a read reads the cells too
 module _ (N w : ℕ) (h : Memory) (fit : Fit N w h) (a j : ℕ) where
-  pub read-answered : answer N w h (readNumber a j) ≡ (readReply N (lentMemory (h .a) (h .b) [] (h .cells) [] [] [] (h .d)) a j, h)
+  pub read-answered : answer N w h (readNumber a j) ≡ (readReply N (lentMemory (h .a) (h .b) [] (h .cells) [] [] [] (h .d) [] []) a j, h)
   unfolding outcome ownTest ownRefusals readReply
   read-answered = elim (ℕ-discrete (firstNumber (ownRefusals N h (readNumber a j))) 0) [
     | yes e ↦ fit-accepted N w h fit (readNumber a j) (own-passed N h (readNumber a j) e) ∙ ap {B = Answer} (λ t. (read t, h)) (sym (eq-eqb _ 0 e))
@@ -200,6 +202,30 @@ pub return-tested :
     {N : ℕ} {h : Memory} {chosen : ℕ} {x : Reply} → x ≡ returnTest (length (h .roots)) chosen → Tested N h (returnRoots chosen) x
 unfolding ownTest ownRefusals returnTest
 return-tested tested = record { is-test = tested }
+
+-- ---- a collection (request U8)
+
+-- the tests read the second list alone
+pub collect-tested : {N : ℕ} {h : Memory} {x : Reply} → x ≡ shutTest N (h .list) → Tested N h collect x
+unfolding ownTest ownRefusals shutTest
+collect-tested tested = record { is-test = tested }
+
+pub open-tested : {N : ℕ} {h : Memory} {x : Reply} → x ≡ shutTest N (h .list) → Tested N h openCollection x
+unfolding ownTest ownRefusals shutTest
+open-tested tested = record { is-test = tested }
+
+pub step-tested : {N : ℕ} {h : Memory} {budget : ℕ} {x : Reply} → x ≡ openTest N (h .list) → Tested N h (takeSteps budget) x
+unfolding ownTest ownRefusals openTest
+step-tested tested = record { is-test = tested }
+
+-- past them it is known whether one is open
+pub none-open : {N : ℕ} {h : Memory} {x : Reply} → Tested N h collect x → x .number ≡ 0 → isOpen N h ≡ false
+unfolding Passed
+none-open {N} {h} tested accepts = test-passed N h collect (goes-on tested accepts)
+
+pub one-open : {N : ℕ} {h : Memory} {budget : ℕ} {x : Reply} → Tested N h (takeSteps budget) x → x .number ≡ 0 → isOpen N h ≡ true
+unfolding Passed
+one-open {N} {h} {budget} tested accepts = test-passed N h (takeSteps budget) (goes-on tested accepts)
 
 -- ---- a look
 

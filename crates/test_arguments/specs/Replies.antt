@@ -1,8 +1,8 @@
--- The replies that depend on the arguments and on the heap before the call alone, once numbers 1, 2 and 11 are passed: for contracts of
--- inner functions. Each is a part of the rules' `answer`.
+-- The replies that depend on the arguments and on the heap before the call alone, once numbers 1, 2, 11 and 13 are passed: for contracts
+-- of inner functions. Each is a part of the rules' `answer`.
 use Prim.Native.Nat.{ℕ, _+_, _*_}
 use mathlib.Core.Bool.{true, false, not}
-use mathlib.Core.List.{[], _∷_}
+use mathlib.Core.List.{List, [], _∷_}
 use lib.Dec.{eqb}
 use lib.ListN.{getD}
 use Rattle.rules.specs.Tools.{firstNumber}
@@ -37,6 +37,14 @@ readReply N h at j =
 -- number 0 where the return goes on, or its refusal
 unfoldable pub returnTest : (roots chosen : ℕ) → Reply
 returnTest roots chosen = reply (firstNumber ((4, not (chosenBelow chosen roots)) ∷ [])) 0 0
+
+-- request U8: number 0 where a full collection or an opening goes on, since none is open, or its refusal
+unfoldable pub shutTest : ℕ → (list : List ℕ) → Reply
+shutTest N list = reply (firstNumber ((14, eqb (getD list N 0) 1) ∷ [])) 0 0
+
+-- .. and where steps go on, since one is open
+unfoldable pub openTest : ℕ → (list : List ℕ) → Reply
+openTest N list = reply (firstNumber ((14, not (eqb (getD list N 0) 1)) ∷ [])) 0 0
 
 -- the whole reply of a look
 unfoldable pub lookReply : ℕ → ℕ → Memory → ℕ → Reply

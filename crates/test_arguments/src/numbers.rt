@@ -15,7 +15,7 @@ pub fn number_test(blocks: usize, a: &[u8], b: &[u8], d: &[u8], at: usize, j: us
     requires { ⌜ (blocks ≤ 8 * length (now a)) × (blocks ≤ 8 * length (now b)) × (blocks ≤ maxBlocks)
         × (blocks ≤ 8 * length (now d)) ⌝ }
     ensures { λ t.
-        ⌜ t ≡ numberTest blocks (lentMemory (now (a .entry)) (now (b .entry)) [] [] [] [] [] (now (d .entry))) at j ⌝ }
+        ⌜ t ≡ numberTest blocks (lentMemory (now (a .entry)) (now (b .entry)) [] [] [] [] [] (now (d .entry)) [] []) at j ⌝ }
 {
     let tested = cells::cell_test(blocks, a, b, at, j);
     let number = tested.number;
@@ -42,7 +42,7 @@ pub fn read_reply(
         × (blocks ≤ 8 * length (now d)) × (length (now cells) ≡ 4 * blocks) ⌝ }
     ensures { λ t.
         ⌜ t ≡ readReply blocks
-        (lentMemory (now (a .entry)) (now (b .entry)) [] (now (cells .entry)) [] [] [] (now (d .entry))) at j ⌝ }
+        (lentMemory (now (a .entry)) (now (b .entry)) [] (now (cells .entry)) [] [] [] (now (d .entry)) [] []) at j ⌝ }
 {
     let tested = number_test(blocks, a, b, d, at, j);
     let number = tested.number;

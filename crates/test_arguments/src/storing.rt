@@ -45,7 +45,7 @@ pub fn store_cell_test(
     requires { ⌜ (blocks ≤ 8 * length (now a)) × (blocks ≤ 8 * length (now b)) × (blocks ≤ maxBlocks)
         × (blocks ≤ 8 * length (now d)) ⌝ }
     ensures { λ t.
-        ⌜ t ≡ storeCellTest blocks (lentMemory (now (a .entry)) (now (b .entry)) [] [] [] [] [] (now (d .entry))) at j v ⌝ }
+        ⌜ t ≡ storeCellTest blocks (lentMemory (now (a .entry)) (now (b .entry)) [] [] [] [] [] (now (d .entry)) [] []) at j v ⌝ }
 {
     let tested = cells::cell_test(blocks, a, b, at, j);
     let number = tested.number;

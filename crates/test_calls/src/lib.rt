@@ -1,13 +1,15 @@
 // The gates of the calls that write: all tests of a call, those of the heap and those of its own arguments, on shared slices. A gate can't
 // write, and a call that is refused has done nothing but pass its gate.
 ghost use mathlib.Core.List.{[]};
+ghost use Prim.Native.Nat.{ℕ};
 ghost use lib.ListN.{length};
 ghost use Rattle.rules.specs.Heap.{memory, lentMemory};
 ghost use Rattle.rules.specs.Lent.{before};
 ghost use Rattle.rules.specs.Calls.{Call};
-ghost use Rattle.test_arguments.specs.Replies.{storeRootTest, storeCellTest, numberTest, returnTest};
+ghost use Rattle.test_arguments.specs.Replies.{storeRootTest, storeCellTest, numberTest, returnTest, shutTest, openTest};
 ghost use Rattle.test_allocation.specs.Replies.{allocateReply};
 ghost use Rattle.test_calls.specs.Gated.{Gated};
+use test_arguments::collecting;
 use test_arguments::numbers;
 use test_arguments::returning;
 use test_arguments::storing;
@@ -26,11 +28,13 @@ pub fn allocate(
     waiting: &[Ref],
     sections: &[Ref],
     d: &[u8],
+    marks: &[u8],
+    list: &[Ref],
     n: usize,
     r: usize,
 ) -> Reply
     ensures { λ reply.
-        ⌜ Gated blocks width (Call.allocate n r) (before a b counts cells roots waiting sections d) reply
+        ⌜ Gated blocks width (Call.allocate n r) (before a b counts cells roots waiting sections d marks list) reply
         (allocateReply blocks (now (a .entry)) (length (now (roots .entry))) n r) ⌝ }
 {
     let checked = public_read::check(
@@ -44,6 +48,8 @@ pub fn allocate(
         waiting,
         sections,
         d,
+        marks,
+        list,
     );
     let number = checked.number;
     if number != 0 {
@@ -64,11 +70,13 @@ pub fn allocate_data(
     waiting: &[Ref],
     sections: &[Ref],
     d: &[u8],
+    marks: &[u8],
+    list: &[Ref],
     n: usize,
     r: usize,
 ) -> Reply
     ensures { λ reply.
-        ⌜ Gated blocks width (Call.allocateData n r) (before a b counts cells roots waiting sections d) reply
+        ⌜ Gated blocks width (Call.allocateData n r) (before a b counts cells roots waiting sections d marks list) reply
         (allocateReply blocks (now (a .entry)) (length (now (roots .entry))) n r) ⌝ }
 {
     let checked = public_read::check(
@@ -82,6 +90,8 @@ pub fn allocate_data(
         waiting,
         sections,
         d,
+        marks,
+        list,
     );
     let number = checked.number;
     if number != 0 {
@@ -103,11 +113,13 @@ pub fn store_root(
     waiting: &[Ref],
     sections: &[Ref],
     d: &[u8],
+    marks: &[u8],
+    list: &[Ref],
     r: usize,
     v: usize,
 ) -> Reply
     ensures { λ reply.
-        ⌜ Gated blocks width (Call.storeRoot r v) (before a b counts cells roots waiting sections d) reply
+        ⌜ Gated blocks width (Call.storeRoot r v) (before a b counts cells roots waiting sections d marks list) reply
         (storeRootTest blocks (memory (now (a .entry)) (now (b .entry)) [] [] (now (roots .entry)) []) r v) ⌝ }
 {
     let checked = public_read::check(
@@ -121,6 +133,8 @@ pub fn store_root(
         waiting,
         sections,
         d,
+        marks,
+        list,
     );
     let number = checked.number;
     if number != 0 {
@@ -141,13 +155,15 @@ pub fn store_cell(
     waiting: &[Ref],
     sections: &[Ref],
     d: &[u8],
+    marks: &[u8],
+    list: &[Ref],
     at: usize,
     j: usize,
     v: usize,
 ) -> Reply
     ensures { λ reply.
-        ⌜ Gated blocks width (Call.storeCell at j v) (before a b counts cells roots waiting sections d) reply
-        (storeCellTest blocks (lentMemory (now (a .entry)) (now (b .entry)) [] [] [] [] [] (now (d .entry))) at j v) ⌝ }
+        ⌜ Gated blocks width (Call.storeCell at j v) (before a b counts cells roots waiting sections d marks list) reply
+        (storeCellTest blocks (lentMemory (now (a .entry)) (now (b .entry)) [] [] [] [] [] (now (d .entry)) [] []) at j v) ⌝ }
 {
     let checked = public_read::check(
         blocks,
@@ -160,6 +176,8 @@ pub fn store_cell(
         waiting,
         sections,
         d,
+        marks,
+        list,
     );
     let number = checked.number;
     if number != 0 {
@@ -180,10 +198,12 @@ pub fn return_roots(
     waiting: &[Ref],
     sections: &[Ref],
     d: &[u8],
+    marks: &[u8],
+    list: &[Ref],
     chosen: u64,
 ) -> Reply
     ensures { λ reply.
-        ⌜ Gated blocks width (Call.returnRoots chosen) (before a b counts cells roots waiting sections d) reply
+        ⌜ Gated blocks width (Call.returnRoots chosen) (before a b counts cells roots waiting sections d marks list) reply
         (returnTest (length (now (roots .entry))) chosen) ⌝ }
 {
     let checked = public_read::check(
@@ -197,6 +217,8 @@ pub fn return_roots(
         waiting,
         sections,
         d,
+        marks,
+        list,
     );
     let number = checked.number;
     if number != 0 {
@@ -217,13 +239,15 @@ pub fn write_number(
     waiting: &[Ref],
     sections: &[Ref],
     d: &[u8],
+    marks: &[u8],
+    list: &[Ref],
     at: usize,
     j: usize,
     v: Ref,
 ) -> Reply
     ensures { λ reply.
-        ⌜ Gated blocks width (Call.writeNumber at j v) (before a b counts cells roots waiting sections d) reply
-        (numberTest blocks (lentMemory (now (a .entry)) (now (b .entry)) [] [] [] [] [] (now (d .entry))) at j) ⌝ }
+        ⌜ Gated blocks width (Call.writeNumber at j v) (before a b counts cells roots waiting sections d marks list) reply
+        (numberTest blocks (lentMemory (now (a .entry)) (now (b .entry)) [] [] [] [] [] (now (d .entry)) [] []) at j) ⌝ }
 {
     let checked = public_read::check(
         blocks,
@@ -236,10 +260,95 @@ pub fn write_number(
         waiting,
         sections,
         d,
+        marks,
+        list,
     );
     let number = checked.number;
     if number != 0 {
         return checked;
     }
     numbers::number_test(blocks, a, b, d, at, j)
+}
+
+// The tests of a full collection, which are those of an opening (request U8): none may be open.
+pub fn none_open(
+    blocks: usize,
+    width: usize,
+    a: &[u8],
+    b: &[u8],
+    counts: &[u8],
+    cells: &[Ref],
+    roots: &[Ref],
+    waiting: &[Ref],
+    sections: &[Ref],
+    d: &[u8],
+    marks: &[u8],
+    list: &[Ref],
+) -> Reply
+    ensures { λ reply.
+        ⌜ Gated blocks width Call.collect (before a b counts cells roots waiting sections d marks list) reply
+        (shutTest blocks (now (list .entry)))
+        × Gated blocks width Call.openCollection (before a b counts cells roots waiting sections d marks list) reply
+        (shutTest blocks (now (list .entry))) ⌝ }
+{
+    let checked = public_read::check(
+        blocks,
+        width,
+        a,
+        b,
+        counts,
+        cells,
+        roots,
+        waiting,
+        sections,
+        d,
+        marks,
+        list,
+    );
+    let number = checked.number;
+    if number != 0 {
+        return checked;
+    }
+    collecting::shut_test(blocks, list)
+}
+
+// The tests of steps (request U8), whatever their budget: one has to be open.
+pub fn one_open(
+    blocks: usize,
+    width: usize,
+    a: &[u8],
+    b: &[u8],
+    counts: &[u8],
+    cells: &[Ref],
+    roots: &[Ref],
+    waiting: &[Ref],
+    sections: &[Ref],
+    d: &[u8],
+    marks: &[u8],
+    list: &[Ref],
+) -> Reply
+    ensures { λ reply.
+        ⌜ ((budget : ℕ)
+        → Gated blocks width (Call.takeSteps budget) (before a b counts cells roots waiting sections d marks list) reply
+        (openTest blocks (now (list .entry)))) ⌝ }
+{
+    let tested = public_read::check(
+        blocks,
+        width,
+        a,
+        b,
+        counts,
+        cells,
+        roots,
+        waiting,
+        sections,
+        d,
+        marks,
+        list,
+    );
+    let number = tested.number;
+    if number != 0 {
+        return tested;
+    }
+    collecting::open_test(blocks, list)
 }

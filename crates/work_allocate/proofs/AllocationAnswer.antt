@@ -1,24 +1,29 @@
--- The answer of an allocation that found a place, and that of the code: memory, reply, and whether the object became stuck.
-use mathlib.Core.Path.{_≡_, sym, ap, _∙_}
+-- The answer of an allocation that found a place, and what came of the code's: memory, number of blocks freed, and whether the object became
+-- stuck.
+use mathlib.Core.Path.{_≡_, sym, ap, _∙_, subst}
 use mathlib.Core.Bool.{Bool, true, false}
 use mathlib.Core.Option.{Option, some, Option·getD}
-use Prim.Native.Nat.{ℕ}
+use Prim.Native.Nat.{ℕ, _+_}
+use native.Mathlib.Omega.{arith}
 use lib.ListN.{length}
-use Rattle.bitmap.specs.Bit.{one}
-use Rattle.rules.specs.Heap.{Memory, withWaiting, withSections, exponent, lowestFree}
+use Rattle.bitmap.specs.Bit.{one, zeros}
+use Rattle.rules.specs.Heap.{Memory, withWaiting, withSections}
 use Rattle.rules.specs.Sections.{figures}
-use Rattle.rules.specs.Store.{birthSticks, allocateIn}
+use Rattle.rules.specs.Store.{birthSticks}
+use Rattle.rules.specs.Steps.{allocateShading}
 use Rattle.rules.specs.Calls.{allocate, allocateData, allocateAs, Answer, reply, allocated, settled, outcome, answer}
 use Rattle.rules.specs.Promise.{Promise}
 use Rattle.types.specs.declared.Reply.{Reply}
 use Rattle.rules.proofs.Replies.{Passed}
 use Rattle.rules.proofs.Promised.{promised}
-use Rattle.rules.proofs.Unread.{allocate-beside}
+use Rattle.rules.proofs.Unread.{allocate-aside}
+use Rattle.theory.specs.Balance.{freedBlocks}
+use Rattle.theory.specs.Usable.{Usable, outcomeOf, Worked}
 use Rattle.theory.proofs.Memories.Fit.{Fit}
 use Rattle.theory.proofs.EachCall.Accepted.{fit-accepted}
-use Rattle.test_allocation.proofs.AllocationReply.{AllocationPassed}
-use Rattle.theory.specs.Usable.{Usable}
+use Rattle.theory.proofs.EachCall.Balance.{blocks-add-up}
 use Rattle.theory.proofs.Usable.UsableHeap.{usable-fit, left-settled}
+use Rattle.test_allocation.proofs.AllocationReply.{AllocationPassed}
 
 found-so : {o : Option ℕ} {at : ℕ} → o ≡ some at → o ≡ some (Option·getD o 0)
 found-so e = e ∙ ap (λ (o : Option ℕ). some (Option·getD o 0)) (sym e)
@@ -32,17 +37,30 @@ module _ {N w : ℕ} {h : Memory} {n r at : ℕ} (free : AllocationPassed N (h .
 
   pub allocate-answered :
       Fit N w h → (asData : Bool)
-      → answer N w h (allocateAs asData n r) ≡ (reply 0 at (one (birthSticks w)), settled N (allocateIn N w asData h n r at))
+      → answer N w h (allocateAs asData n r) ≡ (reply 0 at (one (birthSticks w)), settled N (allocateShading N w asData h n r at))
   allocate-answered fit asData =
       kind-answered fit asData
-      ∙ ap {B = Answer} (λ o. let i = Option·getD o 0 in (reply 0 i (one (birthSticks w)), settled N (allocateIn N w asData h n r i)))
+      ∙ ap {B = Answer} (λ o. let i = Option·getD o 0 in (reply 0 i (one (birthSticks w)), settled N (allocateShading N w asData h n r i)))
       (free .lowest)
 
-  pub allocate-promised :
-      Usable N w h → (asData : Bool) {stuck : Bool} {x : Reply} {g : Memory} → withSections (h .sections) g ≡ allocateIn N w asData h n r at
-      → g .sections ≡ figures N (g .a) → stuck ≡ birthSticks w → x ≡ reply 0 at (one stuck) → Promise N w (allocateAs asData n r) h x g
-  allocate-promised usable asData {stuck} {x} {g} left listed told replied =
-      promised N w h (allocateAs asData n r) (reply 0 at (one (birthSticks w)), settled N (allocateIn N w asData h n r at))
-      (allocate-answered (usable-fit usable) asData) x g
-      (replied ∙ ap (λ (t : Bool). reply 0 at (one t)) told)
-      (left-settled usable left (allocate-beside N w (withWaiting (h .waiting)) h asData n r at) listed)
+  module _ (usable : Usable N w h) (asData : Bool) {stuck : Bool} {g : Memory}
+      (left : withSections (h .sections) g ≡ allocateShading N w asData h n r at) (listed : g .sections ≡ figures N (g .a))
+      (told : stuck ≡ birthSticks w) where
+    allocate-promised : Promise N w (allocateAs asData n r) h (reply 0 at (one stuck)) g
+    allocate-promised =
+        promised N w h (allocateAs asData n r) (reply 0 at (one (birthSticks w)), settled N (allocateShading N w asData h n r at))
+        (allocate-answered (usable-fit usable) asData) (reply 0 at (one stuck)) g
+        (ap (λ (t : Bool). reply 0 at (one t)) told)
+        (left-settled usable left (allocate-aside N w (withWaiting (h .waiting)) h asData n r at) listed)
+
+    pub allocate-worked :
+        {freed : ℕ} → zeros ((allocateShading N w asData h n r at) .a) + n ≡ zeros (h .a) + freed
+        → Worked N w (allocateAs asData n r) h (outcomeOf 0 at freed stuck) g
+    allocate-worked counted =
+        let even : zeros (h .a) + freedBlocks N h g ≡ zeros (g .a) + n =
+        subst (λ (k : Memory). zeros (h .a) + freedBlocks N h k ≡ zeros (k .a) + n) (sym (allocate-promised .after-is))
+        (blocks-add-up N w h .allocation asData n r (ap (λ (y : Reply). y .number) (sym (allocate-promised .reply-is)))) in
+        record {
+          promise = allocate-promised;
+          freed-is = omega (arith, even, counted, ap (λ (k : Memory). zeros (k .a)) left);
+        }

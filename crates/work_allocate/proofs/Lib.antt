@@ -1,3 +1,1 @@
-pub mod AllocationSteps
 pub mod AllocationAnswer
-pub mod AllocationBlocks

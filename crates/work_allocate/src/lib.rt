@@ -22,18 +22,21 @@ pub fn allocate(
     waiting: &mut [Ref],
     sections: &mut [Ref],
     d: &mut [u8],
+    marks: &mut [u8],
+    list: &mut [Ref],
     as_data: bool,
     n: usize,
     r: usize,
     at: usize,
 ) -> Outcome
-    requires { ⌜ Usable blocks width (lent a b counts cells roots waiting sections d)
+    requires { ⌜ Usable blocks width (lent a b counts cells roots waiting sections d marks list)
         × (allocateReply blocks (now a) (length (now roots)) n r ≡ reply 0 at 0) ⌝ }
     ensures { λ done.
-        ⌜ Worked blocks width (allocateAs as_data n r) (before a b counts cells roots waiting sections d) done
-        (after a b counts cells roots waiting sections d) ⌝ }
+        ⌜ Worked blocks width (allocateAs as_data n r) (before a b counts cells roots waiting sections d marks list) done
+        (after a b counts cells roots waiting sections d marks list) ⌝ }
 {
     let stuck = types::capacity_of(width) == 1;
+    let new = (at + 1) as Ref;
     work_place::place(
         blocks,
         width,
@@ -43,13 +46,15 @@ pub fn allocate(
         cells,
         sections,
         d,
+        marks,
+        list,
         at,
         n,
         as_data,
     );
     let old = roots[r];
-    roots[r] = (at + 1) as Ref;
-    let freed = release::let_go(
+    roots[r] = new;
+    let freed = step_release::let_go(
         blocks,
         width,
         a,
@@ -59,7 +64,11 @@ pub fn allocate(
         waiting,
         sections,
         d,
+        marks,
+        list,
+        0,
         old,
+        new,
     );
     section_figures::renew(blocks, a, sections);
     Outcome {

@@ -2,22 +2,21 @@
 -- became stuck.
 use mathlib.Core.Path.{_≡_, sym, ap, _∙_}
 use mathlib.Core.Bool.{Bool}
-use Prim.Native.Nat.{ℕ, _+_, _*_}
+use Prim.Native.Nat.{ℕ, _+_, _-_, _*_}
 use lib.ListN.{getD}
-use Rattle.bitmap.specs.Bit.{one}
+use Rattle.bitmap.specs.Bit.{one, zeros}
 use Rattle.rules.specs.Heap.{Memory, withWaiting, withSections}
 use Rattle.rules.specs.Sections.{figures}
-use Rattle.rules.specs.Store.{storeCellIn, storeSticks}
+use Rattle.rules.specs.Store.{storeSticks}
+use Rattle.rules.specs.Steps.{storeCellShading}
 use Rattle.rules.specs.Calls.{storeCell, Answer, freeing, outcome, answer}
 use Rattle.rules.proofs.Replies.{Passed}
-use Rattle.rules.proofs.Unread.{store-cell-beside}
+use Rattle.rules.proofs.Unread.{store-cell-aside}
 use Rattle.theory.specs.Usable.{Usable, outcomeOf, Worked}
 use Rattle.theory.proofs.EachCall.Accepted.{fit-accepted}
 use Rattle.theory.proofs.EachCall.Balance.{blocks-add-up}
-use Rattle.theory.proofs.Usable.UsableHeap.{usable-fit, usable-healthy, left-settled}
+use Rattle.theory.proofs.Usable.UsableHeap.{usable-fit, left-settled}
 use Rattle.theory.proofs.Usable.WorkDone.{worked-freeing}
-use Rattle.refinement.proofs.StoreBlocks.{storeCellBlocks}
-use Rattle.refinement.proofs.FreedBlocks.{store-cell-freed}
 use Rattle.test_arguments.proofs.ArgumentTests.{CellPassed}
 
 -- whether the store makes an object stuck
@@ -25,17 +24,17 @@ abbrev pub cellSticks : (N w : ℕ) → Memory → (a j v : ℕ) → Bool
 cellSticks N w h a j v = storeSticks N w (h .counts) (getD (h .cells) (4 * a + j) 0) v
 
 module _ {N w : ℕ} {h : Memory} {a j v : ℕ} (passed : CellPassed N h a j v) (usable : Usable N w h) where
-  cell-answered : answer N w h (storeCell a j v) ≡ freeing N h (storeCellIn N w h (4 * a + j) v) (one (cellSticks N w h a j v))
+  cell-answered : answer N w h (storeCell a j v) ≡ freeing N h (storeCellShading N w h a j v) (one (cellSticks N w h a j v))
   unfolding outcome Passed
   cell-answered = fit-accepted N w h (usable-fit usable) (storeCell a j v) (passed .first, passed .place, passed .ordinary, passed .ref)
 
   pub cell-worked :
-      {freed : ℕ} {stuck : Bool} {g : Memory} → withSections (h .sections) g ≡ storeCellIn N w h (4 * a + j) v
-      → g .sections ≡ figures N (g .a) → freed ≡ storeCellBlocks N w h (4 * a + j) v → stuck ≡ cellSticks N w h a j v
+      {freed : ℕ} {stuck : Bool} {g : Memory} → withSections (h .sections) g ≡ storeCellShading N w h a j v
+      → g .sections ≡ figures N (g .a) → freed ≡ zeros ((storeCellShading N w h a j v) .a) - zeros (h .a) → stuck ≡ cellSticks N w h a j v
       → Worked N w (storeCell a j v) h (outcomeOf 0 freed freed stuck) g
   cell-worked left listed counted told =
-      let k : Memory = storeCellIn N w h (4 * a + j) v in
+      let k : Memory = storeCellShading N w h a j v in
       worked-freeing (blocks-add-up N w h .store-cell a j v) k
       (cell-answered ∙ ap {B = Answer} (λ t. freeing N h k (one t)) (sym told))
-      (counted ∙ sym (store-cell-freed N w h (usable-healthy usable) a j v (passed .first) (passed .place) (passed .ordinary) (passed .ref)))
-      (left-settled usable left (store-cell-beside N w (withWaiting (h .waiting)) h (4 * a + j) v) listed)
+      counted
+      (left-settled usable left (store-cell-aside N w (withWaiting (h .waiting)) h a j v) listed)

@@ -1,2 +1,1 @@
-pub mod CellSteps
 pub mod CellAnswer

@@ -21,15 +21,17 @@ pub fn store_cell(
     waiting: &mut [Ref],
     sections: &mut [Ref],
     d: &mut [u8],
+    marks: &mut [u8],
+    list: &mut [Ref],
     at: usize,
     j: usize,
     v: usize,
 ) -> Outcome
-    requires { ⌜ Usable blocks width (lent a b counts cells roots waiting sections d)
-        × (storeCellTest blocks (lent a b counts cells roots waiting sections d) at j v .number ≡ 0) ⌝ }
+    requires { ⌜ Usable blocks width (lent a b counts cells roots waiting sections d marks list)
+        × (storeCellTest blocks (lent a b counts cells roots waiting sections d marks list) at j v .number ≡ 0) ⌝ }
     ensures { λ done.
-        ⌜ Worked blocks width (Call.storeCell at j v) (before a b counts cells roots waiting sections d) done
-        (after a b counts cells roots waiting sections d) ⌝ }
+        ⌜ Worked blocks width (Call.storeCell at j v) (before a b counts cells roots waiting sections d marks list) done
+        (after a b counts cells roots waiting sections d marks list) ⌝ }
 {
     let new = v as Ref;
     let c = 4 * at + j;
@@ -44,7 +46,7 @@ pub fn store_cell(
     }
     let stuck = count_up::count_up(blocks, width, counts, new);
     cells[c] = new;
-    let freed = release::let_go(
+    let freed = step_release::let_go(
         blocks,
         width,
         a,
@@ -54,7 +56,11 @@ pub fn store_cell(
         waiting,
         sections,
         d,
+        marks,
+        list,
+        (at + 1) as Ref,
         old,
+        new,
     );
     section_figures::renew_after(blocks, a, sections, freed);
     Outcome {

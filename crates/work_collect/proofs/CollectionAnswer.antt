@@ -5,6 +5,7 @@ use Prim.Native.Nat.{ℕ}
 use Rattle.rules.specs.Heap.{Memory, withWaiting, withSections}
 use Rattle.rules.specs.Sections.{figures}
 use Rattle.rules.specs.Collection.{collected}
+use Rattle.rules.specs.Steps.{isOpen}
 use Rattle.rules.specs.Calls.{collect}
 use Rattle.rules.proofs.Unread.{collect-beside}
 use Rattle.theory.specs.Usable.{Usable, outcomeOf, Worked}
@@ -16,10 +17,11 @@ use Rattle.refinement.proofs.Bytewise.{Bytewise}
 use Rattle.refinement.proofs.CollectorProcedure.{collect-by-is, collect-blocks-is}
 
 pub collect-worked :
-    {N w : ℕ} {h : Memory} → Usable N w h → Bytewise h → {freed : ℕ} {g : Memory} → withSections (h .sections) g ≡ collectBy N w h
-    → g .sections ≡ figures N (g .a) → freed ≡ collectBlocks N w h → Worked N w collect h (outcomeOf 0 freed freed false) g
-collect-worked {N} {w} {h} usable bytes left listed counted =
+    {N w : ℕ} {h : Memory} → Usable N w h → isOpen N h ≡ false → Bytewise h → {freed : ℕ} {g : Memory}
+    → withSections (h .sections) g ≡ collectBy N w h → g .sections ≡ figures N (g .a) → freed ≡ collectBlocks N w h
+    → Worked N w collect h (outcomeOf 0 freed freed false) g
+collect-worked {N} {w} {h} usable shut bytes left listed counted =
     let healthy = usable-healthy usable in
-    worked-freeing (blocks-add-up N w h .collection) (collected N w h) (collect-answered (usable-fit usable))
+    worked-freeing (blocks-add-up N w h .collection) (collected N w h) (collect-answered (usable-fit usable) shut)
     (counted ∙ collect-blocks-is N w h healthy)
     (left-settled usable (left ∙ collect-by-is N w h healthy bytes) (collect-beside N w (withWaiting (h .waiting)) h) listed)

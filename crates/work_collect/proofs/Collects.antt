@@ -13,7 +13,7 @@ use Rattle.collect_mark.proofs.Scans.{mark-reads}
 use Rattle.collect_sweep.specs.Sweep.{isUnmarked, sweepOne, sweepOneBlocks, sweep, sweepBlocks}
 use Rattle.refinement.proofs.Collection.{collectBy, collectBlocks}
 
--- a sweep carries other roots, another waiting list and another list of sections along
+-- a sweep carries along whatever stands in the lists that it isn't lent
 module _ (N w : ℕ) (other : Memory → Memory) where
   sweep-beside : (h : Memory) (n : ℕ) → sweep N w (beside other h) n ≡ beside other (sweep N w h n)
   unfolding sweep sweepOne isUnmarked freed
@@ -28,9 +28,13 @@ module _ (N w : ℕ) (other : Memory → Memory) where
   blocks-beside h zero = refl
   blocks-beside h (suc n) = ap₂ (λ (k : ℕ) (g : Memory). k + sweepOneBlocks N w g n) (blocks-beside h n) (sweep-beside h n)
 
--- what the two parts give is the collection, beside whatever the list of sections holds
+-- what the marking reads of a memory
+abbrev read : Memory → Memory
+read h = lentMemory [] (h .b) [] (h .cells) (h .roots) [] [] (h .d) [] []
+
+-- what the two parts give is the collection, whatever stands in the other lists
 module _ (N w : ℕ) (h : Memory) (idle : h .waiting ≡ replicate N 0) {counts waiting : List ℕ}
-    (marked : counts ≡ markCounts N w (lentMemory [] (h .b) [] (h .cells) (h .roots) [] [] (h .d))) (cleared : waiting ≡ replicate N 0) where
+    (marked : counts ≡ markCounts N w (read h)) (cleared : waiting ≡ replicate N 0) where
   -- what is handed on to the sweep
   abbrev handed : Memory
   handed = partMemory (h .a) (h .b) counts (h .cells) [] (h .d)
@@ -41,7 +45,7 @@ module _ (N w : ℕ) (h : Memory) (idle : h .waiting ≡ replicate N 0) {counts 
 
   marked-memory : whole handed ≡ withCounts (markCounts N w h) h
   marked-memory t =
-      withCounts ((marked ∙ mark-reads N w (lentMemory [] (h .b) [] (h .cells) (h .roots) [] [] (h .d)) h) t) (withWaiting ((cleared ∙ sym idle) t) h)
+      withCounts ((marked ∙ mark-reads N w (read h) h) t) (withWaiting ((cleared ∙ sym idle) t) h)
 
   pub collected-memory : {g : Memory} → g ≡ sweep N w handed N → whole g ≡ collectBy N w h
   unfolding collectBy

@@ -1,6 +1,9 @@
-// The full collection on an undamaged heap with a cleared waiting list, which it leaves cleared: all is counted anew from the roots, and what
-// is left at 0 is freed.
+// The full collection on an undamaged heap with a cleared waiting list, which it leaves cleared, and with no collection in small steps
+// open: all is counted anew from the roots, and what is left at 0 is freed.
+ghost use mathlib.Core.Path.{_≡_};
+ghost use mathlib.Core.Bool.{false};
 ghost use Rattle.rules.specs.Lent.{before, after, lent};
+ghost use Rattle.rules.specs.Steps.{isOpen};
 ghost use Rattle.rules.specs.Calls.{Call};
 ghost use Rattle.theory.specs.Usable.{Usable, Worked};
 use types::Outcome;
@@ -18,11 +21,14 @@ pub fn collect(
     waiting: &mut [Ref],
     sections: &mut [Ref],
     d: &mut [u8],
+    marks: &[u8],
+    list: &[Ref],
 ) -> Outcome
-    requires { ⌜ Usable blocks width (lent a b counts cells roots waiting sections d) ⌝ }
+    requires { ⌜ Usable blocks width (lent a b counts cells roots waiting sections d marks list)
+        × (isOpen blocks (lent a b counts cells roots waiting sections d marks list) ≡ false) ⌝ }
     ensures { λ done.
-        ⌜ Worked blocks width Call.collect (before a b counts cells roots waiting sections d) done
-        (after a b counts cells roots waiting sections d) ⌝ }
+        ⌜ Worked blocks width Call.collect (before a b counts cells roots waiting sections d marks list) done
+        (after a b counts cells roots waiting sections d marks list) ⌝ }
 {
     collect_mark::mark(blocks, width, b, counts, cells, roots, waiting, d);
     let freed = collect_sweep::sweep(blocks, width, a, b, counts, cells, sections, d);

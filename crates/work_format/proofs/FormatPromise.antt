@@ -23,13 +23,14 @@ module _ {N w : ℕ} {h : Memory} where
       promised N w h format (refused N w h 1) (refused-with N w h format 1 (omega arith) (first-found 1 (not (shaped N w h)) _ (ap not fails))) x h x-is refl
 
   pub format-done :
-      shaped N w h ≡ true → {x : Reply} → x ≡ reply 0 0 0 → {a b counts cells roots waiting sections d : List ℕ}
+      shaped N w h ≡ true → {x : Reply} → x ≡ reply 0 0 0 → {a b counts cells roots waiting sections d marks list : List ℕ}
       → a ≡ replicate (length (h .a)) 0 → b ≡ replicate (length (h .b)) 255 → counts ≡ replicate (length (h .counts)) 0
       → cells ≡ replicate (length (h .cells)) 0 → roots ≡ replicate (length (h .roots)) 0 → waiting ≡ replicate (length (h .waiting)) 0
       → sections ≡ figures N (replicate (N / 8) 0) → d ≡ replicate (length (h .d)) 0
-      → Promise N w format h x (lentMemory a b counts cells roots waiting sections d)
+      → marks ≡ replicate (length (h .marks)) 0 → list ≡ replicate (length (h .list)) 0
+      → Promise N w format h x (lentMemory a b counts cells roots waiting sections d marks list)
   unfolding outcome formatted
-  format-done fits {x} x-is a-is b-is counts-are cells-are roots-are waiting-is sections-are d-is =
+  format-done fits {x} x-is a-is b-is counts-are cells-are roots-are waiting-is sections-are d-is marks-are list-is =
       let lengths = shape-facts N w h fits in
       promised N w h format (accepted (formatted N w (length (h .roots))) 0) (format-accepted N w h fits) x _ x-is
       (λ i.
@@ -42,4 +43,6 @@ module _ {N w : ℕ} {h : Memory} where
         waiting = (waiting-is ∙ ap (λ (n : ℕ). replicate n 0) (lengths .length-waiting)) i;
         sections = sections-are i;
         d = (d-is ∙ ap (λ (n : ℕ). replicate n 0) (lengths .length-d)) i;
+        marks = (marks-are ∙ ap (λ (n : ℕ). replicate n 0) (lengths .length-marks)) i;
+        list = (list-is ∙ ap (λ (n : ℕ). replicate n 0) (lengths .length-list)) i;
       })

@@ -22,11 +22,13 @@ pub fn format(
     waiting: &mut [Ref],
     sections: &mut [Ref],
     d: &mut [u8],
+    marks: &mut [u8],
+    list: &mut [Ref],
 ) -> Reply
-    requires { ⌜ shaped blocks width (lent a b counts cells roots waiting sections d) ≡ true ⌝ }
+    requires { ⌜ shaped blocks width (lent a b counts cells roots waiting sections d marks list) ≡ true ⌝ }
     ensures { λ reply.
-        ⌜ Promise blocks width Call.format (before a b counts cells roots waiting sections d) reply
-        (after a b counts cells roots waiting sections d) ⌝ }
+        ⌜ Promise blocks width Call.format (before a b counts cells roots waiting sections d marks list) reply
+        (after a b counts cells roots waiting sections d marks list) ⌝ }
 {
     bitmap::fill_bytes(a, 0);
     bitmap::fill_bytes(b, 255);
@@ -36,5 +38,7 @@ pub fn format(
     lists::clear_all(waiting);
     section_figures::fill_free(blocks, sections);
     bitmap::fill_bytes(d, 0);
+    bitmap::fill_bytes(marks, 0);
+    lists::clear_all(list);
     replies::acceptance(0)
 }

@@ -2,23 +2,24 @@
 use mathlib.Core.Path.{_≡_, refl, sym, ap, _∙_}
 use mathlib.Core.Bool.{false}
 use mathlib.Core.List.{[]}
-use Prim.Native.Nat.{ℕ, _+_, _-_, _≤_, _<_}
+use Prim.Native.Nat.{ℕ, _+_, _≤_, _<_}
 use native.Mathlib.Numerals.{add-one}
 use native.Mathlib.Omega.{arith}
 use lib.ListN.{length, replicate}
 use borrow.Author.Tests.{eq-eqb, ne-eqb}
 use Rattle.bitmap.specs.Bit.{bitOf, zeros}
 use Rattle.rules.specs.Heap.{Memory, withWaiting, withSections}
-use Rattle.rules.specs.Store.{storeRootIn, chosenBelow, clearChosen, returnIn}
+use Rattle.rules.specs.Store.{chosenBelow}
+use Rattle.rules.specs.Steps.{storeRootShading, clearShading, returnShading}
 use Rattle.rules.specs.Calls.{returnRoots, storeRoot, Answer, settled, freeing, outcome, answer}
 use Rattle.types.specs.declared.Reply.{Reply}
 use Rattle.types.specs.declared.Outcome.{Outcome}
 use Rattle.rules.proofs.Replies.{Passed, passed-own}
 use Rattle.rules.proofs.Tests.{first-not}
-use Rattle.rules.proofs.Unread.{store-root-beside}
+use Rattle.rules.proofs.Unread.{store-root-aside}
 use Rattle.theory.proofs.Memories.Fit.{Fit}
 use Rattle.theory.proofs.EachCall.Accepted.{fit-accepted}
-use Rattle.theory.proofs.EachCall.Clearing.{none-ref, root-cleared}
+use Rattle.theory.proofs.EachCall.Clearing.{none-ref}
 use Rattle.test_arguments.specs.Replies.{ownTest, storeRootTest, returnTest}
 use Rattle.test_arguments.proofs.ArgumentTests.{root-passed}
 use Rattle.theory.specs.Balance.{freedBlocks}
@@ -36,7 +37,7 @@ module _ (N w : ℕ) (h : Memory) (fit : Fit N w h) (chosen : ℕ) where
   abbrev test : Reply
   test = returnTest (length (h .roots)) chosen
 
-  pub return-answered : test .number ≡ 0 → answer N w h (returnRoots chosen) ≡ freeing N h (returnIn N w h chosen (length (h .roots))) 0
+  pub return-answered : test .number ≡ 0 → answer N w h (returnRoots chosen) ≡ freeing N h (returnShading N w h chosen (length (h .roots))) 0
   unfolding outcome Passed returnTest
   return-answered passes =
       fit-accepted N w h fit (returnRoots chosen) (first-not 4 (chosenBelow chosen (length (h .roots))) [] (omega arith) passes .0)
@@ -50,33 +51,34 @@ zero-passes N h r inside = passed-own N h (storeRoot r 0) (inside, none-ref N h)
 module _ {N w : ℕ} {h : Memory} (usable : Usable N w h) {chosen r : ℕ} where
   -- it is not one of the set
   pub not-chosen : (bitOf chosen r ≡ 1 → ⊥) → ClearedIfChosen N w h chosen r h 0
-  unfolding clearChosen
-  not-chosen n = record { after-is = λ x. rw (ne-eqb (bitOf chosen r) 1 n, clearChosen) refl; usable = usable; blocks = omega arith }
+  unfolding clearShading
+  not-chosen n = record { after-is = λ x. rw (ne-eqb (bitOf chosen r) 1 n, clearShading) refl; usable = usable; blocks = omega arith }
 
   -- it is, and was cleared; the waiting list was clear and is left so, and the store reads no list of sections
   pub chosen-cleared :
       r < length (h .roots) → bitOf chosen r ≡ 1 → {done : Outcome} {g : Memory} → Worked N w (storeRoot r 0) h done g
       → ClearedIfChosen N w h chosen r g (done .freed)
-  unfolding freeing clearChosen
+  unfolding freeing clearShading
   chosen-cleared inside e {done} {g} worked =
       let promise = worked .promise in
-      let fit = usable-fit usable in
-      let end : Memory = storeRootIn N w h r 0 in
-      let stored = root-answered (root-passed (zero-passes N h r inside)) fit in
-      let is : g ≡ settled N end = promise .after-is ∙ ap (λ (y : Answer). y .1) stored in
-      let freed : done .freed ≡ zeros (end .a) - zeros (h .a) =
-      worked .freed-is
-      ∙ ap (freedBlocks N h) (promise .after-is)
-      ∙ sym (blocks-add-up N w h .store-root r 0 (ap (λ (y : Answer). y .0 .number) stored) .by-objects)
-      ∙ ap (λ (y : Answer). y .0 .value) stored in
-      let grows = root-cleared N w (λ i. Unit {0}) h (fit .healthy) r inside tt .grows in
+      let stored = root-answered (root-passed (zero-passes N h r inside)) (usable-fit usable) in
+      let is : g ≡ settled N (storeRootShading N w h r 0) = promise .after-is ∙ ap (λ (y : Answer). y .1) stored in
+      let value = blocks-add-up N w h .store-root r 0 (ap (λ (y : Answer). y .0 .number) stored) in
       record {
         after-is = λ l.
-            ap (withSections l) is ∙ sym (store-root-beside N w (λ k. withWaiting (replicate N 0) (withSections l k)) h r 0)
-            ∙ ap (λ (k : Memory). storeRootIn N w (withSections l k) r 0) (cleared-same usable)
-            ∙ rw (eq-eqb (bitOf chosen r) 1 e, clearChosen) refl;
+            ap (withSections l) is ∙ sym (store-root-aside N w (λ k. withWaiting (replicate N 0) (withSections l k)) h r 0)
+            ∙ ap (λ (k : Memory). storeRootShading N w (withSections l k) r 0) (cleared-same usable)
+            ∙ rw (eq-eqb (bitOf chosen r) 1 e, clearShading) refl;
         usable = usable-kept usable promise;
-        blocks = omega (arith, freed, grows, ap (λ (k : Memory). zeros (k .a)) is);
+        blocks =
+            omega (
+              arith,
+              worked .freed-is,
+              ap (freedBlocks N h) (promise .after-is),
+              value .by-objects,
+              value .by-zeros,
+              ap (λ (k : Memory). zeros (k .a)) (promise .after-is),
+            );
       }
 
 -- ---- the loop's invariant: the roots below r are seen to, and `freed` blocks were freed
@@ -85,27 +87,27 @@ pub record Progress (N w : ℕ) (start : Memory) (chosen r : ℕ) (h : Memory) (
   pub usable : Usable N w h
   pub roots-length : length (h .roots) ≡ length (start .roots)
   pub made : r ≤ length (start .roots)
-  pub after-is : withSections (start .sections) h ≡ returnIn N w start chosen r
+  pub after-is : withSections (start .sections) h ≡ returnShading N w start chosen r
   pub blocks : zeros (h .a) ≡ zeros (start .a) + freed
 
 module _ {N w : ℕ} {start : Memory} {chosen : ℕ} where
   pub progress-start : Usable N w start → Progress N w start chosen 0 start 0
-  unfolding returnIn
+  unfolding returnShading
   progress-start usable =
       record { usable = usable; roots-length = refl; made = omega arith; after-is = refl; blocks = omega arith }
 
   pub progress-next :
       {r freed more : ℕ} {h g : Memory} → r < length (h .roots) → length (g .roots) ≡ length (h .roots) → ClearedIfChosen N w h chosen r g more
       → Progress N w start chosen r h freed → Progress N w start chosen (r + 1) g (freed + more)
-  unfolding returnIn
+  unfolding returnShading
   progress-next {r} {freed} {more} {h} {g} l kept cleared p =
       record {
         usable = cleared .usable;
         roots-length = kept ∙ p .roots-length;
         made = omega (arith, p .roots-length);
         after-is =
-            cleared .after-is (start .sections) ∙ ap (λ (k : Memory). clearChosen N w k chosen r) (p .after-is)
-            ∙ ap (returnIn N w start chosen) (sym (add-one r));
+            cleared .after-is (start .sections) ∙ ap (λ (k : Memory). clearShading N w k chosen r) (p .after-is)
+            ∙ ap (returnShading N w start chosen) (sym (add-one r));
         blocks = omega (arith, cleared .blocks, p .blocks);
       }
 
@@ -113,9 +115,9 @@ module _ {N w : ℕ} {start : Memory} {chosen : ℕ} where
       {r freed : ℕ} {h : Memory} → Usable N w start → returnTest (length (start .roots)) chosen .number ≡ 0 → length (h .roots) ≤ r
       → Progress N w start chosen r h freed → Worked N w (returnRoots chosen) start (outcomeOf 0 freed freed false) h
   progress-done {r} {freed} {h} usable passes l p =
-      let end : Memory = returnIn N w start chosen (length (start .roots)) in
+      let end : Memory = returnShading N w start chosen (length (start .roots)) in
       let all : r ≡ length (start .roots) = omega (arith, p .made, p .roots-length) in
-      let is : withSections (start .sections) h ≡ end = p .after-is ∙ ap (returnIn N w start chosen) all in
+      let is : withSections (start .sections) h ≡ end = p .after-is ∙ ap (returnShading N w start chosen) all in
       worked-freeing (blocks-add-up N w start .return-roots chosen) end (return-answered N w start (usable-fit usable) chosen passes)
       (omega (arith, p .blocks, ap (λ (k : Memory). zeros (k .a)) is))
       (left-settled (p .usable) {k = h} refl refl (usable-fit (p .usable) .listed) ∙ ap (settled N) is)

@@ -24,16 +24,18 @@ fn clear_chosen(
     waiting: &mut [Ref],
     sections: &mut [Ref],
     d: &mut [u8],
+    marks: &mut [u8],
+    list: &mut [Ref],
     chosen: u64,
     r: usize,
 ) -> usize
-    requires { ⌜ Usable blocks width (lent a b counts cells roots waiting sections d)
+    requires { ⌜ Usable blocks width (lent a b counts cells roots waiting sections d marks list)
         × (r < length (now roots)) ⌝ }
     ensures { λ freed.
         ⌜ ClearedIfChosen blocks width
-        (before a b counts cells roots waiting sections d)
+        (before a b counts cells roots waiting sections d marks list)
         chosen r
-        (after a b counts cells roots waiting sections d)
+        (after a b counts cells roots waiting sections d marks list)
         freed ⌝ }
 {
     if (chosen >> r) % 2 != 1 {
@@ -50,6 +52,8 @@ fn clear_chosen(
         waiting,
         sections,
         d,
+        marks,
+        list,
         r,
         0,
     );
@@ -68,13 +72,15 @@ pub fn clear_roots(
     waiting: &mut [Ref],
     sections: &mut [Ref],
     d: &mut [u8],
+    marks: &mut [u8],
+    list: &mut [Ref],
     chosen: u64,
 ) -> Outcome
-    requires { ⌜ Usable blocks width (lent a b counts cells roots waiting sections d)
+    requires { ⌜ Usable blocks width (lent a b counts cells roots waiting sections d marks list)
         × (returnTest (length (now roots)) chosen .number ≡ 0) ⌝ }
     ensures { λ done.
-        ⌜ Worked blocks width (Call.returnRoots chosen) (before a b counts cells roots waiting sections d) done
-        (after a b counts cells roots waiting sections d) ⌝ }
+        ⌜ Worked blocks width (Call.returnRoots chosen) (before a b counts cells roots waiting sections d marks list) done
+        (after a b counts cells roots waiting sections d marks list) ⌝ }
 {
     let mut freed: usize = 0;
     let mut r = 0;
@@ -90,6 +96,8 @@ pub fn clear_roots(
             waiting,
             sections,
             d,
+            marks,
+            list,
             chosen,
             r,
         );
@@ -116,12 +124,14 @@ pub fn return_roots(
     waiting: &mut [Ref],
     sections: &mut [Ref],
     d: &mut [u8],
+    marks: &mut [u8],
+    list: &mut [Ref],
     chosen: u64,
 ) -> Outcome
-    requires { ⌜ Usable blocks width (lent a b counts cells roots waiting sections d) ⌝ }
+    requires { ⌜ Usable blocks width (lent a b counts cells roots waiting sections d marks list) ⌝ }
     ensures { λ done.
-        ⌜ Worked blocks width (Call.returnRoots chosen) (before a b counts cells roots waiting sections d) done
-        (after a b counts cells roots waiting sections d) ⌝ }
+        ⌜ Worked blocks width (Call.returnRoots chosen) (before a b counts cells roots waiting sections d marks list) done
+        (after a b counts cells roots waiting sections d marks list) ⌝ }
 {
     let test = returning::return_test(roots.len(), chosen);
     let number = test.number;
@@ -144,6 +154,8 @@ pub fn return_roots(
         waiting,
         sections,
         d,
+        marks,
+        list,
         chosen,
     )
 }

@@ -1,2 +1,1 @@
-pub mod RootSteps
 pub mod RootAnswer

@@ -2,23 +2,22 @@
 -- became stuck.
 use mathlib.Core.Path.{_≡_, sym, ap, _∙_}
 use mathlib.Core.Bool.{Bool}
-use Prim.Native.Nat.{ℕ}
+use Prim.Native.Nat.{ℕ, _-_}
 use lib.ListN.{getD}
-use Rattle.bitmap.specs.Bit.{one}
+use Rattle.bitmap.specs.Bit.{one, zeros}
 use Rattle.rules.specs.Heap.{Memory, withWaiting, withSections}
 use Rattle.rules.specs.Sections.{figures}
-use Rattle.rules.specs.Store.{storeRootIn, storeSticks}
+use Rattle.rules.specs.Store.{storeSticks}
+use Rattle.rules.specs.Steps.{storeRootShading}
 use Rattle.rules.specs.Calls.{storeRoot, Answer, freeing, outcome, answer}
 use Rattle.rules.proofs.Replies.{Passed}
-use Rattle.rules.proofs.Unread.{store-root-beside}
+use Rattle.rules.proofs.Unread.{store-root-aside}
 use Rattle.theory.specs.Usable.{Usable, outcomeOf, Worked}
 use Rattle.theory.proofs.Memories.Fit.{Fit}
 use Rattle.theory.proofs.EachCall.Accepted.{fit-accepted}
 use Rattle.theory.proofs.EachCall.Balance.{blocks-add-up}
-use Rattle.theory.proofs.Usable.UsableHeap.{usable-fit, usable-healthy, left-settled}
+use Rattle.theory.proofs.Usable.UsableHeap.{usable-fit, left-settled}
 use Rattle.theory.proofs.Usable.WorkDone.{worked-freeing}
-use Rattle.refinement.proofs.StoreBlocks.{storeRootBlocks}
-use Rattle.refinement.proofs.FreedBlocks.{store-root-freed}
 use Rattle.test_arguments.proofs.ArgumentTests.{RootPassed}
 
 -- whether the store makes an object stuck
@@ -26,17 +25,17 @@ abbrev pub rootSticks : (N w : ℕ) → Memory → (r v : ℕ) → Bool
 rootSticks N w h r v = storeSticks N w (h .counts) (getD (h .roots) r 0) v
 
 module _ {N w : ℕ} {h : Memory} {r v : ℕ} (passed : RootPassed N h r v) where
-  pub root-answered : Fit N w h → answer N w h (storeRoot r v) ≡ freeing N h (storeRootIn N w h r v) (one (rootSticks N w h r v))
+  pub root-answered : Fit N w h → answer N w h (storeRoot r v) ≡ freeing N h (storeRootShading N w h r v) (one (rootSticks N w h r v))
   unfolding outcome Passed
   root-answered fit = fit-accepted N w h fit (storeRoot r v) (passed .place, passed .ref)
 
   pub root-worked :
-      Usable N w h → {freed : ℕ} {stuck : Bool} {g : Memory} → withSections (h .sections) g ≡ storeRootIn N w h r v
-      → g .sections ≡ figures N (g .a) → freed ≡ storeRootBlocks N w h r v → stuck ≡ rootSticks N w h r v
+      Usable N w h → {freed : ℕ} {stuck : Bool} {g : Memory} → withSections (h .sections) g ≡ storeRootShading N w h r v
+      → g .sections ≡ figures N (g .a) → freed ≡ zeros ((storeRootShading N w h r v) .a) - zeros (h .a) → stuck ≡ rootSticks N w h r v
       → Worked N w (storeRoot r v) h (outcomeOf 0 freed freed stuck) g
   root-worked usable left listed counted told =
-      let k : Memory = storeRootIn N w h r v in
+      let k : Memory = storeRootShading N w h r v in
       worked-freeing (blocks-add-up N w h .store-root r v) k
       (root-answered (usable-fit usable) ∙ ap {B = Answer} (λ t. freeing N h k (one t)) (sym told))
-      (counted ∙ sym (store-root-freed N w h (usable-healthy usable) r v (passed .place) (passed .ref)))
-      (left-settled usable left (store-root-beside N w (withWaiting (h .waiting)) h r v) listed)
+      counted
+      (left-settled usable left (store-root-aside N w (withWaiting (h .waiting)) h r v) listed)

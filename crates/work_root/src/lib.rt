@@ -8,7 +8,8 @@ ghost use Rattle.test_arguments.specs.Replies.{storeRootTest};
 use types::Outcome;
 use types::Ref;
 
-// Stores v in root r. The passed test shows that v fits a cell. A store that freed nothing touched no figure of a section.
+// Stores v in root r, which has no owner. The passed test shows that v fits a cell. A store that freed nothing touched no figure of a
+// section.
 pub fn store_root(
     blocks: usize,
     width: usize,
@@ -20,14 +21,16 @@ pub fn store_root(
     waiting: &mut [Ref],
     sections: &mut [Ref],
     d: &mut [u8],
+    marks: &mut [u8],
+    list: &mut [Ref],
     r: usize,
     v: usize,
 ) -> Outcome
-    requires { ⌜ Usable blocks width (lent a b counts cells roots waiting sections d)
-        × (storeRootTest blocks (lent a b counts cells roots waiting sections d) r v .number ≡ 0) ⌝ }
+    requires { ⌜ Usable blocks width (lent a b counts cells roots waiting sections d marks list)
+        × (storeRootTest blocks (lent a b counts cells roots waiting sections d marks list) r v .number ≡ 0) ⌝ }
     ensures { λ done.
-        ⌜ Worked blocks width (Call.storeRoot r v) (before a b counts cells roots waiting sections d) done
-        (after a b counts cells roots waiting sections d) ⌝ }
+        ⌜ Worked blocks width (Call.storeRoot r v) (before a b counts cells roots waiting sections d marks list) done
+        (after a b counts cells roots waiting sections d marks list) ⌝ }
 {
     let new = v as Ref;
     let old = roots[r];
@@ -41,7 +44,7 @@ pub fn store_root(
     }
     let stuck = count_up::count_up(blocks, width, counts, new);
     roots[r] = new;
-    let freed = release::let_go(
+    let freed = step_release::let_go(
         blocks,
         width,
         a,
@@ -51,7 +54,11 @@ pub fn store_root(
         waiting,
         sections,
         d,
+        marks,
+        list,
+        0,
         old,
+        new,
     );
     section_figures::renew_after(blocks, a, sections, freed);
     Outcome {

@@ -2,6 +2,7 @@
 ghost use Rattle.rules.specs.Lent.{before, after, lent};
 ghost use Rattle.rules.specs.Calls.{Call, allocateAs};
 ghost use Rattle.theory.specs.Usable.{Usable, Worked};
+use test_arguments::collecting;
 use test_arguments::numbers;
 use test_arguments::storing;
 use types::Outcome;
@@ -19,14 +20,16 @@ pub fn allocate(
     waiting: &mut [Ref],
     sections: &mut [Ref],
     d: &mut [u8],
+    marks: &mut [u8],
+    list: &mut [Ref],
     as_data: bool,
     n: usize,
     r: usize,
 ) -> Outcome
-    requires { ⌜ Usable blocks width (lent a b counts cells roots waiting sections d) ⌝ }
+    requires { ⌜ Usable blocks width (lent a b counts cells roots waiting sections d marks list) ⌝ }
     ensures { λ done.
-        ⌜ Worked blocks width (allocateAs as_data n r) (before a b counts cells roots waiting sections d) done
-        (after a b counts cells roots waiting sections d) ⌝ }
+        ⌜ Worked blocks width (allocateAs as_data n r) (before a b counts cells roots waiting sections d marks list) done
+        (after a b counts cells roots waiting sections d marks list) ⌝ }
 {
     let test = test_allocation::allocate_reply(blocks, a, sections, roots.len(), n, r);
     let number = test.number;
@@ -50,6 +53,8 @@ pub fn allocate(
         waiting,
         sections,
         d,
+        marks,
+        list,
         as_data,
         n,
         r,
@@ -69,13 +74,15 @@ pub fn store_root(
     waiting: &mut [Ref],
     sections: &mut [Ref],
     d: &mut [u8],
+    marks: &mut [u8],
+    list: &mut [Ref],
     r: usize,
     v: usize,
 ) -> Outcome
-    requires { ⌜ Usable blocks width (lent a b counts cells roots waiting sections d) ⌝ }
+    requires { ⌜ Usable blocks width (lent a b counts cells roots waiting sections d marks list) ⌝ }
     ensures { λ done.
-        ⌜ Worked blocks width (Call.storeRoot r v) (before a b counts cells roots waiting sections d) done
-        (after a b counts cells roots waiting sections d) ⌝ }
+        ⌜ Worked blocks width (Call.storeRoot r v) (before a b counts cells roots waiting sections d marks list) done
+        (after a b counts cells roots waiting sections d marks list) ⌝ }
 {
     let test = storing::store_root_test(blocks, a, b, roots, r, v);
     let number = test.number;
@@ -98,6 +105,8 @@ pub fn store_root(
         waiting,
         sections,
         d,
+        marks,
+        list,
         r,
         v,
     )
@@ -115,14 +124,16 @@ pub fn store_cell(
     waiting: &mut [Ref],
     sections: &mut [Ref],
     d: &mut [u8],
+    marks: &mut [u8],
+    list: &mut [Ref],
     at: usize,
     j: usize,
     v: usize,
 ) -> Outcome
-    requires { ⌜ Usable blocks width (lent a b counts cells roots waiting sections d) ⌝ }
+    requires { ⌜ Usable blocks width (lent a b counts cells roots waiting sections d marks list) ⌝ }
     ensures { λ done.
-        ⌜ Worked blocks width (Call.storeCell at j v) (before a b counts cells roots waiting sections d) done
-        (after a b counts cells roots waiting sections d) ⌝ }
+        ⌜ Worked blocks width (Call.storeCell at j v) (before a b counts cells roots waiting sections d marks list) done
+        (after a b counts cells roots waiting sections d marks list) ⌝ }
 {
     let test = storing::store_cell_test(blocks, a, b, d, at, j, v);
     let number = test.number;
@@ -145,6 +156,8 @@ pub fn store_cell(
         waiting,
         sections,
         d,
+        marks,
+        list,
         at,
         j,
         v,
@@ -163,14 +176,16 @@ pub fn write_number(
     waiting: &[Ref],
     sections: &[Ref],
     d: &[u8],
+    marks: &[u8],
+    list: &[Ref],
     at: usize,
     j: usize,
     x: Ref,
 ) -> Outcome
-    requires { ⌜ Usable blocks width (lent a b counts cells roots waiting sections d) ⌝ }
+    requires { ⌜ Usable blocks width (lent a b counts cells roots waiting sections d marks list) ⌝ }
     ensures { λ done.
-        ⌜ Worked blocks width (Call.writeNumber at j x) (before a b counts cells roots waiting sections d) done
-        (after a b counts cells roots waiting sections d) ⌝ }
+        ⌜ Worked blocks width (Call.writeNumber at j x) (before a b counts cells roots waiting sections d marks list) done
+        (after a b counts cells roots waiting sections d marks list) ⌝ }
 {
     let test = numbers::number_test(blocks, a, b, d, at, j);
     let number = test.number;
@@ -183,4 +198,50 @@ pub fn write_number(
         };
     }
     work_number::write_number(cells, at, j, x)
+}
+
+// Collects, where no collection in small steps is open (request U8).
+pub fn collect(
+    blocks: usize,
+    width: usize,
+    a: &mut [u8],
+    b: &mut [u8],
+    counts: &mut [u8],
+    cells: &mut [Ref],
+    roots: &[Ref],
+    waiting: &mut [Ref],
+    sections: &mut [Ref],
+    d: &mut [u8],
+    marks: &[u8],
+    list: &[Ref],
+) -> Outcome
+    requires { ⌜ Usable blocks width (lent a b counts cells roots waiting sections d marks list) ⌝ }
+    ensures { λ done.
+        ⌜ Worked blocks width Call.collect (before a b counts cells roots waiting sections d marks list) done
+        (after a b counts cells roots waiting sections d marks list) ⌝ }
+{
+    let test = collecting::shut_test(blocks, list);
+    let number = test.number;
+    if number != 0 {
+        return Outcome {
+            number: number,
+            value: 0,
+            freed: 0,
+            stuck: false,
+        };
+    }
+    work_collect::collect(
+        blocks,
+        width,
+        a,
+        b,
+        counts,
+        cells,
+        roots,
+        waiting,
+        sections,
+        d,
+        marks,
+        list,
+    )
 }

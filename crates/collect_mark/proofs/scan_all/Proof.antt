@@ -16,8 +16,8 @@ use Rattle.collect_mark.proofs.scan_all.Tie as tie
 abbrev Inv-loop : tie.InvT-loop
 Inv-loop blocks width b counts₀ cells waiting₀ d top t₀ counts waiting t =
     Planes blocks width counts × Stack uncounted blocks width counts waiting t
-    × Leading blocks width (lentMemory [] b [] cells [] [] [] d)
-    (scan blocks blocks width (lentMemory [] b [] cells [] [] [] d) counts₀ (topFirst waiting₀ top)) counts waiting t
+    × Leading blocks width (lentMemory [] b [] cells [] [] [] d [] [])
+    (scan blocks blocks width (lentMemory [] b [] cells [] [] [] d [] []) counts₀ (topFirst waiting₀ top)) counts waiting t
 
 abbrev μ-loop : tie.MeasureT-loop
 μ-loop blocks width b counts₀ cells waiting₀ d top t₀ counts waiting t = remaining uncounted blocks width counts t

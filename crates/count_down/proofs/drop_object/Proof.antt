@@ -1,4 +1,5 @@
--- `count_down::drop_object` meets its contract: the cells that name others are dropped, and those behind them, all of data, cleared.
+-- `count_down::drop_object` meets its contract: what the cells that name others named is marked, they are dropped, and those behind them,
+-- all of data, cleared.
 use borrow.Author.Needs.{needs}
 use Rattle.map_objects.proofs.Cells.{clear-rest}
 use Rattle.count_down.proofs.drop_object.Statement.{statement}
@@ -8,7 +9,10 @@ use Rattle.count_down.proofs.drop_object.Tie as tie
 abbrev dropped : tie.After-clear-cells → tie.After-drop-cells
 dropped c = search
 
-abbrev ended : tie.After-drop-cells → tie.After-end-kind
+abbrev shaded : tie.After-drop-cells → tie.After-shade-freed
+shaded c = search
+
+abbrev ended : tie.After-shade-freed → tie.After-end-kind
 ended c = search
 
 mul-all : tie.Need-mul-all
@@ -16,6 +20,9 @@ mul-all c = search needs
 
 end-kind-requires : tie.Need-end-kind-requires
 end-kind-requires c κs = search needs
+
+shade-freed-requires : tie.Need-shade-freed-requires
+shade-freed-requires c κs = search needs
 
 mul-drop-cells : tie.Need-mul-drop-cells
 mul-drop-cells c = search needs
@@ -39,11 +46,13 @@ returns : tie.Need-returns
 returns c =
     let last : tie.After-clear-cells = search in
     let drop = dropped last in
-    let kind = ended drop .end-kind .ensures in
+    let shade = shaded drop in
+    let kind = ended shade .end-kind .ensures in
     let cells = drop .drop-cells .ensures in (
       rw (← kind .0) (cells .0),
       clear-rest _ _ _ _ (kind .1) (cells .1) (last .clear-cells .ensures),
       kind .2,
+      rw (← kind .0) (shade .shade-freed .ensures),
     )
 
 pub drop-object-spec : {M : Type 1} → statement M
@@ -52,12 +61,14 @@ drop-object-spec =
     (tie.spec
     mul-all
     end-kind-requires
+    shade-freed-requires
     mul-drop-cells
     drop-cells-requires
     mul-clear-cells
     add-clear-cells
     sub-clear-cells
     clear-cells-requires
+    (λ c. search needs)
     (λ c. search needs)
     (λ c. search needs)
     (λ c. search needs)

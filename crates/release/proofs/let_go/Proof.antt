@@ -2,7 +2,7 @@
 use mathlib.Core.Path.{_∙_}
 use borrow.Author.Needs.{needs}
 use Rattle.count_up.proofs.Stack.{stack-empty}
-use Rattle.release.proofs.OtherBuffers.{let-go-done, let-go-blocks-done}
+use Rattle.release.proofs.OtherBuffers.{let-go-done, let-go-blocks-done, let-go-marks-done}
 use Rattle.release.proofs.let_go.Statement.{statement}
 use Rattle.release.proofs.let_go.Tie as tie
 
@@ -14,7 +14,7 @@ start c = search
 abbrev counted : tie.After-release-all → tie.After-count-down
 counted c = search
 
-abbrev freed : tie.After-slice-known16 → tie.After-release-all
+abbrev freed : tie.After-slice-known18 → tie.After-release-all
 freed c = search
 
 count-down-requires : tie.Need-count-down-requires
@@ -32,6 +32,7 @@ returns c =
       let-go-done _ _ _ _ down (released .0) (start (counted (freed c) .before) .pre .2) (released .2),
       let-go-blocks-done _ _ _ _ down (released .1),
       released .3,
+      let-go-marks-done _ _ _ _ down _ _ (released .4),
     )
 
 pub let-go-spec : {M : Type 1} → statement M
@@ -47,4 +48,5 @@ let-go-spec =
     (λ c. freed c .release-all .kept .1 .1 .1 .1 .1 .1 .0 ∙ counted (freed c) .count-down .kept .1 .1 .1 .0)
     (λ c. freed c .release-all .kept .1 .1 .1 .1 .1 .1 .1 .0)
     (λ c. freed c .release-all .kept .1 .1 .1 .1 .1 .1 .1 .1 .0)
+    (λ c. freed c .release-all .kept .1 .1 .1 .1 .1 .1 .1 .1 .1 .0)
     returns)

@@ -1,4 +1,4 @@
--- `release::release_all` meets its contract: what is left to do and to count gives what is asked. The measure is the number of
+-- `release::release_all` meets its contract: what is left to do, to count and to mark gives what is asked. The measure is the number of
 -- objects that can still come to be freed.
 use mathlib.Core.Path.{_≡_, refl, sym, _∙_}
 use mathlib.Core.List.{[]}
@@ -9,25 +9,35 @@ use Rattle.section_figures.specs.Figures.{Upkeep}
 use Rattle.count_up.specs.Ready.{partMemory}
 use Rattle.count_up.specs.Stack.{topFirst, counted, remaining}
 use Rattle.release.specs.Blocks.{releasedBlocks}
+use Rattle.release.specs.Marks.{releasedMarks}
 use Rattle.count_up.proofs.Stack.{stack-pop}
-use Rattle.release.proofs.ReleaseLoop.{ReleaseUnderWay, releasing-start, releasing-step, releasing-done, blocks-done, waiting-done}
+use Rattle.release.proofs.ReleaseLoop.{
+  ReleaseUnderWay,
+  releasing-start,
+  releasing-step,
+  releasing-done,
+  blocks-done,
+  marks-done,
+  waiting-done,
+}
 use Rattle.release.proofs.release_all.Statement.{statement}
 use Rattle.release.proofs.release_all.Tie as tie
 
 abbrev Inv-loop : tie.InvT-loop
-Inv-loop blocks width a₀ b₀ counts₀ cells₀ waiting₀ sections₀ d₀ top freed₀ t₀ a b counts cells waiting sections d freed t =
-    ReleaseUnderWay blocks width
+Inv-loop blocks width a₀ b₀ counts₀ cells₀ waiting₀ sections₀ d₀ marks₀ top shade freed₀ t₀ a b counts cells waiting sections d marks freed t =
+    ReleaseUnderWay blocks width shade
     (release blocks blocks width (partMemory a₀ b₀ counts₀ cells₀ [] d₀) (topFirst waiting₀ top))
     (releasedBlocks blocks blocks width (partMemory a₀ b₀ counts₀ cells₀ [] d₀) (topFirst waiting₀ top))
-    a b counts cells waiting d t freed
+    (releasedMarks shade blocks blocks width (partMemory a₀ b₀ counts₀ cells₀ [] d₀) (topFirst waiting₀ top) marks₀)
+    a b counts cells waiting d marks t freed
     × Upkeep blocks freed a₀ sections₀ a sections
 
 abbrev μ-loop : tie.MeasureT-loop
-μ-loop blocks width a₀ b₀ counts₀ cells₀ waiting₀ sections₀ d₀ top freed₀ t₀ a b counts cells waiting sections d freed t =
+μ-loop blocks width a₀ b₀ counts₀ cells₀ waiting₀ sections₀ d₀ marks₀ top shade freed₀ t₀ a b counts cells waiting sections d marks freed t =
     remaining counted blocks width counts t
 
 -- the places: the entry, a turn's beginning, an object's size found, its extent cleared, its cells dropped
-abbrev start : tie.After-slice-known7 Inv-loop μ-loop → tie.Start Inv-loop μ-loop
+abbrev start : tie.After-slice-known8 Inv-loop μ-loop → tie.Start Inv-loop μ-loop
 start c = search
 
 abbrev turn : tie.After-object-size Inv-loop μ-loop → tie.In-loop Inv-loop μ-loop
@@ -36,16 +46,16 @@ turn c = c .before .before .before
 abbrev sized : tie.After-clear-extent Inv-loop μ-loop → tie.After-object-size Inv-loop μ-loop
 sized c = c .before .before .before .before
 
-abbrev cleared : tie.After-drop-object-arg4 Inv-loop μ-loop → tie.After-clear-extent Inv-loop μ-loop
+abbrev cleared : tie.After-drop-object-arg5 Inv-loop μ-loop → tie.After-clear-extent Inv-loop μ-loop
 cleared c = search
 
-abbrev dropped : tie.After-slice-known15 Inv-loop μ-loop → tie.After-drop-object Inv-loop μ-loop
+abbrev dropped : tie.After-slice-known17 Inv-loop μ-loop → tie.After-drop-object Inv-loop μ-loop
 dropped c = search
 
 loop-holds : tie.Need-loop-holds Inv-loop μ-loop
 loop-holds c =
     let pre = start c .pre in
-    (releasing-start (pre .0) (pre .1) (pre .2), record { coherent = pre .3; untouched = λ _. (refl, refl) })
+    (releasing-start (pre .0) (pre .1) (pre .2) (pre .4), record { coherent = pre .3; untouched = λ _. (refl, refl) })
 
 sub-t : tie.Need-sub-t Inv-loop μ-loop
 sub-t c = omega arith
@@ -97,6 +107,7 @@ drop-object-requires c κs =
       inv .stack .blocks (l .t - 1) (omega arith),
       inv .extents .cells-length,
       omega (arith, inv .extents .d-length, inv .planes .eighths),
+      omega (arith, inv .marks-length, inv .planes .eighths),
     )
 
 add-freed : tie.Need-add-freed Inv-loop μ-loop
@@ -121,7 +132,7 @@ loop-again c =
     let extent = clear .clear-extent .ensures in
     let cells = dropped c .drop-object .ensures in (
       releasing-step (test .loop-test .taken) refl (size .0) (size .2)
-          (extent .0) (extent .1) (cells .1) (cells .0) (cells .2) (l .inv .0),
+          (extent .0) (extent .1) (cells .1) (cells .0) (cells .2) (cells .3) (l .inv .0),
       record { coherent = extent .2; untouched = λ none. absurd (omega (arith, none, size .1)) },
     )
 
@@ -146,6 +157,9 @@ same-length-6 c = c .before .loop .inv .1 .coherent .length-is ∙ sym (start (c
 same-length-7 : tie.Need-same-length-7 Inv-loop μ-loop
 same-length-7 c = c .before .loop .inv .0 .extents .d-length ∙ sym (start (c .before .before) .pre .1 .d-length)
 
+same-length-8 : tie.Need-same-length-8 Inv-loop μ-loop
+same-length-8 c = c .before .loop .inv .0 .marks-length ∙ sym (start (c .before .before) .pre .4)
+
 returns : tie.Need-returns Inv-loop μ-loop
 returns c =
     let kept = c .before .loop .inv in
@@ -155,6 +169,8 @@ returns c =
       blocks-done inv none,
       waiting-done inv none,
       kept .1,
+      marks-done inv none,
+      omega (arith, inv .bound),
     )
 
 pub release-all-spec : {M : Type 1} → statement M
@@ -183,4 +199,5 @@ release-all-spec =
     same-length-5
     same-length-6
     same-length-7
+    same-length-8
     returns)

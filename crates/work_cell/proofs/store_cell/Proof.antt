@@ -1,5 +1,4 @@
--- `work_cell::store_cell` meets its contract: cell j of the object at block `at` is cell 4 * at + j of all; letting go is the same beside the
--- roots, with the counts counted up and the cell written; where the value is present nothing is done.
+-- `work_cell::store_cell` meets its contract: cell j of the object at block `at`, the owner, is cell 4 * at + j of all.
 use mathlib.Core.Path.{_∙_}
 use native.Mathlib.Omega.{arith}
 use lib.ListN.{length-set}
@@ -7,15 +6,16 @@ use borrow.Author.Needs.{needs}
 use Rattle.test_arguments.proofs.ArgumentTests.{cell-passed}
 use Rattle.count_up.proofs.Shapes.{memoryOf, planes-same, extents-cell}
 use Rattle.theory.proofs.Usable.UsableHeap.{usable-fit, usable-healthy}
-use Rattle.refinement.proofs.Presence.{sticks-present, sticks-changed}
 use Rattle.refinement.proofs.ReadyHeap.{usable-ready, list-untouched}
-use Rattle.work_cell.proofs.CellSteps.{cell-present, cell-present-blocks, cell-changed, cell-changed-blocks}
+use Rattle.refinement_stores.proofs.ListedHeap.{usable-listable}
+use Rattle.refinement_stores.proofs.Presence.{sticks-present, sticks-changed}
+use Rattle.refinement_stores.proofs.CellStore.{cell-present, cell-none, cell-changed, cell-freed}
 use Rattle.work_cell.proofs.CellAnswer.{cell-worked}
 use Rattle.work_cell.proofs.store_cell.Statement.{statement}
 use Rattle.work_cell.proofs.store_cell.Tie as tie
 
 -- the places, from the last back: unknown figures found anew, the old object let go, the new one counted up, the start
-abbrev renewed : tie.After-slice-known17 → tie.After-renew-after
+abbrev renewed : tie.After-slice-known21 → tie.After-renew-after
 renewed c = search
 
 abbrev gone : tie.After-renew-after → tie.After-let-go
@@ -61,8 +61,8 @@ returns c =
     let usable = start .pre .0 in
     let h = memoryOf (usable-ready usable) in
     let same = c .if1 .taken in
-    cell-worked (cell-passed (start .pre .1)) usable (cell-present _ _ h _ same) (usable-fit usable .listed)
-    (cell-present-blocks _ _ h _ same) (sticks-present _ _ _ same)
+    cell-worked (cell-passed (start .pre .1)) usable (cell-present _ _ h _ _ _ same) (usable-fit usable .listed)
+    (cell-none _ _ h _ _ _ same) (sticks-present _ _ _ same)
 
 count-up-requires : tie.Need-count-up-requires
 count-up-requires c κs =
@@ -81,18 +81,39 @@ slice-write-cells c =
     let start : tie.Start = search in
     omega (arith, cell-passed (start .pre .1) .cell-inside, usable-healthy (start .pre .0) .shape .length-cells)
 
+-- the owner's reference fits a cell
+add-let-go : tie.Need-add-let-go
+add-let-go c =
+    let start : tie.Start = search in
+    record { fits = omega (arith, cell-passed (start .pre .1) .cell-inside, usable-healthy (start .pre .0) .shape .blocks-max) }
+
+cast-let-go : tie.Need-cast-let-go
+cast-let-go c =
+    let start : tie.Start = search in
+    omega (arith, cell-passed (start .pre .1) .cell-inside, usable-healthy (start .pre .0) .shape .blocks-max)
+
 let-go-requires : tie.Need-let-go-requires
 let-go-requires c κs =
     let counting : tie.After-count-up = search in
-    let ready = usable-ready (start counting .pre .0) in
-    (planes-same (ready .planes) (counting .count-up .kept .1 .1 .0), extents-cell _ _ (ready .extents), ready .idle, ready .coherent)
+    let usable = start counting .pre .0 in
+    let ready = usable-ready usable in (
+      record {
+        planes = planes-same (ready .planes) (counting .count-up .kept .1 .1 .0);
+        extents = extents-cell _ _ (ready .extents);
+        idle = ready .idle;
+        coherent = ready .coherent;
+        marks-length = ready .marks-length;
+        list-length = ready .list-length;
+      },
+      usable-listable usable,
+    )
 
 renew-after-requires : tie.Need-renew-after-requires
 renew-after-requires c κs =
     let gone : tie.After-let-go = search in
     let usable = start (up gone) .pre .0 in
     let shape = usable-healthy usable .shape in
-    let upkeep = gone .let-go .ensures .2 in
+    let upkeep = gone .let-go .ensures .upkeep in
     (upkeep .coherent, omega (arith, gone .let-go .kept .1 .1 .0, shape .length-a, shape .whole-bytes), list-untouched usable upkeep)
 
 returns-2 : tie.Need-returns-2
@@ -104,10 +125,13 @@ returns-2 c =
     let h = memoryOf (usable-ready usable) in
     let counted = counting .count-up .ensures in
     let other = counting .before .before .if1 .left in
-    cell-worked (cell-passed (pre .1)) usable
-    (cell-changed _ _ h _ other (counted .0) (left .let-go .ensures .0))
+    let passed = cell-passed (pre .1) in
+    let fit = usable-fit usable in
+    let done = left .let-go .ensures in
+    cell-worked passed usable
+    (cell-changed _ _ h _ _ _ fit (passed .first) (passed .place) (passed .ordinary) (passed .ref) (passed .inside) other (counted .0) done)
     (renewed c .renew-after .ensures)
-    (cell-changed-blocks _ _ h _ other (counted .0) (left .let-go .ensures .1))
+    (cell-freed _ _ h _ _ _ fit (passed .first) (passed .place) (passed .ordinary) (passed .ref) (passed .inside) other (counted .0) done)
     (counted .1 ∙ sticks-changed _ _ _ other)
 
 -- the cells were written before they were let go of
@@ -129,6 +153,8 @@ store-cell-spec =
     count-up-requires
     mul-cells
     slice-write-cells
+    add-let-go
+    cast-let-go
     let-go-requires
     renew-after-requires
     (λ c. gone (renewed c) .let-go .kept .1 .1 .0)
@@ -138,4 +164,6 @@ store-cell-spec =
     (λ c. gone (renewed c) .let-go .kept .1 .1 .1 .1 .1 .1 .0)
     (λ c. renewed c .renew-after .kept .1 .1 .0 ∙ gone (renewed c) .let-go .kept .1 .1 .1 .1 .1 .1 .1 .0)
     (λ c. gone (renewed c) .let-go .kept .1 .1 .1 .1 .1 .1 .1 .1 .0)
+    (λ c. gone (renewed c) .let-go .kept .1 .1 .1 .1 .1 .1 .1 .1 .1 .0)
+    (λ c. gone (renewed c) .let-go .kept .1 .1 .1 .1 .1 .1 .1 .1 .1 .1 .0)
     returns-2)

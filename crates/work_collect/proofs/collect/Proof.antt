@@ -41,13 +41,13 @@ lent-d c = search
 mark-requires : tie.Need-mark-requires
 mark-requires c κs =
     let start : tie.Start = search in
-    let ready = usable-ready (start .pre) in
+    let ready = usable-ready (start .pre .0) in
     (ready .planes, ready .extents .b-length, ready .extents .cells-length, ready .idle, ready .extents .d-length)
 
 sweep-requires : tie.Need-sweep-requires
 sweep-requires c κs =
     let marking : tie.After-mark = search in
-    let ready = usable-ready (start marking .pre) in (
+    let ready = usable-ready (start marking .pre .0) in (
       planes-same (ready .planes) (marking .mark .kept .1 .1 .1 .0),
       ready .extents,
       ready .coherent,
@@ -56,17 +56,17 @@ sweep-requires c κs =
 renew-requires : tie.Need-renew-requires
 renew-requires c κs =
     let sweeping : tie.After-sweep = search in
-    let shape = usable-healthy (start (marked sweeping) .pre) .shape in
+    let shape = usable-healthy (start (marked sweeping) .pre .0) .shape in
     (sweeping .sweep .ensures .2, omega (arith, sweeping .sweep .kept .1 .1 .0, shape .length-a, shape .whole-bytes))
 
 returns : tie.Need-returns
 returns c =
     let sweeping = swept (renewed c) in
     let marking = marked sweeping in
-    let usable = start marking .pre in
-    let ready = usable-ready usable in
+    let pre = start marking .pre in
+    let ready = usable-ready (pre .0) in
     let counts = marking .mark .ensures in
-    collect-worked usable
+    collect-worked (pre .0) (pre .1)
     (record {
       a = bytes-given _ (lent-a marking .slice-known .given);
       b = bytes-given _ (lent-b marking .slice-known2 .given);

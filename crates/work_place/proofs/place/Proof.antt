@@ -6,8 +6,11 @@ use Rattle.count_up.specs.Ready.{partMemory}
 use Rattle.work_place.proofs.place.Statement.{statement}
 use Rattle.work_place.proofs.place.Tie as tie
 
--- the places, from the last back: the kind written, the cells cleared, the count written, the extent marked
-abbrev kinded : tie.After-slice-known12 → tie.After-set-kind
+-- the places, from the last back: the mark set, the kind written, the cells cleared, the count written, the blocks taken
+abbrev born : tie.After-slice-known14 → tie.After-mark-born
+born c = search
+
+abbrev kinded : tie.After-mark-born → tie.After-set-kind
 kinded c = search
 
 abbrev cleared : tie.After-set-kind → tie.After-clear-cells
@@ -16,8 +19,8 @@ cleared c = search
 abbrev counted : tie.After-clear-cells → tie.After-set-count
 counted c = search
 
-abbrev marked : tie.After-set-count → tie.After-mark-extent
-marked c = search
+abbrev taken : tie.After-set-count → tie.After-mark-extent
+taken c = search
 
 mark-extent-requires : tie.Need-mark-extent-requires
 mark-extent-requires c κs = search needs
@@ -37,15 +40,20 @@ clear-cells-requires c κs = search needs
 set-kind-requires : tie.Need-set-kind-requires
 set-kind-requires c κs = search needs
 
+mark-born-requires : tie.Need-mark-born-requires
+mark-born-requires c κs = search needs
+
 returns : tie.Need-returns
 unfolding placed
 returns c =
-    let kind = kinded c in
+    let mark = born c in
+    let kind = kinded mark in
     let cells = cleared kind in
     let count = counted cells in
-    let extent = marked count .mark-extent .ensures in (
+    let extent = taken count .mark-extent .ensures in (
       λ k. partMemory (extent .0 k) (extent .1 k) (count .set-count .ensures k) (cells .clear-cells .ensures k) [] (kind .set-kind .ensures k),
       extent .2,
+      mark .mark-born .ensures,
     )
 
 pub place-spec : {M : Type 1} → statement M
@@ -58,10 +66,12 @@ place-spec =
     mul-clear-cells-2
     clear-cells-requires
     set-kind-requires
-    (λ c. marked (counted (cleared (kinded c))) .mark-extent .kept .1 .0)
-    (λ c. marked (counted (cleared (kinded c))) .mark-extent .kept .1 .1 .0)
-    (λ c. counted (cleared (kinded c)) .set-count .kept .0)
-    (λ c. cleared (kinded c) .clear-cells .kept .0)
-    (λ c. marked (counted (cleared (kinded c))) .mark-extent .kept .1 .1 .1 .0)
-    (λ c. kinded c .set-kind .kept .0)
+    mark-born-requires
+    (λ c. taken (counted (cleared (kinded (born c)))) .mark-extent .kept .1 .0)
+    (λ c. taken (counted (cleared (kinded (born c)))) .mark-extent .kept .1 .1 .0)
+    (λ c. counted (cleared (kinded (born c))) .set-count .kept .0)
+    (λ c. cleared (kinded (born c)) .clear-cells .kept .0)
+    (λ c. taken (counted (cleared (kinded (born c)))) .mark-extent .kept .1 .1 .1 .0)
+    (λ c. kinded (born c) .set-kind .kept .0)
+    (λ c. born c .mark-born .kept .1 .0)
     returns)

@@ -6,13 +6,13 @@ use Rattle.work_return.proofs.clear_chosen.Statement.{statement}
 use Rattle.work_return.proofs.clear_chosen.Tie as tie
 
 -- the places: the entry, the root found chosen, the root cleared
-abbrev entry : tie.After-slice-known8 → tie.Start
+abbrev entry : tie.After-slice-known10 → tie.Start
 entry c = search
 
-abbrev chosen : tie.After-store-root-arg8 → tie.Else1
+abbrev chosen : tie.After-store-root-arg10 → tie.Else1
 chosen c = search
 
-abbrev cleared : tie.After-slice-known16 → tie.After-store-root
+abbrev cleared : tie.After-slice-known20 → tie.After-store-root
 cleared c = search
 
 shr-if1 : tie.Need-shr-if1
@@ -49,4 +49,6 @@ clear-chosen-spec =
     (λ c. cleared c .store-root .kept .1 .1 .1 .1 .1 .1 .1 .0)
     (λ c. cleared c .store-root .kept .1 .1 .1 .1 .1 .1 .1 .1 .0)
     (λ c. cleared c .store-root .kept .1 .1 .1 .1 .1 .1 .1 .1 .1 .0)
+    (λ c. cleared c .store-root .kept .1 .1 .1 .1 .1 .1 .1 .1 .1 .1 .0)
+    (λ c. cleared c .store-root .kept .1 .1 .1 .1 .1 .1 .1 .1 .1 .1 .1 .0)
     returns-2)

@@ -3,7 +3,6 @@ use mathlib.Core.Path.{sym, _∙_}
 use Prim.Native.Nat.{_-_}
 use native.Mathlib.Omega.{arith}
 use lib.ListN.{length}
-use borrow.Author.Needs.{needs}
 use Rattle.bitmap.proofs.Zeros.{zeros-le}
 use Rattle.rules.specs.Heap.{lentMemory}
 use Rattle.rules.proofs.Shape.{Shaped}
@@ -13,22 +12,22 @@ use Rattle.work_return.proofs.clear_roots.Statement.{statement}
 use Rattle.work_return.proofs.clear_roots.Tie as tie
 
 abbrev Inv-loop : tie.InvT-loop
-Inv-loop blocks width a₀ b₀ counts₀ cells₀ roots₀ waiting₀ sections₀ d₀ chosen freed₀ r₀ a b counts cells roots waiting sections d freed r =
-    Progress blocks width (lentMemory a₀ b₀ counts₀ cells₀ roots₀ waiting₀ sections₀ d₀) chosen r
-    (lentMemory a b counts cells roots waiting sections d) freed
+Inv-loop blocks width a₀ b₀ counts₀ cells₀ roots₀ waiting₀ sections₀ d₀ marks₀ list₀ chosen freed₀ r₀ a b counts cells roots waiting sections d marks list freed r =
+    Progress blocks width (lentMemory a₀ b₀ counts₀ cells₀ roots₀ waiting₀ sections₀ d₀ marks₀ list₀) chosen r
+    (lentMemory a b counts cells roots waiting sections d marks list) freed
 
 abbrev μ-loop : tie.MeasureT-loop
-μ-loop blocks width a₀ b₀ counts₀ cells₀ roots₀ waiting₀ sections₀ d₀ chosen freed₀ r₀ a b counts cells roots waiting sections d freed r =
+μ-loop blocks width a₀ b₀ counts₀ cells₀ roots₀ waiting₀ sections₀ d₀ marks₀ list₀ chosen freed₀ r₀ a b counts cells roots waiting sections d marks list freed r =
     length roots₀ - r
 
 -- the places: the entry, a turn of the loop, its root seen to
-abbrev entry : tie.After-slice-known8 Inv-loop μ-loop → tie.Start Inv-loop μ-loop
+abbrev entry : tie.After-slice-known10 Inv-loop μ-loop → tie.Start Inv-loop μ-loop
 entry c = search
 
-abbrev turn : tie.After-clear-chosen-arg8 Inv-loop μ-loop → tie.In-loop Inv-loop μ-loop
+abbrev turn : tie.After-clear-chosen-arg10 Inv-loop μ-loop → tie.In-loop Inv-loop μ-loop
 turn c = search
 
-abbrev seen : tie.After-slice-known16 Inv-loop μ-loop → tie.After-clear-chosen Inv-loop μ-loop
+abbrev seen : tie.After-slice-known20 Inv-loop μ-loop → tie.After-clear-chosen Inv-loop μ-loop
 seen c = search
 
 loop-holds : tie.Need-loop-holds Inv-loop μ-loop
@@ -73,7 +72,8 @@ shaped-now :
     (c : tie.After-loop Inv-loop μ-loop)
     → let l = c .before .loop in
     let args = entry (c .before .before) .args in
-    Shaped (args .blocks) (args .width) (lentMemory (l .a) (l .b) (l .counts) (l .cells) (l .roots) (l .waiting) (l .sections) (l .d))
+    Shaped (args .blocks) (args .width)
+    (lentMemory (l .a) (l .b) (l .counts) (l .cells) (l .roots) (l .waiting) (l .sections) (l .d) (l .marks) (l .list))
 shaped-now c = usable-healthy (c .before .loop .inv .usable) .shape
 
 shaped-before :
@@ -81,7 +81,7 @@ shaped-before :
     → let args = entry (c .before .before) .args in
     Shaped (args .blocks) (args .width)
     (lentMemory (args .a .now) (args .b .now) (args .counts .now) (args .cells .now) (args .roots .now) (args .waiting .now)
-    (args .sections .now) (args .d .now))
+    (args .sections .now) (args .d .now) (args .marks .now) (args .list .now))
 shaped-before c = usable-healthy (entry (c .before .before) .pre .0) .shape
 
 returns : tie.Need-returns Inv-loop μ-loop
@@ -109,4 +109,6 @@ clear-roots-spec =
     (λ c. shaped-now c .length-waiting ∙ sym (shaped-before c .length-waiting))
     (λ c. shaped-now c .length-sections ∙ sym (shaped-before c .length-sections))
     (λ c. shaped-now c .length-d ∙ sym (shaped-before c .length-d))
+    (λ c. shaped-now c .length-marks ∙ sym (shaped-before c .length-marks))
+    (λ c. shaped-now c .length-list ∙ sym (shaped-before c .length-list))
     returns)

@@ -8,10 +8,10 @@ use Rattle.work_return.proofs.return_roots.Statement.{statement}
 use Rattle.work_return.proofs.return_roots.Tie as tie
 
 -- the places: the entry, and the roots cleared
-abbrev entry : tie.After-slice-known8 → tie.Start
+abbrev entry : tie.After-slice-known10 → tie.Start
 entry c = search
 
-abbrev cleared : tie.After-slice-known16 → tie.After-clear-roots
+abbrev cleared : tie.After-slice-known20 → tie.After-clear-roots
 cleared c = search
 
 return-test-requires : tie.Need-return-test-requires
@@ -46,4 +46,6 @@ return-roots-spec =
     (λ c. cleared c .clear-roots .kept .1 .1 .1 .1 .1 .1 .1 .0)
     (λ c. cleared c .clear-roots .kept .1 .1 .1 .1 .1 .1 .1 .1 .0)
     (λ c. cleared c .clear-roots .kept .1 .1 .1 .1 .1 .1 .1 .1 .1 .0)
+    (λ c. cleared c .clear-roots .kept .1 .1 .1 .1 .1 .1 .1 .1 .1 .1 .0)
+    (λ c. cleared c .clear-roots .kept .1 .1 .1 .1 .1 .1 .1 .1 .1 .1 .1 .0)
     returns-2)

@@ -1,20 +1,20 @@
--- `work_root::store_root` meets its contract: letting go is the same beside the roots, of which one is written, with the counts counted up;
--- where the value is present nothing is done.
+-- `work_root::store_root` meets its contract.
 use mathlib.Core.Path.{_∙_}
 use native.Mathlib.Omega.{arith}
 use borrow.Author.Needs.{needs}
 use Rattle.test_arguments.proofs.ArgumentTests.{root-passed}
 use Rattle.count_up.proofs.Shapes.{memoryOf, planes-same}
 use Rattle.theory.proofs.Usable.UsableHeap.{usable-fit, usable-healthy}
-use Rattle.refinement.proofs.Presence.{sticks-present, sticks-changed}
 use Rattle.refinement.proofs.ReadyHeap.{usable-ready, list-untouched}
-use Rattle.work_root.proofs.RootSteps.{root-present, root-present-blocks, root-changed, root-changed-blocks}
+use Rattle.refinement_stores.proofs.ListedHeap.{usable-listable}
+use Rattle.refinement_stores.proofs.Presence.{sticks-present, sticks-changed}
+use Rattle.refinement_stores.proofs.RootStore.{root-present, root-none, root-changed, root-freed}
 use Rattle.work_root.proofs.RootAnswer.{root-worked}
 use Rattle.work_root.proofs.store_root.Statement.{statement}
 use Rattle.work_root.proofs.store_root.Tie as tie
 
 -- the places, from the last back: unknown figures found anew, the old object let go, the new one counted up, the start
-abbrev renewed : tie.After-slice-known18 → tie.After-renew-after
+abbrev renewed : tie.After-slice-known22 → tie.After-renew-after
 renewed c = search
 
 abbrev gone : tie.After-renew-after → tie.After-let-go
@@ -49,8 +49,8 @@ returns c =
     let usable = start .pre .0 in
     let h = memoryOf (usable-ready usable) in
     let same = c .if1 .taken in
-    root-worked (root-passed (start .pre .1)) usable (root-present _ _ h _ same) (usable-fit usable .listed)
-    (root-present-blocks _ _ h _ same) (sticks-present _ _ _ same)
+    root-worked (root-passed (start .pre .1)) usable (root-present _ _ h _ _ same) (usable-fit usable .listed)
+    (root-none _ _ h _ _ same) (sticks-present _ _ _ same)
 
 count-up-requires : tie.Need-count-up-requires
 count-up-requires c κs =
@@ -71,15 +71,25 @@ slice-write-roots c =
 let-go-requires : tie.Need-let-go-requires
 let-go-requires c κs =
     let start : tie.Start = search in
-    let ready = usable-ready (start .pre .0) in
-    (planes-same (ready .planes) (omega arith), ready .extents, ready .idle, ready .coherent)
+    let usable = start .pre .0 in
+    let ready = usable-ready usable in (
+      record {
+        planes = planes-same (ready .planes) (omega arith);
+        extents = ready .extents;
+        idle = ready .idle;
+        coherent = ready .coherent;
+        marks-length = ready .marks-length;
+        list-length = ready .list-length;
+      },
+      usable-listable usable,
+    )
 
 renew-after-requires : tie.Need-renew-after-requires
 renew-after-requires c κs =
     let gone : tie.After-let-go = search in
     let usable = start (up gone) .pre .0 in
     let shape = usable-healthy usable .shape in
-    let upkeep = gone .let-go .ensures .2 in
+    let upkeep = gone .let-go .ensures .upkeep in
     (upkeep .coherent, omega (arith, gone .let-go .kept .1 .1 .0, shape .length-a, shape .whole-bytes), list-untouched usable upkeep)
 
 returns-2 : tie.Need-returns-2
@@ -91,10 +101,13 @@ returns-2 c =
     let h = memoryOf (usable-ready usable) in
     let counted = counting .count-up .ensures in
     let other = counting .before .before .if1 .left in
-    root-worked (root-passed (pre .1)) usable
-    (root-changed _ _ h _ other (counted .0) (left .let-go .ensures .0))
+    let passed = root-passed (pre .1) in
+    let fit = usable-fit usable in
+    let done = left .let-go .ensures in
+    root-worked passed usable
+    (root-changed _ _ h _ _ fit (passed .place) (passed .ref) (passed .inside) other (counted .0) done)
     (renewed c .renew-after .ensures)
-    (root-changed-blocks _ _ h _ other (counted .0) (left .let-go .ensures .1))
+    (root-freed _ _ h _ _ fit (passed .place) (passed .ref) (passed .inside) other (counted .0) done)
     (counted .1 ∙ sticks-changed _ _ _ other)
 
 pub store-root-spec : {M : Type 1} → statement M
@@ -118,4 +131,6 @@ store-root-spec =
     (λ c. gone (renewed c) .let-go .kept .1 .1 .1 .1 .1 .1 .0)
     (λ c. renewed c .renew-after .kept .1 .1 .0 ∙ gone (renewed c) .let-go .kept .1 .1 .1 .1 .1 .1 .1 .0)
     (λ c. gone (renewed c) .let-go .kept .1 .1 .1 .1 .1 .1 .1 .1 .0)
+    (λ c. gone (renewed c) .let-go .kept .1 .1 .1 .1 .1 .1 .1 .1 .1 .0)
+    (λ c. gone (renewed c) .let-go .kept .1 .1 .1 .1 .1 .1 .1 .1 .1 .1 .0)
     returns-2)

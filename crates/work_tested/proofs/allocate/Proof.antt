@@ -22,7 +22,7 @@ use Rattle.work_tested.proofs.allocate.Tie as tie
 abbrev start : tie.After-allocate-reply-arg2 → tie.Start
 start c = search
 
-abbrev done : tie.After-slice-known16 → tie.After-allocate
+abbrev done : tie.After-slice-known20 → tie.After-allocate
 done c = search
 
 -- an allocation of either kind is refused alike
@@ -41,7 +41,9 @@ allocate-reply-requires c κs =
 returns : tie.Need-returns
 returns c =
     let start : tie.Start = search in
-    worked-refused (start .pre) (refused-so (start .args .as-data) (start .args .n) (start .args .r) (c .before .allocate-reply .ensures) (usable-fit (start .pre)) (c .if1 .taken))
+    let args = start .args in
+    worked-refused (start .pre)
+    (refused-so (args .as-data) (args .n) (args .r) (c .before .allocate-reply .ensures) (usable-fit (start .pre)) (c .if1 .taken))
     (c .if1 .taken)
 
 allocate-requires : tie.Need-allocate-requires
@@ -70,4 +72,6 @@ allocate-spec =
     (λ c. done c .allocate .kept .1 .1 .1 .1 .1 .1 .1 .0)
     (λ c. done c .allocate .kept .1 .1 .1 .1 .1 .1 .1 .1 .0)
     (λ c. done c .allocate .kept .1 .1 .1 .1 .1 .1 .1 .1 .1 .0)
+    (λ c. done c .allocate .kept .1 .1 .1 .1 .1 .1 .1 .1 .1 .1 .0)
+    (λ c. done c .allocate .kept .1 .1 .1 .1 .1 .1 .1 .1 .1 .1 .1 .0)
     returns-2)

@@ -12,7 +12,7 @@ use Rattle.work_tested.proofs.store_cell.Tie as tie
 abbrev start : tie.After-store-cell-test-arg3 → tie.Start
 start c = search
 
-abbrev done : tie.After-slice-known14 → tie.After-store-cell
+abbrev done : tie.After-slice-known18 → tie.After-store-cell
 done c = search
 
 store-cell-test-requires : tie.Need-store-cell-test-requires
@@ -56,4 +56,6 @@ store-cell-spec =
     (λ c. done c .store-cell .kept .1 .1 .1 .1 .1 .1 .1 .0)
     (λ c. done c .store-cell .kept .1 .1 .1 .1 .1 .1 .1 .1 .0)
     (λ c. done c .store-cell .kept .1 .1 .1 .1 .1 .1 .1 .1 .1 .0)
+    (λ c. done c .store-cell .kept .1 .1 .1 .1 .1 .1 .1 .1 .1 .1 .0)
+    (λ c. done c .store-cell .kept .1 .1 .1 .1 .1 .1 .1 .1 .1 .1 .1 .0)
     returns-2)

@@ -12,7 +12,7 @@ use Rattle.work_tested.proofs.store_root.Tie as tie
 abbrev start : tie.After-store-root-test-arg3 → tie.Start
 start c = search
 
-abbrev done : tie.After-slice-known16 → tie.After-store-root
+abbrev done : tie.After-slice-known20 → tie.After-store-root
 done c = search
 
 store-root-test-requires : tie.Need-store-root-test-requires
@@ -53,4 +53,6 @@ store-root-spec =
     (λ c. done c .store-root .kept .1 .1 .1 .1 .1 .1 .1 .0)
     (λ c. done c .store-root .kept .1 .1 .1 .1 .1 .1 .1 .1 .0)
     (λ c. done c .store-root .kept .1 .1 .1 .1 .1 .1 .1 .1 .1 .0)
+    (λ c. done c .store-root .kept .1 .1 .1 .1 .1 .1 .1 .1 .1 .1 .0)
+    (λ c. done c .store-root .kept .1 .1 .1 .1 .1 .1 .1 .1 .1 .1 .1 .0)
     returns-2)

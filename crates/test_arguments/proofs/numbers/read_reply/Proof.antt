@@ -19,7 +19,7 @@ start c = c .before .before .before .before .before
 
 -- the maps and the cells
 abbrev lent : tie.Start → Memory
-lent s = lentMemory (s .args .a .now) (s .args .b .now) [] (s .args .cells .now) [] [] [] (s .args .d .now)
+lent s = lentMemory (s .args .a .now) (s .args .b .now) [] (s .args .cells .now) [] [] [] (s .args .d .now) [] []
 
 tested : (c : tie.After-number-test) → let s = start c in
     c .number-test .result ≡ numberTest (s .args .blocks) (lent s) (s .args .at) (s .args .j)

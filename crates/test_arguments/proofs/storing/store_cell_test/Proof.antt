@@ -23,7 +23,7 @@ start c = c .before .before .before .before
 
 -- the maps
 abbrev maps : tie.Start → Memory
-maps s = lentMemory (s .args .a .now) (s .args .b .now) [] [] [] [] [] (s .args .d .now)
+maps s = lentMemory (s .args .a .now) (s .args .b .now) [] [] [] [] [] (s .args .d .now) [] []
 
 tested : (c : tie.After-cell-test) → let s = start c in c .cell-test .result ≡ cellTest (s .args .blocks) (maps s) (s .args .at) (s .args .j)
 unfolding cellTest

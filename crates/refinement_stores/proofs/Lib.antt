@@ -1,0 +1,10 @@
+pub mod MarkBits
+pub mod ReleasedMarks
+pub mod Touched
+pub mod Shaded
+pub mod FreedBlocks
+pub mod ListedHeap
+pub mod Presence
+pub mod RootStore
+pub mod CellStore
+pub mod Allocation
