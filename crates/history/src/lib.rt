@@ -24,7 +24,7 @@ fn refused(reply: Reply) -> Ran
     }
 }
 
-// The reply of a run of records, which depends on the heap and on the run handed in alone: that of the check, whose refusals are 1, 2 and 11,
+// The reply of a run of records, which depends on the heap and on the run handed in alone: that of the check, whose refusals are 1, 2, 11 and 13,
 // then 19 for a run out of range.
 fn run_reply(
     blocks: usize,
@@ -37,9 +37,11 @@ fn run_reply(
     waiting: &[Ref],
     sections: &[Ref],
     d: &[u8],
+    marks: &[u8],
+    list: &[Ref],
     run: Run,
 ) -> Reply
-    ensures { λ reply. ⌜ reply ≡ runReply blocks width (before a b counts cells roots waiting sections d) run ⌝ }
+    ensures { λ reply. ⌜ reply ≡ runReply blocks width (before a b counts cells roots waiting sections d marks list) run ⌝ }
 {
     let checked = public_read::check(
         blocks,
@@ -52,6 +54,8 @@ fn run_reply(
         waiting,
         sections,
         d,
+        marks,
+        list,
     );
     let number = checked.number;
     if number != 0 {
@@ -76,12 +80,14 @@ pub fn run_records(
     waiting: &mut [Ref],
     sections: &mut [Ref],
     d: &mut [u8],
+    marks: &mut [u8],
+    list: &mut [Ref],
     run: Run,
     bytes: &[u8],
 ) -> Ran
     ensures { λ r.
-        ⌜ Promised blocks width (now (bytes .entry)) (before a b counts cells roots waiting sections d) run r
-        (after a b counts cells roots waiting sections d) ⌝ }
+        ⌜ Promised blocks width (now (bytes .entry)) (before a b counts cells roots waiting sections d marks list) run r
+        (after a b counts cells roots waiting sections d marks list) ⌝ }
 {
     let reply = run_reply(
         blocks,
@@ -94,6 +100,8 @@ pub fn run_records(
         waiting,
         sections,
         d,
+        marks,
+        list,
         run,
     );
     let number = reply.number;
@@ -112,6 +120,8 @@ pub fn run_records(
         waiting,
         sections,
         d,
+        marks,
+        list,
         bytes,
         run,
     );

@@ -26,17 +26,19 @@ fn run_whole(
     waiting: &mut [Ref],
     sections: &mut [Ref],
     d: &mut [u8],
+    marks: &mut [u8],
+    list: &mut [Ref],
     bytes: &[u8],
     n: usize,
     start: Running,
 ) -> Run
-    requires { ⌜ Usable blocks width (lent a b counts cells roots waiting sections d)
-        × Going blocks (lent a b counts cells roots waiting sections d) n start
+    requires { ⌜ Usable blocks width (lent a b counts cells roots waiting sections d marks list)
+        × Going blocks (lent a b counts cells roots waiting sections d marks list) n start
         × (8 * n ≤ length (now bytes)) ⌝ }
     ensures { λ r.
         ⌜ RunBy blocks width
-        (ranFrom n blocks width (now (bytes .entry)) 0 (before a b counts cells roots waiting sections d) (start .run)) r
-        (after a b counts cells roots waiting sections d) ⌝ }
+        (ranFrom n blocks width (now (bytes .entry)) 0 (before a b counts cells roots waiting sections d marks list) (start .run)) r
+        (after a b counts cells roots waiting sections d marks list) ⌝ }
 {
     let mut state = start;
     let mut i = 0;
@@ -53,6 +55,8 @@ fn run_whole(
             waiting,
             sections,
             d,
+            marks,
+            list,
             f,
             state,
         );
@@ -110,14 +114,16 @@ pub(crate) fn run_piece(
     waiting: &mut [Ref],
     sections: &mut [Ref],
     d: &mut [u8],
+    marks: &mut [u8],
+    list: &mut [Ref],
     bytes: &[u8],
     run: Run,
 ) -> Run
-    requires { ⌜ Usable blocks width (lent a b counts cells roots waiting sections d)
+    requires { ⌜ Usable blocks width (lent a b counts cells roots waiting sections d marks list)
         × (inRange run ≡ true) ⌝ }
     ensures { λ r.
-        ⌜ RunBy blocks width (ran blocks width (now (bytes .entry)) (before a b counts cells roots waiting sections d) run) r
-        (after a b counts cells roots waiting sections d) ⌝ }
+        ⌜ RunBy blocks width (ran blocks width (now (bytes .entry)) (before a b counts cells roots waiting sections d marks list) run) r
+        (after a b counts cells roots waiting sections d marks list) ⌝ }
 {
     let number = run.number;
     if number != 0 {
@@ -140,6 +146,8 @@ pub(crate) fn run_piece(
         waiting,
         sections,
         d,
+        marks,
+        list,
         bytes,
         n,
         state,

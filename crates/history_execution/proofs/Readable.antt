@@ -30,7 +30,7 @@ usable-readable {N} {w} {h} usable =
 -- what is asked for on the four buffers is what is asked for on the heap
 pub planned :
     (w : ℕ) (f : Fields) (plan : Plan) {N : ℕ} {h : Memory} {d : Done} {g : Memory}
-    → meaning plan ≡ asked N (lentMemory [] (h .b) [] (h .cells) (h .roots) [] [] (h .d)) f → Acted N h (turnOf N w h (meaning plan)) d g
+    → meaning plan ≡ asked N (lentMemory [] (h .b) [] (h .cells) (h .roots) [] [] (h .d) [] []) f → Acted N h (turnOf N w h (meaning plan)) d g
     → Acted N h (turnOf N w h (asked N h f)) d g
 unfolding asked operation copying writing reading clearing writingNumber onRoots
 planned w f plan {N} {h} {d} {g} e acted = subst (λ (x : Asked). Acted N h (turnOf N w h x) d g) e acted

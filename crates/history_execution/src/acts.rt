@@ -20,13 +20,15 @@ pub(crate) fn act(
     waiting: &mut [Ref],
     sections: &mut [Ref],
     d: &mut [u8],
+    marks: &mut [u8],
+    list: &mut [Ref],
     plan: Plan,
 ) -> Done
-    requires { ⌜ Usable blocks width (lent a b counts cells roots waiting sections d) ⌝ }
+    requires { ⌜ Usable blocks width (lent a b counts cells roots waiting sections d marks list) ⌝ }
     ensures { λ done.
-        ⌜ Acted blocks (before a b counts cells roots waiting sections d)
-        (turnOf blocks width (before a b counts cells roots waiting sections d) (meaning plan)) done
-        (after a b counts cells roots waiting sections d) ⌝ }
+        ⌜ Acted blocks (before a b counts cells roots waiting sections d marks list)
+        (turnOf blocks width (before a b counts cells roots waiting sections d marks list) (meaning plan)) done
+        (after a b counts cells roots waiting sections d marks list) ⌝ }
 {
     match plan {
         Plan::Stop(number) => Done {
@@ -47,6 +49,8 @@ pub(crate) fn act(
             waiting,
             sections,
             d,
+            marks,
+            list,
             as_data,
             n,
             r,
@@ -63,6 +67,8 @@ pub(crate) fn act(
                 waiting,
                 sections,
                 d,
+                marks,
+                list,
                 r,
                 v,
             );
@@ -86,6 +92,8 @@ pub(crate) fn act(
                 waiting,
                 sections,
                 d,
+                marks,
+                list,
                 at,
                 j,
                 v,
@@ -99,7 +107,7 @@ pub(crate) fn act(
             }
         }
         Plan::Collect => {
-            let done = work_collect::collect(
+            let done = work_tested::collect(
                 blocks,
                 width,
                 a,
@@ -110,11 +118,13 @@ pub(crate) fn act(
                 waiting,
                 sections,
                 d,
+                marks,
+                list,
             );
             Done {
-                number: 0,
+                number: done.number,
                 allocated: 0,
-                collected: true,
+                collected: done.number == 0,
                 freed: done.freed,
                 stuck: false,
             }
@@ -131,6 +141,8 @@ pub(crate) fn act(
                 waiting,
                 sections,
                 d,
+                marks,
+                list,
                 at,
                 j,
                 x,

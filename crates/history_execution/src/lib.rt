@@ -24,17 +24,19 @@ pub fn step(
     waiting: &mut [Ref],
     sections: &mut [Ref],
     d: &mut [u8],
+    marks: &mut [u8],
+    list: &mut [Ref],
     f: Fields,
     state: Running,
 ) -> Running
-    requires { ⌜ Usable blocks width (lent a b counts cells roots waiting sections d)
-        × Going blocks (lent a b counts cells roots waiting sections d) 1 state
+    requires { ⌜ Usable blocks width (lent a b counts cells roots waiting sections d marks list)
+        × Going blocks (lent a b counts cells roots waiting sections d marks list) 1 state
         × (f .size < 65536) ⌝ }
     ensures { λ next.
         ⌜ Stepped blocks
-        (turnOf blocks width (before a b counts cells roots waiting sections d)
-        (asked blocks (before a b counts cells roots waiting sections d) f))
-        state next (after a b counts cells roots waiting sections d) ⌝ }
+        (turnOf blocks width (before a b counts cells roots waiting sections d marks list)
+        (asked blocks (before a b counts cells roots waiting sections d marks list) f))
+        state next (after a b counts cells roots waiting sections d marks list) ⌝ }
 {
     let plan = history_plans::plan_of(blocks, b, cells, roots, d, f);
     let done = acts::act(
@@ -48,6 +50,8 @@ pub fn step(
         waiting,
         sections,
         d,
+        marks,
+        list,
         plan,
     );
     noting::noted(state, done)

@@ -19,6 +19,8 @@ use Rattle.rules.specs.Calls.{
   allocateData,
   writeNumber,
   readNumber,
+  openCollection,
+  takeSteps,
 }
 use Rattle.types.specs.declared.Reply.{Reply}
 use Rattle.theory.specs.Words.{Made}
@@ -49,7 +51,7 @@ used n t = tally (t .allocations) (t .blocks) (t .largest) (t .collections) (max
 abbrev pub becameStuck : Tally → Tally
 becameStuck t = tally (t .allocations) (t .blocks) (t .largest) (t .collections) (t .peak) (t .stuck + 1)
 
--- what an accepted call adds; an allocation of data adds what another adds
+-- what an accepted call adds; an allocation of data adds what another adds. A collection in small steps is no full one (request U8).
 unfoldable pub countedIn : Call → Tally → Tally
 countedIn (allocate n r) t = allocated n t
 countedIn collect t = collected t
@@ -63,6 +65,8 @@ countedIn (returnRoots chosen) t = t
 countedIn (allocateData n r) t = allocated n t
 countedIn (writeNumber at j x) t = t
 countedIn (readNumber at j) t = t
+countedIn openCollection t = t
+countedIn (takeSteps budget) t = t
 
 -- "Every store and allocation passes the fact on": it is their second value
 unfoldable pub toldStuck : Call → Reply → Bool
@@ -78,6 +82,8 @@ toldStuck (returnRoots chosen) x = false
 toldStuck (allocateData n r) x = eqb (x .second) 1
 toldStuck (writeNumber at j y) x = false
 toldStuck (readNumber at j) x = false
+toldStuck openCollection x = false
+toldStuck (takeSteps budget) x = false
 
 unfoldable pub momentIn : Bool → Tally → Tally
 momentIn moment t = elim moment [ true ↦ becameStuck t | false ↦ t ]

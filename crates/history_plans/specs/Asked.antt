@@ -47,7 +47,7 @@ onRoots h f next = unless (isRoot h (f .d)) 4 (unless (isRoot h (f .s)) 4 next)
 
 -- ---- "Operation 1 allocates the size into d; 2 copies root s to d; 3 writes root s into cell c of the object in d; 4 reads cell c of the
 -- object in s into d; 5 clears d; 6 collects." Refusals of the call itself stop the run too: 3, 4 and 5 of an allocation ("A root out of
--- range gives 4, in operation 1 only after 3"), and 7 and 12 of a store in a cell.
+-- range gives 4, in operation 1 only after 3"), 7 and 12 of a store in a cell, and 14 of a collection while one is open (request U8).
 
 unfoldable pub allocating : Fields → Asked
 allocating f = makes (allocate (f .size) (f .d))

@@ -80,7 +80,7 @@ fn plan_read(blocks: usize, b: &[u8], cells: &[Ref], roots: &[Ref], d: &[u8], f:
     ensures { λ r.
         ⌜ meaning r
         ≡ reading blocks
-        (lentMemory [] (now (b .entry)) [] (now (cells .entry)) (now (roots .entry)) [] [] (now (d .entry))) f ⌝ }
+        (lentMemory [] (now (b .entry)) [] (now (cells .entry)) (now (roots .entry)) [] [] (now (d .entry)) [] []) f ⌝ }
 {
     if !both_roots(roots, f) {
         return Plan::Stop(4);
@@ -144,7 +144,7 @@ pub fn plan_of(blocks: usize, b: &[u8], cells: &[Ref], roots: &[Ref], d: &[u8], 
     ensures { λ r.
         ⌜ meaning r
         ≡ asked blocks
-        (lentMemory [] (now (b .entry)) [] (now (cells .entry)) (now (roots .entry)) [] [] (now (d .entry))) f ⌝ }
+        (lentMemory [] (now (b .entry)) [] (now (cells .entry)) (now (roots .entry)) [] [] (now (d .entry)) [] []) f ⌝ }
 {
     if !history_records::unnamed_are_zero(f) {
         return Plan::Stop(9);

@@ -10,7 +10,8 @@ use history_turns::outcome;
 use history_turns::outcome::Done;
 use types::Ref;
 
-// Allocates n blocks into root r, as data or as an ordinary object; where no chunk is free, collects and tries once more.
+// Allocates n blocks into root r, as data or as an ordinary object; where no chunk is free, collects and tries once more. The collection is
+// refused while one in small steps is open (request U8), and then it is not counted.
 pub fn allocate(
     blocks: usize,
     width: usize,
@@ -22,15 +23,17 @@ pub fn allocate(
     waiting: &mut [Ref],
     sections: &mut [Ref],
     d: &mut [u8],
+    marks: &mut [u8],
+    list: &mut [Ref],
     as_data: bool,
     n: usize,
     r: usize,
 ) -> Done
-    requires { ⌜ Usable blocks width (lent a b counts cells roots waiting sections d) ⌝ }
+    requires { ⌜ Usable blocks width (lent a b counts cells roots waiting sections d marks list) ⌝ }
     ensures { λ done.
-        ⌜ Acted blocks (before a b counts cells roots waiting sections d)
-        (turnOf blocks width (before a b counts cells roots waiting sections d) (makes (allocateAs as_data n r))) done
-        (after a b counts cells roots waiting sections d) ⌝ }
+        ⌜ Acted blocks (before a b counts cells roots waiting sections d marks list)
+        (turnOf blocks width (before a b counts cells roots waiting sections d marks list) (makes (allocateAs as_data n r))) done
+        (after a b counts cells roots waiting sections d marks list) ⌝ }
 {
     let first = work_tested::allocate(
         blocks,
@@ -43,6 +46,8 @@ pub fn allocate(
         waiting,
         sections,
         d,
+        marks,
+        list,
         as_data,
         n,
         r,
@@ -51,7 +56,7 @@ pub fn allocate(
     if number != 5 {
         return outcome::done_after(first, n, false, 0);
     }
-    let forced = work_collect::collect(
+    let forced = work_tested::collect(
         blocks,
         width,
         a,
@@ -62,6 +67,8 @@ pub fn allocate(
         waiting,
         sections,
         d,
+        marks,
+        list,
     );
     let second = work_tested::allocate(
         blocks,
@@ -74,9 +81,11 @@ pub fn allocate(
         waiting,
         sections,
         d,
+        marks,
+        list,
         as_data,
         n,
         r,
     );
-    outcome::done_after(second, n, true, forced.freed)
+    outcome::done_after(second, n, forced.number == 0, forced.freed)
 }

@@ -23,6 +23,8 @@ use Rattle.rules.specs.Calls.{
   allocateData,
   writeNumber,
   readNumber,
+  openCollection,
+  takeSteps,
 }
 use Rattle.rules.specs.Calls.{answer, lastMemory}
 use Rattle.rules.proofs.Shape.{shape-facts}
@@ -75,6 +77,8 @@ counted-peak (returnRoots chosen) p t = refl
 counted-peak (allocateData n r) p t = refl
 counted-peak (writeNumber a j x) p t = refl
 counted-peak (readNumber a j) p t = refl
+counted-peak openCollection p t = refl
+counted-peak (takeSteps budget) p t = refl
 
 moment-peak : (s : Bool) (p : ℕ) (t : Tally) → momentIn s (withPeak p t) ≡ withPeak p (momentIn s t)
 unfolding momentIn
@@ -112,6 +116,8 @@ counted-blocks (returnRoots chosen) t = omega arith
 counted-blocks (allocateData n r) t = refl
 counted-blocks (writeNumber a j x) t = omega arith
 counted-blocks (readNumber a j) t = omega arith
+counted-blocks openCollection t = omega arith
+counted-blocks (takeSteps budget) t = omega arith
 
 moment-blocks : (s : Bool) (t : Tally) → momentIn s t .blocks ≡ t .blocks
 unfolding momentIn

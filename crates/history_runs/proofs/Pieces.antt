@@ -9,17 +9,18 @@ use native.Mathlib.Omega.{arith}
 use lib.ListN.{length, replicate}
 use borrow.Author.Tests.{eq-eqb, ne-eqb}
 use Rattle.rules.specs.Heap.{Memory, withWaiting}
-use Rattle.rules.specs.Calls.{check, reply, answer}
+use Rattle.rules.specs.Calls.{check, Answer, reply, outcome, answer}
 use Rattle.rules.specs.Promise.{Promise}
 use Rattle.types.specs.declared.Reply.{Reply}
 use Rattle.rules.proofs.Shape.{shape-facts}
 use Rattle.rules.proofs.Tests.{test-cases}
-use Rattle.rules.proofs.Replies.{accepted-none, undamaged-passed}
+use Rattle.rules.proofs.Replies.{accepted-none, Passed, undamaged-passed}
 use Rattle.theory.specs.Statements.{Undamaged}
 use Rattle.theory.specs.Balance.{inUse}
 use Rattle.theory.specs.Usable.{Usable}
+use Rattle.theory.proofs.Memories.Fit.{undamaged-fit}
+use Rattle.theory.proofs.EachCall.Accepted.{fit-accepted}
 use Rattle.theory.proofs.Usable.UsableHeap.{cleared-usable as UsableHeap·cleared-usable, usable-fit}
-use Rattle.public_read.proofs.CheckReply.{check-passed}
 use Rattle.history_figures.specs.declared.tally.Run.{Run}
 use Rattle.history_figures.specs.Figures.{inRange}
 use Rattle.history_figures.proofs.Ranges.{in-range-within}
@@ -105,7 +106,9 @@ module _ {N w : ℕ} {h : Memory} {y : Reply} (checked : Promise N w check h y h
 
 -- an undamaged heap and a run in range are accepted
 pub undamaged-accepted : {N w : ℕ} {h : Memory} → Undamaged N w h → (r : Run) → inRange r ≡ true → runReply N w h r ≡ reply 0 0 0
-undamaged-accepted undamaged r range = sym (reply-passed (check-passed {x = reply 0 0 0} undamaged refl) r refl range refl)
+unfolding outcome Passed
+undamaged-accepted {N} {w} {h} undamaged r range =
+    reply-right N w h r (ap (λ (x : Answer). x .0 .number) (fit-accepted N w h (undamaged-fit N w h undamaged) check tt)) range
 
 -- what an accepted run of records starts from
 pub record Accepted (N w : ℕ) (h : Memory) (r : Run) : Type 0 where
@@ -122,7 +125,7 @@ accepted {N} {w} {h} {r} is accepts = elim (ℕ-discrete (answer N w h check .0 
         let tests = undamaged-passed N w h check refl (accepted-none N w h check passed) in
         record {
           reply-is = reply-right N w h r passed range;
-          undamaged = record { intact = record { right-shape = tests .0; no-damage = tests .1 }; true-list = tests .2 };
+          undamaged = record { intact = record { right-shape = tests .0; no-damage = tests .1 }; true-list = tests .2; tidy = tests .3 };
           range = range;
         }
     | inr out ↦ absurd (nineteen (ap (λ (v : Reply). v .number) (sym (reply-out N w h r passed out)) ∙ zero))

@@ -15,7 +15,7 @@ use Rattle.theory.specs.Demand.{Chain}
 use Rattle.theory.specs.Statements.{Undamaged}
 use Rattle.theory.proofs.Theorems.{theory}
 use Rattle.history_figures.specs.Figures.{newRun}
-use Rattle.history_turns.proofs.Stopped.{stands-as-before}
+use Rattle.history_turns.proofs.Stopped.{stands-as-before, stops-while-open}
 use Rattle.history_runs.specs.Runs.{ran}
 use Rattle.history_runs.specs.Claims.{NewHeapUnused, HistoryBalances}
 use Rattle.history_runs.specs.Promised.{cleared, RunIsCalls}
@@ -78,4 +78,5 @@ history-theory =
       new-heap-unused = new-heap-unused;
       history-balances = history-balances;
       stands-as-before = stands-as-before;
+      stops-while-open = stops-while-open;
     }

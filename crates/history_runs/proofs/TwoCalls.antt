@@ -12,6 +12,7 @@ use Rattle.rules.proofs.Shape.{shape-facts, shape-test}
 use Rattle.theory.specs.Statements.{Undamaged}
 use Rattle.theory.specs.Demand.{Finds}
 use Rattle.theory.proofs.Memories.ViewRelease.{reshaped}
+use Rattle.theory.proofs.Memories.TidyHeap.{waiting-untidy}
 use Rattle.theory.specs.Usable.{Usable}
 use Rattle.theory.proofs.Usable.UsableHeap.{cleared-usable, cleared-same}
 use Rattle.history_records.specs.Records.{recordLength}
@@ -60,12 +61,17 @@ module _ (N w : ℕ) (g found : Memory) (usable : Usable N w g) (finds : Finds N
   found-shaped =
       let facts = shape-facts N w (cleared N found) (found-cleared .intact .right-shape) in
       shape-test N w found
-      (reshaped N w (cleared N found) found facts refl refl refl refl refl (finds .space ∙ sym (length-replicate N 0)) refl refl)
+      (reshaped N w (cleared N found) found facts refl refl refl refl refl (finds .space ∙ sym (length-replicate N 0)) refl refl refl
+      refl)
 
   found-undamaged : Undamaged N w found
   unfolding damage endOnFree openEnd unaligned badCell badRoot badCount strayData
   found-undamaged =
-      record { intact = record { right-shape = found-shaped; no-damage = found-cleared .intact .no-damage }; true-list = found-cleared .true-list }
+      record {
+        intact = record { right-shape = found-shaped; no-damage = found-cleared .intact .no-damage };
+        true-list = found-cleared .true-list;
+        tidy = sym (waiting-untidy N (replicate N 0) found) ∙ found-cleared .tidy;
+      }
 
   found-accepted : (r : Run) → inRange r ≡ true → runReply N w found r ≡ reply 0 0 0
   found-accepted r range = undamaged-accepted found-undamaged r range

@@ -1,12 +1,14 @@
 -- Small histories and the lines that they print, as one list, from documents 01 and 02. N is 8, w is 2 (where nothing else is said) and
--- there are 4 roots, as in document 01's small heaps, and the heap is new. That each case gives what it says is one lemma, in proofs/.
+-- there are 4 roots, as in document 01's small heaps, and the heap is new (where nothing else is said). That each case gives what it says is
+-- one lemma, in proofs/.
 use Prim.Native.Nat.{ℕ}
 use Prim.Native.Char.{code}
 use Prim.Native.String.{String, [] as none, _∷_ as _then_}
 use mathlib.Core.List.{List, [], _∷_, _++_}
 use lib.ListN.{getD}
 use Rattle.rules.specs.Store.{formatted}
-use Rattle.history_figures.specs.Figures.{noFigures, run}
+use Rattle.rules.specs.Calls.{Call, openCollection, run, lastMemory}
+use Rattle.history_figures.specs.Figures.{noFigures, run as runSoFar}
 use Rattle.history_line.specs.Line.{line}
 use Rattle.history_runs.specs.Runs.{ran}
 
@@ -47,22 +49,28 @@ writeNumber number c d = eight 8 d 0 c number
 
 -- ---- cases
 
--- a history, with the count width and the number of records run before it; what is printed; and the byte of the A-map at the end
+-- a history, with the count width, the calls made on the heap and the number of records run before it; what is
+-- printed; and the byte of the A-map at the end
 pub record Case : Type 0 where
   pub width : ℕ
+  pub made : List Call
   pub records : ℕ
   pub bytes : List ℕ
   pub text : String
   pub a : ℕ
 
 abbrev pub prints : List ℕ → String → ℕ → Case
-prints bytes text a = record { width = 2; records = 0; bytes = bytes; text = text; a = a }
+prints bytes text a = record { width = 2; made = []; records = 0; bytes = bytes; text = text; a = a }
 
 abbrev pub printsAfter : (records : ℕ) → List ℕ → String → ℕ → Case
-printsAfter records bytes text a = record { width = 2; records = records; bytes = bytes; text = text; a = a }
+printsAfter records bytes text a = record { width = 2; made = []; records = records; bytes = bytes; text = text; a = a }
 
 abbrev pub printsAt : (width : ℕ) → List ℕ → String → ℕ → Case
-printsAt width bytes text a = record { width = width; records = 0; bytes = bytes; text = text; a = a }
+printsAt width bytes text a = record { width = width; made = []; records = 0; bytes = bytes; text = text; a = a }
+
+-- request U8: a collection is open, opened on the new heap
+abbrev pub printsOpen : List ℕ → String → ℕ → Case
+printsOpen bytes text a = record { width = 2; made = openCollection ∷ []; records = 0; bytes = bytes; text = text; a = a }
 
 unfoldable pub cases : List Case
 cases =
@@ -149,12 +157,21 @@ cases =
     -- "or going on past 4,294,967,295 records": up to that number there is no error
     ∷ printsAfter 4294967294 (allocate 1 0) "1 1 1 0 1 0\n" 1
     ∷ printsAfter 4294967294 (allocate 1 0 ++ allocate 1 1) "refused 10 at record 4294967295\n" 1
+    -- request U8, a collection open: "14, .. full collection with one open", after 9
+    ∷ printsOpen (allocate 1 0 ++ collect) "refused 14 at record 1\n" 1
+    ∷ printsOpen (eight 6 1 0 0 0) "refused 9 at record 0\n" 0
+    -- .. a forced collection too: the stuck object stays, and the second try gives 5
+    ∷ printsOpen (allocate 1 0 ++ copy 0 1 ++ copy 0 2 ++ clear 0 ++ clear 1 ++ clear 2 ++ allocate 8 3) "refused 5 at record 6\n" 1
+    -- all else is as it is with none open
+    ∷ printsOpen (allocate 5 0 ++ allocateData 2 1 ++ clear 0 ++ allocate 1 1) "3 8 5 0 7 0\n" 1
     ∷ []
 
 -- what the rules give for a case
 unfoldable pub given : Case → List ℕ × ℕ
 given c =
-    let x = ran 8 (c .width) (c .bytes) (formatted 8 (c .width) 4) (run 0 (c .records) noFigures) in
+    let empty = formatted 8 (c .width) 4 in
+    let h = lastMemory empty (run 8 (c .width) empty (c .made)) in
+    let x = ran 8 (c .width) (c .bytes) h (runSoFar 0 (c .records) noFigures) in
     (line (x .run), getD (x .memory .a) 0 0)
 
 -- the bytes of a text of ASCII characters

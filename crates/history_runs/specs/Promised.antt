@@ -18,8 +18,9 @@ use Rattle.history_runs.specs.declared.Ran.{Ran}
 use Rattle.history_runs.specs.Runs.{ran}
 use Rattle.history_runs.specs.Claims.{AsCalls}
 
--- "1 as before; 2 if the heap is damaged"; "11, the list doesn't match the maps, next after 2": as the check; then 19 for a run out of
--- range: five bounds that every run keeps are tested, so a run within them may still be one that no run leaves
+-- "1 as before; 2 if the heap is damaged"; "11, the list doesn't match the maps, next after 2"; "13, .. next after
+-- 11": as the check; then 19 for a run out of range: five bounds that every run keeps are tested, so a run within
+-- them may still be one that no run leaves
 unfoldable pub runReply : ℕ → ℕ → Memory → Run → Reply
 runReply N w h r =
     let checked = answer N w h check .0 in

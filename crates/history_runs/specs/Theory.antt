@@ -1,6 +1,6 @@
 -- All that is stated of runs of records, as one record, which has one proof (`history-theory`,
 -- proofs/Theorems.antt): no statement can be dropped unnoticed.
-use Rattle.history_turns.specs.Stopped.{StandsAsBefore}
+use Rattle.history_turns.specs.Stopped.{StandsAsBefore, StopsWhileOpen}
 use Rattle.history_runs.specs.Claims.{RunsAreCalls, PiecesAreWhole, NewHeapUnused, HistoryBalances}
 use Rattle.history_runs.specs.Promised.{CallsAreOne, RunIsCalls}
 
@@ -16,3 +16,5 @@ pub record HistoryTheory : Type 0 where
   pub history-balances : HistoryBalances
   -- a record that stops the run
   pub stands-as-before : StandsAsBefore
+  -- request U8: runs on a heap with a collection open
+  pub stops-while-open : StopsWhileOpen

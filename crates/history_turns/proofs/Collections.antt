@@ -1,50 +1,58 @@
--- What came of a record whose call is a collection.
+-- What came of a record whose call is a collection: it was accepted, or refused since one was open, and then it is not counted.
 use mathlib.Core.Path.{_≡_, refl, sym, ap, _∙_}
 use mathlib.Core.Bool.{true, false}
 use Prim.Native.Nat.{ℕ, _+_}
+use native.Mathlib.Decide.{ℕ-discrete}
 use native.Mathlib.Omega.{arith}
+use lib.Dec.{eqb}
 use Rattle.rules.specs.Heap.{Memory}
-use Rattle.rules.specs.Calls.{collect, Answer, freeing, answer}
+use Rattle.rules.specs.Calls.{collect, ownRefusals, answer}
+use Rattle.rules.proofs.Tests.{also, done as no-more}
 use Rattle.types.specs.declared.Reply.{Reply}
 use Rattle.types.specs.declared.Outcome.{Outcome}
-use Rattle.theory.specs.Balance.{inUse, allocates}
+use Rattle.theory.specs.Balance.{inUse, allocates, allocatedBy}
 use Rattle.theory.specs.Usable.{Usable, replyOf, Worked}
-use Rattle.theory.proofs.Usable.UsableHeap.{usable-fit}
-use Rattle.theory.proofs.Usable.WorkDone.{accepted-allocates, call-balance, collect-answered}
+use Rattle.theory.proofs.EachCall.Five.{not-five}
+use Rattle.theory.proofs.Usable.WorkDone.{accepted-allocates, refused-allocates, call-balance}
 use Rattle.history_plans.specs.Asked.{makes}
 use Rattle.history_figures.specs.declared.tally.Tally.{Tally}
 use Rattle.history_figures.specs.Figures.{collected, countedIn, toldStuck, momentIn, noted, notedAll}
 use Rattle.history_turns.specs.Turns.{madeOn, turnOf}
 use Rattle.history_turns.specs.Outcomes.{done, withCollection, withAllocation}
 use Rattle.history_turns.specs.Steps.{Acted}
-use Rattle.history_turns.proofs.Figures.{noted-accepted}
 use Rattle.history_turns.proofs.Turns.{acted-as, turn-once}
 
-module _ {N w : ℕ} {h : Memory} (usable : Usable N w h) where
-  collect-accepted : answer N w h collect .0 .number ≡ 0
-  unfolding freeing
-  collect-accepted = ap (λ (y : Answer). y .0 .number) (collect-answered (usable-fit usable))
+-- figures with a collection more, where it was accepted
+abbrev pub withAccepted : Outcome → Tally → Tally
+withAccepted y t = elim (eqb (y .number) 0) [ true ↦ collected t | false ↦ t ]
 
-  pub collect-noted : (t : Tally) → noted (madeOn N w h collect) t ≡ collected t
-  unfolding countedIn toldStuck momentIn
-  collect-noted t = noted-accepted (madeOn N w h collect) t collect-accepted
+module _ {N w : ℕ} {h : Memory} (usable : Usable N w h) {y : Outcome} {k : Memory} (worked : Worked N w collect h y k) where
+  number-is : y .number ≡ answer N w h collect .0 .number
+  number-is = ap (λ (v : Reply). v .number) (worked .promise .reply-is)
 
-  pub collect-balance : {y : Outcome} {k : Memory} → Worked N w collect h y k → inUse N h ≡ y .freed + inUse N k
+  pub collect-noted : (t : Tally) → noted (madeOn N w h collect) t ≡ withAccepted y t
+  unfolding noted countedIn toldStuck momentIn
+  collect-noted t = ap (λ (number : ℕ). elim (eqb number 0) as (λ _. Tally) [ true ↦ collected t | false ↦ t ]) (sym number-is)
+
+  none-new : allocatedBy collect (replyOf y) ≡ 0
   unfolding allocates
-  collect-balance {y} {k} worked =
-      let number : y .number ≡ 0 = ap (λ (v : Reply). v .number) (worked .promise .reply-is) ∙ collect-accepted in
-      omega (arith, worked .freed-is, call-balance usable (worked .promise), accepted-allocates collect (replyOf y) number)
+  none-new = elim (ℕ-discrete (y .number) 0) [
+    | yes e ↦ accepted-allocates collect (replyOf y) e
+    | no e ↦ refused-allocates collect (replyOf y) e
+  ]
 
-  pub acted-collect :
-      {x : Outcome} {g : Memory} → Worked N w collect h x g → Acted N h (turnOf N w h (makes collect)) (done 0 0 true (x .freed) false) g
-  unfolding notedAll withCollection withAllocation momentIn
-  acted-collect {x} {g} worked =
-      acted-as (turn-once N w h collect (λ e. omega (arith, collect-accepted)))
+  pub collect-balance : inUse N h ≡ y .freed + inUse N k
+  collect-balance = omega (arith, worked .freed-is, call-balance usable (worked .promise), none-new)
+
+  pub acted-collect : Acted N h (turnOf N w h (makes collect)) (done (y .number) 0 (eqb (y .number) 0) (y .freed) false) k
+  unfolding notedAll withCollection withAllocation momentIn ownRefusals
+  acted-collect =
+      acted-as (turn-once N w h collect (not-five N w h collect (also (omega arith) no-more)))
       record {
-        number-is = sym collect-accepted;
+        number-is = number-is;
         after-is = worked .promise .after-is;
         figures-are = λ t. sym (collect-noted t);
-        balance = omega (arith, collect-balance worked);
+        balance = omega (arith, collect-balance);
         allocated-few = omega arith;
         refused-none = λ _. (refl, refl);
       }

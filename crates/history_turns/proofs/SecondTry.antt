@@ -1,10 +1,11 @@
--- What came of an allocation that was tried twice: first of the collection and the second try, then of the whole record.
+-- What came of an allocation that was tried twice: first of the collection, accepted or refused, and the second try, then of the whole record.
 use mathlib.Core.Path.{_≡_, refl, sym, ap, _∙_}
-use mathlib.Core.Bool.{true, false}
+use mathlib.Core.Bool.{Bool, false}
 use mathlib.Core.List.{[], _∷_}
 use Prim.Native.Nat.{ℕ, _+_, _^_, _≤_, _<_}
 use native.Mathlib.Decide.{ℕ-discrete}
 use native.Mathlib.Omega.{arith}
+use lib.Dec.{eqb}
 use borrow.Author.Tests.{eq-eqb, ne-eqb}
 use Rattle.rules.specs.Heap.{Memory}
 use Rattle.rules.specs.Calls.{Call, collect, answer}
@@ -14,13 +15,13 @@ use Rattle.theory.proofs.Usable.UsableHeap.{usable-healthy}
 use Rattle.theory.proofs.Usable.UsableAfterCalls.{usable-kept}
 use Rattle.history_plans.specs.Asked.{makes}
 use Rattle.history_figures.specs.declared.tally.Tally.{Tally}
-use Rattle.history_figures.specs.Figures.{collected, momentIn, noted, notedAll}
+use Rattle.history_figures.specs.Figures.{momentIn, noted, notedAll}
 use Rattle.history_turns.specs.Turns.{madeOn, Turn, turn, triedAgain, turnOf}
 use Rattle.history_turns.specs.Outcomes.{done, doneAfter, withCollection, withAllocation}
 use Rattle.history_turns.specs.Steps.{Acted}
 use Rattle.history_turns.proofs.Figures.{with-allocated}
 use Rattle.history_turns.proofs.Turns.{acted-as}
-use Rattle.history_turns.proofs.Collections.{collect-noted, collect-balance}
+use Rattle.history_turns.proofs.Collections.{withAccepted, collect-noted, collect-balance}
 use Rattle.history_turns.proofs.FirstTry.{Allocation, reply-number, refused-noted, refused-balance, size-fits, accepted-noted, accepted-balance, acted-again}
 
 module _ {N w : ℕ} {h : Memory} (usable : Usable N w h) {c : Call} {n : ℕ} (new : Allocation c n) {y : Outcome} {k : Memory}
@@ -43,9 +44,9 @@ module _ {N w : ℕ} {h : Memory} (usable : Usable N w h) {c : Call} {n : ℕ} (
       (sym (forced .promise .after-is))
 
   -- the two calls noted, one after the other
-  both-noted : (t : Tally) → notedAll (again .made) t ≡ noted (madeOn N w k c) (collected t)
+  both-noted : (t : Tally) → notedAll (again .made) t ≡ noted (madeOn N w k c) (withAccepted y t)
   unfolding notedAll
-  both-noted t = ap (noted (madeOn N w k c)) (collect-noted usable t)
+  both-noted t = ap (noted (madeOn N w k c)) (collect-noted usable forced t)
 
   -- together they free no more blocks than two heaps have
   freed-few : y .freed + second .freed ≤ N + N
@@ -62,14 +63,14 @@ module _ {N w : ℕ} {h : Memory} (usable : Usable N w h) {c : Call} {n : ℕ} (
 
   again-refused :
       (second .number ≡ 0 → ⊥)
-      → Acted N h (triedAgain N w h c) (done (second .number) 0 true (y .freed + second .freed) false) g
+      → Acted N h (triedAgain N w h c) (done (second .number) 0 (eqb (y .number) 0) (y .freed + second .freed) false) g
   unfolding withCollection withAllocation momentIn
   again-refused refused =
       acted-as tried-again
       record {
         number-is = sym (reply-number forced-usable new tried);
         after-is = tried .promise .after-is;
-        figures-are = λ t. sym (both-noted t ∙ refused-noted forced-usable new tried refused (collected t));
+        figures-are = λ t. sym (both-noted t ∙ refused-noted forced-usable new tried refused (withAccepted y t));
         balance =
             omega (arith, collect-balance usable forced, refused-balance forced-usable new tried refused);
         allocated-few = omega arith;
@@ -77,7 +78,7 @@ module _ {N w : ℕ} {h : Memory} (usable : Usable N w h) {c : Call} {n : ℕ} (
       }
 
   again-allocated :
-      second .number ≡ 0 → Acted N h (triedAgain N w h c) (done 0 n true (y .freed + second .freed) (second .stuck)) g
+      second .number ≡ 0 → Acted N h (triedAgain N w h c) (done 0 n (eqb (y .number) 0) (y .freed + second .freed) (second .stuck)) g
   unfolding withCollection
   again-allocated accepted =
       let size = size-fits forced-usable new tried accepted in
@@ -87,15 +88,15 @@ module _ {N w : ℕ} {h : Memory} (usable : Usable N w h) {c : Call} {n : ℕ} (
         after-is = tried .promise .after-is;
         figures-are = λ t.
             ap (momentIn (second .stuck))
-            (with-allocated n true 0 (y .freed + second .freed) (second .stuck) (collected t) (size .0))
-            ∙ sym (both-noted t ∙ accepted-noted forced-usable new tried accepted (collected t));
+            (with-allocated n (eqb (y .number) 0) 0 (y .freed + second .freed) (second .stuck) (withAccepted y t) (size .0))
+            ∙ sym (both-noted t ∙ accepted-noted forced-usable new tried accepted (withAccepted y t));
         balance =
             omega (arith, collect-balance usable forced, accepted-balance forced-usable new tried accepted);
         allocated-few = size .1;
         refused-none = λ some. absurd (some refl);
       }
 
-  again-acted : Acted N h (triedAgain N w h c) (doneAfter second n true (y .freed)) g
+  again-acted : Acted N h (triedAgain N w h c) (doneAfter second n (eqb (y .number) 0) (y .freed)) g
   unfolding doneAfter
   again-acted = elim (ℕ-discrete (second .number) 0) [
     | yes accepted ↦ rw (eq-eqb (second .number) 0 accepted, doneAfter) (again-allocated accepted)
@@ -114,6 +115,6 @@ module _ {N w : ℕ} {h : Memory} (usable : Usable N w h) {c : Call} {n : ℕ} (
   freed-fits =
       omega (arith, freed-few tried-usable new forced retried, usable-healthy usable .shape .blocks-max)
 
-  pub acted-twice : first .number ≡ 5 → Acted N h (turnOf N w h (makes c)) (doneAfter second n true (y .freed)) g
+  pub acted-twice : first .number ≡ 5 → Acted N h (turnOf N w h (makes c)) (doneAfter second n (eqb (y .number) 0) (y .freed)) g
   acted-twice none-free =
       acted-again usable new tried none-free (again-acted tried-usable new forced retried)

@@ -1,22 +1,28 @@
--- A record that stops the run leaves the memory as it was, or as the collection that it forced left it.
+-- A record that stops the run leaves the memory as it was, or as the collection that it forced left it; with a collection open always as it was.
 use mathlib.Core.Path.{_≡_, refl, sym, ap, _∙_, subst}
-use mathlib.Core.Logic.{_⊎_, inl, inr}
-use mathlib.Core.Bool.{Bool, true, false}
+use mathlib.Core.Logic.{_≢_, _⊎_, inl, inr}
+use mathlib.Core.Bool.{true}
+use mathlib.Core.List.{[], _∷_}
 use Prim.Native.Nat.{ℕ}
 use native.Mathlib.Decide.{ℕ-discrete}
 use native.Mathlib.Omega.{arith}
+use borrow.Author.Tests.{ne-eqb}
+use Rattle.rules.specs.Tools.{firstNumber}
 use Rattle.rules.specs.Heap.{Memory}
-use Rattle.rules.specs.Calls.{Call, check, collect, allocateAs, Answer, testsHeap, ownRefusals, freeing, answer}
-use Rattle.rules.proofs.Tests.{done}
+use Rattle.rules.specs.Steps.{isOpen}
+use Rattle.rules.specs.Calls.{Call, collect, Answer, reply, ownRefusals, answer}
+use Rattle.rules.proofs.Tests.{first-found}
 use Rattle.rules.proofs.Replies.{answer-either, outcome-accepts}
-use Rattle.theory.proofs.EachCall.Accepted.{accepted-fit}
-use Rattle.theory.proofs.EachCall.Five.{not-five}
-use Rattle.theory.proofs.Memories.Fit.{Fit}
-use Rattle.theory.proofs.Theorems.{theory}
-use Rattle.theory.proofs.Usable.WorkDone.{collect-answered}
+use Rattle.theory.specs.Statements.{Undamaged}
+use Rattle.theory.proofs.Memories.Fit.{undamaged-fit}
+use Rattle.theory.proofs.EachCall.Accepted.{fit-refused}
 use Rattle.history_plans.specs.Asked.{Asked, makes, stops}
-use Rattle.history_turns.specs.Turns.{Turn, triedAgain, turnOf}
-use Rattle.history_turns.specs.Stopped.{Forced, StandsAsBefore}
+use Rattle.history_figures.specs.declared.tally.Tally.{Tally}
+use Rattle.history_figures.specs.declared.tally.Run.{Run}
+use Rattle.history_figures.specs.Figures.{noted, notedAll, run}
+use Rattle.history_turns.specs.Turns.{madeOn, Turn, turn, triedAgain, turnOf, afterTurn}
+use Rattle.history_turns.specs.Stopped.{Forced, StandsAsBefore, JustStops, StopsWhileOpen}
+use Rattle.history_turns.proofs.Figures.{noted-refused}
 use Rattle.history_turns.proofs.Turns.{turn-once, turn-again}
 
 -- a refused call changes no buffer
@@ -25,31 +31,10 @@ unchanged N w h c =
     answer-either N w h c (λ x. (x .0 .number ≡ 0 → ⊥) → x .1 ≡ h) (λ number nonzero _. refl)
     (λ _ refused. absurd (refused (outcome-accepts N w h c)))
 
--- an allocation tests the heap
-allocation-tests : (asData : Bool) (n r : ℕ) → testsHeap (allocateAs asData n r) ≡ true
-allocation-tests true n r = refl
-allocation-tests false n r = refl
-
--- a heap that gives 5 has passed the check, which gives 5 itself to none
-five-fit : (N w : ℕ) (h : Memory) (c : Call) → answer N w h c .0 .number ≡ 5 → Fit N w h
-unfolding ownRefusals
-five-fit N w h c e = accepted-fit N w h check refl checked
-  where
-    tests : testsHeap c ≡ true
-    tests =
-        let named = theory .five-to-allocations N w h c e in
-        ap testsHeap (named .3) ∙ allocation-tests (named .0) (named .1) (named .2)
-
-    checked : answer N w h check .0 .number ≡ 0
-    checked = elim (ℕ-discrete (answer N w h check .0 .number) 0) [
-      | yes z ↦ z
-      | no z ↦
-          let same = theory .refused-as-check N w h c tests z in
-          absurd (not-five N w h check done (ap (λ (x : Answer). x .0 .number) (sym same) ∙ e))
-    ]
+-- ---- on any heap
 
 pub stands-as-before : StandsAsBefore
-unfolding turnOf triedAgain freeing
+unfolding turnOf triedAgain
 stands-as-before N w h (stops number) = λ stopped. inl refl
 stands-as-before N w h (makes c) = elim (ℕ-discrete (answer N w h c .0 .number) 5) [
   | no e ↦
@@ -57,19 +42,83 @@ stands-as-before N w h (makes c) = elim (ℕ-discrete (answer N w h c .0 .number
       (λ stopped. inl (unchanged N w h c stopped))
   | yes e ↦
       subst (λ (y : Turn). (y .number ≡ 0 → ⊥) → (y .after ≡ h) ⊎ Forced N w h (makes c) (y .after)) (sym (turn-again N w h c e))
-      (λ stopped. inr (forced e stopped))
+      (retried e)
 ]
   where
-    forced : answer N w h c .0 .number ≡ 5 →
+    retried : answer N w h c .0 .number ≡ 5 →
         let again = triedAgain N w (answer N w h c .1) c in
-        (again .number ≡ 0 → ⊥) → Forced N w h (makes c) (again .after)
-    forced e =
+        (again .number ≡ 0 → ⊥) → (again .after ≡ h) ⊎ Forced N w h (makes c) (again .after)
+    retried e =
         rw (unchanged N w h c (λ z. omega (arith, e, z)))
         (λ stopped.
-        record {
-          call = c;
-          asked = refl;
-          none-free = e;
-          accepted = ap (λ (x : Answer). x .0 .number) (collect-answered (five-fit N w h c e));
-          left = unchanged N w (answer N w h collect .1) c stopped;
-        })
+        let left = unchanged N w (answer N w h collect .1) c stopped in
+        elim (ℕ-discrete (answer N w h collect .0 .number) 0) [
+          | yes accepted ↦ inr (record { call = c; asked = refl; none-free = e; accepted = accepted; left = left })
+          | no refused ↦ inl (left ∙ unchanged N w h collect refused)
+        ])
+
+-- ---- with a collection open
+
+-- a turn that stops, from the memory it left and the figures
+just-stops :
+    {N : ℕ} {h : Memory} {number : ℕ} (y : Turn) → number ≢ 0 → y .number ≡ number → y .after ≡ h
+    → ((t : Tally) → notedAll (y .made) t ≡ t) → JustStops N h number y
+unfolding afterTurn
+just-stops {N} {h} {number} y nonzero is left none =
+    record {
+      unchanged = left;
+      uncounted = λ r.
+          rw (ne-eqb (y .number) 0 (λ z. nonzero (sym is ∙ z)), afterTurn)
+          (λ i. run (is i) (r .records) (none (r .tally) i));
+    }
+
+module _ (N w : ℕ) (h : Memory) (fine : Undamaged N w h) (is-open : isOpen N h ≡ true) where
+  found : firstNumber (ownRefusals N h collect) ≡ 14
+  unfolding ownRefusals
+  found = first-found 14 (isOpen N h) [] is-open
+
+  refused : answer N w h collect ≡ (reply 14 0 0, h)
+  refused =
+      fit-refused N w h (undamaged-fit N w h fine) collect (λ z. omega (arith, found, z))
+      ∙ ap {B = Answer} (λ k. (reply k 0 0, h)) found
+
+  number-is : answer N w h collect .0 .number ≡ 14
+  number-is = ap (λ (x : Answer). x .0 .number) refused
+
+  collection-uncounted : (t : Tally) → noted (madeOn N w h collect) t ≡ t
+  collection-uncounted t = noted-refused (madeOn N w h collect) t (λ z. omega (arith, number-is, z))
+
+  recorded : JustStops N h 14 (turnOf N w h (makes collect))
+  unfolding notedAll
+  recorded =
+      subst (λ (y : Turn). JustStops N h 14 y) (sym (turn-once N w h collect (λ e. omega (arith, number-is, e))))
+      (just-stops _ (omega arith) number-is (ap (λ (x : Answer). x .1) refused) collection-uncounted)
+
+  module _ (c : Call) (none-free : answer N w h c .0 .number ≡ 5) where
+    stands : answer N w h c .1 ≡ h
+    stands = unchanged N w h c (λ z. omega (arith, none-free, z))
+
+    call-uncounted : (t : Tally) → noted (madeOn N w h c) t ≡ t
+    call-uncounted t = noted-refused (madeOn N w h c) t (λ z. omega (arith, none-free, z))
+
+    -- the second try finds the heap of the first
+    twice : triedAgain N w (answer N w h c .1) c ≡ turn (answer N w h c .0 .number) (madeOn N w h collect ∷ madeOn N w h c ∷ []) (answer N w h c .1)
+    unfolding triedAgain
+    twice =
+        ap (λ (m : Memory). triedAgain N w m c) stands
+        ∙ ap (λ (m : Memory). turn (answer N w m c .0 .number) (madeOn N w h collect ∷ madeOn N w m c ∷ []) (answer N w m c .1))
+        (ap (λ (x : Answer). x .1) refused)
+
+    forced : JustStops N h 5 (turnOf N w h (makes c))
+    unfolding notedAll
+    forced =
+        subst (λ (y : Turn). JustStops N h 5 y)
+        (sym (turn-again N w h c none-free ∙ ap (λ (y : Turn). turn (y .number) (madeOn N w h c ∷ y .made) (y .after)) twice))
+        (just-stops _ (omega arith) none-free stands
+        (λ t.
+        ap (λ (u : Tally). noted (madeOn N w h c) (noted (madeOn N w h collect) u)) (call-uncounted t)
+        ∙ ap (noted (madeOn N w h c)) (collection-uncounted t)
+        ∙ call-uncounted t))
+
+pub stops-while-open : StopsWhileOpen
+stops-while-open N w h fine is-open = record { recorded = recorded N w h fine is-open; forced = forced N w h fine is-open }

@@ -32,7 +32,9 @@ triedAgain N w h c =
     turn (second .reply .number) (forced ∷ second ∷ []) (second .after)
 
 -- "When allocation gives 5 the run collects and tries once more." 5 is given to allocations alone, those of data
--- among them (proved as `FiveToAllocations`, theory/specs/Statements.antt).
+-- among them (proved as `FiveToAllocations`, theory/specs/Statements.antt). While a collection is open (request
+-- U8) the forced one is refused with 14 and changes nothing, and the second try gives 5 too (proved as
+-- `StopsWhileOpen`, Stopped.antt).
 unfoldable pub turnOf : ℕ → ℕ → Memory → Asked → Turn
 turnOf N w h (stops number) = turn number [] h
 turnOf N w h (makes c) =

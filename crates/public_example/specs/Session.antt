@@ -3,17 +3,17 @@ use Prim.Native.Nat.{ℕ}
 use mathlib.Core.Path.{_≡_}
 use mathlib.Core.List.{List, [], _∷_}
 use Rattle.rules.specs.Heap.{Memory}
-use Rattle.rules.specs.Calls.{Call, format, allocate, storeRoot, collect, run, lastMemory}
+use Rattle.rules.specs.Calls.{Call, format, allocate, storeRoot, openCollection, takeSteps, run, lastMemory}
 use Rattle.rules.specs.Promise.{Promise}
 use Rattle.types.specs.declared.Reply.{Reply}
 use Rattle.theory.specs.Words.{Made, callsOf, leftBy}
 use Rattle.theory.specs.Demand.{Chain, Claim}
 
--- an object is made in root 0 and let go; a collection follows
+-- an object is made in root 0; a collection is opened (request U8); the object is let go; a step is taken
 abbrev pub lifeCalls : List Call
-lifeCalls = allocate 1 0 ∷ storeRoot 0 0 ∷ collect ∷ []
+lifeCalls = allocate 1 0 ∷ openCollection ∷ storeRoot 0 0 ∷ takeSteps 1 ∷ []
 
--- The heap was formatted, and these calls were made. Every lent number, the waiting list and the list of sections too, is the plain machine's.
+-- The heap was formatted, and these calls were made. Every lent number of all ten lists is the plain machine's.
 pub record Life (N w : ℕ) (h : Memory) (x : Reply) (g : Memory) : Type 0 where
   pub start : Memory
   pub formatting : Promise N w format h x start

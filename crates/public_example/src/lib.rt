@@ -7,8 +7,8 @@ use types::Reply;
 
 pub mod mixed;
 
-// Formats the heap, allocates one block into root 0, clears that root and collects. The reply is format's; where it refuses, no other call
-// is made.
+// Formats the heap, allocates one block into root 0, opens a collection, clears that root and takes a step, which closes the collection. The
+// reply is format's; where it refuses, no other call is made.
 pub fn one_life(
     blocks: usize,
     width: usize,
@@ -20,9 +20,12 @@ pub fn one_life(
     waiting: &mut [Ref],
     sections: &mut [Ref],
     d: &mut [u8],
+    marks: &mut [u8],
+    list: &mut [Ref],
 ) -> Reply
     ensures { λ reply.
-        ⌜ Lived blocks width (before a b counts cells roots waiting sections d) reply (after a b counts cells roots waiting sections d) ⌝ }
+        ⌜ Lived blocks width (before a b counts cells roots waiting sections d marks list) reply
+        (after a b counts cells roots waiting sections d marks list) ⌝ }
 {
     let formatting = public_heap::format(
         blocks,
@@ -35,6 +38,8 @@ pub fn one_life(
         waiting,
         sections,
         d,
+        marks,
+        list,
     );
     let number = formatting.number;
     if number != 0 {
@@ -51,8 +56,24 @@ pub fn one_life(
         waiting,
         sections,
         d,
+        marks,
+        list,
         1,
         0,
+    );
+    public_steps::open_collection(
+        blocks,
+        width,
+        a,
+        b,
+        counts,
+        cells,
+        roots,
+        waiting,
+        sections,
+        d,
+        marks,
+        list,
     );
     public_store::store_root(
         blocks,
@@ -65,10 +86,12 @@ pub fn one_life(
         waiting,
         sections,
         d,
+        marks,
+        list,
         0,
         0,
     );
-    public_heap::collect(
+    public_steps::step_collection(
         blocks,
         width,
         a,
@@ -79,6 +102,9 @@ pub fn one_life(
         waiting,
         sections,
         d,
+        marks,
+        list,
+        1,
     );
     formatting
 }

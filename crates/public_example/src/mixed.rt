@@ -19,15 +19,17 @@ pub fn mixed_calls(
     waiting: &mut [Ref],
     sections: &mut [Ref],
     d: &mut [u8],
+    marks: &mut [u8],
+    list: &mut [Ref],
     bytes: &[u8],
     calls: &[u64],
     replies: &mut [u64],
 ) -> Reply
     ensures { λ reply.
         ⌜ MixedCalls blocks width
-        (before a b counts cells roots waiting sections d)
+        (before a b counts cells roots waiting sections d marks list)
         (now (bytes .entry)) (now (calls .entry)) (now (replies .entry)) reply
-        (after a b counts cells roots waiting sections d)
+        (after a b counts cells roots waiting sections d marks list)
         (now (replies .exit)) ⌝ }
 {
     let formatting = public_heap::format(
@@ -41,6 +43,8 @@ pub fn mixed_calls(
         waiting,
         sections,
         d,
+        marks,
+        list,
     );
     let number = formatting.number;
     if number != 0 {
@@ -57,6 +61,8 @@ pub fn mixed_calls(
         waiting,
         sections,
         d,
+        marks,
+        list,
         1,
         0,
     );
@@ -72,6 +78,8 @@ pub fn mixed_calls(
         waiting,
         sections,
         d,
+        marks,
+        list,
         run,
         bytes,
     );
@@ -86,6 +94,8 @@ pub fn mixed_calls(
         waiting,
         sections,
         d,
+        marks,
+        list,
         calls,
         replies,
     );
@@ -100,6 +110,8 @@ pub fn mixed_calls(
         waiting,
         sections,
         d,
+        marks,
+        list,
     );
     formatting
 }

@@ -1,5 +1,5 @@
-// The public calls that make and free objects: format, allocate, allocate data, collect. Each has all its tests on shared slices first, and only then writes,
-// so that a refusal can't write.
+// The public calls that make and free objects: format, allocate, allocate data, collect. Each has all its tests on shared slices first, and
+// only then writes, so that a refusal can't write.
 ghost use Rattle.rules.specs.Lent.{before, after};
 ghost use Rattle.rules.specs.Calls.{Call};
 ghost use Rattle.rules.specs.Promise.{Promise};
@@ -20,10 +20,12 @@ pub fn format(
     waiting: &mut [Ref],
     sections: &mut [Ref],
     d: &mut [u8],
+    marks: &mut [u8],
+    list: &mut [Ref],
 ) -> Reply
     ensures { λ reply.
-        ⌜ Promise blocks width Call.format (before a b counts cells roots waiting sections d) reply
-        (after a b counts cells roots waiting sections d) ⌝ }
+        ⌜ Promise blocks width Call.format (before a b counts cells roots waiting sections d marks list) reply
+        (after a b counts cells roots waiting sections d marks list) ⌝ }
 {
     if !check_shape::is_shaped(
         blocks,
@@ -36,6 +38,8 @@ pub fn format(
         waiting.len(),
         sections.len(),
         d.len(),
+        marks.len(),
+        list.len(),
     ) {
         return replies::refusal(1);
     }
@@ -50,6 +54,8 @@ pub fn format(
         waiting,
         sections,
         d,
+        marks,
+        list,
     )
 }
 
@@ -65,12 +71,14 @@ pub fn allocate(
     waiting: &mut [Ref],
     sections: &mut [Ref],
     d: &mut [u8],
+    marks: &mut [u8],
+    list: &mut [Ref],
     n: usize,
     r: usize,
 ) -> Reply
     ensures { λ reply.
-        ⌜ Promise blocks width (Call.allocate n r) (before a b counts cells roots waiting sections d) reply
-        (after a b counts cells roots waiting sections d) ⌝ }
+        ⌜ Promise blocks width (Call.allocate n r) (before a b counts cells roots waiting sections d marks list) reply
+        (after a b counts cells roots waiting sections d marks list) ⌝ }
 {
     let found = test_calls::allocate(
         blocks,
@@ -83,6 +91,8 @@ pub fn allocate(
         waiting,
         sections,
         d,
+        marks,
+        list,
         n,
         r,
     );
@@ -103,6 +113,8 @@ pub fn allocate(
         waiting,
         sections,
         d,
+        marks,
+        list,
         false,
         n,
         r,
@@ -123,12 +135,14 @@ pub fn allocate_data(
     waiting: &mut [Ref],
     sections: &mut [Ref],
     d: &mut [u8],
+    marks: &mut [u8],
+    list: &mut [Ref],
     n: usize,
     r: usize,
 ) -> Reply
     ensures { λ reply.
-        ⌜ Promise blocks width (Call.allocateData n r) (before a b counts cells roots waiting sections d) reply
-        (after a b counts cells roots waiting sections d) ⌝ }
+        ⌜ Promise blocks width (Call.allocateData n r) (before a b counts cells roots waiting sections d marks list) reply
+        (after a b counts cells roots waiting sections d marks list) ⌝ }
 {
     let tested = test_calls::allocate_data(
         blocks,
@@ -141,6 +155,8 @@ pub fn allocate_data(
         waiting,
         sections,
         d,
+        marks,
+        list,
         n,
         r,
     );
@@ -161,6 +177,8 @@ pub fn allocate_data(
         waiting,
         sections,
         d,
+        marks,
+        list,
         true,
         n,
         r,
@@ -169,7 +187,8 @@ pub fn allocate_data(
     done.reply()
 }
 
-// Frees what no root reaches, and counts the rest anew. The value is the number of blocks freed.
+// Frees what no root reaches, and counts the rest anew. The value is the number of blocks freed. While a collection in small steps is open
+// it is refused (request U8), so that marks and second list are only read.
 pub fn collect(
     blocks: usize,
     width: usize,
@@ -181,12 +200,14 @@ pub fn collect(
     waiting: &mut [Ref],
     sections: &mut [Ref],
     d: &mut [u8],
+    marks: &[u8],
+    list: &[Ref],
 ) -> Reply
     ensures { λ reply.
-        ⌜ Promise blocks width Call.collect (before a b counts cells roots waiting sections d) reply
-        (after a b counts cells roots waiting sections d) ⌝ }
+        ⌜ Promise blocks width Call.collect (before a b counts cells roots waiting sections d marks list) reply
+        (after a b counts cells roots waiting sections d marks list) ⌝ }
 {
-    let checked = public_read::check(
+    let checked = test_calls::none_open(
         blocks,
         width,
         a,
@@ -197,6 +218,8 @@ pub fn collect(
         waiting,
         sections,
         d,
+        marks,
+        list,
     );
     let number = checked.number;
     if number != 0 {
@@ -214,6 +237,8 @@ pub fn collect(
         waiting,
         sections,
         d,
+        marks,
+        list,
     );
     done.reply()
 }

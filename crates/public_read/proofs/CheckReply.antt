@@ -10,12 +10,13 @@ use Rattle.bitmap.specs.Bit.{zeros}
 use Rattle.rules.specs.Heap.{Memory, memory, lentMemory, shaped}
 use Rattle.rules.specs.Damage.{damage}
 use Rattle.rules.specs.Sections.{staleFigures}
+use Rattle.rules.specs.Steps.{isUntidy}
 use Rattle.rules.specs.Calls.{Call, check, freeBlocks, look, readNumber, reply, accepted, testsHeap, refusals, refusedWith, outcome, answer}
 use Rattle.rules.specs.Promise.{Promise}
 use Rattle.types.specs.declared.Reply.{Reply}
 use Rattle.rules.proofs.Tests.{first-past, first-found}
 use Rattle.rules.proofs.Replies.{refused-with, accepted-none, Passed, undamaged-passed, refused-as-check}
-use Rattle.theory.specs.Statements.{Undamaged}
+use Rattle.theory.specs.Statements.{Intact, Undamaged}
 use Rattle.theory.proofs.Memories.Fit.{undamaged-fit}
 use Rattle.theory.proofs.EachCall.Accepted.{fit-accepted}
 use Rattle.rules.proofs.Promised.{promised}
@@ -48,6 +49,18 @@ module _ {N w : ℕ} {h : Memory} where
       ∙ first-found 11 (staleFigures N (h .a) (h .sections)) _ stale in
       promised N w h check _ (refused-with N w h check 11 (omega arith) eleven) x h x-is refl
 
+  -- past number 11, the second list and the marks are tested
+  pub check-untidy :
+      {x : Reply} → Intact N w h → staleFigures N (h .a) (h .sections) ≡ false → isUntidy N h ≡ true → x ≡ reply 13 0 0 → Promise N w check h x h
+  unfolding refusedWith refusals
+  check-untidy {x} intact fresh untidy x-is =
+      let thirteen =
+      first-past 1 (not (shaped N w h)) _ (ap not (intact .right-shape))
+      ∙ first-past 2 (not (eqb (damage N w h) 0)) _ (ap not (eq-eqb (damage N w h) 0 (intact .no-damage)))
+      ∙ first-past 11 (staleFigures N (h .a) (h .sections)) _ fresh
+      ∙ first-found 13 (isUntidy N h) _ untidy in
+      promised N w h check _ (refused-with N w h check 13 (omega arith) thirteen) x h x-is refl
+
   -- ---- where it refuses, every call that tests the heap is refused alike
 
   pub refused-alike :
@@ -63,7 +76,7 @@ module _ {N w : ℕ} {h : Memory} where
   checked-fit checked accepts =
       let none = accepted-none N w h check (ap (λ (y : Reply). y .number) (sym (checked .reply-is)) ∙ accepts) in
       let all = undamaged-passed N w h check refl none in
-      record { intact = record { right-shape = all .0; no-damage = all .1 }; true-list = all .2 }
+      record { intact = record { right-shape = all .0; no-damage = all .1 }; true-list = all .2; tidy = all .3 }
 
   -- ---- the calls that read
 
@@ -86,7 +99,7 @@ module _ {N w : ℕ} {h : Memory} where
 
     -- the maps and the cells alone are read
     pub read-passed :
-        {at j : ℕ} {x : Reply} → x ≡ readReply N (lentMemory (h .a) (h .b) [] (h .cells) [] [] [] (h .d)) at j
+        {at j : ℕ} {x : Reply} → x ≡ readReply N (lentMemory (h .a) (h .b) [] (h .cells) [] [] [] (h .d) [] []) at j
         → Promise N w (readNumber at j) h x h
     read-passed {at} {j} {x} x-is =
         promised N w h (readNumber at j) _ (read-answered N w h (undamaged-fit N w h (checked-fit checked accepts)) at j) x h x-is refl

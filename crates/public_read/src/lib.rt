@@ -8,7 +8,8 @@ use types::Ref;
 use types::Reply;
 use types::replies;
 
-// Whether the heap has the right shape, is undamaged and has a true list of sections: number 1, or 2 with the damage kind, or 11, or 0.
+// Whether the heap has the right shape, is undamaged, has a true list of sections, and marks and a second list as they have to be: number 1,
+// or 2 with the damage kind, or 11, or 13, or 0. Every call but format tests the heap by this one.
 pub fn check(
     blocks: usize,
     width: usize,
@@ -20,10 +21,12 @@ pub fn check(
     waiting: &[Ref],
     sections: &[Ref],
     d: &[u8],
+    marks: &[u8],
+    list: &[Ref],
 ) -> Reply
     ensures { λ reply.
-        ⌜ Promise blocks width Call.check (before a b counts cells roots waiting sections d) reply
-        (after a b counts cells roots waiting sections d) ⌝ }
+        ⌜ Promise blocks width Call.check (before a b counts cells roots waiting sections d marks list) reply
+        (after a b counts cells roots waiting sections d marks list) ⌝ }
 {
     if !check_shape::is_shaped(
         blocks,
@@ -36,6 +39,8 @@ pub fn check(
         waiting.len(),
         sections.len(),
         d.len(),
+        marks.len(),
+        list.len(),
     ) {
         return replies::refusal(1);
     }
@@ -49,6 +54,9 @@ pub fn check(
     }
     if section_figures::is_stale(blocks, a, sections) {
         return replies::refusal(11);
+    }
+    if check_marks::is_untidy(blocks, a, b, d, cells, roots, marks, list) {
+        return replies::refusal(13);
     }
     replies::acceptance(0)
 }
@@ -65,10 +73,12 @@ pub fn free_blocks(
     waiting: &[Ref],
     sections: &[Ref],
     d: &[u8],
+    marks: &[u8],
+    list: &[Ref],
 ) -> Reply
     ensures { λ reply.
-        ⌜ Promise blocks width Call.freeBlocks (before a b counts cells roots waiting sections d) reply
-        (after a b counts cells roots waiting sections d) ⌝ }
+        ⌜ Promise blocks width Call.freeBlocks (before a b counts cells roots waiting sections d marks list) reply
+        (after a b counts cells roots waiting sections d marks list) ⌝ }
 {
     let check_reply = check(
         blocks,
@@ -81,6 +91,8 @@ pub fn free_blocks(
         waiting,
         sections,
         d,
+        marks,
+        list,
     );
     let number = check_reply.number;
     if number != 0 {
@@ -101,11 +113,13 @@ pub fn look(
     waiting: &[Ref],
     sections: &[Ref],
     d: &[u8],
+    marks: &[u8],
+    list: &[Ref],
     at: usize,
 ) -> Reply
     ensures { λ reply.
-        ⌜ Promise blocks width (Call.look at) (before a b counts cells roots waiting sections d) reply
-        (after a b counts cells roots waiting sections d) ⌝ }
+        ⌜ Promise blocks width (Call.look at) (before a b counts cells roots waiting sections d marks list) reply
+        (after a b counts cells roots waiting sections d marks list) ⌝ }
 {
     let checked = check(
         blocks,
@@ -118,6 +132,8 @@ pub fn look(
         waiting,
         sections,
         d,
+        marks,
+        list,
     );
     let number = checked.number;
     if number != 0 {
@@ -138,12 +154,14 @@ pub fn read_number(
     waiting: &[Ref],
     sections: &[Ref],
     d: &[u8],
+    marks: &[u8],
+    list: &[Ref],
     at: usize,
     j: usize,
 ) -> Reply
     ensures { λ reply.
-        ⌜ Promise blocks width (Call.readNumber at j) (before a b counts cells roots waiting sections d) reply
-        (after a b counts cells roots waiting sections d) ⌝ }
+        ⌜ Promise blocks width (Call.readNumber at j) (before a b counts cells roots waiting sections d marks list) reply
+        (after a b counts cells roots waiting sections d marks list) ⌝ }
 {
     let tested = check(
         blocks,
@@ -156,6 +174,8 @@ pub fn read_number(
         waiting,
         sections,
         d,
+        marks,
+        list,
     );
     let number = tested.number;
     if number != 0 {

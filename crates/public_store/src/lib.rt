@@ -19,12 +19,14 @@ pub fn store_root(
     waiting: &mut [Ref],
     sections: &mut [Ref],
     d: &mut [u8],
+    marks: &mut [u8],
+    list: &mut [Ref],
     r: usize,
     v: usize,
 ) -> Reply
     ensures { λ reply.
-        ⌜ Promise blocks width (Call.storeRoot r v) (before a b counts cells roots waiting sections d) reply
-        (after a b counts cells roots waiting sections d) ⌝ }
+        ⌜ Promise blocks width (Call.storeRoot r v) (before a b counts cells roots waiting sections d marks list) reply
+        (after a b counts cells roots waiting sections d marks list) ⌝ }
 {
     let tested = test_calls::store_root(
         blocks,
@@ -37,6 +39,8 @@ pub fn store_root(
         waiting,
         sections,
         d,
+        marks,
+        list,
         r,
         v,
     );
@@ -56,6 +60,8 @@ pub fn store_root(
         waiting,
         sections,
         d,
+        marks,
+        list,
         r,
         v,
     );
@@ -74,13 +80,15 @@ pub fn store_cell(
     waiting: &mut [Ref],
     sections: &mut [Ref],
     d: &mut [u8],
+    marks: &mut [u8],
+    list: &mut [Ref],
     at: usize,
     j: usize,
     v: usize,
 ) -> Reply
     ensures { λ reply.
-        ⌜ Promise blocks width (Call.storeCell at j v) (before a b counts cells roots waiting sections d) reply
-        (after a b counts cells roots waiting sections d) ⌝ }
+        ⌜ Promise blocks width (Call.storeCell at j v) (before a b counts cells roots waiting sections d marks list) reply
+        (after a b counts cells roots waiting sections d marks list) ⌝ }
 {
     let tested = test_calls::store_cell(
         blocks,
@@ -93,6 +101,8 @@ pub fn store_cell(
         waiting,
         sections,
         d,
+        marks,
+        list,
         at,
         j,
         v,
@@ -113,6 +123,8 @@ pub fn store_cell(
         waiting,
         sections,
         d,
+        marks,
+        list,
         at,
         j,
         v,
@@ -132,11 +144,13 @@ pub fn return_roots(
     waiting: &mut [Ref],
     sections: &mut [Ref],
     d: &mut [u8],
+    marks: &mut [u8],
+    list: &mut [Ref],
     chosen: u64,
 ) -> Reply
     ensures { λ reply.
-        ⌜ Promise blocks width (Call.returnRoots chosen) (before a b counts cells roots waiting sections d) reply
-        (after a b counts cells roots waiting sections d) ⌝ }
+        ⌜ Promise blocks width (Call.returnRoots chosen) (before a b counts cells roots waiting sections d marks list) reply
+        (after a b counts cells roots waiting sections d marks list) ⌝ }
 {
     let tested = test_calls::return_roots(
         blocks,
@@ -149,6 +163,8 @@ pub fn return_roots(
         waiting,
         sections,
         d,
+        marks,
+        list,
         chosen,
     );
     let number = tested.number;
@@ -167,6 +183,8 @@ pub fn return_roots(
         waiting,
         sections,
         d,
+        marks,
+        list,
         chosen,
     );
     done.reply()
@@ -185,13 +203,15 @@ pub fn write_number(
     waiting: &[Ref],
     sections: &[Ref],
     d: &[u8],
+    marks: &[u8],
+    list: &[Ref],
     at: usize,
     j: usize,
     x: Ref,
 ) -> Reply
     ensures { λ reply.
-        ⌜ Promise blocks width (Call.writeNumber at j x) (before a b counts cells roots waiting sections d) reply
-        (after a b counts cells roots waiting sections d) ⌝ }
+        ⌜ Promise blocks width (Call.writeNumber at j x) (before a b counts cells roots waiting sections d marks list) reply
+        (after a b counts cells roots waiting sections d marks list) ⌝ }
 {
     let tested = test_calls::write_number(
         blocks,
@@ -204,6 +224,8 @@ pub fn write_number(
         waiting,
         sections,
         d,
+        marks,
+        list,
         at,
         j,
         x,

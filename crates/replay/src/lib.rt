@@ -21,14 +21,16 @@ pub fn replay(
     waiting: &mut [Ref],
     sections: &mut [Ref],
     d: &mut [u8],
+    marks: &mut [u8],
+    list: &mut [Ref],
     calls: &[u64],
     replies: &mut [u64],
 ) -> Reply
     ensures { λ reply.
         ⌜ Replayed blocks width
-        (before a b counts cells roots waiting sections d)
+        (before a b counts cells roots waiting sections d marks list)
         (now (calls .entry)) (now (replies .entry)) reply
-        (after a b counts cells roots waiting sections d)
+        (after a b counts cells roots waiting sections d marks list)
         (now (replies .exit)) ⌝ }
 {
     let test = tests::replay_reply(
@@ -42,6 +44,8 @@ pub fn replay(
         waiting.len(),
         sections.len(),
         d.len(),
+        marks.len(),
+        list.len(),
         calls,
         replies.len(),
     );
@@ -60,6 +64,8 @@ pub fn replay(
         waiting,
         sections,
         d,
+        marks,
+        list,
     );
     run::run_all(
         blocks,
@@ -72,6 +78,8 @@ pub fn replay(
         waiting,
         sections,
         d,
+        marks,
+        list,
         calls,
         replies,
     );

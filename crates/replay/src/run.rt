@@ -22,16 +22,18 @@ pub(crate) fn run_all(
     waiting: &mut [Ref],
     sections: &mut [Ref],
     d: &mut [u8],
+    marks: &mut [u8],
+    list: &mut [Ref],
     calls: &[u64],
     replies: &mut [u64],
 )
-    requires { ⌜ Usable blocks width (lent a b counts cells roots waiting sections d)
+    requires { ⌜ Usable blocks width (lent a b counts cells roots waiting sections d marks list)
         × (areCalls (now calls) (length (now calls) / 4) ≡ true) × (3 * (length (now calls) / 4) ≤ length (now replies)) ⌝ }
     ensures { λ _.
         ⌜ AsRun blocks width
-        (before a b counts cells roots waiting sections d)
+        (before a b counts cells roots waiting sections d marks list)
         (now (calls .entry)) (now (replies .entry))
-        (after a b counts cells roots waiting sections d)
+        (after a b counts cells roots waiting sections d marks list)
         (now (replies .exit)) ⌝ }
 {
     let n = calls.len() / 4;
@@ -49,6 +51,8 @@ pub(crate) fn run_all(
             waiting,
             sections,
             d,
+            marks,
+            list,
             call.code,
             call.x,
             call.y,

@@ -49,11 +49,11 @@ pub wide-call : (code z : ℕ) → code ≡ 10 → maxNumber < z → isCall code
 unfolding isCall
 wide-call code z e wide = rw (eq-eqb code 10 e, isCall) (lt-leb z maxNumber wide)
 
-pub past-call : (code z : ℕ) → 12 ≤ code → isCall code z ≡ false
+pub past-call : (code z : ℕ) → 14 ≤ code → isCall code z ≡ false
 unfolding isCall
-past-call code z past = rw (ne-eqb code 10 (λ e. omega arith), isCall) (lt-leb code 11 past)
+past-call code z past = rw (ne-eqb code 10 (λ e. omega arith), isCall) (lt-leb code 13 past)
 
--- a code that is none of the twelve is past them; step by step, since there are too many cases for one
+-- a code that is none of the fourteen is past them; step by step, since there are too many cases for one
 first-code : (code : ℕ) → code ≢ 0 → 1 ≤ code
 first-code code n = omega arith
 
@@ -62,8 +62,9 @@ next-code k code n l = omega arith
 
 pub past-codes :
     (code : ℕ) → code ≢ 0 → code ≢ 1 → code ≢ 2 → code ≢ 3 → code ≢ 4 → code ≢ 5 → code ≢ 6 → code ≢ 7 → code ≢ 8 → code ≢ 9
-    → code ≢ 10 → code ≢ 11 → 12 ≤ code
-past-codes code n0 n1 n2 n3 n4 n5 n6 n7 n8 n9 n10 n11 =
+    → code ≢ 10 → code ≢ 11 → code ≢ 12 → code ≢ 13 → 14 ≤ code
+past-codes code n0 n1 n2 n3 n4 n5 n6 n7 n8 n9 n10 n11 n12 n13 =
     let four : 4 ≤ code = next-code 3 code n3 (next-code 2 code n2 (next-code 1 code n1 (first-code code n0))) in
     let eight : 8 ≤ code = next-code 7 code n7 (next-code 6 code n6 (next-code 5 code n5 (next-code 4 code n4 four))) in
-    next-code 11 code n11 (next-code 10 code n10 (next-code 9 code n9 (next-code 8 code n8 eight)))
+    let twelve : 12 ≤ code = next-code 11 code n11 (next-code 10 code n10 (next-code 9 code n9 (next-code 8 code n8 eight))) in
+    next-code 13 code n13 (next-code 12 code n12 twelve)

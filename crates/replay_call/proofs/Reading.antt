@@ -32,6 +32,6 @@ module _ {N w : ℕ} {h : Memory} (usable : Usable N w h) where
 
   -- .. and the read of a number four
   pub read-promise :
-      {x y : ℕ} {r : Reply} → r ≡ readReply N (lentMemory (h .a) (h .b) [] (h .cells) [] [] [] (h .d)) x y
+      {x y : ℕ} {r : Reply} → r ≡ readReply N (lentMemory (h .a) (h .b) [] (h .cells) [] [] [] (h .d) [] []) x y
       → Promise N w (readNumber x y) h r h
   read-promise {x} {y} {r} e = promised N w h (readNumber x y) _ (read-answered N w h (usable-fit usable) x y) r h e refl

@@ -3,6 +3,7 @@ ghost use Rattle.rules.specs.Lent.{before, after, lent};
 ghost use Rattle.theory.specs.Usable.{Usable};
 ghost use Rattle.replay_call.specs.Dispatched.{Dispatched};
 use replay_words::tests::MAX_NUMBER;
+use test_arguments::collecting;
 use test_arguments::looking;
 use test_arguments::numbers;
 use types::Ref;
@@ -21,15 +22,17 @@ pub fn step(
     waiting: &mut [Ref],
     sections: &mut [Ref],
     d: &mut [u8],
+    marks: &mut [u8],
+    list: &mut [Ref],
     code: u64,
     x: u64,
     y: u64,
     z: u64,
 ) -> Reply
-    requires { ⌜ Usable blocks width (lent a b counts cells roots waiting sections d) ⌝ }
+    requires { ⌜ Usable blocks width (lent a b counts cells roots waiting sections d marks list) ⌝ }
     ensures { λ reply.
-        ⌜ Dispatched blocks width code x y z (before a b counts cells roots waiting sections d) reply
-        (after a b counts cells roots waiting sections d) ⌝ }
+        ⌜ Dispatched blocks width code x y z (before a b counts cells roots waiting sections d marks list) reply
+        (after a b counts cells roots waiting sections d marks list) ⌝ }
 {
     match code {
         0 => work_format::format(
@@ -43,6 +46,8 @@ pub fn step(
             waiting,
             sections,
             d,
+            marks,
+            list,
         ),
         1 => replies::acceptance(0),
         2 => {
@@ -57,6 +62,8 @@ pub fn step(
                 waiting,
                 sections,
                 d,
+                marks,
+                list,
                 false,
                 x as usize,
                 y as usize,
@@ -75,6 +82,8 @@ pub fn step(
                 waiting,
                 sections,
                 d,
+                marks,
+                list,
                 x as usize,
                 y as usize,
             );
@@ -92,6 +101,8 @@ pub fn step(
                 waiting,
                 sections,
                 d,
+                marks,
+                list,
                 x as usize,
                 y as usize,
                 z as usize,
@@ -99,7 +110,7 @@ pub fn step(
             done.reply()
         }
         5 => {
-            let done = work_collect::collect(
+            let done = work_tested::collect(
                 blocks,
                 width,
                 a,
@@ -110,6 +121,8 @@ pub fn step(
                 waiting,
                 sections,
                 d,
+                marks,
+                list,
             );
             done.reply()
         }
@@ -127,6 +140,8 @@ pub fn step(
                 waiting,
                 sections,
                 d,
+                marks,
+                list,
                 x,
             );
             done.reply()
@@ -143,6 +158,8 @@ pub fn step(
                 waiting,
                 sections,
                 d,
+                marks,
+                list,
                 true,
                 x as usize,
                 y as usize,
@@ -164,6 +181,8 @@ pub fn step(
                 waiting,
                 sections,
                 d,
+                marks,
+                list,
                 x as usize,
                 y as usize,
                 z as Ref,
@@ -171,6 +190,36 @@ pub fn step(
             done.reply()
         }
         11 => numbers::read_reply(blocks, a, b, cells, d, x as usize, y as usize),
+        12 => {
+            let test = collecting::shut_test(blocks, list);
+            let number = test.number;
+            if number != 0 {
+                return test;
+            }
+            work_open::open_collection(blocks, roots, marks, list)
+        }
+        13 => {
+            let test = collecting::open_test(blocks, list);
+            let number = test.number;
+            if number != 0 {
+                return test;
+            }
+            work_step::take_steps(
+                blocks,
+                width,
+                a,
+                b,
+                counts,
+                cells,
+                roots,
+                waiting,
+                sections,
+                d,
+                marks,
+                list,
+                x as usize,
+            )
+        }
         _ => replies::refusal(9),
     }
 }

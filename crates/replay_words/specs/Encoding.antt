@@ -19,15 +19,17 @@ use Rattle.rules.specs.Calls.{
   allocateData,
   writeNumber,
   readNumber,
+  openCollection,
+  takeSteps,
   Answer,
 }
 
--- the call that a code and three arguments stand for; the codes are 0 to 11, and what a call does not name is not looked at
+-- the call that a code and three arguments stand for; the codes are 0 to 13, and what a call does not name is not looked at
 unfoldable pub decoded : (code x y z : ℕ) → Call
 decoded code x y z =
     getD
     (format ∷ check ∷ allocate x y ∷ storeRoot x y ∷ storeCell x y z ∷ collect ∷ look x ∷ freeBlocks ∷ returnRoots x
-    ∷ allocateData x y ∷ writeNumber x y z ∷ readNumber x y ∷ [])
+    ∷ allocateData x y ∷ writeNumber x y z ∷ readNumber x y ∷ openCollection ∷ takeSteps x ∷ [])
     code check
 
 -- request U6: "Its cells hold any 16-bit number"
@@ -37,7 +39,7 @@ maxNumber = 65535
 -- a known code; the arguments may be any words, save that the number of a number write is one that a cell can
 -- hold: nothing is truncated
 unfoldable pub isCall : (code z : ℕ) → Bool
-isCall code z = elim (eqb code 10) [ true ↦ leb z maxNumber | false ↦ leb code 11 ]
+isCall code z = elim (eqb code 10) [ true ↦ leb z maxNumber | false ↦ leb code 13 ]
 
 -- call number i of the words
 abbrev pub callAt : List ℕ → ℕ → Call

@@ -19,7 +19,7 @@ fn is_call(code: u64, z: u64) -> bool
     if code == 10 {
         return z <= MAX_NUMBER;
     }
-    code <= 11
+    code <= 13
 }
 
 // Whether each of the first n calls is a call.
@@ -49,10 +49,12 @@ pub fn replay_reply(
     waiting: usize,
     sections: usize,
     d: usize,
+    marks: usize,
+    list: usize,
     calls: &[u64],
     room: usize,
 ) -> Reply
-    ensures { λ r. ⌜ r ≡ replyOn (shape blocks width a b counts cells roots waiting sections d) (now (calls .entry)) room ⌝ }
+    ensures { λ r. ⌜ r ≡ replyOn (shape blocks width a b counts cells roots waiting sections d marks list) (now (calls .entry)) room ⌝ }
 {
     if !check_shape::is_shaped(
         blocks,
@@ -65,6 +67,8 @@ pub fn replay_reply(
         waiting,
         sections,
         d,
+        marks,
+        list,
     ) {
         return refusal(1);
     }

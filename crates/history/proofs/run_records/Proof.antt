@@ -6,10 +6,10 @@ use Rattle.history.proofs.run_records.Statement.{statement}
 use Rattle.history.proofs.run_records.Tie as tie
 
 -- the places, from the last back: the records run, the waiting list cleared, all tests passed
-abbrev ran : tie.After-slice-known17 → tie.After-run-piece
+abbrev ran : tie.After-slice-known21 → tie.After-run-piece
 ran c = search
 
-abbrev cleared : tie.After-run-piece-arg8 → tie.After-clear-all
+abbrev cleared : tie.After-run-piece-arg10 → tie.After-clear-all
 cleared c = search
 
 abbrev passed : tie.After-clear-all → tie.Else1
@@ -54,6 +54,8 @@ run-records-spec =
     (λ _. refl)
     (λ _. refl)
     (λ _. refl)
+    (λ _. refl)
+    (λ _. refl)
     returns
     clear-all-requires
     run-piece-requires
@@ -65,4 +67,6 @@ run-records-spec =
     (λ c. ran c .run-piece .kept .1 .1 .1 .1 .1 .1 .1 .0 ∙ cleared (ran c .before) .clear-all .kept .0)
     (λ c. ran c .run-piece .kept .1 .1 .1 .1 .1 .1 .1 .1 .0)
     (λ c. ran c .run-piece .kept .1 .1 .1 .1 .1 .1 .1 .1 .1 .0)
+    (λ c. ran c .run-piece .kept .1 .1 .1 .1 .1 .1 .1 .1 .1 .1 .0)
+    (λ c. ran c .run-piece .kept .1 .1 .1 .1 .1 .1 .1 .1 .1 .1 .1 .0)
     returns-2)

@@ -6,10 +6,10 @@ use Rattle.history_execution.proofs.step.Statement.{statement}
 use Rattle.history_execution.proofs.step.Tie as tie
 
 -- the places: the calls made, the plan known, the start
-abbrev acted : tie.After-slice-known16 → tie.After-act
+abbrev acted : tie.After-slice-known20 → tie.After-act
 acted c = search
 
-abbrev planned-at : tie.After-act-arg8 → tie.After-plan-of
+abbrev planned-at : tie.After-act-arg10 → tie.After-plan-of
 planned-at c = search
 
 abbrev start : tie.After-plan-of-arg4 → tie.Start
@@ -49,4 +49,6 @@ step-spec =
     (λ c. acted (c .before) .act .kept .1 .1 .1 .1 .1 .1 .1 .0)
     (λ c. acted (c .before) .act .kept .1 .1 .1 .1 .1 .1 .1 .1 .0)
     (λ c. acted (c .before) .act .kept .1 .1 .1 .1 .1 .1 .1 .1 .1 .0)
+    (λ c. acted (c .before) .act .kept .1 .1 .1 .1 .1 .1 .1 .1 .1 .1 .0)
+    (λ c. acted (c .before) .act .kept .1 .1 .1 .1 .1 .1 .1 .1 .1 .1 .1 .0)
     returns)

@@ -9,13 +9,13 @@ use Rattle.history_retries.proofs.allocate.Statement.{statement}
 use Rattle.history_retries.proofs.allocate.Tie as tie
 
 -- the places, from the last back: the second try, the collection, that no chunk was free, the first try (or the only one), the start
-abbrev second : tie.After-slice-known31 → tie.After-allocate2
+abbrev second : tie.After-struct-known → tie.After-allocate2
 second c = search
 
-abbrev forced : tie.After-allocate-arg16 → tie.After-collect
+abbrev forced : tie.After-allocate-arg20 → tie.After-collect
 forced c = search
 
-abbrev none-free : tie.After-collect-arg8 → tie.Else1
+abbrev none-free : tie.After-collect-arg10 → tie.Else1
 none-free c = search
 
 abbrev first : tie.Else1 → tie.After-allocate
@@ -24,7 +24,7 @@ first c = search
 abbrev only : tie.Then1 → tie.After-allocate
 only c = search
 
-abbrev start : tie.After-allocate-arg8 → tie.Start
+abbrev start : tie.After-allocate-arg10 → tie.Start
 start c = search
 
 -- those of an allocation that was tried twice, from its return
@@ -88,6 +88,8 @@ allocate-spec =
     (λ c. only (c .before) .allocate .kept .1 .1 .1 .1 .1 .1 .1 .0)
     (λ c. only (c .before) .allocate .kept .1 .1 .1 .1 .1 .1 .1 .1 .0)
     (λ c. only (c .before) .allocate .kept .1 .1 .1 .1 .1 .1 .1 .1 .1 .0)
+    (λ c. only (c .before) .allocate .kept .1 .1 .1 .1 .1 .1 .1 .1 .1 .1 .0)
+    (λ c. only (c .before) .allocate .kept .1 .1 .1 .1 .1 .1 .1 .1 .1 .1 .1 .0)
     returns
     collect-requires
     allocate-requires-2
@@ -105,4 +107,6 @@ allocate-spec =
     ∙ first-try c .allocate .kept .1 .1 .1 .1 .1 .1 .1 .1 .0)
     (λ c. last-try c .allocate2 .kept .1 .1 .1 .1 .1 .1 .1 .1 .1 .0 ∙ collection c .collect .kept .1 .1 .1 .1 .1 .1 .1 .1 .1 .0
     ∙ first-try c .allocate .kept .1 .1 .1 .1 .1 .1 .1 .1 .1 .0)
+    (λ c. last-try c .allocate2 .kept .1 .1 .1 .1 .1 .1 .1 .1 .1 .1 .0 ∙ first-try c .allocate .kept .1 .1 .1 .1 .1 .1 .1 .1 .1 .1 .0)
+    (λ c. last-try c .allocate2 .kept .1 .1 .1 .1 .1 .1 .1 .1 .1 .1 .1 .0 ∙ first-try c .allocate .kept .1 .1 .1 .1 .1 .1 .1 .1 .1 .1 .1 .0)
     returns-2)

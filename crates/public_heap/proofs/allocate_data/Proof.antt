@@ -3,7 +3,7 @@ use mathlib.Core.Path.{refl, _∙_}
 use borrow.Author.Needs.{needs}
 use Rattle.rules.specs.Calls.{outcome}
 use Rattle.test_allocation.proofs.AllocationReply.{replied, allocate-accepts, allocate-data-goes-on}
-use Rattle.test_calls.proofs.ClearedHeap.{cleared-usable, promised-back}
+use Rattle.test_calls.proofs.ClearedHeap.{cleared-usable, worked-back}
 use Rattle.public_heap.proofs.allocate_data.Statement.{statement}
 use Rattle.public_heap.proofs.allocate_data.Tie as tie
 
@@ -11,7 +11,7 @@ use Rattle.public_heap.proofs.allocate_data.Tie as tie
 abbrev passed : tie.After-clear-all → tie.Else1
 passed c = search
 
-abbrev cleared : tie.After-allocate-arg8 → tie.After-clear-all
+abbrev cleared : tie.After-allocate-arg10 → tie.After-clear-all
 cleared c = search
 
 abbrev done : tie.After-reply → tie.After-allocate
@@ -43,7 +43,7 @@ returns-2 c =
     let clear = cleared (done c .before) in
     let gate = passed clear in
     let facts = gate .before .allocate-data .ensures in
-    promised-back (facts .fit (gate .if1 .left)) (clear .clear-all .ensures)
+    worked-back (facts .fit (gate .if1 .left)) (clear .clear-all .ensures)
     (allocate-data-goes-on _ (replied (facts .tested (gate .if1 .left))) (gate .if1 .left)) refl (done c .allocate .ensures) (c .reply .ensures)
 
 pub allocate-data-spec : {M : Type 1} → statement M
@@ -51,6 +51,8 @@ allocate-data-spec =
     tie.close
     (tie.spec
     allocate-data-requires
+    (λ _. refl)
+    (λ _. refl)
     (λ _. refl)
     (λ _. refl)
     (λ _. refl)
@@ -71,4 +73,6 @@ allocate-data-spec =
     (λ c. done c .allocate .kept .1 .1 .1 .1 .1 .1 .1 .0 ∙ cleared (done c .before) .clear-all .kept .0)
     (λ c. done c .allocate .kept .1 .1 .1 .1 .1 .1 .1 .1 .0)
     (λ c. done c .allocate .kept .1 .1 .1 .1 .1 .1 .1 .1 .1 .0)
+    (λ c. done c .allocate .kept .1 .1 .1 .1 .1 .1 .1 .1 .1 .1 .0)
+    (λ c. done c .allocate .kept .1 .1 .1 .1 .1 .1 .1 .1 .1 .1 .1 .0)
     returns-2)

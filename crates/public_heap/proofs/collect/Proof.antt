@@ -1,15 +1,14 @@
--- `public_heap::collect` meets its contract: the check, and then the work on the cleared heap.
+-- `public_heap::collect` meets its contract: the gate, and then the work on the cleared heap.
 use mathlib.Core.Path.{refl, _∙_}
 use borrow.Author.Needs.{needs}
-use Rattle.rules.specs.Calls.{collect, freeing, outcome}
-use Rattle.rules.proofs.Replies.{Passed, passed-own}
-use Rattle.test_arguments.specs.Replies.{ownTest}
-use Rattle.public_read.proofs.CheckReply.{refused-alike, checked-fit}
-use Rattle.test_calls.proofs.ClearedHeap.{cleared-usable, promised-back}
+use Rattle.rules.specs.Calls.{freeing, outcome}
+use Rattle.test_arguments.proofs.ArgumentTests.{goes-on, collect-tested}
+use Rattle.test_calls.proofs.CheckAtGate.{gate-none-open}
+use Rattle.test_calls.proofs.ClearedHeap.{cleared-usable, worked-back}
 use Rattle.public_heap.proofs.collect.Statement.{statement}
 use Rattle.public_heap.proofs.collect.Tie as tie
 
--- the places: past the check, the waiting list cleared, the collection done
+-- the places: past the gate, the waiting list cleared, the collection done
 abbrev passed : tie.After-clear-all → tie.Else1
 passed c = search
 
@@ -19,11 +18,11 @@ cleared c = search
 abbrev done : tie.After-reply → tie.After-collect
 done c = search
 
-check-requires : tie.Need-check-requires
-check-requires c κs = search needs
+none-open-requires : tie.Need-none-open-requires
+none-open-requires c κs = search needs
 
 returns : tie.Need-returns
-returns c = refused-alike refl (c .before .check .ensures) (c .if1 .taken)
+returns c = c .before .none-open .ensures .0 .refused (c .if1 .taken)
 
 clear-all-requires : tie.Need-clear-all-requires
 clear-all-requires c κs = search needs
@@ -31,24 +30,28 @@ clear-all-requires c κs = search needs
 collect-requires : tie.Need-collect-requires
 collect-requires c κs =
     let gate = passed (cleared c) in
-    cleared-usable (checked-fit (gate .before .check .ensures) (gate .if1 .left)) (cleared c .clear-all .ensures)
+    let facts = gate .before .none-open .ensures .0 in (
+      cleared-usable (facts .fit (gate .if1 .left)) (cleared c .clear-all .ensures),
+      gate-none-open _ _ (facts .tested (gate .if1 .left)) (gate .if1 .left),
+    )
 
 reply-requires : tie.Need-reply-requires
 reply-requires c κs = search needs
 
 returns-2 : tie.Need-returns-2
-unfolding freeing outcome ownTest Passed
+unfolding freeing outcome
 returns-2 c =
     let clear = cleared (done c .before) in
     let gate = passed clear in
-    promised-back (checked-fit (gate .before .check .ensures) (gate .if1 .left)) (clear .clear-all .ensures)
-    (passed-own _ _ collect tt) refl (done c .collect .ensures) (c .reply .ensures)
+    let facts = gate .before .none-open .ensures .0 in
+    worked-back (facts .fit (gate .if1 .left)) (clear .clear-all .ensures)
+    (goes-on (collect-tested (facts .tested (gate .if1 .left))) (gate .if1 .left)) refl (done c .collect .ensures) (c .reply .ensures)
 
 pub collect-spec : {M : Type 1} → statement M
 collect-spec =
     tie.close
     (tie.spec
-    check-requires
+    none-open-requires
     (λ _. refl)
     (λ _. refl)
     (λ _. refl)

@@ -7,7 +7,7 @@ use Rattle.public_heap.proofs.format.Statement.{statement}
 use Rattle.public_heap.proofs.format.Tie as tie
 
 -- the place where the heap is written
-abbrev done : tie.After-slice-known16 → tie.After-format
+abbrev done : tie.After-slice-known20 → tie.After-format
 done c = search
 
 is-shaped-requires : tie.Need-is-shaped-requires
@@ -45,4 +45,6 @@ format-spec =
     (λ c. done c .format .kept .1 .1 .1 .1 .1 .1 .1 .0)
     (λ c. done c .format .kept .1 .1 .1 .1 .1 .1 .1 .1 .0)
     (λ c. done c .format .kept .1 .1 .1 .1 .1 .1 .1 .1 .1 .0)
+    (λ c. done c .format .kept .1 .1 .1 .1 .1 .1 .1 .1 .1 .1 .0)
+    (λ c. done c .format .kept .1 .1 .1 .1 .1 .1 .1 .1 .1 .1 .1 .0)
     returns-2)

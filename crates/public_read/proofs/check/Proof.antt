@@ -1,13 +1,17 @@
--- `check` meets its contract: the shape is tested before the damage, and that before the list of sections.
+-- `check` meets its contract: the shape is tested before the damage, that before the list of sections, and that before
+-- marks and second list.
 use mathlib.Core.Path.{_≡_, sym, _∙_}
-use mathlib.Core.Bool.{true}
+use mathlib.Core.Bool.{true, false}
 use native.Mathlib.Omega.{arith}
 use borrow.Author.Needs.{needs}
 use borrow.Author.Tests.{not-true, not-false}
 use Rattle.rules.specs.Heap.{Memory, lentMemory, shaped}
 use Rattle.rules.specs.Damage.{damage}
+use Rattle.rules.specs.Sections.{staleFigures}
+use Rattle.rules.specs.Steps.{isUntidy}
 use Rattle.rules.proofs.Shape.{shape-facts, shaped-blocks}
-use Rattle.public_read.proofs.CheckReply.{check-unshaped, check-damaged, check-stale, check-passed}
+use Rattle.theory.specs.Statements.{Intact}
+use Rattle.public_read.proofs.CheckReply.{check-unshaped, check-damaged, check-stale, check-untidy, check-passed}
 use Rattle.public_read.proofs.check.Statement.{statement}
 use Rattle.public_read.proofs.check.Tie as tie
 
@@ -15,7 +19,7 @@ use Rattle.public_read.proofs.check.Tie as tie
 abbrev lent : tie.Start → Memory
 lent s =
     lentMemory (s .args .a .now) (s .args .b .now) (s .args .counts .now) (s .args .cells .now) (s .args .roots .now) (s .args .waiting .now)
-    (s .args .sections .now) (s .args .d .now)
+    (s .args .sections .now) (s .args .d .now) (s .args .marks .now) (s .args .list .now)
 
 abbrev start : tie.After-is-shaped → tie.Start
 start c = search
@@ -39,12 +43,12 @@ returns c =
 damage-kind-requires : tie.Need-damage-kind-requires
 damage-kind-requires c κs =
     let s = start (c .before) in
-    (s .args .waiting .now, s .args .sections .now, shape-is c)
+    (s .args .waiting .now, s .args .sections .now, s .args .marks .now, s .args .list .now, shape-is c)
 
 -- what the test of damage found, of all that is lent
 kind-is : (c : tie.After-damage-kind) → let s = start (c .before .before) in
     c .damage-kind .result ≡ damage (s .args .blocks) (s .args .width) (lent s)
-kind-is c = let s = start (c .before .before) in c .damage-kind .ensures (s .args .waiting .now) (s .args .sections .now)
+kind-is c = let s = start (c .before .before) in c .damage-kind .ensures (s .args .waiting .now) (s .args .sections .now) (s .args .marks .now) (s .args .list .now)
 
 returns-2 : tie.Need-returns-2
 returns-2 c =
@@ -71,17 +75,49 @@ returns-3 c =
     check-stale {h = lent (start (none .before .before .before))} (shape-is (none .before .before)) (undamaged none)
     (sym (tested .before .is-stale .ensures) ∙ tested .if3 .taken) (c .refusal2 .ensures)
 
-acceptance-requires : tie.Need-acceptance-requires
-acceptance-requires c κs = search needs
+-- past the third test it is intact, and its list of sections is true
+abbrev origin : tie.Else3 → tie.Start
+origin c = start (c .before .before .before .before .before)
+
+intact : (c : tie.Else3) → let s = origin c in Intact (s .args .blocks) (s .args .width) (lent s)
+intact c = let none = c .before .before in record { right-shape = shape-is (none .before .before); no-damage = undamaged none }
+
+fresh : (c : tie.Else3) → let s = origin c in staleFigures (s .args .blocks) (s .args .a .now) (s .args .sections .now) ≡ false
+fresh c = sym (c .before .is-stale .ensures) ∙ c .if3 .left
+
+is-untidy-requires : tie.Need-is-untidy-requires
+is-untidy-requires c κs =
+    let s = origin c in
+    (s .args .width, s .args .counts .now, s .args .waiting .now, s .args .sections .now, intact c)
+
+-- what the test of marks and second list found, of all that is lent
+untidy-is : (c : tie.After-is-untidy) → let s = origin (c .before) in c .is-untidy .result ≡ isUntidy (s .args .blocks) (lent s)
+untidy-is c =
+    let s = origin (c .before) in
+    c .is-untidy .ensures (s .args .counts .now) (s .args .waiting .now) (s .args .sections .now)
+
+refusal-requires-3 : tie.Need-refusal-requires-3
+refusal-requires-3 c κs = search needs
 
 returns-4 : tie.Need-returns-4
 returns-4 c =
     let tested = c .before in
-    let none = tested .before .before in
-    check-passed {h = lent (start (none .before .before .before))}
+    let listed = tested .before .before in
+    check-untidy {h = lent (origin listed)} (intact listed) (fresh listed) (sym (untidy-is (tested .before)) ∙ tested .if4 .taken)
+    (c .refusal3 .ensures)
+
+acceptance-requires : tie.Need-acceptance-requires
+acceptance-requires c κs = search needs
+
+returns-5 : tie.Need-returns-5
+returns-5 c =
+    let tested = c .before in
+    let listed = tested .before .before in
+    check-passed {h = lent (origin listed)}
     (record {
-      intact = record { right-shape = shape-is (none .before .before); no-damage = undamaged none };
-      true-list = sym (tested .before .is-stale .ensures) ∙ tested .if3 .left;
+      intact = intact listed;
+      true-list = fresh listed;
+      tidy = sym (untidy-is (tested .before)) ∙ tested .if4 .left;
     })
     (c .acceptance .ensures)
 
@@ -97,5 +133,8 @@ check-spec =
     is-stale-requires
     refusal-requires-2
     returns-3
+    is-untidy-requires
+    refusal-requires-3
+    returns-4
     acceptance-requires
-    returns-4)
+    returns-5)

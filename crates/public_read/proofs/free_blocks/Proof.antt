@@ -12,7 +12,7 @@ use Rattle.public_read.proofs.free_blocks.Tie as tie
 abbrev lent : tie.Start → Memory
 lent s =
     lentMemory (s .args .a .now) (s .args .b .now) (s .args .counts .now) (s .args .cells .now) (s .args .roots .now) (s .args .waiting .now)
-    (s .args .sections .now) (s .args .d .now)
+    (s .args .sections .now) (s .args .d .now) (s .args .marks .now) (s .args .list .now)
 
 abbrev start : tie.After-check → tie.Start
 start c = search

@@ -4,7 +4,7 @@ use borrow.Author.Needs.{needs}
 use Rattle.rules.specs.Calls.{freeing, outcome}
 use Rattle.types.specs.declared.Reply.{Reply}
 use Rattle.test_arguments.proofs.ArgumentTests.{goes-on, return-tested}
-use Rattle.test_calls.proofs.ClearedHeap.{cleared-usable, promised-back}
+use Rattle.test_calls.proofs.ClearedHeap.{cleared-usable, worked-back}
 use Rattle.public_store.proofs.return_roots.Statement.{statement}
 use Rattle.public_store.proofs.return_roots.Tie as tie
 
@@ -12,7 +12,7 @@ use Rattle.public_store.proofs.return_roots.Tie as tie
 abbrev passed : tie.After-clear-all → tie.Else1
 passed c = search
 
-abbrev cleared : tie.After-clear-roots-arg8 → tie.After-clear-all
+abbrev cleared : tie.After-clear-roots-arg10 → tie.After-clear-all
 cleared c = search
 
 abbrev done : tie.After-reply → tie.After-clear-roots
@@ -44,7 +44,7 @@ returns-2 c =
     let clear = cleared (done c .before) in
     let gate = passed clear in
     let facts = gate .before .return-roots .ensures in
-    promised-back (facts .fit (gate .if1 .left)) (clear .clear-all .ensures)
+    worked-back (facts .fit (gate .if1 .left)) (clear .clear-all .ensures)
     (goes-on (return-tested (facts .tested (gate .if1 .left))) (gate .if1 .left)) refl (done c .clear-roots .ensures) (c .reply .ensures)
 
 pub return-roots-spec : {M : Type 1} → statement M
@@ -52,6 +52,8 @@ return-roots-spec =
     tie.close
     (tie.spec
     return-roots-requires
+    (λ _. refl)
+    (λ _. refl)
     (λ _. refl)
     (λ _. refl)
     (λ _. refl)
@@ -72,4 +74,6 @@ return-roots-spec =
     (λ c. done c .clear-roots .kept .1 .1 .1 .1 .1 .1 .1 .0 ∙ cleared (done c .before) .clear-all .kept .0)
     (λ c. done c .clear-roots .kept .1 .1 .1 .1 .1 .1 .1 .1 .0)
     (λ c. done c .clear-roots .kept .1 .1 .1 .1 .1 .1 .1 .1 .1 .0)
+    (λ c. done c .clear-roots .kept .1 .1 .1 .1 .1 .1 .1 .1 .1 .1 .0)
+    (λ c. done c .clear-roots .kept .1 .1 .1 .1 .1 .1 .1 .1 .1 .1 .1 .0)
     returns-2)

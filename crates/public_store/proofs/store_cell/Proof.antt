@@ -3,7 +3,7 @@ use mathlib.Core.Path.{refl, _∙_}
 use borrow.Author.Needs.{needs}
 use Rattle.rules.specs.Calls.{freeing, outcome}
 use Rattle.test_arguments.proofs.ArgumentTests.{goes-on, cell-tested}
-use Rattle.test_calls.proofs.ClearedHeap.{cleared-usable, promised-back}
+use Rattle.test_calls.proofs.ClearedHeap.{cleared-usable, worked-back}
 use Rattle.public_store.proofs.store_cell.Statement.{statement}
 use Rattle.public_store.proofs.store_cell.Tie as tie
 
@@ -11,7 +11,7 @@ use Rattle.public_store.proofs.store_cell.Tie as tie
 abbrev passed : tie.After-clear-all → tie.Else1
 passed c = search
 
-abbrev cleared : tie.After-store-cell-arg14 → tie.After-clear-all
+abbrev cleared : tie.After-store-cell-arg18 → tie.After-clear-all
 cleared c = search
 
 abbrev done : tie.After-reply → tie.After-store-cell2
@@ -43,7 +43,7 @@ returns-2 c =
     let clear = cleared (done c .before) in
     let gate = passed clear in
     let facts = gate .before .store-cell .ensures in
-    promised-back (facts .fit (gate .if1 .left)) (clear .clear-all .ensures)
+    worked-back (facts .fit (gate .if1 .left)) (clear .clear-all .ensures)
     (goes-on (cell-tested (facts .tested (gate .if1 .left))) (gate .if1 .left)) refl (done c .store-cell2 .ensures) (c .reply .ensures)
 
 pub store-cell-spec : {M : Type 1} → statement M
@@ -51,6 +51,8 @@ store-cell-spec =
     tie.close
     (tie.spec
     store-cell-requires
+    (λ _. refl)
+    (λ _. refl)
     (λ _. refl)
     (λ _. refl)
     (λ _. refl)
@@ -69,4 +71,6 @@ store-cell-spec =
     (λ c. done c .store-cell2 .kept .1 .1 .1 .1 .1 .1 .1 .0 ∙ cleared (done c .before) .clear-all .kept .0)
     (λ c. done c .store-cell2 .kept .1 .1 .1 .1 .1 .1 .1 .1 .0)
     (λ c. done c .store-cell2 .kept .1 .1 .1 .1 .1 .1 .1 .1 .1 .0)
+    (λ c. done c .store-cell2 .kept .1 .1 .1 .1 .1 .1 .1 .1 .1 .1 .0)
+    (λ c. done c .store-cell2 .kept .1 .1 .1 .1 .1 .1 .1 .1 .1 .1 .1 .0)
     returns-2)

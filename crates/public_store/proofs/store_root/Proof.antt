@@ -3,7 +3,7 @@ use mathlib.Core.Path.{refl, _∙_}
 use borrow.Author.Needs.{needs}
 use Rattle.rules.specs.Calls.{freeing, outcome}
 use Rattle.test_arguments.proofs.ArgumentTests.{goes-on, root-tested}
-use Rattle.test_calls.proofs.ClearedHeap.{cleared-usable, promised-back}
+use Rattle.test_calls.proofs.ClearedHeap.{cleared-usable, worked-back}
 use Rattle.public_store.proofs.store_root.Statement.{statement}
 use Rattle.public_store.proofs.store_root.Tie as tie
 
@@ -11,7 +11,7 @@ use Rattle.public_store.proofs.store_root.Tie as tie
 abbrev passed : tie.After-clear-all → tie.Else1
 passed c = search
 
-abbrev cleared : tie.After-store-root-arg16 → tie.After-clear-all
+abbrev cleared : tie.After-store-root-arg20 → tie.After-clear-all
 cleared c = search
 
 abbrev done : tie.After-reply → tie.After-store-root2
@@ -43,7 +43,7 @@ returns-2 c =
     let clear = cleared (done c .before) in
     let gate = passed clear in
     let facts = gate .before .store-root .ensures in
-    promised-back (facts .fit (gate .if1 .left)) (clear .clear-all .ensures)
+    worked-back (facts .fit (gate .if1 .left)) (clear .clear-all .ensures)
     (goes-on (root-tested (facts .tested (gate .if1 .left))) (gate .if1 .left)) refl (done c .store-root2 .ensures) (c .reply .ensures)
 
 pub store-root-spec : {M : Type 1} → statement M
@@ -51,6 +51,8 @@ store-root-spec =
     tie.close
     (tie.spec
     store-root-requires
+    (λ _. refl)
+    (λ _. refl)
     (λ _. refl)
     (λ _. refl)
     (λ _. refl)
@@ -71,4 +73,6 @@ store-root-spec =
     (λ c. done c .store-root2 .kept .1 .1 .1 .1 .1 .1 .1 .0 ∙ cleared (done c .before) .clear-all .kept .0)
     (λ c. done c .store-root2 .kept .1 .1 .1 .1 .1 .1 .1 .1 .0)
     (λ c. done c .store-root2 .kept .1 .1 .1 .1 .1 .1 .1 .1 .1 .0)
+    (λ c. done c .store-root2 .kept .1 .1 .1 .1 .1 .1 .1 .1 .1 .1 .0)
+    (λ c. done c .store-root2 .kept .1 .1 .1 .1 .1 .1 .1 .1 .1 .1 .1 .0)
     returns-2)

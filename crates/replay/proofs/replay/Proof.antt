@@ -9,13 +9,13 @@ use Rattle.replay.proofs.replay.Statement.{statement}
 use Rattle.replay.proofs.replay.Tie as tie
 
 -- the places: past the test, the heap formatted, the list run
-abbrev tested : tie.After-format-arg8 → tie.Else1
+abbrev tested : tie.After-format-arg10 → tie.Else1
 tested c = search
 
-abbrev formatted : tie.After-run-all-arg9 → tie.After-format
+abbrev formatted : tie.After-run-all-arg11 → tie.After-format
 formatted c = search
 
-abbrev done : tie.After-slice-known26 → tie.After-run-all
+abbrev done : tie.After-slice-known32 → tie.After-run-all
 done c = search
 
 -- what an accepted list has passed
@@ -27,7 +27,7 @@ passed : (c : tie.Else1) →
     Passed
     (shaped (args .blocks) (args .width)
     (lentMemory (args .a .now) (args .b .now) (args .counts .now) (args .cells .now) (args .roots .now) (args .waiting .now)
-    (args .sections .now) (args .d .now)))
+    (args .sections .now) (args .d .now) (args .marks .now) (args .list .now)))
     (args .calls .now) (length (args .replies .now))
 passed c = accepted-passed _ _ _ (ap (λ (r : Reply). r .number) (sym (c .before .replay-reply .ensures)) ∙ c .if1 .left)
 
@@ -77,5 +77,7 @@ replay-spec =
     (λ c. done c .run-all .kept .1 .1 .1 .1 .1 .1 .1 .0 ∙ formatted (done c .before) .format .kept .1 .1 .1 .1 .1 .1 .1 .0)
     (λ c. done c .run-all .kept .1 .1 .1 .1 .1 .1 .1 .1 .0 ∙ formatted (done c .before) .format .kept .1 .1 .1 .1 .1 .1 .1 .1 .0)
     (λ c. done c .run-all .kept .1 .1 .1 .1 .1 .1 .1 .1 .1 .0 ∙ formatted (done c .before) .format .kept .1 .1 .1 .1 .1 .1 .1 .1 .1 .0)
-    (λ c. done c .run-all .kept .1 .1 .1 .1 .1 .1 .1 .1 .1 .1 .1 .0)
+    (λ c. done c .run-all .kept .1 .1 .1 .1 .1 .1 .1 .1 .1 .1 .0 ∙ formatted (done c .before) .format .kept .1 .1 .1 .1 .1 .1 .1 .1 .1 .1 .0)
+    (λ c. done c .run-all .kept .1 .1 .1 .1 .1 .1 .1 .1 .1 .1 .1 .0 ∙ formatted (done c .before) .format .kept .1 .1 .1 .1 .1 .1 .1 .1 .1 .1 .1 .0)
+    (λ c. done c .run-all .kept .1 .1 .1 .1 .1 .1 .1 .1 .1 .1 .1 .1 .1 .0)
     returns-2)

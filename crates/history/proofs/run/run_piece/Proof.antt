@@ -2,7 +2,6 @@
 use mathlib.Core.Path.{ap}
 use Prim.Native.Nat.{ℕ, _-_}
 use native.Mathlib.Omega.{arith}
-use borrow.Author.Needs.{needs}
 use Rattle.theory.proofs.Usable.UsableHeap.{usable-healthy}
 use Rattle.history_figures.proofs.Ranges.{in-range-within}
 use Rattle.history_runs.proofs.Pieces.{whole-room, whole-going, piece-stopped, piece-ran}
@@ -10,10 +9,10 @@ use Rattle.history.proofs.run.run_piece.Statement.{statement}
 use Rattle.history.proofs.run.run_piece.Tie as tie
 
 -- the places, from the last back: the whole records run, the blocks in use counted, the number of whole records known, a run that goes on
-abbrev ran : tie.After-slice-known16 → tie.After-run-whole
+abbrev ran : tie.After-slice-known20 → tie.After-run-whole
 ran c = search
 
-abbrev counted : tie.After-run-whole-arg8 → tie.After-count-zeros
+abbrev counted : tie.After-run-whole-arg10 → tie.After-count-zeros
 counted c = search
 
 abbrev measured : tie.After-count-zeros → tie.After-whole-records
@@ -53,7 +52,10 @@ run-whole-requires c κs =
     )
 
 end-piece-requires : tie.Need-end-piece-requires
-end-piece-requires c κs = search needs
+end-piece-requires c κs =
+    let known = measured (counted (ran c .before)) in
+    let args = start (known .before) .args in
+    whole-room (args .bytes .now) (args .run) _ (known .whole-records .ensures)
 
 returns-2 : tie.Need-returns-2
 returns-2 c =
@@ -79,4 +81,6 @@ run-piece-spec =
     (λ c. ran (c .before) .run-whole .kept .1 .1 .1 .1 .1 .1 .1 .0)
     (λ c. ran (c .before) .run-whole .kept .1 .1 .1 .1 .1 .1 .1 .1 .0)
     (λ c. ran (c .before) .run-whole .kept .1 .1 .1 .1 .1 .1 .1 .1 .1 .0)
+    (λ c. ran (c .before) .run-whole .kept .1 .1 .1 .1 .1 .1 .1 .1 .1 .1 .0)
+    (λ c. ran (c .before) .run-whole .kept .1 .1 .1 .1 .1 .1 .1 .1 .1 .1 .1 .0)
     returns-2)

@@ -10,12 +10,12 @@ use Rattle.history.proofs.run.run_whole.Statement.{statement}
 use Rattle.history.proofs.run.run_whole.Tie as tie
 
 abbrev Inv-loop : tie.InvT-loop
-Inv-loop blocks width a₀ b₀ counts₀ cells₀ roots₀ waiting₀ sections₀ d₀ bytes n state₀ i₀ a b counts cells roots waiting sections d state i =
-    Progress n blocks width bytes (lentMemory a₀ b₀ counts₀ cells₀ roots₀ waiting₀ sections₀ d₀) (state₀ .run) i
-    (lentMemory a b counts cells roots waiting sections d) state
+Inv-loop blocks width a₀ b₀ counts₀ cells₀ roots₀ waiting₀ sections₀ d₀ marks₀ list₀ bytes n state₀ i₀ a b counts cells roots waiting sections d marks list state i =
+    Progress n blocks width bytes (lentMemory a₀ b₀ counts₀ cells₀ roots₀ waiting₀ sections₀ d₀ marks₀ list₀) (state₀ .run) i
+    (lentMemory a b counts cells roots waiting sections d marks list) state
 
 abbrev μ-loop : tie.MeasureT-loop
-μ-loop blocks width a₀ b₀ counts₀ cells₀ roots₀ waiting₀ sections₀ d₀ bytes n state₀ i₀ a b counts cells roots waiting sections d state i =
+μ-loop blocks width a₀ b₀ counts₀ cells₀ roots₀ waiting₀ sections₀ d₀ marks₀ list₀ bytes n state₀ i₀ a b counts cells roots waiting sections d marks list state i =
     n - i
 
 -- the places, from the last back: the record run (it stopped the run, or the loop goes on), the record read, the loop's test, the start
@@ -25,7 +25,7 @@ stopped c = search
 abbrev went-on : tie.Else1 Inv-loop μ-loop → tie.After-step Inv-loop μ-loop
 went-on c = search
 
-abbrev record-read : tie.After-step-arg8 Inv-loop μ-loop → tie.After-fields-at Inv-loop μ-loop
+abbrev record-read : tie.After-step-arg10 Inv-loop μ-loop → tie.After-fields-at Inv-loop μ-loop
 record-read c = search
 
 abbrev start : tie.At-loop Inv-loop μ-loop → tie.Start Inv-loop μ-loop
@@ -36,7 +36,7 @@ shaped-at : (c : tie.At-loop Inv-loop μ-loop) →
     let args = start c .args in
     Shaped (args .blocks) (args .width)
     (lentMemory (args .a .now) (args .b .now) (args .counts .now) (args .cells .now) (args .roots .now) (args .waiting .now)
-    (args .sections .now) (args .d .now))
+    (args .sections .now) (args .d .now) (args .marks .now) (args .list .now))
 shaped-at c = usable-healthy (start c .pre .0) .shape
 
 shaped-stop : (c : tie.After-step Inv-loop μ-loop) →
@@ -45,7 +45,7 @@ shaped-stop : (c : tie.After-step Inv-loop μ-loop) →
     Shaped (args .blocks) (args .width)
     (lentMemory (left .1 .1 .0) (left .1 .1 .1 .0) (left .1 .1 .1 .1 .0) (left .1 .1 .1 .1 .1 .0)
     (left .1 .1 .1 .1 .1 .1 .0) (left .1 .1 .1 .1 .1 .1 .1 .0) (left .1 .1 .1 .1 .1 .1 .1 .1 .0)
-    (left .1 .1 .1 .1 .1 .1 .1 .1 .1 .0))
+    (left .1 .1 .1 .1 .1 .1 .1 .1 .1 .0) (left .1 .1 .1 .1 .1 .1 .1 .1 .1 .1 .0) (left .1 .1 .1 .1 .1 .1 .1 .1 .1 .1 .1 .0))
 shaped-stop c =
     let read = record-read (c .before) in
     let test = read .before in
@@ -56,7 +56,8 @@ shaped-stop c =
 shaped-done : (c : tie.At-loop Inv-loop μ-loop) →
     let args = start c .args in
     let l = c .loop in
-    Shaped (args .blocks) (args .width) (lentMemory (l .a) (l .b) (l .counts) (l .cells) (l .roots) (l .waiting) (l .sections) (l .d))
+    Shaped (args .blocks) (args .width) (lentMemory (l .a) (l .b) (l .counts) (l .cells) (l .roots) (l .waiting) (l .sections) (l .d)
+    (l .marks) (l .list))
 shaped-done c = usable-healthy (c .loop .inv .usable) .shape
 
 loop-holds : tie.Need-loop-holds Inv-loop μ-loop
@@ -121,6 +122,8 @@ run-whole-spec =
     (λ c. shaped-stop (stopped c) .length-waiting ∙ sym (shaped-at (record-read (stopped c .before) .before .before) .length-waiting))
     (λ c. shaped-stop (stopped c) .length-sections ∙ sym (shaped-at (record-read (stopped c .before) .before .before) .length-sections))
     (λ c. shaped-stop (stopped c) .length-d ∙ sym (shaped-at (record-read (stopped c .before) .before .before) .length-d))
+    (λ c. shaped-stop (stopped c) .length-marks ∙ sym (shaped-at (record-read (stopped c .before) .before .before) .length-marks))
+    (λ c. shaped-stop (stopped c) .length-list ∙ sym (shaped-at (record-read (stopped c .before) .before .before) .length-list))
     returns
     add-i
     loop-less
@@ -133,4 +136,6 @@ run-whole-spec =
     (λ c. shaped-done (c .before .before) .length-waiting ∙ sym (shaped-at (c .before .before) .length-waiting))
     (λ c. shaped-done (c .before .before) .length-sections ∙ sym (shaped-at (c .before .before) .length-sections))
     (λ c. shaped-done (c .before .before) .length-d ∙ sym (shaped-at (c .before .before) .length-d))
+    (λ c. shaped-done (c .before .before) .length-marks ∙ sym (shaped-at (c .before .before) .length-marks))
+    (λ c. shaped-done (c .before .before) .length-list ∙ sym (shaped-at (c .before .before) .length-list))
     returns-2)

@@ -8,37 +8,37 @@ use Rattle.history_execution.proofs.acts.act.Statement.{statement}
 use Rattle.history_execution.proofs.acts.act.Tie as tie
 
 -- the places: the entry; each arm with its plan known, from where its call is made; that call made, from where the arm returns
-abbrev entry : tie.After-slice-known8 → tie.Start
+abbrev entry : tie.After-slice-known10 → tie.Start
 entry c = search
 
-abbrev allocating : tie.After-allocate-arg8 → tie.After-plan2
+abbrev allocating : tie.After-allocate-arg10 → tie.After-plan2
 allocating c = search
 
-abbrev root-storing : tie.After-store-root-arg8 → tie.After-plan3
+abbrev root-storing : tie.After-store-root-arg10 → tie.After-plan3
 root-storing c = search
 
-abbrev cell-storing : tie.After-store-cell-arg8 → tie.After-plan4
+abbrev cell-storing : tie.After-store-cell-arg10 → tie.After-plan4
 cell-storing c = search
 
-abbrev collecting : tie.After-collect-arg8 → tie.After-enum-told
+abbrev collecting : tie.After-collect-arg10 → tie.After-enum-told
 collecting c = search
 
-abbrev number-writing : tie.After-write-number-arg8 → tie.After-plan5
+abbrev number-writing : tie.After-write-number-arg10 → tie.After-plan5
 number-writing c = search
 
-abbrev allocated : tie.After-slice-known16 → tie.After-allocate
+abbrev allocated : tie.After-slice-known20 → tie.After-allocate
 allocated c = search
 
-abbrev root-stored : tie.After-slice-known24 → tie.After-store-root
+abbrev root-stored : tie.After-slice-known30 → tie.After-store-root
 root-stored c = search
 
-abbrev cell-stored : tie.After-slice-known31 → tie.After-store-cell
+abbrev cell-stored : tie.After-slice-known39 → tie.After-store-cell
 cell-stored c = search
 
-abbrev collected : tie.After-slice-known38 → tie.After-collect
+abbrev collected : tie.After-struct-known → tie.After-collect
 collected c = search
 
-abbrev number-written : tie.After-slice-known39 → tie.After-write-number
+abbrev number-written : tie.After-slice-known47 → tie.After-write-number
 number-written c = search
 
 enum-known-plan : tie.Need-enum-known-plan
@@ -126,6 +126,8 @@ act-spec =
     (λ c. allocated c .allocate .kept .1 .1 .1 .1 .1 .1 .1 .0)
     (λ c. allocated c .allocate .kept .1 .1 .1 .1 .1 .1 .1 .1 .0)
     (λ c. allocated c .allocate .kept .1 .1 .1 .1 .1 .1 .1 .1 .1 .0)
+    (λ c. allocated c .allocate .kept .1 .1 .1 .1 .1 .1 .1 .1 .1 .1 .0)
+    (λ c. allocated c .allocate .kept .1 .1 .1 .1 .1 .1 .1 .1 .1 .1 .1 .0)
     returns-2
     (λ c. root-stored c .store-root .kept .1 .1 .0)
     (λ c. root-stored c .store-root .kept .1 .1 .1 .0)
@@ -135,6 +137,8 @@ act-spec =
     (λ c. root-stored c .store-root .kept .1 .1 .1 .1 .1 .1 .1 .0)
     (λ c. root-stored c .store-root .kept .1 .1 .1 .1 .1 .1 .1 .1 .0)
     (λ c. root-stored c .store-root .kept .1 .1 .1 .1 .1 .1 .1 .1 .1 .0)
+    (λ c. root-stored c .store-root .kept .1 .1 .1 .1 .1 .1 .1 .1 .1 .1 .0)
+    (λ c. root-stored c .store-root .kept .1 .1 .1 .1 .1 .1 .1 .1 .1 .1 .1 .0)
     returns-3
     (λ c. cell-stored c .store-cell .kept .1 .1 .0)
     (λ c. cell-stored c .store-cell .kept .1 .1 .1 .0)
@@ -144,6 +148,8 @@ act-spec =
     (λ c. cell-stored c .store-cell .kept .1 .1 .1 .1 .1 .1 .1 .0)
     (λ c. cell-stored c .store-cell .kept .1 .1 .1 .1 .1 .1 .1 .1 .0)
     (λ c. cell-stored c .store-cell .kept .1 .1 .1 .1 .1 .1 .1 .1 .1 .0)
+    (λ c. cell-stored c .store-cell .kept .1 .1 .1 .1 .1 .1 .1 .1 .1 .1 .0)
+    (λ c. cell-stored c .store-cell .kept .1 .1 .1 .1 .1 .1 .1 .1 .1 .1 .1 .0)
     returns-4
     (λ c. collected c .collect .kept .1 .1 .0)
     (λ c. collected c .collect .kept .1 .1 .1 .0)
@@ -153,11 +159,15 @@ act-spec =
     (λ c. collected c .collect .kept .1 .1 .1 .1 .1 .1 .1 .0)
     (λ c. collected c .collect .kept .1 .1 .1 .1 .1 .1 .1 .1 .0)
     (λ c. collected c .collect .kept .1 .1 .1 .1 .1 .1 .1 .1 .1 .0)
+    (λ c. refl)
+    (λ c. refl)
     returns-5
     (λ c. refl)
     (λ c. refl)
     (λ c. refl)
     (λ c. number-written c .write-number .kept .1 .1 .1 .1 .1 .0)
+    (λ c. refl)
+    (λ c. refl)
     (λ c. refl)
     (λ c. refl)
     (λ c. refl)

@@ -6,45 +6,51 @@ use Rattle.public_example.proofs.OneList.{mixed}
 use Rattle.public_example.proofs.mixed.mixed_calls.Statement.{statement}
 use Rattle.public_example.proofs.mixed.mixed_calls.Tie as tie
 
--- the places at which the calls have just returned, from the end back
-abbrev collected : tie.After-slice-known49 → tie.After-collect
+-- the places at which the calls have just returned, from the end back, each from where its lists are known again
+abbrev collected : tie.After-slice-known59 → tie.After-collect
 collected c = search
 
-abbrev replayed-before : tie.After-collect → tie.After-replay
-replayed-before c = search
+abbrev replayed-known : tie.After-collect → tie.After-slice-known52
+replayed-known c = search
 
-abbrev replayed : tie.After-slice-known49 → tie.After-replay
-replayed c = replayed-before (collected c)
+abbrev replayed-at : tie.After-slice-known52 → tie.After-replay
+replayed-at c = search
 
-abbrev recorded-before : tie.After-replay → tie.After-run-records
-recorded-before c = search
+abbrev replayed : tie.After-slice-known59 → tie.After-replay
+replayed c = replayed-at (replayed-known (collected c))
 
-abbrev recorded : tie.After-slice-known49 → tie.After-run-records
-recorded c = recorded-before (replayed c)
+abbrev recorded-known : tie.After-replay → tie.After-slice-known41
+recorded-known c = search
 
-abbrev started-before : tie.After-run-records → tie.After-new-run
-started-before c = search
+abbrev recorded-at : tie.After-slice-known41 → tie.After-run-records
+recorded-at c = search
 
-abbrev started : tie.After-slice-known49 → tie.After-new-run
-started c = started-before (recorded c)
+abbrev recorded : tie.After-slice-known59 → tie.After-run-records
+recorded c = recorded-at (recorded-known (replayed c))
 
-abbrev allocated-before : tie.After-new-run → tie.After-allocate
-allocated-before c = search
+abbrev started-at : tie.After-run-records → tie.After-new-run
+started-at c = search
 
-abbrev allocated : tie.After-slice-known49 → tie.After-allocate
-allocated c = allocated-before (started c)
+abbrev started : tie.After-slice-known59 → tie.After-new-run
+started c = started-at (recorded c)
 
-abbrev accepted-before : tie.After-allocate → tie.Else1
-accepted-before c = search
+abbrev allocated-at : tie.After-new-run → tie.After-allocate
+allocated-at c = search
 
-abbrev accepted : tie.After-slice-known49 → tie.Else1
-accepted c = accepted-before (allocated c)
+abbrev allocated : tie.After-slice-known59 → tie.After-allocate
+allocated c = allocated-at (started c)
 
-abbrev formatted-before : tie.Else1 → tie.After-format
-formatted-before c = search
+abbrev accepted-at : tie.After-allocate → tie.Else1
+accepted-at c = search
 
-abbrev formatted : tie.After-slice-known49 → tie.After-format
-formatted c = formatted-before (accepted c)
+abbrev accepted : tie.After-slice-known59 → tie.Else1
+accepted c = accepted-at (allocated c)
+
+abbrev formatted-at : tie.Else1 → tie.After-format
+formatted-at c = search
+
+abbrev formatted : tie.After-slice-known59 → tie.After-format
+formatted c = formatted-at (accepted c)
 
 -- .. and where the format refuses
 abbrev refused : tie.Then1 → tie.After-format
@@ -93,6 +99,8 @@ mixed-calls-spec =
     (λ c. refused c .format .kept .1 .1 .1 .1 .1 .1 .1 .0)
     (λ c. refused c .format .kept .1 .1 .1 .1 .1 .1 .1 .1 .0)
     (λ c. refused c .format .kept .1 .1 .1 .1 .1 .1 .1 .1 .1 .0)
+    (λ c. refused c .format .kept .1 .1 .1 .1 .1 .1 .1 .1 .1 .1 .0)
+    (λ c. refused c .format .kept .1 .1 .1 .1 .1 .1 .1 .1 .1 .1 .1 .0)
     returns
     allocate-requires
     new-run-requires
@@ -138,5 +146,13 @@ mixed-calls-spec =
     ∙ recorded c .run-records .kept .1 .1 .1 .1 .1 .1 .1 .1 .1 .0
     ∙ allocated c .allocate .kept .1 .1 .1 .1 .1 .1 .1 .1 .1 .0
     ∙ formatted c .format .kept .1 .1 .1 .1 .1 .1 .1 .1 .1 .0)
-    (λ c. replayed c .replay .kept .1 .1 .1 .1 .1 .1 .1 .1 .1 .1 .1 .0)
+    (λ c. replayed c .replay .kept .1 .1 .1 .1 .1 .1 .1 .1 .1 .1 .0
+    ∙ recorded c .run-records .kept .1 .1 .1 .1 .1 .1 .1 .1 .1 .1 .0
+    ∙ allocated c .allocate .kept .1 .1 .1 .1 .1 .1 .1 .1 .1 .1 .0
+    ∙ formatted c .format .kept .1 .1 .1 .1 .1 .1 .1 .1 .1 .1 .0)
+    (λ c. replayed c .replay .kept .1 .1 .1 .1 .1 .1 .1 .1 .1 .1 .1 .0
+    ∙ recorded c .run-records .kept .1 .1 .1 .1 .1 .1 .1 .1 .1 .1 .1 .0
+    ∙ allocated c .allocate .kept .1 .1 .1 .1 .1 .1 .1 .1 .1 .1 .1 .0
+    ∙ formatted c .format .kept .1 .1 .1 .1 .1 .1 .1 .1 .1 .1 .1 .0)
+    (λ c. replayed c .replay .kept .1 .1 .1 .1 .1 .1 .1 .1 .1 .1 .1 .1 .1 .0)
     returns-2)

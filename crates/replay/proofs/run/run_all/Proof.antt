@@ -12,28 +12,28 @@ use Rattle.replay.proofs.run.run_all.Statement.{statement}
 use Rattle.replay.proofs.run.run_all.Tie as tie
 
 abbrev Inv-loop : tie.InvT-loop
-Inv-loop blocks width a₀ b₀ counts₀ cells₀ roots₀ waiting₀ sections₀ d₀ calls replies₀ n i₀ a b counts cells roots waiting sections d replies i =
-    Progress blocks width (lentMemory a₀ b₀ counts₀ cells₀ roots₀ waiting₀ sections₀ d₀) calls replies₀ i
-    (lentMemory a b counts cells roots waiting sections d) replies
+Inv-loop blocks width a₀ b₀ counts₀ cells₀ roots₀ waiting₀ sections₀ d₀ marks₀ list₀ calls replies₀ n i₀ a b counts cells roots waiting sections d marks list replies i =
+    Progress blocks width (lentMemory a₀ b₀ counts₀ cells₀ roots₀ waiting₀ sections₀ d₀ marks₀ list₀) calls replies₀ i
+    (lentMemory a b counts cells roots waiting sections d marks list) replies
 
 abbrev μ-loop : tie.MeasureT-loop
-μ-loop blocks width a₀ b₀ counts₀ cells₀ roots₀ waiting₀ sections₀ d₀ calls replies₀ n i₀ a b counts cells roots waiting sections d replies i =
+μ-loop blocks width a₀ b₀ counts₀ cells₀ roots₀ waiting₀ sections₀ d₀ marks₀ list₀ calls replies₀ n i₀ a b counts cells roots waiting sections d marks list replies i =
     length calls / 4 - i
 
 -- the places: the entry, the turn of the loop, the call made, its reply written
 abbrev entry : tie.At-loop Inv-loop μ-loop → tie.Start Inv-loop μ-loop
 entry c = search
 
-abbrev turn : tie.After-step-arg8 Inv-loop μ-loop → tie.In-loop Inv-loop μ-loop
+abbrev turn : tie.After-step-arg10 Inv-loop μ-loop → tie.In-loop Inv-loop μ-loop
 turn c = search
 
-abbrev read-at : tie.After-step-arg8 Inv-loop μ-loop → tie.After-call-at Inv-loop μ-loop
+abbrev read-at : tie.After-step-arg10 Inv-loop μ-loop → tie.After-call-at Inv-loop μ-loop
 read-at c = search
 
 abbrev made : tie.After-put-reply-arg Inv-loop μ-loop → tie.After-step Inv-loop μ-loop
 made c = search
 
-abbrev put : tie.After-slice-known18 Inv-loop μ-loop → tie.After-put-reply Inv-loop μ-loop
+abbrev put : tie.After-slice-known22 Inv-loop μ-loop → tie.After-put-reply Inv-loop μ-loop
 put c = search
 
 -- in a turn there is a call left
@@ -82,14 +82,15 @@ shaped-now : (c : tie.After-loop Inv-loop μ-loop) →
     let l = c .before .loop in
     let args = entry (c .before) .args in
     Shaped (args .blocks) (args .width)
-    (lentMemory (l .a) (l .b) (l .counts) (l .cells) (l .roots) (l .waiting) (l .sections) (l .d))
+    (lentMemory (l .a) (l .b) (l .counts) (l .cells) (l .roots) (l .waiting) (l .sections) (l .d) (l .marks)
+    (l .list))
 shaped-now c = usable-healthy (c .before .loop .inv .usable) .shape
 
 shaped-before : (c : tie.After-loop Inv-loop μ-loop) →
     let args = entry (c .before) .args in
     Shaped (args .blocks) (args .width)
     (lentMemory (args .a .now) (args .b .now) (args .counts .now) (args .cells .now) (args .roots .now) (args .waiting .now)
-    (args .sections .now) (args .d .now))
+    (args .sections .now) (args .d .now) (args .marks .now) (args .list .now))
 shaped-before c = usable-healthy (entry (c .before) .pre .0) .shape
 
 returns : tie.Need-returns Inv-loop μ-loop
@@ -116,5 +117,7 @@ run-all-spec =
     (λ c. shaped-now c .length-waiting ∙ sym (shaped-before c .length-waiting))
     (λ c. shaped-now c .length-sections ∙ sym (shaped-before c .length-sections))
     (λ c. shaped-now c .length-d ∙ sym (shaped-before c .length-d))
+    (λ c. shaped-now c .length-marks ∙ sym (shaped-before c .length-marks))
+    (λ c. shaped-now c .length-list ∙ sym (shaped-before c .length-list))
     (λ c. c .before .loop .inv .replies-length)
     returns)

@@ -16,7 +16,8 @@ use Rattle.replay_words.proofs.tests.replay_reply.Tie as tie
 -- past the first test the shape is right, past the third each call is a call
 shaped : (c : tie.Else1) →
     let args = c .before .before .before .args in
-    shape (args .blocks) (args .width) (args .a) (args .b) (args .counts) (args .cells) (args .roots) (args .waiting) (args .sections) (args .d)
+    shape (args .blocks) (args .width) (args .a) (args .b) (args .counts) (args .cells) (args .roots) (args .waiting) (args .sections) (args .d) (args .marks)
+    (args .list)
     ≡ true
 shaped c = sym (c .before .is-shaped .ensures) ∙ not-false _ (c .if1 .left)
 
