@@ -1,5 +1,5 @@
-/* A list of three objects, through the struct of huwekapo_heap.h: built, walked, let go; the largest free chunk beside it; and
- * a pair that only a collection frees. */
+/* A list of three objects, through the struct of huwekapo_heap.h: built, walked, let go; the largest free chunk beside it; a pair
+ * that only a collection frees; and a list that a collection in small steps walks, while the program goes on. */
 #include "huwekapo_heap.h"
 
 #include <stdio.h>
@@ -17,6 +17,16 @@ static size_t value(const char *call, struct huwekapo_reply reply) {
     return reply.value;
 }
 
+/* A list of three objects in the root LIST. */
+static void make_list(struct huwekapo_heap *heap) {
+    for (size_t size = 1; size <= 3; size++) {
+        size_t node = value("allocate", huwekapo_heap_allocate(heap, size, NODE));
+        value("store", huwekapo_heap_store_cell(heap, node, 0, heap->roots[LIST]));
+        value("store", huwekapo_heap_store_root(heap, LIST, HUWEKAPO_REFERENCE(node)));
+    }
+    value("store", huwekapo_heap_store_root(heap, NODE, 0));
+}
+
 int main(void) {
     if (!HUWEKAPO_IS_THIS_LIBRARY()) {
         fprintf(stderr, "heap: this is for libhuwekapo %s, and another is linked\n", HUWEKAPO_VERSION);
@@ -25,12 +35,7 @@ int main(void) {
     struct huwekapo_heap heap = huwekapo_heap_in(memory, BLOCKS, WIDTH, ROOTS);
     value("format", huwekapo_heap_format(&heap));
     printf("huwekapo %s: %zu blocks, counts up to %d\n", HUWEKAPO_VERSION, heap.blocks, HUWEKAPO_CAPACITY(WIDTH));
-    for (size_t size = 1; size <= 3; size++) {
-        size_t node = value("allocate", huwekapo_heap_allocate(&heap, size, NODE));
-        value("store", huwekapo_heap_store_cell(&heap, node, 0, heap.roots[LIST]));
-        value("store", huwekapo_heap_store_root(&heap, LIST, HUWEKAPO_REFERENCE(node)));
-    }
-    value("store", huwekapo_heap_store_root(&heap, NODE, 0));
+    make_list(&heap);
     for (size_t v = heap.roots[LIST]; v != 0; v = heap.cells[HUWEKAPO_CELL(HUWEKAPO_BLOCK(v), 0)]) {
         struct huwekapo_reply look = huwekapo_heap_look(&heap, HUWEKAPO_BLOCK(v));
         printf("an object of %zu blocks at block %zu, count %zu\n", look.value, HUWEKAPO_BLOCK(v), look.second);
@@ -46,5 +51,16 @@ int main(void) {
     value("store", huwekapo_heap_store_cell(&heap, second, 0, HUWEKAPO_REFERENCE(first)));
     printf("two that name each other: returning both roots frees %zu blocks,", value("return", huwekapo_heap_return_roots(&heap, 3)));
     printf(" a collection %zu\n", value("collect", huwekapo_heap_collect(&heap)));
+
+    make_list(&heap);
+    size_t alone = value("allocate", huwekapo_heap_allocate(&heap, 4, NODE));
+    value("store", huwekapo_heap_store_cell(&heap, alone, 0, HUWEKAPO_REFERENCE(alone)));
+    value("store", huwekapo_heap_store_root(&heap, NODE, 0));
+    value("open", huwekapo_heap_open_collection(&heap));
+    while (huwekapo_heap_is_open(&heap)) {
+        struct huwekapo_reply steps = huwekapo_heap_step_collection(&heap, 2);
+        printf("steps taken: %zu, blocks freed: %zu\n", value("step", steps), steps.second);
+        value("allocate", huwekapo_heap_allocate(&heap, 1, NODE));
+    }
     return 0;
 }

@@ -8,17 +8,17 @@
 
 enum { BLOCKS = 8, WIDTH = 2, ROOTS = 4 };
 
-static uint8_t a[BLOCKS / 8], b[BLOCKS / 8], counts[WIDTH * BLOCKS / 8], data[BLOCKS / 8];
-static uint16_t cells[4 * BLOCKS], roots[ROOTS], waiting[BLOCKS], sections[HUWEKAPO_SECTIONS_LENGTH(BLOCKS)];
+static uint8_t a[BLOCKS / 8], b[BLOCKS / 8], counts[WIDTH * BLOCKS / 8], data[BLOCKS / 8], marks[BLOCKS / 8];
+static uint16_t cells[4 * BLOCKS], roots[ROOTS], waiting[BLOCKS], sections[HUWEKAPO_SECTIONS_LENGTH(BLOCKS)], list[BLOCKS + 1];
 
-/* The eight lent buffers. */
+/* The ten lent buffers. */
 #define HEAP \
     BLOCKS, WIDTH, a, sizeof a, b, sizeof b, counts, sizeof counts, cells, 4 * BLOCKS, roots, ROOTS, waiting, BLOCKS, \
-        sections, HUWEKAPO_SECTIONS_LENGTH(BLOCKS), data, sizeof data
+        sections, HUWEKAPO_SECTIONS_LENGTH(BLOCKS), data, sizeof data, marks, sizeof marks, list, BLOCKS + 1
 
 /* P1 as a list for replay, with one word behind the replies. */
 static const uint64_t p1[] = {2, 2, 0, 0, 2, 1, 1, 0, 2, 3, 2, 0, 6, 4, 0, 0};
-static uint64_t replies[15];
+static uint64_t replies[18];
 
 static int failures = 0;
 
@@ -152,6 +152,52 @@ static void replay_numbers(void) {
     expect("read cell 3 of 0", huwekapo_read_number(HEAP, 0, 3), HUWEKAPO_ACCEPTED, 65535, 0);
 }
 
+/* The mark map and the first two places of the list, with its last. */
+static void expect_progress(int map, int first, int second, int last) {
+    printf("marks = %d, list = %d, %d .. %d  ", marks[0], list[0], list[1], list[BLOCKS]);
+    verdict(marks[0] == map && list[0] == first && list[1] == second && list[BLOCKS] == last);
+}
+
+/* A collection in small steps. Root 0 names the object at 0, which names that at 1; those at 2 and 3 name each other. */
+static void step_by_step(void) {
+    expect("format", huwekapo_format(HEAP), HUWEKAPO_ACCEPTED, 0, 0);
+    for (size_t root = 0; root < ROOTS; root++) {
+        expect("allocate 1 into each root", huwekapo_allocate(HEAP, 1, root), HUWEKAPO_ACCEPTED, root, 0);
+    }
+    expect("store 2 in cell 0 of 0", huwekapo_store_cell(HEAP, 0, 0, 2), HUWEKAPO_ACCEPTED, 0, 0);
+    expect("store 4 in cell 0 of 2", huwekapo_store_cell(HEAP, 2, 0, 4), HUWEKAPO_ACCEPTED, 0, 0);
+    expect("store 3 in cell 0 of 3", huwekapo_store_cell(HEAP, 3, 0, 3), HUWEKAPO_ACCEPTED, 0, 0);
+    expect("return roots 1, 2 and 3", huwekapo_return_roots(HEAP, 14), HUWEKAPO_ACCEPTED, 0, 0);
+    expect("1 step, none open", huwekapo_step_collection(HEAP, 1), HUWEKAPO_OUT_OF_TURN, 0, 0);
+    expect("open", huwekapo_open_collection(HEAP), HUWEKAPO_ACCEPTED, 0, 0);
+    expect_progress(1, 1, 0, 1);
+    expect("open, one open", huwekapo_open_collection(HEAP), HUWEKAPO_OUT_OF_TURN, 0, 0);
+    expect("collect, one open", huwekapo_collect(HEAP), HUWEKAPO_OUT_OF_TURN, 0, 0);
+    expect("0 steps", huwekapo_step_collection(HEAP, 0), HUWEKAPO_ACCEPTED, 0, 0);
+    expect("1 step", huwekapo_step_collection(HEAP, 1), HUWEKAPO_ACCEPTED, 1, 0);
+    expect_progress(3, 2, 0, 1);
+    /* Born marked, and not listed. */
+    expect("allocate 2 of data, root 1", huwekapo_allocate_data(HEAP, 2, 1), HUWEKAPO_ACCEPTED, 4, 0);
+    expect_progress(19, 2, 0, 1);
+    /* A mark where no object starts: refused 13, before anything that the arguments say. */
+    marks[0] = 19 + 128;
+    expect("allocate 9 into root 4", huwekapo_allocate(HEAP, 9, 4), HUWEKAPO_BAD_MARKS, 0, 0);
+    marks[0] = 19;
+    expect("at most 9 steps", huwekapo_step_collection(HEAP, 9), HUWEKAPO_ACCEPTED, 1, 2);
+    expect_progress(0, 0, 0, 0);
+    expect("free blocks", huwekapo_free_blocks(HEAP), HUWEKAPO_ACCEPTED, 4, 0);
+}
+
+/* The same in a list: an object that names itself, opened and stepped. */
+static const uint64_t step_list[] = {2, 1, 0, 0, 4, 0, 0, 1, 3, 0, 0, 0, 12, 0, 0, 0, 13, 5, 0, 0, 13, 5, 0, 0};
+
+static void replay_steps(void) {
+    expect("replay steps", huwekapo_replay(HEAP, step_list, 24, replies, 18), HUWEKAPO_ACCEPTED, 6, 0);
+    expect("  open", replied(3), HUWEKAPO_ACCEPTED, 0, 0);
+    expect("  at most 5 steps", replied(4), HUWEKAPO_ACCEPTED, 0, 1);
+    expect("  5 steps, none open", replied(5), HUWEKAPO_OUT_OF_TURN, 0, 0);
+}
+
 int main(void) {
     expect("format", huwekapo_format(HEAP), HUWEKAPO_ACCEPTED, 0, 0);
     expect_section(BLOCKS);
@@ -178,9 +224,11 @@ int main(void) {
     expect("store 1 in root 2", huwekapo_store_root(HEAP, 2, 1), HUWEKAPO_ACCEPTED, 0, 1);
     expect("store 1 in root 3", huwekapo_store_root(HEAP, 3, 1), HUWEKAPO_ACCEPTED, 0, 0);
     write_pixels();
+    step_by_step();
     replay_p1();
     replay_wide();
     replay_numbers();
+    replay_steps();
     puts(failures == 0 ? "paper: ok" : "paper: DIFFERENT");
     return failures != 0;
 }

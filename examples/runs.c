@@ -8,13 +8,13 @@
 
 enum { BLOCKS = 8192, WIDTH = 3, ROOTS = 64 };
 
-static uint8_t a[BLOCKS / 8], b[BLOCKS / 8], counts[WIDTH * BLOCKS / 8], data[BLOCKS / 8];
-static uint16_t cells[4 * BLOCKS], roots[ROOTS], waiting[BLOCKS], sections[HUWEKAPO_SECTIONS_LENGTH(BLOCKS)];
+static uint8_t a[BLOCKS / 8], b[BLOCKS / 8], counts[WIDTH * BLOCKS / 8], data[BLOCKS / 8], marks[BLOCKS / 8];
+static uint16_t cells[4 * BLOCKS], roots[ROOTS], waiting[BLOCKS], sections[HUWEKAPO_SECTIONS_LENGTH(BLOCKS)], list[BLOCKS + 1];
 
-/* The eight lent buffers. */
+/* The ten lent buffers. */
 #define HEAP \
     BLOCKS, WIDTH, a, sizeof a, b, sizeof b, counts, sizeof counts, cells, 4 * BLOCKS, roots, ROOTS, waiting, BLOCKS, \
-        sections, HUWEKAPO_SECTIONS_LENGTH(BLOCKS), data, sizeof data
+        sections, HUWEKAPO_SECTIONS_LENGTH(BLOCKS), data, sizeof data, marks, sizeof marks, list, BLOCKS + 1
 
 /* The most records of a history. */
 #define MOST_RECORDS ((size_t)4294967295u)
@@ -36,6 +36,9 @@ static const uint8_t no_room[] = {
 static const uint8_t pixels[] = {
     7, 0, 0, 0, 0, 0, 2, 0, 8, 0, 0, 0, 7, 0, 255, 255, 1, 1, 0, 0, 0, 0, 1, 0, 3, 0, 1, 0, 0, 0, 0, 0,
 };
+
+/* Collects. */
+static const uint8_t collect[] = {6, 0, 0, 0, 0, 0, 0, 0};
 
 /* A new run: all 0, as statics are. */
 static struct huwekapo_run new_run;
@@ -137,6 +140,18 @@ static void limit(void) {
     expect_free(BLOCKS - 2);
 }
 
+/* While a collection in small steps is open, a record that collects stops the run; and where there is no room none is forced, so
+ * that none is counted. */
+static void with_one_open(void) {
+    (void)huwekapo_format(HEAP);
+    (void)huwekapo_open_collection(HEAP);
+    expect("a record that collects, one open", huwekapo_run_records(HEAP, new_run, collect, sizeof collect), HUWEKAPO_ACCEPTED,
+           run_of(14, 0, 0, 0, 0, 0, 0, 0));
+    expect("no room, one open", huwekapo_run_records(HEAP, new_run, no_room, sizeof no_room), HUWEKAPO_ACCEPTED,
+           run_of(5, 3, 3, 6145, 4096, 0, 6145, 0));
+    expect_free(BLOCKS - 6145);
+}
+
 /* Refused before the run is looked at, which is out of range itself. */
 static void expect_refused(const char *what, size_t number, size_t value) {
     struct huwekapo_ran ran = huwekapo_run_records(HEAP, run_of(0, 0, 1, 0, 0, 0, 0, 0), history, EXAMPLE);
@@ -183,8 +198,11 @@ int main(void) {
     verdict(data[0] == 1 && cells[7] == 65535);
     stopped();
     limit();
+    with_one_open();
     out_of_range();
-    /* A stale list comes before 19, and damage before both. */
+    /* A mark while no collection is open comes before 19, a stale list before it, and damage before both. */
+    marks[0] = 1;
+    expect_refused("a mark, none open", HUWEKAPO_BAD_MARKS, 0);
     sections[31] = 255;
     expect_refused("a stale list of sections", HUWEKAPO_STALE_SECTIONS, 0);
     b[0] = 254;

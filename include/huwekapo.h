@@ -1,6 +1,6 @@
 /* Huwekapo: a heap of 16-byte blocks in bitmaps, with limited reference counts.
  *
- * The caller lends the heap's eight buffers to every call, each as a pointer and a length in elements, in this order:
+ * The caller lends the heap's ten buffers to every call, each as a pointer and a length in elements, in this order:
  *
  *   a         blocks / 8 bytes           A-map: 1 is allocated, 0 is free
  *   b         blocks / 8 bytes           B-map: 0 on the last block of each object, 1 everywhere else
@@ -11,6 +11,9 @@
  *   waiting   blocks numbers             working space
  *   sections  blocks / 256 numbers       the size of the largest free chunk of each section, 0 where it has none
  *   data      blocks / 8 bytes           D-map: 1 on the first block of each object made as data, 0 everywhere else
+ *   marks     blocks / 8 bytes           mark map: while a collection is open, 1 on the first block of each object it has met
+ *   list      blocks + 1 numbers         1 + the first blocks of the marked objects that it has still to look at, strictly
+ *                                        rising, then 0s; the last place is 1 while a collection is open and else 0
  *
  * blocks is a power of two from 8 to 8,192; width, the count width, is 1 to 4 bits. Block i is bit i % 8 (bit 0 is the
  * least) of byte i / 8 of a map. A chunk is s blocks starting at a multiple of s, s a power of two. A section is 256 blocks;
@@ -19,27 +22,36 @@
  * Every call may be made with any arguments and any content of the buffers: what is wrong is refused by a number, and a
  * refusal changes no buffer. Arguments are whole words, and nothing of them is cut off: a v of 65,537 is refused 8. Only the
  * number that is written into data is as wide as a cell: any such number is right. Format, both allocations, both stores, the
- * return, collect, replay and runs of records leave `waiting` all 0, and `sections` as it must be, when accepted; the write of
- * a number changes one cell and nothing else; check, look, free blocks and the read of a number write nothing.
+ * return, collect, steps, replay and runs of records leave `waiting` all 0, and `sections` as it must be, when accepted; the
+ * opening of a collection writes `marks` and `list` and nothing else; the write of a number changes one cell and nothing else;
+ * check, look, free blocks and the read of a number write nothing.
  *
  * The cells of data are never followed, counted or checked as references, whatever they hold. What roots and cells name may be
  * data. When data is freed, its cells become 0, and its D bit too.
  *
+ * A collection is made at once by collect, or in small steps: it is opened, stepped, and closes in the call of steps that leaves
+ * the list empty. While one is open, every call but collect and a second opening may be made. Objects are born marked then. A
+ * store that changes a value, an allocation's too, marks and lists what is unmarked among the object written to, the old and the
+ * new one; clearing a freed object's cells marks and lists the unmarked ones that they named; a freed object leaves both. While
+ * none is open, `marks` and `list` are all 0. Nothing that a root leads to is ever freed. What no root led to at the opening, and
+ * none of those objects of a later store was or led to, is gone at the close. The steps from the opening to the close are at
+ * most the objects present at the opening.
+ *
  * The buffers, the two lists of replay and the bytes of a run must not overlap, and each pointer must be good for its length,
  * and not null even where that is 0.
  *
- * huwekapo_heap.h has the eight buffers as one struct, and the same calls on it.
+ * huwekapo_heap.h has the ten buffers as one struct, and the same calls on it.
  *
  * Link libhuwekapo, which `bash install.sh PREFIX` makes (`pkg-config --cflags --libs huwekapo`), or libcapi.a, which it is made
  * of. What a device has to bring:
  *
- *   - x86-64, and of a C library memset alone. Nothing is allocated, nothing is printed, and there is no global state: heaps in
- *     different buffers may be used by different threads at once. Calls on one heap must not overlap in time.
- *   - Stack: less than 18,000 bytes in every call but format and replay, which take less than 2,000, whatever the size of the heap.
- *     Recursion goes six deep at most, over the halves of a section.
- *   - Time: every call but format and replay tests the whole heap before it does anything, and a run of records tests it once for
- *     each piece. Many calls at a time are therefore best made by replay, or by a run of records in long pieces.
- *   - Alignment: the numbers of cells, roots, waiting and sections are aligned as uint16_t is, those of replay's lists as
+ *   - x86-64, and of a C library memset and memcpy alone. Nothing is allocated, nothing is printed, and there is no global state:
+ *     heaps in different buffers may be used by different threads at once. Calls on one heap must not overlap in time.
+ *   - Stack: less than 18,000 bytes in every call but format and replay, which take less than 2,000 and 5,000, whatever the size
+ *     of the heap. Recursion goes six deep at most, over the halves of a section.
+ *   - Time: every call but format and replay tests the whole heap before it does anything, steps too, and a run of records tests
+ *     it once for each piece. Many calls at a time are therefore best made by replay, or by a run of records in long pieces.
+ *   - Alignment: the numbers of cells, roots, waiting, sections and list are aligned as uint16_t is, those of replay's lists as
  *     uint64_t is.
  */
 #ifndef HUWEKAPO_H
@@ -51,13 +63,13 @@
 /* The version of this header, and of the library that it goes with. What changes an argument, a struct or a buffer raises the
  * minor number, and with it the shared library's name. */
 #define HUWEKAPO_VERSION_MAJOR 0
-#define HUWEKAPO_VERSION_MINOR 4
+#define HUWEKAPO_VERSION_MINOR 5
 #define HUWEKAPO_VERSION_PATCH 0
-#define HUWEKAPO_VERSION "0.4.0"
+#define HUWEKAPO_VERSION "0.5.0"
 #define HUWEKAPO_VERSION_NUMBER (1000000 * HUWEKAPO_VERSION_MAJOR + 1000 * HUWEKAPO_VERSION_MINOR + HUWEKAPO_VERSION_PATCH)
 
 /* The number of buffers that every call takes. */
-#define HUWEKAPO_BUFFER_COUNT 8
+#define HUWEKAPO_BUFFER_COUNT 10
 
 /* The limits. */
 #define HUWEKAPO_MIN_BLOCKS 8
@@ -75,6 +87,8 @@
 #define HUWEKAPO_WAITING_LENGTH(blocks) (blocks)
 #define HUWEKAPO_SECTIONS_LENGTH(blocks) ((blocks) < 256 ? 1 : (blocks) / 256)
 #define HUWEKAPO_DATA_LENGTH(blocks) ((blocks) / 8)
+#define HUWEKAPO_MARKS_LENGTH(blocks) ((blocks) / 8)
+#define HUWEKAPO_LIST_LENGTH(blocks) ((blocks) + 1)
 
 /* The blocks of a section. */
 #define HUWEKAPO_SECTION_BLOCKS(blocks) ((blocks) / HUWEKAPO_SECTIONS_LENGTH(blocks))
@@ -108,9 +122,9 @@ size_t huwekapo_buffers(void);
 
 /* A number and its values. `number` is 0 where the call was accepted, else the first that applies of the refusals that the
  * call names, in the order in which it names them. A refusal carries value 0, or the damage kind for number 2. `second` is the
- * count that a look finds; of an accepted allocation, of data too, or of an accepted store of a reference it is 1 where this
- * call brought the count of the object that it stores to the capacity, at which the object is stuck, and 0 where not. Else it
- * is 0. */
+ * count that a look finds, or the number of blocks that accepted steps freed; of an accepted allocation, of data too, or of an
+ * accepted store of a reference it is 1 where this call brought the count of the object that it stores to the capacity, at which
+ * the object is stuck, and 0 where not. Else it is 0. */
 struct huwekapo_reply {
     size_t number;
     size_t value;
@@ -128,13 +142,17 @@ enum huwekapo_number {
     HUWEKAPO_NO_OBJECT = 6,     /* `at` is not a first block (or not below blocks) */
     HUWEKAPO_BAD_CELL = 7,      /* j is not below 4 times the object's size */
     HUWEKAPO_BAD_REFERENCE = 8, /* v is neither 0 nor 1 + a first block */
-    HUWEKAPO_NO_CALL = 9,       /* an entry is no call: its code is above 11, or it writes a number above 65,535. A record is
+    HUWEKAPO_NO_CALL = 9,       /* an entry is no call: its code is above 13, or it writes a number above 65,535. A record is
                                    none: its operation is unknown, or a field that the operation does not name is not 0 */
     HUWEKAPO_CUT_OFF = 10,      /* the list ends inside a call. A history ends inside a record, or goes on past
                                    4,294,967,295 records */
     HUWEKAPO_STALE_SECTIONS = 11, /* a number of `sections` is not the size of the largest free chunk of its section */
     HUWEKAPO_WRONG_KIND = 12,   /* a reference is stored in a cell of data, or read from one; or a number is written or read
                                    where the object is not data */
+    HUWEKAPO_BAD_MARKS = 13,    /* while a collection is open: the list is not of its form or holds an object that is unmarked, a
+                                   mark is not on a first block, or a root, or a marked object that is not on the list, names
+                                   an unmarked one. While none is: a mark or a place of the list is not 0 */
+    HUWEKAPO_OUT_OF_TURN = 14,  /* a step while no collection is open; an opening or a full collection while one is */
     HUWEKAPO_SHORT_REPLIES = 18, /* `replies` is too short for the replies of all calls */
     HUWEKAPO_BAD_RUN = 19       /* the run handed in is out of range */
 };
@@ -166,7 +184,9 @@ enum huwekapo_code {
     HUWEKAPO_CODE_RETURN_ROOTS = 8,
     HUWEKAPO_CODE_ALLOCATE_DATA = 9,
     HUWEKAPO_CODE_WRITE_NUMBER = 10,
-    HUWEKAPO_CODE_READ_NUMBER = 11
+    HUWEKAPO_CODE_READ_NUMBER = 11,
+    HUWEKAPO_CODE_OPEN_COLLECTION = 12,
+    HUWEKAPO_CODE_STEP_COLLECTION = 13
 };
 
 /* The operations of a history's records. */
@@ -182,13 +202,15 @@ enum huwekapo_operation {
 };
 
 /* The parameters that every call begins with: blocks, width, and the buffers in their order, each as a pointer and a length in
- * elements. Four macros have them: HUWEKAPO_BUFFERS for a call that may write every buffer, HUWEKAPO_BUFFERS_BUT_ROOTS for one
- * that may write every buffer but the roots, HUWEKAPO_CONST_BUFFERS_BUT_CELLS for one that may write the cells alone,
- * HUWEKAPO_CONST_BUFFERS for one that writes none. So huwekapo_look is
+ * elements. Six macros have them: HUWEKAPO_BUFFERS for a call that may write every buffer, HUWEKAPO_BUFFERS_BUT_ROOTS for one
+ * that may write every buffer but the roots, HUWEKAPO_BUFFERS_BUT_ROOTS_AND_MARKS for one that may write every buffer but the
+ * roots, `marks` and `list`, HUWEKAPO_CONST_BUFFERS_BUT_CELLS for one that may write the cells alone,
+ * HUWEKAPO_CONST_BUFFERS_BUT_MARKS for one that may write `marks` and `list` alone, HUWEKAPO_CONST_BUFFERS for one that writes
+ * none. So huwekapo_look is
  *
  *     struct huwekapo_reply huwekapo_look(size_t blocks, size_t width, const uint8_t *a, size_t a_length, .., size_t at);
  */
-#define HUWEKAPO_BUFFERS_(byte, number, cell, root) \
+#define HUWEKAPO_BUFFERS_(byte, number, cell, root, mark, place) \
     size_t blocks, size_t width, \
     byte *a, size_t a_length, \
     byte *b, size_t b_length, \
@@ -197,55 +219,74 @@ enum huwekapo_operation {
     root *roots, size_t roots_length, \
     number *waiting, size_t waiting_length, \
     number *sections, size_t sections_length, \
-    byte *data, size_t data_length
-#define HUWEKAPO_BUFFERS HUWEKAPO_BUFFERS_(uint8_t, uint16_t, uint16_t, uint16_t)
-#define HUWEKAPO_BUFFERS_BUT_ROOTS HUWEKAPO_BUFFERS_(uint8_t, uint16_t, uint16_t, const uint16_t)
-#define HUWEKAPO_CONST_BUFFERS_BUT_CELLS HUWEKAPO_BUFFERS_(const uint8_t, const uint16_t, uint16_t, const uint16_t)
-#define HUWEKAPO_CONST_BUFFERS HUWEKAPO_BUFFERS_(const uint8_t, const uint16_t, const uint16_t, const uint16_t)
+    byte *data, size_t data_length, \
+    mark *marks, size_t marks_length, \
+    place *list, size_t list_length
+#define HUWEKAPO_BUFFERS HUWEKAPO_BUFFERS_(uint8_t, uint16_t, uint16_t, uint16_t, uint8_t, uint16_t)
+#define HUWEKAPO_BUFFERS_BUT_ROOTS HUWEKAPO_BUFFERS_(uint8_t, uint16_t, uint16_t, const uint16_t, uint8_t, uint16_t)
+#define HUWEKAPO_BUFFERS_BUT_ROOTS_AND_MARKS \
+    HUWEKAPO_BUFFERS_(uint8_t, uint16_t, uint16_t, const uint16_t, const uint8_t, const uint16_t)
+#define HUWEKAPO_CONST_BUFFERS_BUT_CELLS \
+    HUWEKAPO_BUFFERS_(const uint8_t, const uint16_t, uint16_t, const uint16_t, const uint8_t, const uint16_t)
+#define HUWEKAPO_CONST_BUFFERS_BUT_MARKS \
+    HUWEKAPO_BUFFERS_(const uint8_t, const uint16_t, const uint16_t, const uint16_t, uint8_t, uint16_t)
+#define HUWEKAPO_CONST_BUFFERS \
+    HUWEKAPO_BUFFERS_(const uint8_t, const uint16_t, const uint16_t, const uint16_t, const uint8_t, const uint16_t)
 
 /* Makes an empty heap of whatever the buffers held: b is all ones, each number of sections the blocks of a section,
  * every other buffer all 0. The value is 0. Refusals: 1. */
 struct huwekapo_reply huwekapo_format(HUWEKAPO_BUFFERS);
 
-/* Tests the whole heap. The value is 0. Refusals: 1, 2, 11. */
+/* Tests the whole heap. The value is 0. Refusals: 1, 2, 11, 13. */
 struct huwekapo_reply huwekapo_check(HUWEKAPO_CONST_BUFFERS);
 
 /* Allocates n blocks into root r. The value is the first block, `second` whether the new object is stuck, as it is at width 1.
- * Refusals: 1, 2, 11, 3, 4, 5. */
+ * Refusals: 1, 2, 11, 13, 3, 4, 5. */
 struct huwekapo_reply huwekapo_allocate(HUWEKAPO_BUFFERS, size_t n, size_t r);
 
 /* Stores v in root r. The value is the number of blocks freed, `second` whether the object that v names became stuck. Where
- * the root holds v already, only the waiting list is written. Refusals: 1, 2, 11, 4, 8. */
+ * the root holds v already, only the waiting list is written. Refusals: 1, 2, 11, 13, 4, 8. */
 struct huwekapo_reply huwekapo_store_root(HUWEKAPO_BUFFERS, size_t r, size_t v);
 
 /* Stores v in cell j of the object at block `at`. The value is the number of blocks freed, `second` whether the object that v
- * names became stuck. Where the cell holds v already, only the waiting list is written. Refusals: 1, 2, 11, 6, 7, 12, 8. */
+ * names became stuck. Where the cell holds v already, only the waiting list is written. Refusals: 1, 2, 11, 13, 6, 7, 12, 8. */
 struct huwekapo_reply huwekapo_store_cell(HUWEKAPO_BUFFERS_BUT_ROOTS, size_t at, size_t j, size_t v);
 
 /* Clears the roots of a set, bit r of `chosen` for root r, as stores of 0 do one after another. The value is the number of
- * blocks freed in all. Refusals: 1, 2, 11, 4. */
+ * blocks freed in all. Refusals: 1, 2, 11, 13, 4. */
 struct huwekapo_reply huwekapo_return_roots(HUWEKAPO_BUFFERS, uint64_t chosen);
 
 /* Frees the objects that no root reaches, and counts the references of the others anew. The value is the number of blocks
- * freed. Refusals: 1, 2, 11. */
-struct huwekapo_reply huwekapo_collect(HUWEKAPO_BUFFERS_BUT_ROOTS);
+ * freed. Refusals: 1, 2, 11, 13, 14. */
+struct huwekapo_reply huwekapo_collect(HUWEKAPO_BUFFERS_BUT_ROOTS_AND_MARKS);
 
-/* Looks at the object at block `at`. The value is its size in blocks, `second` its count. Refusals: 1, 2, 11, 6. */
+/* Looks at the object at block `at`. The value is its size in blocks, `second` its count. Refusals: 1, 2, 11, 13, 6. */
 struct huwekapo_reply huwekapo_look(HUWEKAPO_CONST_BUFFERS, size_t at);
 
-/* Counts the free blocks. The value is their number. Refusals: 1, 2, 11. */
+/* Counts the free blocks. The value is their number. Refusals: 1, 2, 11, 13. */
 struct huwekapo_reply huwekapo_free_blocks(HUWEKAPO_CONST_BUFFERS);
 
 /* Allocates n blocks of data into root r, as huwekapo_allocate does, and with its replies. The cells are 0. Refusals: 1, 2, 11,
- * 3, 4, 5. */
+ * 13, 3, 4, 5. */
 struct huwekapo_reply huwekapo_allocate_data(HUWEKAPO_BUFFERS, size_t n, size_t r);
 
 /* Writes v into cell j of the data at block `at`, and changes nothing else, `waiting` neither. The value is 0. Refusals: 1, 2,
- * 11, 6, 7, 12. C makes 65,537 a 1 on the way into v: the caller has to see to it that it fits. */
+ * 11, 13, 6, 7, 12. C makes 65,537 a 1 on the way into v: the caller has to see to it that it fits. */
 struct huwekapo_reply huwekapo_write_number(HUWEKAPO_CONST_BUFFERS_BUT_CELLS, size_t at, size_t j, uint16_t v);
 
-/* Reads cell j of the data at block `at`. The value is the number. Refusals: 1, 2, 11, 6, 7, 12. */
+/* Reads cell j of the data at block `at`. The value is the number. Refusals: 1, 2, 11, 13, 6, 7, 12. */
 struct huwekapo_reply huwekapo_read_number(HUWEKAPO_CONST_BUFFERS, size_t at, size_t j);
+
+/* Opens a collection in small steps: marks and lists every object that a root names, and changes nothing else, `waiting` neither.
+ * The value is 0. Refusals: 1, 2, 11, 13, 14 (one is open). */
+struct huwekapo_reply huwekapo_open_collection(HUWEKAPO_CONST_BUFFERS_BUT_MARKS);
+
+/* Takes at most `budget` steps of the open collection, any number. A step takes the lowest object off the list, and marks and
+ * lists what its cells name that is unmarked; those of data name nothing. Where the list is empty then, and `budget` is not 0,
+ * the collection closes: it frees what is unmarked, counts down the other objects that this named, once for each cell, frees
+ * those that come to 0 as a store does, and makes `marks` and `list` all 0. The value is the number of steps taken, which is
+ * `budget` unless the list ran out; `second` is the number of blocks freed. Refusals: 1, 2, 11, 13, 14 (none is open). */
+struct huwekapo_reply huwekapo_step_collection(HUWEKAPO_BUFFERS_BUT_ROOTS, size_t budget);
 
 /* Formats the heap and runs a list of calls, each an entry of four words, a code and arguments:
  *
@@ -261,6 +302,8 @@ struct huwekapo_reply huwekapo_read_number(HUWEKAPO_CONST_BUFFERS, size_t at, si
  *   9, n, r       allocate_data
  *   10, at, j, v  write_number, v at most 65,535
  *   11, at, j     read_number
+ *   12            open_collection
+ *   13, budget    step_collection
  *
  * Words that a call does not name are not looked at. The reply of call i goes to places 3i, 3i + 1 and 3i + 2 of `replies`;
  * words of `replies` behind the last reply keep their content. The value is the number of calls. Refusals, which write
@@ -280,7 +323,7 @@ struct huwekapo_tally {
 
 /* Where a run of records stands. A new run is all 0. */
 struct huwekapo_run {
-    size_t number;  /* 0 while it goes on, else the number that stopped it: 3, 4, 5, 6, 7, 9, 10 or 12 */
+    size_t number;  /* 0 while it goes on, else the number that stopped it: 3, 4, 5, 6, 7, 9, 10, 12 or 14 */
     size_t records; /* the records run, which is also the number of the one that stopped it, counting from 0 */
     struct huwekapo_tally tally;
 };
@@ -313,14 +356,15 @@ struct huwekapo_ran {
  *
  * Fields that an operation does not name are 0. The first record that is refused stops the run, with the first that applies
  * of 9, 3 (operations 1 and 7), 4, 5 (operations 1 and 7, after the second try), 6 (an empty root where an object is needed), 7,
- * 12 (operations 3 and 4 on data, 8 on what is not); and so does 10, behind the last whole record. This is no refusal of the
- * call: the number is in `run`, and the reply's is 0.
+ * 12 (operations 3 and 4 on data, 8 on what is not), 14 (operation 6 while a collection in steps is open); and so does 10, behind
+ * the last whole record. This is no refusal of the call: the number is in `run`, and the reply's is 0. While a collection in
+ * steps is open, no full one can be forced: none is counted, and 5 stops the run.
  *
  * Accepted, the value is 0, and `run` is where the run stands after the bytes. The buffers are those that the calls of the
  * records run leave; the record that stopped the run has changed nothing, save by a collection that it forced. `waiting` is all
  * 0. A run handed in stopped is handed back as it is, and only `waiting` is written.
  *
- * Refusals, which change no buffer and answer a run of all 0: 1, 2, 11, then 19 for a `run` of more than 4,294,967,295
+ * Refusals, which change no buffer and answer a run of all 0: 1, 2, 11, 13, then 19 for a `run` of more than 4,294,967,295
  * records, of more allocations than records, of more blocks than 8,192 for each record, of more objects that became stuck than
  * records, or of more collections than records (one more where its number is not 0). */
 struct huwekapo_ran huwekapo_run_records(HUWEKAPO_BUFFERS, struct huwekapo_run run, const uint8_t *bytes, size_t bytes_length);

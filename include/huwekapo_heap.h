@@ -1,4 +1,4 @@
-/* Huwekapo's eight buffers as one struct, and the calls on it: each wrapper lends the buffers to the function of the same name
+/* Huwekapo's ten buffers as one struct, and the calls on it: each wrapper lends the buffers to the function of the same name
  * in huwekapo.h, at the lengths that belong to the struct's numbers.
  *
  * The caller has to see to it that each pointer of the struct is good for its length. huwekapo_heap_in makes the struct from one
@@ -30,14 +30,17 @@ struct huwekapo_heap {
     uint16_t *waiting;
     uint16_t *sections;
     uint8_t *data;
+    uint8_t *marks;
+    uint16_t *list;
 };
 
-/* The numbers of 16 bits that hold all eight buffers: cells, roots, waiting and sections, and two bytes of the maps in each of
- * the rest. */
+/* The numbers of 16 bits that hold all ten buffers: cells, roots, waiting, sections and list, and two bytes of the maps in each
+ * of the rest. */
 #define HUWEKAPO_HEAP_LENGTH(blocks, width, roots) \
     (HUWEKAPO_CELLS_LENGTH(blocks) + (roots) + HUWEKAPO_WAITING_LENGTH(blocks) + HUWEKAPO_SECTIONS_LENGTH(blocks) + \
+     HUWEKAPO_LIST_LENGTH(blocks) + \
      (HUWEKAPO_A_LENGTH(blocks) + HUWEKAPO_B_LENGTH(blocks) + HUWEKAPO_COUNTS_LENGTH(blocks, width) + \
-      HUWEKAPO_DATA_LENGTH(blocks) + 1) / 2)
+      HUWEKAPO_DATA_LENGTH(blocks) + HUWEKAPO_MARKS_LENGTH(blocks) + 1) / 2)
 
 /* A heap in one piece of memory, of HUWEKAPO_HEAP_LENGTH numbers. It is not formatted. */
 static inline struct huwekapo_heap huwekapo_heap_in(uint16_t *memory, size_t blocks, size_t width, size_t roots) {
@@ -49,10 +52,12 @@ static inline struct huwekapo_heap huwekapo_heap_in(uint16_t *memory, size_t blo
     heap.roots = heap.cells + HUWEKAPO_CELLS_LENGTH(blocks);
     heap.waiting = heap.roots + roots;
     heap.sections = heap.waiting + HUWEKAPO_WAITING_LENGTH(blocks);
-    heap.a = (uint8_t *)(heap.sections + HUWEKAPO_SECTIONS_LENGTH(blocks));
+    heap.list = heap.sections + HUWEKAPO_SECTIONS_LENGTH(blocks);
+    heap.a = (uint8_t *)(heap.list + HUWEKAPO_LIST_LENGTH(blocks));
     heap.b = heap.a + HUWEKAPO_A_LENGTH(blocks);
     heap.counts = heap.b + HUWEKAPO_B_LENGTH(blocks);
     heap.data = heap.counts + HUWEKAPO_COUNTS_LENGTH(blocks, width);
+    heap.marks = heap.data + HUWEKAPO_DATA_LENGTH(blocks);
     return heap;
 }
 
@@ -66,7 +71,9 @@ static inline struct huwekapo_heap huwekapo_heap_in(uint16_t *memory, size_t blo
     (heap)->roots, (heap)->roots_length, \
     (heap)->waiting, HUWEKAPO_WAITING_LENGTH((heap)->blocks), \
     (heap)->sections, HUWEKAPO_SECTIONS_LENGTH((heap)->blocks), \
-    (heap)->data, HUWEKAPO_DATA_LENGTH((heap)->blocks)
+    (heap)->data, HUWEKAPO_DATA_LENGTH((heap)->blocks), \
+    (heap)->marks, HUWEKAPO_MARKS_LENGTH((heap)->blocks), \
+    (heap)->list, HUWEKAPO_LIST_LENGTH((heap)->blocks)
 
 static inline struct huwekapo_reply huwekapo_heap_format(struct huwekapo_heap *heap) {
     return huwekapo_format(HUWEKAPO_LEND_(heap));
@@ -114,6 +121,19 @@ static inline struct huwekapo_reply huwekapo_heap_write_number(struct huwekapo_h
 
 static inline struct huwekapo_reply huwekapo_heap_read_number(const struct huwekapo_heap *heap, size_t at, size_t j) {
     return huwekapo_read_number(HUWEKAPO_LEND_(heap), at, j);
+}
+
+static inline struct huwekapo_reply huwekapo_heap_open_collection(struct huwekapo_heap *heap) {
+    return huwekapo_open_collection(HUWEKAPO_LEND_(heap));
+}
+
+static inline struct huwekapo_reply huwekapo_heap_step_collection(struct huwekapo_heap *heap, size_t budget) {
+    return huwekapo_step_collection(HUWEKAPO_LEND_(heap), budget);
+}
+
+/* Whether a collection in small steps is open. */
+static inline int huwekapo_heap_is_open(const struct huwekapo_heap *heap) {
+    return heap->list[heap->blocks] == 1;
 }
 
 static inline struct huwekapo_reply huwekapo_heap_replay(struct huwekapo_heap *heap, const uint64_t *calls, size_t calls_length,

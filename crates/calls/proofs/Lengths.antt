@@ -1,10 +1,10 @@
 -- Laws of lists of lengths that are within the largest ones.
 use mathlib.Core.Path.{_≡_}
 use mathlib.Core.List.{List, [], _∷_}
-use Prim.Native.Nat.{ℕ, zero, suc, _≤_, _*_, _/_}
+use Prim.Native.Nat.{ℕ, zero, suc, _+_, _≤_, _*_, _/_}
 use native.Mathlib.Nat.{mul-le-mul}
 use native.Mathlib.Omega.{arith}
-use lib.ListN.{length, getD, set}
+use lib.ListN.{length, getD, set, replicate}
 use Rattle.calls.specs.Within.{Within}
 
 -- the one product is at most that of the largest numbers
@@ -13,7 +13,8 @@ product width blocks w b = mul-le-mul w b
 
 -- the lengths that belong to a heap's numbers
 pub within-heap :
-    (n w r s : ℕ) → n ≤ 8192 → w ≤ 5 → r ≤ 65 → s ≤ 32 → Within (n / 8 ∷ n / 8 ∷ w * n / 8 ∷ 4 * n ∷ r ∷ n ∷ s ∷ n / 8 ∷ [])
+    (n w r s : ℕ) → n ≤ 8192 → w ≤ 5 → r ≤ 65 → s ≤ 32
+    → Within (n / 8 ∷ n / 8 ∷ w * n / 8 ∷ 4 * n ∷ r ∷ n ∷ s ∷ n / 8 ∷ n / 8 ∷ (n + 1) ∷ [])
 within-heap n w r s n-max w-max r-max s-max zero = omega arith
 within-heap n w r s n-max w-max r-max s-max (suc zero) = omega arith
 within-heap n w r s n-max w-max r-max s-max (suc (suc zero)) = omega (arith, product w n w-max n-max)
@@ -22,7 +23,18 @@ within-heap n w r s n-max w-max r-max s-max (suc (suc (suc (suc zero)))) = r-max
 within-heap n w r s n-max w-max r-max s-max (suc (suc (suc (suc (suc zero))))) = n-max
 within-heap n w r s n-max w-max r-max s-max (suc (suc (suc (suc (suc (suc zero)))))) = s-max
 within-heap n w r s n-max w-max r-max s-max (suc (suc (suc (suc (suc (suc (suc zero))))))) = omega arith
-within-heap n w r s n-max w-max r-max s-max (suc (suc (suc (suc (suc (suc (suc (suc i)))))))) = omega arith
+within-heap n w r s n-max w-max r-max s-max (suc (suc (suc (suc (suc (suc (suc (suc zero)))))))) = omega arith
+within-heap n w r s n-max w-max r-max s-max (suc (suc (suc (suc (suc (suc (suc (suc (suc zero))))))))) = omega arith
+within-heap n w r s n-max w-max r-max s-max (suc (suc (suc (suc (suc (suc (suc (suc (suc (suc i)))))))))) = omega arith
+
+-- nothing lent
+none : (n i : ℕ) → getD (replicate n 0) i 0 ≤ 0
+none zero i = omega arith
+none (suc n) zero = omega arith
+none (suc n) (suc i) = none n i
+
+pub within-none : (n : ℕ) → Within (replicate n 0)
+within-none n i = omega (arith, none n i)
 
 -- another length of one buffer
 pub within-set :
@@ -36,7 +48,7 @@ within-set (x ∷ xs) [] (suc k) v b l (suc i) = within-set xs [] k v (λ j. b (
 within-set (x ∷ xs) (y ∷ ys) (suc k) v b l (suc i) = within-set xs ys k v (λ j. b (suc j)) l i
 
 -- the buffers are of the largest lengths, and the lent lengths within them
-pub record Held (a b counts cells roots waiting sections d lengths : List ℕ) : Type 0 where
+pub record Held (a b counts cells roots waiting sections d marks list lengths : List ℕ) : Type 0 where
   pub length-a : length a ≡ 1024
   pub length-b : length b ≡ 1024
   pub length-counts : length counts ≡ 5120
@@ -45,4 +57,6 @@ pub record Held (a b counts cells roots waiting sections d lengths : List ℕ) :
   pub length-waiting : length waiting ≡ 8192
   pub length-sections : length sections ≡ 32
   pub length-d : length d ≡ 1024
+  pub length-marks : length marks ≡ 1024
+  pub length-list : length list ≡ 8193
   pub within : Within lengths

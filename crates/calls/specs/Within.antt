@@ -6,7 +6,7 @@ use lib.ListN.{getD}
 
 -- the largest length of each buffer
 abbrev pub largest : List ℕ
-largest = 1024 ∷ 1024 ∷ 5120 ∷ 32768 ∷ 65 ∷ 8192 ∷ 32 ∷ 1024 ∷ []
+largest = 1024 ∷ 1024 ∷ 5120 ∷ 32768 ∷ 65 ∷ 8192 ∷ 32 ∷ 1024 ∷ 1024 ∷ 8193 ∷ []
 
 -- each lent length is at most the largest
 abbrev pub Within : List ℕ → Type 0

@@ -21,7 +21,9 @@ pub const MAX_CELLS: usize = 4 * MAX_BLOCKS;
 
 pub const MAX_SECTIONS: usize = MAX_BLOCKS / MAX_SECTION;
 
-pub const BUFFERS: usize = 8;
+pub const MAX_LIST: usize = MAX_BLOCKS + 1;
+
+pub const BUFFERS: usize = 10;
 
 const LARGEST: [usize; BUFFERS] = [
     MAX_BYTES,
@@ -32,6 +34,8 @@ const LARGEST: [usize; BUFFERS] = [
     MAX_BLOCKS,
     MAX_SECTIONS,
     MAX_BYTES,
+    MAX_BYTES,
+    MAX_LIST,
 ];
 
 // Whether a heap asks for more than the largest.
@@ -76,6 +80,8 @@ pub fn lengths(heap: Entry) -> [usize; BUFFERS]
         n,
         sections,
         n / 8,
+        n / 8,
+        n + 1,
     ]
 }
 

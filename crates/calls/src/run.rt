@@ -74,6 +74,8 @@ pub fn run(first: Entry) {
     let mut waiting = [0 as Ref; MAX_BLOCKS];
     let mut sections = [0 as Ref; lent::MAX_SECTIONS];
     let mut d = [0u8; lent::MAX_BYTES];
+    let mut marks = [0u8; lent::MAX_BYTES];
+    let mut list = [0 as Ref; lent::MAX_LIST];
     let mut lengths = lent::lengths(heap);
     let mut k = 0;
     while k < MOST {
@@ -86,6 +88,8 @@ pub fn run(first: Entry) {
         let lwaiting = lengths[5];
         let lsections = lengths[6];
         let ld = lengths[7];
+        let lmarks = lengths[8];
+        let llist = lengths[9];
         let reply = calls_entries::perform::perform(
             heap,
             &mut a[..la],
@@ -96,6 +100,8 @@ pub fn run(first: Entry) {
             &mut waiting[..lwaiting],
             &mut sections[..lsections],
             &mut d[..ld],
+            &mut marks[..lmarks],
+            &mut list[..llist],
             e,
         );
         if !say_outcome(e.kind, reply, k) || e.kind == calls_entries::END {
@@ -112,6 +118,8 @@ pub fn run(first: Entry) {
             waiting = [0 as Ref; MAX_BLOCKS];
             sections = [0 as Ref; lent::MAX_SECTIONS];
             d = [0u8; lent::MAX_BYTES];
+            marks = [0u8; lent::MAX_BYTES];
+            list = [0 as Ref; lent::MAX_LIST];
             lengths = lent::lengths(e);
         }
     }

@@ -2,7 +2,7 @@
 pub mod perform;
 
 // The kinds of entries: calls, from 0 to LAST_CALL; and, at the end of a byte's numbers, out of the way of calls to come, what is none.
-pub const LAST_CALL: usize = 11;
+pub const LAST_CALL: usize = 13;
 
 // The call that writes a number, and the largest number that a cell holds.
 pub const WRITE_NUMBER: usize = 10;

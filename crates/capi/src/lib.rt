@@ -22,10 +22,12 @@ pub extern "C" fn huwekapo_format(
     waiting: &mut [Ref],
     sections: &mut [Ref],
     d: &mut [u8],
+    marks: &mut [u8],
+    list: &mut [Ref],
 ) -> Reply
     ensures { λ reply.
-        ⌜ Promise blocks width Call.format (before a b counts cells roots waiting sections d) reply
-        (after a b counts cells roots waiting sections d) ⌝ }
+        ⌜ Promise blocks width Call.format (before a b counts cells roots waiting sections d marks list) reply
+        (after a b counts cells roots waiting sections d marks list) ⌝ }
 {
     public_heap::format(
         blocks,
@@ -38,6 +40,8 @@ pub extern "C" fn huwekapo_format(
         waiting,
         sections,
         d,
+        marks,
+        list,
     )
 }
 
@@ -53,12 +57,14 @@ pub extern "C" fn huwekapo_allocate(
     waiting: &mut [Ref],
     sections: &mut [Ref],
     d: &mut [u8],
+    marks: &mut [u8],
+    list: &mut [Ref],
     n: usize,
     r: usize,
 ) -> Reply
     ensures { λ reply.
-        ⌜ Promise blocks width (Call.allocate n r) (before a b counts cells roots waiting sections d) reply
-        (after a b counts cells roots waiting sections d) ⌝ }
+        ⌜ Promise blocks width (Call.allocate n r) (before a b counts cells roots waiting sections d marks list) reply
+        (after a b counts cells roots waiting sections d marks list) ⌝ }
 {
     public_heap::allocate(
         blocks,
@@ -71,6 +77,8 @@ pub extern "C" fn huwekapo_allocate(
         waiting,
         sections,
         d,
+        marks,
+        list,
         n,
         r,
     )
@@ -88,12 +96,14 @@ pub extern "C" fn huwekapo_store_root(
     waiting: &mut [Ref],
     sections: &mut [Ref],
     d: &mut [u8],
+    marks: &mut [u8],
+    list: &mut [Ref],
     r: usize,
     v: usize,
 ) -> Reply
     ensures { λ reply.
-        ⌜ Promise blocks width (Call.storeRoot r v) (before a b counts cells roots waiting sections d) reply
-        (after a b counts cells roots waiting sections d) ⌝ }
+        ⌜ Promise blocks width (Call.storeRoot r v) (before a b counts cells roots waiting sections d marks list) reply
+        (after a b counts cells roots waiting sections d marks list) ⌝ }
 {
     public_store::store_root(
         blocks,
@@ -106,6 +116,8 @@ pub extern "C" fn huwekapo_store_root(
         waiting,
         sections,
         d,
+        marks,
+        list,
         r,
         v,
     )
@@ -123,13 +135,15 @@ pub extern "C" fn huwekapo_store_cell(
     waiting: &mut [Ref],
     sections: &mut [Ref],
     d: &mut [u8],
+    marks: &mut [u8],
+    list: &mut [Ref],
     at: usize,
     j: usize,
     v: usize,
 ) -> Reply
     ensures { λ reply.
-        ⌜ Promise blocks width (Call.storeCell at j v) (before a b counts cells roots waiting sections d) reply
-        (after a b counts cells roots waiting sections d) ⌝ }
+        ⌜ Promise blocks width (Call.storeCell at j v) (before a b counts cells roots waiting sections d marks list) reply
+        (after a b counts cells roots waiting sections d marks list) ⌝ }
 {
     public_store::store_cell(
         blocks,
@@ -142,6 +156,8 @@ pub extern "C" fn huwekapo_store_cell(
         waiting,
         sections,
         d,
+        marks,
+        list,
         at,
         j,
         v,
@@ -160,11 +176,13 @@ pub extern "C" fn huwekapo_return_roots(
     waiting: &mut [Ref],
     sections: &mut [Ref],
     d: &mut [u8],
+    marks: &mut [u8],
+    list: &mut [Ref],
     chosen: u64,
 ) -> Reply
     ensures { λ reply.
-        ⌜ Promise blocks width (Call.returnRoots chosen) (before a b counts cells roots waiting sections d) reply
-        (after a b counts cells roots waiting sections d) ⌝ }
+        ⌜ Promise blocks width (Call.returnRoots chosen) (before a b counts cells roots waiting sections d marks list) reply
+        (after a b counts cells roots waiting sections d marks list) ⌝ }
 {
     public_store::return_roots(
         blocks,
@@ -177,6 +195,8 @@ pub extern "C" fn huwekapo_return_roots(
         waiting,
         sections,
         d,
+        marks,
+        list,
         chosen,
     )
 }
@@ -193,10 +213,12 @@ pub extern "C" fn huwekapo_collect(
     waiting: &mut [Ref],
     sections: &mut [Ref],
     d: &mut [u8],
+    marks: &[u8],
+    list: &[Ref],
 ) -> Reply
     ensures { λ reply.
-        ⌜ Promise blocks width Call.collect (before a b counts cells roots waiting sections d) reply
-        (after a b counts cells roots waiting sections d) ⌝ }
+        ⌜ Promise blocks width Call.collect (before a b counts cells roots waiting sections d marks list) reply
+        (after a b counts cells roots waiting sections d marks list) ⌝ }
 {
     public_heap::collect(
         blocks,
@@ -209,6 +231,8 @@ pub extern "C" fn huwekapo_collect(
         waiting,
         sections,
         d,
+        marks,
+        list,
     )
 }
 
@@ -224,10 +248,12 @@ pub extern "C" fn huwekapo_check(
     waiting: &[Ref],
     sections: &[Ref],
     d: &[u8],
+    marks: &[u8],
+    list: &[Ref],
 ) -> Reply
     ensures { λ reply.
-        ⌜ Promise blocks width Call.check (before a b counts cells roots waiting sections d) reply
-        (after a b counts cells roots waiting sections d) ⌝ }
+        ⌜ Promise blocks width Call.check (before a b counts cells roots waiting sections d marks list) reply
+        (after a b counts cells roots waiting sections d marks list) ⌝ }
 {
     public_read::check(
         blocks,
@@ -240,6 +266,8 @@ pub extern "C" fn huwekapo_check(
         waiting,
         sections,
         d,
+        marks,
+        list,
     )
 }
 
@@ -255,10 +283,12 @@ pub extern "C" fn huwekapo_free_blocks(
     waiting: &[Ref],
     sections: &[Ref],
     d: &[u8],
+    marks: &[u8],
+    list: &[Ref],
 ) -> Reply
     ensures { λ reply.
-        ⌜ Promise blocks width Call.freeBlocks (before a b counts cells roots waiting sections d) reply
-        (after a b counts cells roots waiting sections d) ⌝ }
+        ⌜ Promise blocks width Call.freeBlocks (before a b counts cells roots waiting sections d marks list) reply
+        (after a b counts cells roots waiting sections d marks list) ⌝ }
 {
     public_read::free_blocks(
         blocks,
@@ -271,6 +301,8 @@ pub extern "C" fn huwekapo_free_blocks(
         waiting,
         sections,
         d,
+        marks,
+        list,
     )
 }
 
@@ -286,11 +318,13 @@ pub extern "C" fn huwekapo_look(
     waiting: &[Ref],
     sections: &[Ref],
     d: &[u8],
+    marks: &[u8],
+    list: &[Ref],
     at: usize,
 ) -> Reply
     ensures { λ reply.
-        ⌜ Promise blocks width (Call.look at) (before a b counts cells roots waiting sections d) reply
-        (after a b counts cells roots waiting sections d) ⌝ }
+        ⌜ Promise blocks width (Call.look at) (before a b counts cells roots waiting sections d marks list) reply
+        (after a b counts cells roots waiting sections d marks list) ⌝ }
 {
     public_read::look(
         blocks,
@@ -303,6 +337,8 @@ pub extern "C" fn huwekapo_look(
         waiting,
         sections,
         d,
+        marks,
+        list,
         at,
     )
 }
@@ -319,12 +355,14 @@ pub extern "C" fn huwekapo_allocate_data(
     waiting: &mut [Ref],
     sections: &mut [Ref],
     d: &mut [u8],
+    marks: &mut [u8],
+    list: &mut [Ref],
     n: usize,
     r: usize,
 ) -> Reply
     ensures { λ reply.
-        ⌜ Promise blocks width (Call.allocateData n r) (before a b counts cells roots waiting sections d) reply
-        (after a b counts cells roots waiting sections d) ⌝ }
+        ⌜ Promise blocks width (Call.allocateData n r) (before a b counts cells roots waiting sections d marks list) reply
+        (after a b counts cells roots waiting sections d marks list) ⌝ }
 {
     public_heap::allocate_data(
         blocks,
@@ -337,6 +375,8 @@ pub extern "C" fn huwekapo_allocate_data(
         waiting,
         sections,
         d,
+        marks,
+        list,
         n,
         r,
     )
@@ -354,13 +394,15 @@ pub extern "C" fn huwekapo_write_number(
     waiting: &[Ref],
     sections: &[Ref],
     d: &[u8],
+    marks: &[u8],
+    list: &[Ref],
     at: usize,
     j: usize,
     v: Ref,
 ) -> Reply
     ensures { λ reply.
-        ⌜ Promise blocks width (Call.writeNumber at j v) (before a b counts cells roots waiting sections d) reply
-        (after a b counts cells roots waiting sections d) ⌝ }
+        ⌜ Promise blocks width (Call.writeNumber at j v) (before a b counts cells roots waiting sections d marks list) reply
+        (after a b counts cells roots waiting sections d marks list) ⌝ }
 {
     public_store::write_number(
         blocks,
@@ -373,6 +415,8 @@ pub extern "C" fn huwekapo_write_number(
         waiting,
         sections,
         d,
+        marks,
+        list,
         at,
         j,
         v,
@@ -391,12 +435,14 @@ pub extern "C" fn huwekapo_read_number(
     waiting: &[Ref],
     sections: &[Ref],
     d: &[u8],
+    marks: &[u8],
+    list: &[Ref],
     at: usize,
     j: usize,
 ) -> Reply
     ensures { λ reply.
-        ⌜ Promise blocks width (Call.readNumber at j) (before a b counts cells roots waiting sections d) reply
-        (after a b counts cells roots waiting sections d) ⌝ }
+        ⌜ Promise blocks width (Call.readNumber at j) (before a b counts cells roots waiting sections d marks list) reply
+        (after a b counts cells roots waiting sections d marks list) ⌝ }
 {
     public_read::read_number(
         blocks,
@@ -409,8 +455,82 @@ pub extern "C" fn huwekapo_read_number(
         waiting,
         sections,
         d,
+        marks,
+        list,
         at,
         j,
+    )
+}
+
+#[no_mangle]
+pub extern "C" fn huwekapo_open_collection(
+    blocks: usize,
+    width: usize,
+    a: &[u8],
+    b: &[u8],
+    counts: &[u8],
+    cells: &[Ref],
+    roots: &[Ref],
+    waiting: &[Ref],
+    sections: &[Ref],
+    d: &[u8],
+    marks: &mut [u8],
+    list: &mut [Ref],
+) -> Reply
+    ensures { λ reply.
+        ⌜ Promise blocks width Call.openCollection (before a b counts cells roots waiting sections d marks list) reply
+        (after a b counts cells roots waiting sections d marks list) ⌝ }
+{
+    public_steps::open_collection(
+        blocks,
+        width,
+        a,
+        b,
+        counts,
+        cells,
+        roots,
+        waiting,
+        sections,
+        d,
+        marks,
+        list,
+    )
+}
+
+#[no_mangle]
+pub extern "C" fn huwekapo_step_collection(
+    blocks: usize,
+    width: usize,
+    a: &mut [u8],
+    b: &mut [u8],
+    counts: &mut [u8],
+    cells: &mut [Ref],
+    roots: &[Ref],
+    waiting: &mut [Ref],
+    sections: &mut [Ref],
+    d: &mut [u8],
+    marks: &mut [u8],
+    list: &mut [Ref],
+    budget: usize,
+) -> Reply
+    ensures { λ reply.
+        ⌜ Promise blocks width (Call.takeSteps budget) (before a b counts cells roots waiting sections d marks list) reply
+        (after a b counts cells roots waiting sections d marks list) ⌝ }
+{
+    public_steps::step_collection(
+        blocks,
+        width,
+        a,
+        b,
+        counts,
+        cells,
+        roots,
+        waiting,
+        sections,
+        d,
+        marks,
+        list,
+        budget,
     )
 }
 
@@ -426,14 +546,16 @@ pub extern "C" fn huwekapo_replay(
     waiting: &mut [Ref],
     sections: &mut [Ref],
     d: &mut [u8],
+    marks: &mut [u8],
+    list: &mut [Ref],
     calls: &[u64],
     replies: &mut [u64],
 ) -> Reply
     ensures { λ reply.
         ⌜ Replayed blocks width
-        (before a b counts cells roots waiting sections d)
+        (before a b counts cells roots waiting sections d marks list)
         (now (calls .entry)) (now (replies .entry)) reply
-        (after a b counts cells roots waiting sections d)
+        (after a b counts cells roots waiting sections d marks list)
         (now (replies .exit)) ⌝ }
 {
     replay::replay(
@@ -447,6 +569,8 @@ pub extern "C" fn huwekapo_replay(
         waiting,
         sections,
         d,
+        marks,
+        list,
         calls,
         replies,
     )

@@ -17,12 +17,14 @@ pub extern "C" fn huwekapo_run_records(
     waiting: &mut [Ref],
     sections: &mut [Ref],
     d: &mut [u8],
+    marks: &mut [u8],
+    list: &mut [Ref],
     run: Run,
     bytes: &[u8],
 ) -> Ran
     ensures { λ r.
-        ⌜ Promised blocks width (now (bytes .entry)) (before a b counts cells roots waiting sections d) run r
-        (after a b counts cells roots waiting sections d) ⌝ }
+        ⌜ Promised blocks width (now (bytes .entry)) (before a b counts cells roots waiting sections d marks list) run r
+        (after a b counts cells roots waiting sections d marks list) ⌝ }
 {
     history::run_records(
         blocks,
@@ -35,6 +37,8 @@ pub extern "C" fn huwekapo_run_records(
         waiting,
         sections,
         d,
+        marks,
+        list,
         run,
         bytes,
     )

@@ -19,6 +19,8 @@ pub const CELLS: usize = 4 * BLOCKS;
 // A section of so large a heap has 256 blocks.
 pub const SECTIONS: usize = BLOCKS / 256;
 
+pub const LIST: usize = BLOCKS + 1;
+
 // Makes a new heap of the buffers. Their lengths are right, so that the format is accepted.
 pub fn format(
     a: &mut [u8; MAP_BYTES],
@@ -29,8 +31,10 @@ pub fn format(
     waiting: &mut [Ref; BLOCKS],
     sections: &mut [Ref; SECTIONS],
     d: &mut [u8; MAP_BYTES],
+    marks: &mut [u8; MAP_BYTES],
+    list: &mut [Ref; LIST],
 )
-    ensures { λ _. ⌜ after a b counts cells roots waiting sections d ≡ formatted 8192 3 64 ⌝ }
+    ensures { λ _. ⌜ after a b counts cells roots waiting sections d marks list ≡ formatted 8192 3 64 ⌝ }
 {
     public_heap::format(
         BLOCKS,
@@ -43,5 +47,7 @@ pub fn format(
         waiting,
         sections,
         d,
+        marks,
+        list,
     );
 }

@@ -6,6 +6,7 @@ use crate::heap;
 use crate::heap::BLOCKS;
 use crate::heap::CELLS;
 use crate::heap::COUNT_BYTES;
+use crate::heap::LIST;
 use crate::heap::MAP_BYTES;
 use crate::heap::ROOTS;
 use crate::heap::SECTIONS;
@@ -40,11 +41,13 @@ pub fn run_piece(
     waiting: &mut [Ref; BLOCKS],
     sections: &mut [Ref; SECTIONS],
     d: &mut [u8; MAP_BYTES],
+    marks: &mut [u8; MAP_BYTES],
+    list: &mut [Ref; LIST],
     bytes: &[u8],
 ) -> PieceOutcome
     ensures { λ came.
-        ⌜ pieceMeaning (now (bytes .entry)) (before a b counts cells roots waiting sections d) run came
-        (after a b counts cells roots waiting sections d)
+        ⌜ pieceMeaning (now (bytes .entry)) (before a b counts cells roots waiting sections d marks list) run came
+        (after a b counts cells roots waiting sections d marks list)
         × Bytes (now (bytes .entry)) ⌝ }
 {
     let ran = history::run_records(
@@ -58,6 +61,8 @@ pub fn run_piece(
         waiting,
         sections,
         d,
+        marks,
+        list,
         run,
         bytes,
     );
@@ -86,6 +91,8 @@ pub fn run_input() -> Outcome
     let mut waiting = [0 as Ref; BLOCKS];
     let mut sections = [0 as Ref; SECTIONS];
     let mut d = [0u8; MAP_BYTES];
+    let mut marks = [0u8; MAP_BYTES];
+    let mut list = [0 as Ref; LIST];
     heap::format(
         &mut a,
         &mut b,
@@ -95,6 +102,8 @@ pub fn run_input() -> Outcome
         &mut waiting,
         &mut sections,
         &mut d,
+        &mut marks,
+        &mut list,
     );
     let mut run = tally::new_run();
     let mut buffer = [0u8; PIECE];
@@ -114,6 +123,8 @@ pub fn run_input() -> Outcome
             &mut waiting,
             &mut sections,
             &mut d,
+            &mut marks,
+            &mut list,
             &buffer[..n],
         );
         match came {

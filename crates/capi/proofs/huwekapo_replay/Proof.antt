@@ -4,7 +4,7 @@ use Rattle.capi.proofs.huwekapo_replay.Statement.{statement}
 use Rattle.capi.proofs.huwekapo_replay.Tie as tie
 
 -- the call has returned
-abbrev done : tie.After-slice-known18 → tie.After-replay
+abbrev done : tie.After-slice-known22 → tie.After-replay
 done c = search
 
 replay-requires : tie.Need-replay-requires
@@ -26,5 +26,7 @@ huwekapo-replay-spec =
     (λ c. done c .replay .kept .1 .1 .1 .1 .1 .1 .1 .0)
     (λ c. done c .replay .kept .1 .1 .1 .1 .1 .1 .1 .1 .0)
     (λ c. done c .replay .kept .1 .1 .1 .1 .1 .1 .1 .1 .1 .0)
+    (λ c. done c .replay .kept .1 .1 .1 .1 .1 .1 .1 .1 .1 .1 .0)
     (λ c. done c .replay .kept .1 .1 .1 .1 .1 .1 .1 .1 .1 .1 .1 .0)
+    (λ c. done c .replay .kept .1 .1 .1 .1 .1 .1 .1 .1 .1 .1 .1 .1 .1 .0)
     returns)

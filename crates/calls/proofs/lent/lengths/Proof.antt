@@ -1,7 +1,7 @@
 -- The lengths of a heap that is not too large are within the largest, and so is none.
 use native.Mathlib.Omega.{arith}
 use borrow.Author.Needs.{needs}
-use Rattle.calls.proofs.Lengths.{product, within-heap}
+use Rattle.calls.proofs.Lengths.{product, within-heap, within-none}
 use Rattle.calls.proofs.lent.lengths.Statement.{statement}
 use Rattle.calls.proofs.lent.lengths.Tie as tie
 
@@ -9,7 +9,7 @@ is-too-large-requires : tie.Need-is-too-large-requires
 is-too-large-requires c κs = search needs
 
 returns : tie.Need-returns
-returns c = within-heap 0 0 0 0 (omega arith) (omega arith) (omega arith) (omega arith)
+returns c = within-none 10
 
 section-count-requires : tie.Need-section-count-requires
 section-count-requires c κs =
@@ -27,10 +27,15 @@ mul-t9 c =
     let fits = c .before .before .before .is-too-large .ensures (c .before .before .if1 .left) in
     omega (arith, fits .0)
 
+add-t12 : tie.Need-add-t12
+add-t12 c =
+    let fits = c .before .before .before .is-too-large .ensures (c .before .before .if1 .left) in
+    omega (arith, fits .0)
+
 returns-2 : tie.Need-returns-2
 returns-2 c =
     let fits = c .before .before .before .is-too-large .ensures (c .before .before .if1 .left) in
     within-heap _ _ _ _ (fits .0) (fits .1) (fits .2) (c .before .section-count .ensures)
 
 pub lengths-spec : {M : Type 1} → statement M
-lengths-spec = tie.close (tie.spec is-too-large-requires returns section-count-requires mul-t7 mul-t9 returns-2)
+lengths-spec = tie.close (tie.spec is-too-large-requires returns section-count-requires mul-t7 mul-t9 add-t12 returns-2)

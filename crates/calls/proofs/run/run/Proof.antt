@@ -10,11 +10,11 @@ use Rattle.calls.proofs.run.run.Statement.{statement}
 use Rattle.calls.proofs.run.run.Tie as tie
 
 abbrev Inv-loop : tie.InvT-loop
-Inv-loop heap₀ a₀ b₀ counts₀ cells₀ roots₀ waiting₀ sections₀ d₀ lengths₀ k₀ heap a b counts cells roots waiting sections d lengths k =
-    Held a b counts cells roots waiting sections d lengths
+Inv-loop heap₀ a₀ b₀ counts₀ cells₀ roots₀ waiting₀ sections₀ d₀ marks₀ list₀ lengths₀ k₀ heap a b counts cells roots waiting sections d marks list lengths k =
+    Held a b counts cells roots waiting sections d marks list lengths
 
 abbrev μ-loop : tie.MeasureT-loop
-μ-loop heap₀ a₀ b₀ counts₀ cells₀ roots₀ waiting₀ sections₀ d₀ lengths₀ k₀ heap a b counts cells roots waiting sections d lengths k =
+μ-loop heap₀ a₀ b₀ counts₀ cells₀ roots₀ waiting₀ sections₀ d₀ marks₀ list₀ lengths₀ k₀ heap a b counts cells roots waiting sections d marks list lengths k =
     1152921504606846976 - k
 
 -- the places: a turn's beginning, the entry performed, and the entry read, from where four buffers are lent and from where it is performed
@@ -28,7 +28,7 @@ abbrev lent-entry : tie.After-cells Inv-loop μ-loop → tie.After-next-entry In
 lent-entry c = c .before .before .before .before
 
 abbrev entry : tie.After-perform Inv-loop μ-loop → tie.After-next-entry Inv-loop μ-loop
-entry c = lent-entry (c .before .before .before .before .before)
+entry c = lent-entry (c .before .before .before .before .before .before .before)
 
 -- each lent length is within its buffer
 fits-a : (c : tie.After-next-entry Inv-loop μ-loop) → getD (c .next-entry .last .0) 0 0 ≤ length (turn c .before .loop .a)
@@ -55,6 +55,12 @@ fits-sections c = omega (arith, turn c .before .loop .inv .length-sections, c .n
 fits-d : (c : tie.After-next-entry Inv-loop μ-loop) → getD (c .next-entry .last .0) 7 0 ≤ length (turn c .before .loop .d)
 fits-d c = omega (arith, turn c .before .loop .inv .length-d, c .next-entry .ensures 7)
 
+fits-marks : (c : tie.After-next-entry Inv-loop μ-loop) → getD (c .next-entry .last .0) 8 0 ≤ length (turn c .before .loop .marks)
+fits-marks c = omega (arith, turn c .before .loop .inv .length-marks, c .next-entry .ensures 8)
+
+fits-list : (c : tie.After-next-entry Inv-loop μ-loop) → getD (c .next-entry .last .0) 9 0 ≤ length (turn c .before .loop .list)
+fits-list c = omega (arith, turn c .before .loop .inv .length-list, c .next-entry .ensures 9)
+
 loop-holds : tie.Need-loop-holds Inv-loop μ-loop
 loop-holds c =
     record {
@@ -66,6 +72,8 @@ loop-holds c =
       length-waiting = refl;
       length-sections = refl;
       length-d = refl;
+      length-marks = refl;
+      length-list = refl;
       within = c .lengths .ensures;
     }
 
@@ -89,6 +97,8 @@ loop-again c =
       length-waiting = refl;
       length-sections = refl;
       length-d = refl;
+      length-marks = refl;
+      length-list = refl;
       within = c .lengths3 .ensures;
     }
 
@@ -109,6 +119,8 @@ loop-again-2 c =
       length-waiting = length-front (l .waiting) (done .last .1 .1 .1 .1 .1 .1 .0) (getD (read .next-entry .last .0) 5 0) (done .kept .1 .1 .1 .1 .1 .1 .0) ∙ l .inv .length-waiting;
       length-sections = length-front (l .sections) (done .last .1 .1 .1 .1 .1 .1 .1 .0) (getD (read .next-entry .last .0) 6 0) (done .kept .1 .1 .1 .1 .1 .1 .1 .0) ∙ l .inv .length-sections;
       length-d = length-front (l .d) (done .last .1 .1 .1 .1 .1 .1 .1 .1 .0) (getD (read .next-entry .last .0) 7 0) (done .kept .1 .1 .1 .1 .1 .1 .1 .1 .0) ∙ l .inv .length-d;
+      length-marks = length-front (l .marks) (done .last .1 .1 .1 .1 .1 .1 .1 .1 .1 .0) (getD (read .next-entry .last .0) 8 0) (done .kept .1 .1 .1 .1 .1 .1 .1 .1 .1 .0) ∙ l .inv .length-marks;
+      length-list = length-front (l .list) (done .last .1 .1 .1 .1 .1 .1 .1 .1 .1 .1 .0) (getD (read .next-entry .last .0) 9 0) (done .kept .1 .1 .1 .1 .1 .1 .1 .1 .1 .1 .0) ∙ l .inv .length-list;
       within = read .next-entry .ensures;
     }
 
@@ -121,6 +133,8 @@ run-spec =
     (λ c κs. search needs)
     loop-holds
     next-entry-requires
+    (λ _. search needs)
+    (λ _. search needs)
     (λ _. search needs)
     (λ _. search needs)
     (λ _. search needs)
@@ -145,6 +159,10 @@ run-spec =
     (λ c. sym (length-take-le _ _ (fits-sections (lent-entry (c .before .before .before)))))
     (λ c. fits-d (lent-entry (c .before .before .before)))
     (λ c. sym (length-take-le _ _ (fits-d (lent-entry (c .before .before .before .before)))))
+    (λ c. fits-marks (lent-entry (c .before .before .before .before)))
+    (λ c. sym (length-take-le _ _ (fits-marks (lent-entry (c .before .before .before .before .before)))))
+    (λ c. fits-list (lent-entry (c .before .before .before .before .before)))
+    (λ c. sym (length-take-le _ _ (fits-list (lent-entry (c .before .before .before .before .before .before)))))
     (λ c κs. search needs)
     (λ c κs. search needs)
     (λ _. search needs)

@@ -4,34 +4,42 @@ use Rattle.calls_entries.proofs.perform.perform.Statement.{statement}
 use Rattle.calls_entries.proofs.perform.perform.Tie as tie
 
 -- the places: in each arm the call has returned
-abbrev formatted : tie.After-slice-known24 → tie.After-format
+abbrev formatted : tie.After-slice-known30 → tie.After-format
 formatted c = search
 
-abbrev allocated : tie.After-slice-known32 → tie.After-allocate
+abbrev allocated : tie.After-slice-known40 → tie.After-allocate
 allocated c = search
 
-abbrev root-stored : tie.After-slice-known40 → tie.After-store-root
+abbrev root-stored : tie.After-slice-known50 → tie.After-store-root
 root-stored c = search
 
-abbrev cell-stored : tie.After-slice-known47 → tie.After-store-cell
+abbrev cell-stored : tie.After-slice-known59 → tie.After-store-cell
 cell-stored c = search
 
-abbrev collected : tie.After-slice-known54 → tie.After-collect
+abbrev collected : tie.After-slice-known66 → tie.After-collect
 collected c = search
 
-abbrev returned : tie.After-slice-known62 → tie.After-return-roots
+abbrev returned : tie.After-slice-known76 → tie.After-return-roots
 returned c = search
 
-abbrev data-allocated : tie.After-slice-known70 → tie.After-allocate-data
+abbrev data-allocated : tie.After-slice-known86 → tie.After-allocate-data
 data-allocated c = search
 
-abbrev number-written : tie.After-slice-known71 → tie.After-write-number
+abbrev number-written : tie.After-slice-known87 → tie.After-write-number
 number-written c = search
+
+abbrev opened : tie.After-slice-known89 → tie.After-open-collection
+opened c = search
+
+abbrev stepped : tie.After-slice-known98 → tie.After-step-collection
+stepped c = search
 
 pub perform-spec : {M : Type 1} → statement M
 perform-spec =
     tie.close
     (tie.spec
+    (λ _ _. tt)
+    (λ _ _. tt)
     (λ _ _. tt)
     (λ _ _. tt)
     (λ _ _. tt)
@@ -57,7 +65,13 @@ perform-spec =
     (λ _. tt)
     (λ c. c .before .before .load-byte4 .kept .0)
     (λ _. tt)
+    (λ c. c .before .before .load-byte5 .kept .0)
     (λ _. tt)
+    (λ c. c .before .before .load-ref5 .kept .0)
+    (λ _. tt)
+    (λ _. tt)
+    (λ _ _. tt)
+    (λ _ _. tt)
     (λ _ _. tt)
     (λ _ _. tt)
     (λ _ _. tt)
@@ -76,6 +90,8 @@ perform-spec =
     (λ c. formatted c .format .kept .1 .1 .1 .1 .1 .1 .1 .0)
     (λ c. formatted c .format .kept .1 .1 .1 .1 .1 .1 .1 .1 .0)
     (λ c. formatted c .format .kept .1 .1 .1 .1 .1 .1 .1 .1 .1 .0)
+    (λ c. formatted c .format .kept .1 .1 .1 .1 .1 .1 .1 .1 .1 .1 .0)
+    (λ c. formatted c .format .kept .1 .1 .1 .1 .1 .1 .1 .1 .1 .1 .1 .0)
     (λ _. tt)
     (λ c. allocated c .allocate .kept .1 .1 .0)
     (λ c. allocated c .allocate .kept .1 .1 .1 .0)
@@ -85,6 +101,8 @@ perform-spec =
     (λ c. allocated c .allocate .kept .1 .1 .1 .1 .1 .1 .1 .0)
     (λ c. allocated c .allocate .kept .1 .1 .1 .1 .1 .1 .1 .1 .0)
     (λ c. allocated c .allocate .kept .1 .1 .1 .1 .1 .1 .1 .1 .1 .0)
+    (λ c. allocated c .allocate .kept .1 .1 .1 .1 .1 .1 .1 .1 .1 .1 .0)
+    (λ c. allocated c .allocate .kept .1 .1 .1 .1 .1 .1 .1 .1 .1 .1 .1 .0)
     (λ _. tt)
     (λ c. root-stored c .store-root .kept .1 .1 .0)
     (λ c. root-stored c .store-root .kept .1 .1 .1 .0)
@@ -94,6 +112,8 @@ perform-spec =
     (λ c. root-stored c .store-root .kept .1 .1 .1 .1 .1 .1 .1 .0)
     (λ c. root-stored c .store-root .kept .1 .1 .1 .1 .1 .1 .1 .1 .0)
     (λ c. root-stored c .store-root .kept .1 .1 .1 .1 .1 .1 .1 .1 .1 .0)
+    (λ c. root-stored c .store-root .kept .1 .1 .1 .1 .1 .1 .1 .1 .1 .1 .0)
+    (λ c. root-stored c .store-root .kept .1 .1 .1 .1 .1 .1 .1 .1 .1 .1 .1 .0)
     (λ _. tt)
     (λ c. cell-stored c .store-cell .kept .1 .1 .0)
     (λ c. cell-stored c .store-cell .kept .1 .1 .1 .0)
@@ -103,6 +123,8 @@ perform-spec =
     (λ c. cell-stored c .store-cell .kept .1 .1 .1 .1 .1 .1 .1 .0)
     (λ c. cell-stored c .store-cell .kept .1 .1 .1 .1 .1 .1 .1 .1 .0)
     (λ c. cell-stored c .store-cell .kept .1 .1 .1 .1 .1 .1 .1 .1 .1 .0)
+    (λ c. cell-stored c .store-cell .kept .1 .1 .1 .1 .1 .1 .1 .1 .1 .1 .0)
+    (λ c. cell-stored c .store-cell .kept .1 .1 .1 .1 .1 .1 .1 .1 .1 .1 .1 .0)
     (λ _. tt)
     (λ c. collected c .collect .kept .1 .1 .0)
     (λ c. collected c .collect .kept .1 .1 .1 .0)
@@ -112,6 +134,8 @@ perform-spec =
     (λ c. collected c .collect .kept .1 .1 .1 .1 .1 .1 .1 .0)
     (λ c. collected c .collect .kept .1 .1 .1 .1 .1 .1 .1 .1 .0)
     (λ c. collected c .collect .kept .1 .1 .1 .1 .1 .1 .1 .1 .1 .0)
+    (λ _. refl)
+    (λ _. refl)
     (λ _. tt)
     (λ c. returned c .return-roots .kept .1 .1 .0)
     (λ c. returned c .return-roots .kept .1 .1 .1 .0)
@@ -121,6 +145,8 @@ perform-spec =
     (λ c. returned c .return-roots .kept .1 .1 .1 .1 .1 .1 .1 .0)
     (λ c. returned c .return-roots .kept .1 .1 .1 .1 .1 .1 .1 .1 .0)
     (λ c. returned c .return-roots .kept .1 .1 .1 .1 .1 .1 .1 .1 .1 .0)
+    (λ c. returned c .return-roots .kept .1 .1 .1 .1 .1 .1 .1 .1 .1 .1 .0)
+    (λ c. returned c .return-roots .kept .1 .1 .1 .1 .1 .1 .1 .1 .1 .1 .1 .0)
     (λ _. tt)
     (λ c. data-allocated c .allocate-data .kept .1 .1 .0)
     (λ c. data-allocated c .allocate-data .kept .1 .1 .1 .0)
@@ -130,6 +156,8 @@ perform-spec =
     (λ c. data-allocated c .allocate-data .kept .1 .1 .1 .1 .1 .1 .1 .0)
     (λ c. data-allocated c .allocate-data .kept .1 .1 .1 .1 .1 .1 .1 .1 .0)
     (λ c. data-allocated c .allocate-data .kept .1 .1 .1 .1 .1 .1 .1 .1 .1 .0)
+    (λ c. data-allocated c .allocate-data .kept .1 .1 .1 .1 .1 .1 .1 .1 .1 .1 .0)
+    (λ c. data-allocated c .allocate-data .kept .1 .1 .1 .1 .1 .1 .1 .1 .1 .1 .1 .0)
     (λ _. tt)
     (λ _. refl)
     (λ _. refl)
@@ -139,7 +167,33 @@ perform-spec =
     (λ _. refl)
     (λ _. refl)
     (λ _. refl)
+    (λ _. refl)
+    (λ _. refl)
     (λ _. tt)
+    (λ _. refl)
+    (λ _. refl)
+    (λ _. refl)
+    (λ _. refl)
+    (λ _. refl)
+    (λ _. refl)
+    (λ _. refl)
+    (λ _. refl)
+    (λ c. opened c .open-collection .kept .1 .1 .1 .1 .1 .1 .1 .1 .1 .1 .0)
+    (λ c. opened c .open-collection .kept .1 .1 .1 .1 .1 .1 .1 .1 .1 .1 .1 .0)
+    (λ _. tt)
+    (λ c. stepped c .step-collection .kept .1 .1 .0)
+    (λ c. stepped c .step-collection .kept .1 .1 .1 .0)
+    (λ c. stepped c .step-collection .kept .1 .1 .1 .1 .0)
+    (λ c. stepped c .step-collection .kept .1 .1 .1 .1 .1 .0)
+    (λ _. refl)
+    (λ c. stepped c .step-collection .kept .1 .1 .1 .1 .1 .1 .1 .0)
+    (λ c. stepped c .step-collection .kept .1 .1 .1 .1 .1 .1 .1 .1 .0)
+    (λ c. stepped c .step-collection .kept .1 .1 .1 .1 .1 .1 .1 .1 .1 .0)
+    (λ c. stepped c .step-collection .kept .1 .1 .1 .1 .1 .1 .1 .1 .1 .1 .0)
+    (λ c. stepped c .step-collection .kept .1 .1 .1 .1 .1 .1 .1 .1 .1 .1 .1 .0)
+    (λ _. tt)
+    (λ _. refl)
+    (λ _. refl)
     (λ _. refl)
     (λ _. refl)
     (λ _. refl)

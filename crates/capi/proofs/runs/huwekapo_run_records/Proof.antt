@@ -4,7 +4,7 @@ use Rattle.capi.proofs.runs.huwekapo_run_records.Statement.{statement}
 use Rattle.capi.proofs.runs.huwekapo_run_records.Tie as tie
 
 -- the call has returned
-abbrev done : tie.After-slice-known16 → tie.After-run-records
+abbrev done : tie.After-slice-known20 → tie.After-run-records
 done c = search
 
 run-records-requires : tie.Need-run-records-requires
@@ -26,4 +26,6 @@ huwekapo-run-records-spec =
     (λ c. done c .run-records .kept .1 .1 .1 .1 .1 .1 .1 .0)
     (λ c. done c .run-records .kept .1 .1 .1 .1 .1 .1 .1 .1 .0)
     (λ c. done c .run-records .kept .1 .1 .1 .1 .1 .1 .1 .1 .1 .0)
+    (λ c. done c .run-records .kept .1 .1 .1 .1 .1 .1 .1 .1 .1 .1 .0)
+    (λ c. done c .run-records .kept .1 .1 .1 .1 .1 .1 .1 .1 .1 .1 .1 .0)
     returns)

@@ -10,7 +10,7 @@ format-requires c κs = search needs
 returns : tie.Need-returns
 returns c =
     new-heap (c .format .ensures) (search needs) (search needs) (search needs) (search needs) (search needs) (search needs) (search needs)
-    (search needs)
+    (search needs) (search needs) (search needs)
 
 pub format-spec : {M : Type 1} → statement M
 format-spec = tie.close (tie.spec format-requires returns)

@@ -13,11 +13,11 @@ use Rattle.report.proofs.run.run_input.Statement.{statement}
 use Rattle.report.proofs.run.run_input.Tie as tie
 
 abbrev Inv-loop : tie.InvT-loop
-Inv-loop a₀ b₀ counts₀ cells₀ roots₀ waiting₀ sections₀ d₀ run₀ buffer₀ a b counts cells roots waiting sections d run buffer =
-    (length buffer ≡ 65536) × (bytes : List ℕ) × Kept bytes (lentMemory a b counts cells roots waiting sections d) run
+Inv-loop a₀ b₀ counts₀ cells₀ roots₀ waiting₀ sections₀ d₀ marks₀ list₀ run₀ buffer₀ a b counts cells roots waiting sections d marks list run buffer =
+    (length buffer ≡ 65536) × (bytes : List ℕ) × Kept bytes (lentMemory a b counts cells roots waiting sections d marks list) run
 
 abbrev μ-loop : tie.MeasureT-loop
-μ-loop a₀ b₀ counts₀ cells₀ roots₀ waiting₀ sections₀ d₀ run₀ buffer₀ a b counts cells roots waiting sections d run buffer =
+μ-loop a₀ b₀ counts₀ cells₀ roots₀ waiting₀ sections₀ d₀ marks₀ list₀ run₀ buffer₀ a b counts cells roots waiting sections d marks list run buffer =
     mostRecords - run .records
 
 -- the places, from the last back

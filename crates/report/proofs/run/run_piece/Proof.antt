@@ -7,10 +7,10 @@ use Rattle.report.proofs.run.run_piece.Statement.{statement}
 use Rattle.report.proofs.run.run_piece.Tie as tie
 
 -- what is lent is bytes
-abbrev entry : tie.After-run-records-arg8 → tie.After-shared-slice-known
+abbrev entry : tie.After-run-records-arg10 → tie.After-shared-slice-known
 entry c = search
 
-of-bytes : (c : tie.After-run-records-arg8) → Bytes (entry c .before .args .bytes .now)
+of-bytes : (c : tie.After-run-records-arg10) → Bytes (entry c .before .args .bytes .now)
 unfolding Bytes
 of-bytes c i = entry c .shared-slice-known .given i .fits
 
