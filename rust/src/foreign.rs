@@ -4,9 +4,10 @@ use crate::lent::{Ran, Reply};
 use crate::{Ref, SoFar};
 
 /// Declares functions that take the blocks, the width, each buffer as a pointer and a length, and what is named further. First
-/// stands whether the buffers are written, `mut` or `const`, then whether the roots are.
+/// stands whether the buffers are written, `mut` or `const`, then whether the roots are, then whether the mark map and the list
+/// are.
 macro_rules! declared {
-    ($($call:ident($lent:tt, $roots:tt $(, $argument:ident: $type:ty)*) -> $answer:ty;)*) => {
+    ($($call:ident($lent:tt, $roots:tt, $marks:tt $(, $argument:ident: $type:ty)*) -> $answer:ty;)*) => {
         extern "C" {
             $(pub fn $call(
                 blocks: usize,
@@ -27,6 +28,10 @@ macro_rules! declared {
                 sections_length: usize,
                 data: *$lent u8,
                 data_length: usize,
+                marks: *$marks u8,
+                marks_length: usize,
+                list: *$marks Ref,
+                list_length: usize,
                 $($argument: $type,)*
             ) -> $answer;)*
         }
@@ -40,24 +45,26 @@ extern "C" {
 }
 
 declared! {
-    huwekapo_format(mut, mut) -> Reply;
-    huwekapo_check(const, const) -> Reply;
-    huwekapo_allocate(mut, mut, n: usize, r: usize) -> Reply;
-    huwekapo_store_root(mut, mut, r: usize, v: usize) -> Reply;
-    huwekapo_store_cell(mut, const, at: usize, j: usize, v: usize) -> Reply;
-    huwekapo_return_roots(mut, mut, chosen: u64) -> Reply;
-    huwekapo_collect(mut, const) -> Reply;
-    huwekapo_look(const, const, at: usize) -> Reply;
-    huwekapo_free_blocks(const, const) -> Reply;
-    huwekapo_allocate_data(mut, mut, n: usize, r: usize) -> Reply;
-    huwekapo_write_number(mut, const, at: usize, j: usize, v: u16) -> Reply;
-    huwekapo_read_number(const, const, at: usize, j: usize) -> Reply;
+    huwekapo_format(mut, mut, mut) -> Reply;
+    huwekapo_check(const, const, const) -> Reply;
+    huwekapo_allocate(mut, mut, mut, n: usize, r: usize) -> Reply;
+    huwekapo_store_root(mut, mut, mut, r: usize, v: usize) -> Reply;
+    huwekapo_store_cell(mut, const, mut, at: usize, j: usize, v: usize) -> Reply;
+    huwekapo_return_roots(mut, mut, mut, chosen: u64) -> Reply;
+    huwekapo_collect(mut, const, const) -> Reply;
+    huwekapo_look(const, const, const, at: usize) -> Reply;
+    huwekapo_free_blocks(const, const, const) -> Reply;
+    huwekapo_allocate_data(mut, mut, mut, n: usize, r: usize) -> Reply;
+    huwekapo_write_number(mut, const, const, at: usize, j: usize, v: u16) -> Reply;
+    huwekapo_read_number(const, const, const, at: usize, j: usize) -> Reply;
+    huwekapo_open_collection(const, const, mut) -> Reply;
+    huwekapo_step_collection(mut, const, mut, budget: usize) -> Reply;
     huwekapo_replay(
-        mut, mut,
+        mut, mut, mut,
         calls: *const u64,
         calls_length: usize,
         replies: *mut u64,
         replies_length: usize
     ) -> Reply;
-    huwekapo_run_records(mut, mut, run: SoFar, bytes: *const u8, bytes_length: usize) -> Ran;
+    huwekapo_run_records(mut, mut, mut, run: SoFar, bytes: *const u8, bytes_length: usize) -> Ran;
 }

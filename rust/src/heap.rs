@@ -3,7 +3,7 @@
 use crate::lent::{self, Reply, Shared, Unique};
 use crate::{Ref, Refusal, SoFar};
 
-/// The eight buffers of a heap, as [`lent`](crate::lent) has them. Two are equal where all but the waiting lists are: that
+/// The ten buffers of a heap, as [`lent`](crate::lent) has them. Two are equal where all but the waiting lists are: that
 /// list is working space.
 #[derive(Clone, Debug, Default)]
 pub struct Buffers {
@@ -23,6 +23,10 @@ pub struct Buffers {
     pub sections: Vec<u16>,
     /// The D-map.
     pub data: Vec<u8>,
+    /// The mark map.
+    pub marks: Vec<u8>,
+    /// The second list.
+    pub list: Vec<Ref>,
 }
 
 impl PartialEq for Buffers {
@@ -36,8 +40,10 @@ impl PartialEq for Buffers {
             waiting: _,
             sections,
             data,
+            marks,
+            list,
         } = self;
-        (a, b, counts, cells, roots, sections, data)
+        (a, b, counts, cells, roots, sections, data, marks, list)
             == (
                 &other.a,
                 &other.b,
@@ -46,6 +52,8 @@ impl PartialEq for Buffers {
                 &other.roots,
                 &other.sections,
                 &other.data,
+                &other.marks,
+                &other.list,
             )
     }
 }
@@ -53,9 +61,10 @@ impl PartialEq for Buffers {
 impl Eq for Buffers {}
 
 /// A heap of some number of blocks, with counts of some width. Format, both allocations, both stores, the return, collect,
-/// replay and runs of records leave `waiting` all 0, and `sections` as it must be, when accepted; the write of a number
-/// changes one cell and nothing else; check, look, free blocks and the read of a number write nothing. Two heaps are equal
-/// where blocks, width and all buffers but the waiting lists are.
+/// steps, replay and runs of records leave `waiting` all 0, and `sections` as it must be, when accepted; the opening of a
+/// collection writes `marks` and `list` and nothing else; the write of a number changes one cell and nothing else; check, look,
+/// free blocks and the read of a number write nothing. Two heaps are equal where blocks, width and all buffers but the waiting
+/// lists are.
 #[derive(Clone, Debug, PartialEq, Eq)]
 #[must_use = "a heap does nothing by itself"]
 pub struct Heap {
@@ -91,6 +100,15 @@ pub struct Stored {
     pub became_stuck: bool,
 }
 
+/// What steps of a collection do.
+#[derive(Clone, Copy, Debug, PartialEq, Eq, Hash)]
+pub struct Stepped {
+    /// The number of steps taken: the budget, unless the list ran out.
+    pub steps: usize,
+    /// The number of blocks freed, by the close.
+    pub freed: usize,
+}
+
 impl Heap {
     /// A formatted heap: blocks is a power of two from 8 to 8,192, the width 1 to 4, and there are 1 to 64
     /// roots. Refusals: 1.
@@ -107,6 +125,8 @@ impl Heap {
             waiting: vec![0; most],
             sections: vec![0; (most / 256).max(1)],
             data: vec![0; bytes],
+            marks: vec![0; bytes],
+            list: vec![0; most + 1],
         };
         let mut heap = Heap::from_buffers(blocks, width, buffers);
         heap.format()?;
@@ -154,6 +174,26 @@ impl Heap {
         &self.buffers.data
     }
 
+    /// The mark map: while a collection is open, 1 on the first block of each object that it has met; else all 0. Its bits
+    /// stand as those of the D-map.
+    #[must_use]
+    pub fn marks(&self) -> &[u8] {
+        &self.buffers.marks
+    }
+
+    /// The second list: 1 + the first blocks of the marked objects that a collection has still to look at, strictly rising,
+    /// then 0s; the last place is 1 while one is open and else 0.
+    #[must_use]
+    pub fn list(&self) -> &[Ref] {
+        &self.buffers.list
+    }
+
+    /// Whether a collection in small steps is open.
+    #[must_use]
+    pub fn is_open(&self) -> bool {
+        self.buffers.list.get(self.blocks) == Some(&1)
+    }
+
     /// The buffers as they are.
     #[must_use]
     pub fn buffers(&self) -> &Buffers {
@@ -172,40 +212,40 @@ impl Heap {
         value(lent::format(self.unique())).map(|_| ())
     }
 
-    /// Tests the whole heap. Refusals: 1, 2, 11.
+    /// Tests the whole heap. Refusals: 1, 2, 11, 13.
     pub fn check(&self) -> Result<(), Refusal> {
         value(lent::check(self.shared())).map(|_| ())
     }
 
-    /// Allocates n blocks into root r. Refusals: 1, 2, 11, 3, 4, 5.
+    /// Allocates n blocks into root r. Refusals: 1, 2, 11, 13, 3, 4, 5.
     pub fn allocate(&mut self, n: usize, r: usize) -> Result<Allocated, Refusal> {
         allocated(lent::allocate(self.unique(), n, r))
     }
 
-    /// Stores v in root r. Where the root holds v already, nothing but the waiting list is written. Refusals: 1, 2, 11, 4, 8.
+    /// Stores v in root r. Where the root holds v already, nothing but the waiting list is written. Refusals: 1, 2, 11, 13, 4, 8.
     pub fn store_root(&mut self, r: usize, v: usize) -> Result<Stored, Refusal> {
         stored(lent::store_root(self.unique(), r, v))
     }
 
     /// Stores v in cell j of the object at block `at`. Where the cell holds v already, nothing but the waiting list is
-    /// written. Refusals: 1, 2, 11, 6, 7, 12, 8.
+    /// written. Refusals: 1, 2, 11, 13, 6, 7, 12, 8.
     pub fn store_cell(&mut self, at: usize, j: usize, v: usize) -> Result<Stored, Refusal> {
         stored(lent::store_cell(self.unique(), at, j, v))
     }
 
     /// Clears the roots of a set, bit r of `chosen` for root r, as stores of 0 do one after another. The value is
-    /// the number of blocks freed in all. Refusals: 1, 2, 11, 4.
+    /// the number of blocks freed in all. Refusals: 1, 2, 11, 13, 4.
     pub fn return_roots(&mut self, chosen: u64) -> Result<usize, Refusal> {
         value(lent::return_roots(self.unique(), chosen))
     }
 
     /// Frees the objects that no root reaches, and counts the references of the others anew. The value is the
-    /// number of blocks freed. Refusals: 1, 2, 11.
+    /// number of blocks freed. Refusals: 1, 2, 11, 13, 14.
     pub fn collect(&mut self) -> Result<usize, Refusal> {
         value(lent::collect(self.unique()))
     }
 
-    /// Looks at the object at block `at`: its size in blocks and its count. Refusals: 1, 2, 11, 6.
+    /// Looks at the object at block `at`: its size in blocks and its count. Refusals: 1, 2, 11, 13, 6.
     pub fn look(&self, at: usize) -> Result<Look, Refusal> {
         let reply = lent::look(self.shared(), at);
         let size = value(reply)?;
@@ -215,26 +255,44 @@ impl Heap {
         })
     }
 
-    /// Counts the free blocks. The value is their number. Refusals: 1, 2, 11.
+    /// Counts the free blocks. The value is their number. Refusals: 1, 2, 11, 13.
     pub fn free_blocks(&self) -> Result<usize, Refusal> {
         value(lent::free_blocks(self.shared()))
     }
 
     /// Allocates n blocks of data into root r, as [`allocate`](Heap::allocate) does. The cells are 0, and hold any number.
-    /// Refusals: 1, 2, 11, 3, 4, 5.
+    /// Refusals: 1, 2, 11, 13, 3, 4, 5.
     pub fn allocate_data(&mut self, n: usize, r: usize) -> Result<Allocated, Refusal> {
         allocated(lent::allocate_data(self.unique(), n, r))
     }
 
-    /// Writes v into cell j of the data at block `at`, and changes nothing else. Refusals: 1, 2, 11, 6, 7, 12.
+    /// Writes v into cell j of the data at block `at`, and changes nothing else. Refusals: 1, 2, 11, 13, 6, 7, 12.
     pub fn write_number(&mut self, at: usize, j: usize, v: u16) -> Result<(), Refusal> {
         value(lent::write_number(self.unique(), at, j, v)).map(|_| ())
     }
 
-    /// Reads cell j of the data at block `at`. Refusals: 1, 2, 11, 6, 7, 12.
+    /// Reads cell j of the data at block `at`. Refusals: 1, 2, 11, 13, 6, 7, 12.
     pub fn read_number(&self, at: usize, j: usize) -> Result<u16, Refusal> {
         // The value is what a cell holds.
         value(lent::read_number(self.shared(), at, j)).map(|number| number as u16)
+    }
+
+    /// Opens a collection in small steps: marks and lists every object that a root names, and changes nothing else.
+    /// Refusals: 1, 2, 11, 13, 14 (one is open).
+    pub fn open_collection(&mut self) -> Result<(), Refusal> {
+        value(lent::open_collection(self.unique())).map(|_| ())
+    }
+
+    /// Takes at most `budget` steps of the open collection, one for each object that it takes off the list, and closes it where
+    /// the list is empty then and the budget is not 0: [`lent::step_collection`] states how. Refusals: 1, 2, 11, 13, 14 (none
+    /// is open).
+    pub fn step_collection(&mut self, budget: usize) -> Result<Stepped, Refusal> {
+        let reply = lent::step_collection(self.unique(), budget);
+        let steps = value(reply)?;
+        Ok(Stepped {
+            steps,
+            freed: reply.second,
+        })
     }
 
     /// Formats the heap and runs a list of calls, in the form that [`lent::replay`] states; their replies go to `replies`,
@@ -244,7 +302,7 @@ impl Heap {
     }
 
     /// Runs the records of a history, or of a piece of it, from where `run` stands, and answers where it stands then:
-    /// [`lent::run_records`] states how. [`Run`](crate::Run) does this for a whole history. Refusals: 1, 2, 11, 19.
+    /// [`lent::run_records`] states how. [`Run`](crate::Run) does this for a whole history. Refusals: 1, 2, 11, 13, 19.
     pub fn run_records(&mut self, run: SoFar, bytes: &[u8]) -> Result<SoFar, Refusal> {
         let ran = lent::run_records(self.unique(), run, bytes);
         value(ran.reply).map(|_| ran.run)
@@ -262,6 +320,8 @@ impl Heap {
             waiting: &self.buffers.waiting,
             sections: &self.buffers.sections,
             data: &self.buffers.data,
+            marks: &self.buffers.marks,
+            list: &self.buffers.list,
         }
     }
 
@@ -277,6 +337,8 @@ impl Heap {
             waiting: &mut self.buffers.waiting,
             sections: &mut self.buffers.sections,
             data: &mut self.buffers.data,
+            marks: &mut self.buffers.marks,
+            list: &mut self.buffers.list,
         }
     }
 }

@@ -26,7 +26,7 @@ pub struct Tally {
 #[repr(C)]
 #[derive(Clone, Copy, Debug, Default, PartialEq, Eq, Hash)]
 pub struct SoFar {
-    /// 0 while the run goes on, else the number that stopped it: 3, 4, 5, 6, 7, 9, 10 or 12.
+    /// 0 while the run goes on, else the number that stopped it: 3, 4, 5, 6, 7, 9, 10, 12 or 14.
     pub number: usize,
     /// The records run, which is also the number of the one that stopped it, counting from 0.
     pub records: usize,
@@ -69,6 +69,7 @@ impl Stopped {
             9 => "the operation is unknown, or a field that it does not name is not 0",
             10 => "the history ends inside a record, or goes on past 4,294,967,295 records",
             12 => "a reference is stored in data or read from it, or a number is written where the object is not data",
+            14 => "a full collection while one in small steps is open",
             _ => "a number that stops no run",
         }
     }

@@ -1,4 +1,4 @@
-//! The calls on buffers that the caller lends. The heap's eight buffers, with their lengths in elements:
+//! The calls on buffers that the caller lends. The heap's ten buffers, with their lengths in elements:
 //!
 //! ```text
 //! a         blocks / 8 bytes           A-map: 1 is allocated, 0 is free
@@ -10,6 +10,9 @@
 //! waiting   blocks numbers             working space
 //! sections  blocks / 256 numbers       the size of the largest free chunk of each section, 0 where it has none
 //! data      blocks / 8 bytes           D-map: 1 on the first block of each object made as data, 0 everywhere else
+//! marks     blocks / 8 bytes           mark map: while a collection is open, 1 on the first block of each object it has met
+//! list      blocks + 1 numbers         1 + the first blocks of the marked objects that it has still to look at, strictly
+//!                                      rising, then 0s; the last place is 1 while a collection is open and else 0
 //! ```
 //!
 //! blocks is a power of two from 8 to 8,192; width, the count width, is 1 to 4 bits. Block i is bit i % 8 (bit 0 is
@@ -19,23 +22,31 @@
 //! Every call may be made with any arguments and any content of the buffers: what is wrong is refused by a number,
 //! and a refusal changes no buffer. Arguments are whole words, and nothing of them is cut off: a v of 65,537 is
 //! refused 8. Only the number that is written into data is as wide as a cell: any such number is right. Format, both
-//! allocations, both stores, the return, collect, replay and runs of records leave `waiting` all 0, and `sections` as it
-//! must be, when accepted; the write of a number changes one cell and nothing else; check, look, free blocks and the read
-//! of a number write nothing.
+//! allocations, both stores, the return, collect, steps, replay and runs of records leave `waiting` all 0, and `sections` as
+//! it must be, when accepted; the opening of a collection writes `marks` and `list` and nothing else; the write of a number
+//! changes one cell and nothing else; check, look, free blocks and the read of a number write nothing.
 //!
 //! The cells of data are never followed, counted or checked as references, whatever they hold. What roots and cells name
 //! may be data. When data is freed, its cells become 0, and its D bit too.
+//!
+//! A collection is made at once by collect, or in small steps: it is opened, stepped, and closes in the call of steps that
+//! leaves the list empty. While one is open, every call but collect and a second opening may be made. Objects are born marked
+//! then. A store that changes a value, an allocation's too, marks and lists what is unmarked among the object written to, the
+//! old and the new one; clearing a freed object's cells marks and lists the unmarked ones that they named; a freed object
+//! leaves both. While none is open, `marks` and `list` are all 0. Nothing that a root leads to is ever freed. What no root led
+//! to at the opening, and none of those objects of a later store was or led to, is gone at the close. The steps from the
+//! opening to the close are at most the objects present at the opening.
 
 use crate::{foreign, Ref, SoFar};
 
 /// The number of buffers.
-pub const BUFFERS: usize = 8;
+pub const BUFFERS: usize = 10;
 
 /// A number and its values. `number` is 0 where the call was accepted, else the first that applies of the refusals
 /// that the call names, in the order in which it names them. A refusal carries value 0, or the damage kind for
-/// number 2. `second` is the count that a look finds; of an accepted allocation, of data too, or of an accepted store of a
-/// reference it is 1 where this call brought the count of the object that it stores to the capacity, at which the object is
-/// stuck, and 0 where not. Else it is 0.
+/// number 2. `second` is the count that a look finds, or the number of blocks that accepted steps freed; of an accepted
+/// allocation, of data too, or of an accepted store of a reference it is 1 where this call brought the count of the object that
+/// it stores to the capacity, at which the object is stuck, and 0 where not. Else it is 0.
 ///
 /// [`Refusal`](crate::Refusal) has the words of the numbers.
 #[repr(C)]
@@ -46,7 +57,7 @@ pub struct Reply {
     pub number: usize,
     /// What the call names as its value; of a refusal 0, or the damage kind.
     pub value: usize,
-    /// The count that a look finds; 1 where an allocation or a store made an object stuck.
+    /// The count that a look finds; the blocks that steps freed; 1 where an allocation or a store made an object stuck.
     pub second: usize,
 }
 
@@ -61,7 +72,7 @@ pub struct Ran {
     pub run: SoFar,
 }
 
-/// The eight buffers, to be read.
+/// The ten buffers, to be read.
 #[derive(Clone, Copy, Debug)]
 pub struct Shared<'a> {
     /// The number of blocks.
@@ -84,9 +95,13 @@ pub struct Shared<'a> {
     pub sections: &'a [u16],
     /// The D-map.
     pub data: &'a [u8],
+    /// The mark map.
+    pub marks: &'a [u8],
+    /// The second list.
+    pub list: &'a [Ref],
 }
 
-/// The eight buffers, to be written.
+/// The ten buffers, to be written.
 #[derive(Debug)]
 pub struct Unique<'a> {
     /// The number of blocks.
@@ -109,6 +124,10 @@ pub struct Unique<'a> {
     pub sections: &'a mut [u16],
     /// The D-map.
     pub data: &'a mut [u8],
+    /// The mark map.
+    pub marks: &'a mut [u8],
+    /// The second list.
+    pub list: &'a mut [Ref],
 }
 
 /// Calls a function of the library with the blocks, the width, each buffer as a pointer and a length, and
@@ -116,7 +135,7 @@ pub struct Unique<'a> {
 // Safe for every one of them: each has no precondition, reads and writes the slices only within their lengths,
 // and keeps no pointer. The slices are good for the call and, where they are written, not shared.
 macro_rules! lend {
-    ($call:ident, $heap:expr, $pointer:ident, $roots:ident $(, $argument:expr)*) => {{
+    ($call:ident, $heap:expr, $pointer:ident, $roots:ident, $marks:ident $(, $argument:expr)*) => {{
         let heap = $heap;
         unsafe {
             foreign::$call(
@@ -138,6 +157,10 @@ macro_rules! lend {
                 heap.sections.len(),
                 heap.data.$pointer(),
                 heap.data.len(),
+                heap.marks.$marks(),
+                heap.marks.len(),
+                heap.list.$marks(),
+                heap.list.len(),
                 $($argument),*
             )
         }
@@ -147,69 +170,140 @@ macro_rules! lend {
 /// Makes an empty heap of whatever the buffers held: b is all ones, each number of sections the blocks of a section,
 /// every other buffer all 0. The value is 0. Refusals: 1.
 pub fn format(heap: Unique) -> Reply {
-    lend!(huwekapo_format, heap, as_mut_ptr, as_mut_ptr)
+    lend!(huwekapo_format, heap, as_mut_ptr, as_mut_ptr, as_mut_ptr)
 }
 
-/// Tests the whole heap. The value is 0. Refusals: 1, 2, 11.
+/// Tests the whole heap. The value is 0. Refusals: 1, 2, 11, 13.
 pub fn check(heap: Shared) -> Reply {
-    lend!(huwekapo_check, heap, as_ptr, as_ptr)
+    lend!(huwekapo_check, heap, as_ptr, as_ptr, as_ptr)
 }
 
 /// Allocates n blocks into root r. The value is the first block, `second` whether the new object is stuck, as it is at
-/// width 1. Refusals: 1, 2, 11, 3, 4, 5.
+/// width 1. Refusals: 1, 2, 11, 13, 3, 4, 5.
 pub fn allocate(heap: Unique, n: usize, r: usize) -> Reply {
-    lend!(huwekapo_allocate, heap, as_mut_ptr, as_mut_ptr, n, r)
+    lend!(
+        huwekapo_allocate,
+        heap,
+        as_mut_ptr,
+        as_mut_ptr,
+        as_mut_ptr,
+        n,
+        r
+    )
 }
 
 /// Stores v in root r. The value is the number of blocks freed, `second` whether the object that v names became stuck.
-/// Refusals: 1, 2, 11, 4, 8.
+/// Refusals: 1, 2, 11, 13, 4, 8.
 pub fn store_root(heap: Unique, r: usize, v: usize) -> Reply {
-    lend!(huwekapo_store_root, heap, as_mut_ptr, as_mut_ptr, r, v)
+    lend!(
+        huwekapo_store_root,
+        heap,
+        as_mut_ptr,
+        as_mut_ptr,
+        as_mut_ptr,
+        r,
+        v
+    )
 }
 
 /// Stores v in cell j of the object at block `at`. The value is the number of blocks freed, `second` whether the object
-/// that v names became stuck. Refusals: 1, 2, 11, 6, 7, 12, 8.
+/// that v names became stuck. Refusals: 1, 2, 11, 13, 6, 7, 12, 8.
 pub fn store_cell(heap: Unique, at: usize, j: usize, v: usize) -> Reply {
-    lend!(huwekapo_store_cell, heap, as_mut_ptr, as_ptr, at, j, v)
+    lend!(
+        huwekapo_store_cell,
+        heap,
+        as_mut_ptr,
+        as_ptr,
+        as_mut_ptr,
+        at,
+        j,
+        v
+    )
 }
 
 /// Clears the roots of a set, bit r of `chosen` for root r, as stores of 0 do one after another. The value is the
-/// number of blocks freed in all. Refusals: 1, 2, 11, 4.
+/// number of blocks freed in all. Refusals: 1, 2, 11, 13, 4.
 pub fn return_roots(heap: Unique, chosen: u64) -> Reply {
-    lend!(huwekapo_return_roots, heap, as_mut_ptr, as_mut_ptr, chosen)
+    lend!(
+        huwekapo_return_roots,
+        heap,
+        as_mut_ptr,
+        as_mut_ptr,
+        as_mut_ptr,
+        chosen
+    )
 }
 
 /// Frees the objects that no root reaches, and counts the references of the others anew. The value is the number of
-/// blocks freed. Refusals: 1, 2, 11.
+/// blocks freed. Refusals: 1, 2, 11, 13, 14.
 pub fn collect(heap: Unique) -> Reply {
-    lend!(huwekapo_collect, heap, as_mut_ptr, as_ptr)
+    lend!(huwekapo_collect, heap, as_mut_ptr, as_ptr, as_ptr)
 }
 
-/// Looks at the object at block `at`. The value is its size in blocks, `second` its count. Refusals: 1, 2, 11, 6.
+/// Looks at the object at block `at`. The value is its size in blocks, `second` its count. Refusals: 1, 2, 11, 13, 6.
 pub fn look(heap: Shared, at: usize) -> Reply {
-    lend!(huwekapo_look, heap, as_ptr, as_ptr, at)
+    lend!(huwekapo_look, heap, as_ptr, as_ptr, as_ptr, at)
 }
 
-/// Counts the free blocks. The value is their number. Refusals: 1, 2, 11.
+/// Counts the free blocks. The value is their number. Refusals: 1, 2, 11, 13.
 pub fn free_blocks(heap: Shared) -> Reply {
-    lend!(huwekapo_free_blocks, heap, as_ptr, as_ptr)
+    lend!(huwekapo_free_blocks, heap, as_ptr, as_ptr, as_ptr)
 }
 
 /// Allocates n blocks of data into root r, as [`allocate`] does, and with its replies. The cells are 0.
-/// Refusals: 1, 2, 11, 3, 4, 5.
+/// Refusals: 1, 2, 11, 13, 3, 4, 5.
 pub fn allocate_data(heap: Unique, n: usize, r: usize) -> Reply {
-    lend!(huwekapo_allocate_data, heap, as_mut_ptr, as_mut_ptr, n, r)
+    lend!(
+        huwekapo_allocate_data,
+        heap,
+        as_mut_ptr,
+        as_mut_ptr,
+        as_mut_ptr,
+        n,
+        r
+    )
 }
 
 /// Writes v into cell j of the data at block `at`, and changes nothing else, `waiting` neither. The value is 0.
-/// Refusals: 1, 2, 11, 6, 7, 12.
+/// Refusals: 1, 2, 11, 13, 6, 7, 12.
 pub fn write_number(heap: Unique, at: usize, j: usize, v: u16) -> Reply {
-    lend!(huwekapo_write_number, heap, as_mut_ptr, as_ptr, at, j, v)
+    lend!(
+        huwekapo_write_number,
+        heap,
+        as_mut_ptr,
+        as_ptr,
+        as_ptr,
+        at,
+        j,
+        v
+    )
 }
 
-/// Reads cell j of the data at block `at`. The value is the number. Refusals: 1, 2, 11, 6, 7, 12.
+/// Reads cell j of the data at block `at`. The value is the number. Refusals: 1, 2, 11, 13, 6, 7, 12.
 pub fn read_number(heap: Shared, at: usize, j: usize) -> Reply {
-    lend!(huwekapo_read_number, heap, as_ptr, as_ptr, at, j)
+    lend!(huwekapo_read_number, heap, as_ptr, as_ptr, as_ptr, at, j)
+}
+
+/// Opens a collection in small steps: marks and lists every object that a root names, and changes nothing else, `waiting`
+/// neither. The value is 0. Refusals: 1, 2, 11, 13, 14 (one is open).
+pub fn open_collection(heap: Unique) -> Reply {
+    lend!(huwekapo_open_collection, heap, as_ptr, as_ptr, as_mut_ptr)
+}
+
+/// Takes at most `budget` steps of the open collection, any number. A step takes the lowest object off the list, and marks and
+/// lists what its cells name that is unmarked; those of data name nothing. Where the list is empty then, and `budget` is not 0,
+/// the collection closes: it frees what is unmarked, counts down the other objects that this named, once for each cell, frees
+/// those that come to 0 as a store does, and makes `marks` and `list` all 0. The value is the number of steps taken, which is
+/// `budget` unless the list ran out; `second` is the number of blocks freed. Refusals: 1, 2, 11, 13, 14 (none is open).
+pub fn step_collection(heap: Unique, budget: usize) -> Reply {
+    lend!(
+        huwekapo_step_collection,
+        heap,
+        as_mut_ptr,
+        as_ptr,
+        as_mut_ptr,
+        budget
+    )
 }
 
 /// Formats the heap and runs a list of calls, each an entry of four words, a code and arguments:
@@ -227,6 +321,8 @@ pub fn read_number(heap: Shared, at: usize, j: usize) -> Reply {
 /// 9, n, r       allocate_data
 /// 10, at, j, v  write_number, v at most 65,535
 /// 11, at, j     read_number
+/// 12            open_collection
+/// 13, budget    step_collection
 /// ```
 ///
 /// Words that a call does not name are not looked at. The reply of call i goes to places 3i, 3i + 1 and 3i + 2 of
@@ -234,13 +330,14 @@ pub fn read_number(heap: Shared, at: usize, j: usize) -> Reply {
 /// Refusals, which write nothing: 1, 10, 9, 18.
 ///
 /// - 10: the list ends inside a call
-/// - 9: an entry is no call: its code is above 11, or it writes a number above 65,535
+/// - 9: an entry is no call: its code is above 13, or it writes a number above 65,535
 /// - 18: `replies` is too short for the replies of all calls
 pub fn replay(heap: Unique, calls: &[u64], replies: &mut [u64]) -> Reply {
     let (list, replies_at) = (calls.as_ptr(), replies.as_mut_ptr());
     lend!(
         huwekapo_replay,
         heap,
+        as_mut_ptr,
         as_mut_ptr,
         as_mut_ptr,
         list,
@@ -274,14 +371,15 @@ pub fn replay(heap: Unique, calls: &[u64], replies: &mut [u64]) -> Reply {
 ///
 /// Fields that an operation does not name are 0. The first record that is refused stops the run, with the first that applies
 /// of 9, 3 (operations 1 and 7), 4, 5 (operations 1 and 7, after the second try), 6 (an empty root where an object is
-/// needed), 7, 12 (operations 3 and 4 on data, 8 on what is not); and so does 10, behind the last whole record. This is no
-/// refusal of the call: the number is in the run, and the reply's is 0.
+/// needed), 7, 12 (operations 3 and 4 on data, 8 on what is not), 14 (operation 6 while a collection in steps is open); and so
+/// does 10, behind the last whole record. This is no refusal of the call: the number is in the run, and the reply's is 0. While a
+/// collection in steps is open, no full one can be forced: none is counted, and 5 stops the run.
 ///
 /// Accepted, the value is 0, and the run answered is where it stands after the bytes. The record that stopped a run has
 /// changed nothing, save by a collection that it forced. A run handed in stopped is handed back as it is, and only `waiting`
 /// is written.
 ///
-/// Refusals, which change no buffer and answer a run of all 0: 1, 2, 11, 19.
+/// Refusals, which change no buffer and answer a run of all 0: 1, 2, 11, 13, 19.
 ///
 /// - 19: the run has more than 4,294,967,295 records, more allocations than records, more blocks than 8,192 for each
 ///   record, more objects that became stuck than records, or more collections than records (one more where its number is
@@ -290,6 +388,7 @@ pub fn run_records(heap: Unique, run: SoFar, bytes: &[u8]) -> Ran {
     lend!(
         huwekapo_run_records,
         heap,
+        as_mut_ptr,
         as_mut_ptr,
         as_mut_ptr,
         run,

@@ -34,6 +34,16 @@
 //! heap.write_number(pixels, 11, 65_535)?;
 //! assert_eq!(heap.read_number(pixels, 11), Ok(65_535));
 //! assert_eq!(heap.store_cell(pixels, 0, 0), Err(Refusal::WrongKind));
+//!
+//! // A collection in small steps. The object at block 0 is stuck, and no root names it any more.
+//! assert_eq!(heap.return_roots(0b1001)?, 0);
+//! heap.open_collection()?;
+//! let mut freed = 0;
+//! while heap.is_open() {
+//!     freed += heap.step_collection(1)?.freed;
+//! }
+//! assert_eq!(freed, 2);
+//! assert_eq!(heap.look(0), Err(Refusal::NoObject));
 //! # Ok::<(), Refusal>(())
 //! ```
 
@@ -46,7 +56,7 @@ pub mod lent;
 mod refusal;
 mod run;
 
-pub use heap::{Allocated, Buffers, Heap, Look, Stored};
+pub use heap::{Allocated, Buffers, Heap, Look, Stepped, Stored};
 pub use history::{SoFar, Stopped, Tally};
 pub use refusal::{Damage, Refusal};
 pub use run::{Run, RunError};

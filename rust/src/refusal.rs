@@ -32,6 +32,10 @@ pub enum Refusal {
     StaleSections,
     /// 12: a reference is stored in a cell of data, or a number is written or read where the object is not data.
     WrongKind,
+    /// 13: `marks` and `list` are not as a collection, open or not, leaves them.
+    BadMarks,
+    /// 14: a step while no collection is open, or an opening or a full collection while one is.
+    OutOfTurn,
     /// 18: a replay's `replies` is too short.
     ShortReplies,
     /// 19: a run of records is out of range.
@@ -74,6 +78,8 @@ impl Refusal {
             10 => Some(Refusal::CutOff),
             11 => Some(Refusal::StaleSections),
             12 => Some(Refusal::WrongKind),
+            13 => Some(Refusal::BadMarks),
+            14 => Some(Refusal::OutOfTurn),
             18 => Some(Refusal::ShortReplies),
             19 => Some(Refusal::BadRun),
             number => unreachable!("the library has no refusal {number}"),
@@ -96,6 +102,8 @@ impl Refusal {
             Refusal::CutOff => 10,
             Refusal::StaleSections => 11,
             Refusal::WrongKind => 12,
+            Refusal::BadMarks => 13,
+            Refusal::OutOfTurn => 14,
             Refusal::ShortReplies => 18,
             Refusal::BadRun => 19,
         }
@@ -148,7 +156,7 @@ impl fmt::Display for Refusal {
             Refusal::BadCell => "j is not below 4 times the object's size",
             Refusal::BadReference => "v is neither 0 nor 1 + a first block",
             Refusal::NoCall => {
-                "an entry is no call: its code is above 11, or it writes a number above 65,535"
+                "an entry is no call: its code is above 13, or it writes a number above 65,535"
             }
             Refusal::CutOff => "the list ends inside a call",
             Refusal::StaleSections => {
@@ -157,6 +165,14 @@ impl fmt::Display for Refusal {
             Refusal::WrongKind => {
                 "a reference is stored in a cell of data, or read from one; or a number is written or read where the \
                  object is not data"
+            }
+            Refusal::BadMarks => {
+                "while a collection is open: the list is not of its form or holds an object that is unmarked, a mark is \
+                 not on a first block, or a root, or a marked object that is not on the list, names an unmarked one; while \
+                 none is: a mark or a place of the list is not 0"
+            }
+            Refusal::OutOfTurn => {
+                "a step while no collection is open; an opening or a full collection while one is"
             }
             Refusal::ShortReplies => "`replies` is too short for the replies of all calls",
             Refusal::BadRun => {

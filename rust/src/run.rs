@@ -44,7 +44,7 @@ pub struct Run {
 pub enum RunError {
     /// A read failed.
     Read(io::Error),
-    /// The library refused the heap (1, 2, 11) or the run (19), and changed nothing.
+    /// The library refused the heap (1, 2, 11, 13) or the run (19), and changed nothing.
     Refused(Refusal),
 }
 
@@ -98,7 +98,7 @@ impl Run {
 
     /// Runs the records of a piece, which may begin and end anywhere, and answers where the run stands. The heap is
     /// checked once for each piece, so that large ones are quicker. A run that was stopped stays as it is. A refusal takes
-    /// nothing of the piece. Refusals: 1, 2, 11, 19.
+    /// nothing of the piece. Refusals: 1, 2, 11, 13, 19.
     pub fn feed(&mut self, piece: &[u8]) -> Result<SoFar, Refusal> {
         let mut piece = piece;
         let missing = RECORD - self.tail.len();
@@ -119,7 +119,7 @@ impl Run {
         Ok(self.so_far)
     }
 
-    /// The end of the history: where the last record is cut off, the run stops with 10. Refusals: 1, 2, 11, 19.
+    /// The end of the history: where the last record is cut off, the run stops with 10. Refusals: 1, 2, 11, 13, 19.
     pub fn finish(&mut self) -> Result<SoFar, Refusal> {
         let tail = self.tail.clone();
         self.run(&tail)?;

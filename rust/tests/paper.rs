@@ -183,7 +183,7 @@ fn equality_leaves_out_the_waiting_list() {
     assert_ne!(rubbish.buffers().waiting, heap.buffers().waiting);
     assert_eq!(rubbish, heap);
     assert_eq!(rubbish.buffers(), heap.buffers());
-    let others: [fn(&mut Buffers); 7] = [
+    let others: [fn(&mut Buffers); 9] = [
         |buffers| buffers.a[0] = 1,
         |buffers| buffers.b[0] = 1,
         |buffers| buffers.counts[0] = 1,
@@ -191,6 +191,8 @@ fn equality_leaves_out_the_waiting_list() {
         |buffers| buffers.roots[0] = 1,
         |buffers| buffers.sections[0] = 1,
         |buffers| buffers.data[0] = 1,
+        |buffers| buffers.marks[0] = 1,
+        |buffers| buffers.list[0] = 1,
     ];
     for other in others.map(with) {
         assert_ne!(other, heap);
@@ -233,6 +235,11 @@ fn words() {
         "2: the heap is damaged, kind 7: a D bit where no object starts"
     );
     assert_eq!(Refusal::WrongKind.number(), 12);
+    assert_eq!(Refusal::BadMarks.number(), 13);
+    assert_eq!(
+        Refusal::OutOfTurn.to_string(),
+        "14: a step while no collection is open; an opening or a full collection while one is"
+    );
 }
 
 #[test]

@@ -1,6 +1,8 @@
 //! The replay of a list of calls: P1, and each refusal, with what is behind the replies kept.
 
-use huwekapo::lent::{replay, Reply, Unique};
+mod common;
+use common::lend;
+use huwekapo::lent::{replay, Reply};
 use huwekapo::{Buffers, Heap, Look, Refusal};
 
 /// P1: allocate 2, 1 and 3, and look at 4. Words that a call does not name hold anything.
@@ -17,21 +19,8 @@ fn used() -> Buffers {
         waiting: vec![99; 8],
         sections: vec![66; 1],
         data: vec![0x99; 1],
-    }
-}
-
-fn lend(blocks: usize, buffers: &mut Buffers) -> Unique<'_> {
-    Unique {
-        blocks,
-        width: 2,
-        a: &mut buffers.a,
-        b: &mut buffers.b,
-        counts: &mut buffers.counts,
-        cells: &mut buffers.cells,
-        roots: &mut buffers.roots,
-        waiting: &mut buffers.waiting,
-        sections: &mut buffers.sections,
-        data: &mut buffers.data,
+        marks: vec![0x96; 1],
+        list: vec![55; 9],
     }
 }
 
@@ -47,7 +36,7 @@ fn reply(number: usize, value: usize) -> Reply {
 fn refusal(blocks: usize, calls: &[u64], room: usize) -> usize {
     let mut buffers = used();
     let mut replies = vec![7; room];
-    let refused = replay(lend(blocks, &mut buffers), calls, &mut replies);
+    let refused = replay(lend(blocks, 2, &mut buffers), calls, &mut replies);
     assert_ne!(refused.number, 0);
     assert_eq!(refused, reply(refused.number, 0));
     assert_eq!(buffers, used());
@@ -60,7 +49,7 @@ fn refusal(blocks: usize, calls: &[u64], room: usize) -> usize {
 fn p1() {
     let mut buffers = used();
     let mut replies = [7; 14];
-    let accepted = replay(lend(8, &mut buffers), &P1, &mut replies);
+    let accepted = replay(lend(8, 2, &mut buffers), &P1, &mut replies);
     assert_eq!(accepted, reply(0, 4));
     assert_eq!(replies, [0, 0, 0, 0, 2, 0, 0, 4, 0, 0, 3, 1, 7, 7]);
 
@@ -81,7 +70,7 @@ fn on_a_heap() {
     let mut replies = [7; 14];
     for (calls, room, refusal) in [
         (&P1[..15], 12, Refusal::CutOff),
-        (&[12, 0, 0, 0][..], 3, Refusal::NoCall),
+        (&[14, 0, 0, 0][..], 3, Refusal::NoCall),
         (&P1[..], 11, Refusal::ShortReplies),
     ] {
         assert_eq!(heap.replay(calls, &mut replies[..room]), Err(refusal));
@@ -101,7 +90,7 @@ fn a_return_in_a_list() {
     calls.extend([8, 5, u64::MAX, u64::MAX, 8, 18, 0, 0, 8, 2, 0, 0]);
     let mut buffers = used();
     let mut replies = [7; 21];
-    let accepted = replay(lend(8, &mut buffers), &calls, &mut replies);
+    let accepted = replay(lend(8, 2, &mut buffers), &calls, &mut replies);
     assert_eq!(accepted, reply(0, 7));
     assert_eq!(replies[12..], [0, 5, 0, 4, 0, 0, 0, 1, 0]);
     assert_eq!(Ok(buffers), Heap::new(8, 2, 4).map(Heap::into_buffers));
@@ -116,14 +105,17 @@ fn a_wide_value_in_a_list() {
         calls.extend([3, 0, v, 0, 4, 0, 7, v, 6, 0, 0, 0]);
         let mut buffers = used();
         let mut replies = [7; 25];
-        let accepted = replay(lend(8, &mut buffers), &calls, &mut replies);
+        let accepted = replay(lend(8, 2, &mut buffers), &calls, &mut replies);
         assert_eq!(accepted, reply(0, 8));
         assert_eq!(replies[..3], [8, 0, 0]);
         assert_eq!(replies[3..15], [0, 0, 0, 0, 2, 0, 0, 4, 0, 0, 3, 1]);
         assert_eq!(replies[15..], [8, 0, 0, 8, 0, 0, 0, 2, 1, 7]);
 
         let mut alone = used();
-        assert_eq!(replay(lend(8, &mut alone), &P1, &mut replies), reply(0, 4));
+        assert_eq!(
+            replay(lend(8, 2, &mut alone), &P1, &mut replies),
+            reply(0, 4)
+        );
         assert_eq!(buffers, alone);
     }
 }
@@ -143,7 +135,7 @@ fn numbers_in_a_list() {
     ];
     let mut buffers = used();
     let mut replies = [7; 21];
-    let accepted = replay(lend(8, &mut buffers), calls.as_flattened(), &mut replies);
+    let accepted = replay(lend(8, 2, &mut buffers), calls.as_flattened(), &mut replies);
     assert_eq!(accepted, reply(0, 7));
     assert_eq!(replies[..9], [0, 0, 0, 0, 0, 0, 0, 65_535, 0]);
     assert_eq!(replies[9..], [0, 2, 0, 12, 0, 0, 12, 0, 0, 0, 2, 0]);
@@ -164,17 +156,53 @@ fn a_wide_number_in_a_list() {
         // No other call has a number.
         let calls = [[9, 1, 0, v], [11, 0, 0, v]];
         let mut replies = [7; 6];
-        let accepted = replay(lend(8, &mut used()), calls.as_flattened(), &mut replies);
+        let accepted = replay(lend(8, 2, &mut used()), calls.as_flattened(), &mut replies);
         assert_eq!(accepted, reply(0, 2));
         assert_eq!(replies, [0; 6]);
     }
+}
+
+/// A chain of 3 objects and one that names itself alone. The collection is opened and stepped, with anything in the words that
+/// the calls do not name: a full one and a second opening are refused meanwhile, and a step behind the close.
+#[test]
+fn steps_in_a_list() {
+    let calls = [
+        [2, 1, 0, 0],
+        [2, 1, 1, 0],
+        [2, 1, 2, 0],
+        [2, 1, 3, 0],
+        [4, 0, 0, 2],
+        [4, 1, 0, 3],
+        [4, 3, 0, 4],
+        [8, 14, 0, 0],
+        [13, 1, 0, 0],
+        [12, 9, 9, 9],
+        [12, 0, 0, 0],
+        [5, 0, 0, 0],
+        [13, 0, 9, 9],
+        [13, 1, 0, 0],
+        [13, u64::MAX, 0, 0],
+        [13, 1, 0, 0],
+        [7, 0, 0, 0],
+    ];
+    let mut buffers = used();
+    let mut replies = [7; 51];
+    let accepted = replay(lend(8, 2, &mut buffers), calls.as_flattened(), &mut replies);
+    assert_eq!(accepted, reply(0, 17));
+    assert_eq!(replies[24..36], [14, 0, 0, 0, 0, 0, 14, 0, 0, 14, 0, 0]);
+    assert_eq!(replies[36..45], [0, 0, 0, 0, 1, 0, 0, 2, 1]);
+    assert_eq!(replies[45..], [14, 0, 0, 0, 5, 0]);
+    assert_eq!(
+        (&buffers.marks[..], &buffers.list[..]),
+        (&[0][..], &[0; 9][..])
+    );
 }
 
 #[test]
 fn an_empty_list_formats() {
     let mut buffers = used();
     let mut replies = [7; 2];
-    let accepted = replay(lend(8, &mut buffers), &[], &mut replies);
+    let accepted = replay(lend(8, 2, &mut buffers), &[], &mut replies);
     assert_eq!(accepted, reply(0, 0));
     assert_eq!(replies, [7; 2]);
     assert_eq!(Ok(buffers), Heap::new(8, 2, 4).map(Heap::into_buffers));
@@ -186,7 +214,7 @@ fn refusals() {
     for length in 13..16 {
         assert_eq!(refusal(8, &P1[..length], 12), 10);
     }
-    for code in [12, 256, u64::MAX] {
+    for code in [14, 256, u64::MAX] {
         let mut calls = P1;
         calls[8] = code;
         assert_eq!(refusal(8, &calls, 12), 9);
@@ -199,7 +227,7 @@ fn refusals() {
 #[test]
 fn refusals_in_order() {
     let mut calls = P1;
-    calls[0] = 12;
+    calls[0] = 14;
     assert_eq!(refusal(8, &calls, 11), 9);
     assert_eq!(refusal(8, &calls[..15], 8), 10);
     assert_eq!(refusal(16, &calls[..15], 8), 1);

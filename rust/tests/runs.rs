@@ -1,6 +1,8 @@
 //! Runs of recorded histories.
 
-use huwekapo::lent::{self, Ran, Reply, Unique};
+mod common;
+use common::{lend, lists};
+use huwekapo::lent::{self, Ran, Reply};
 use huwekapo::{Buffers, Damage, Heap, Refusal, Run, RunError, SoFar, Stopped, Tally};
 use std::io::{self, ErrorKind, Read};
 
@@ -74,11 +76,6 @@ fn run_on(heap: Heap, history: &[u8]) -> (SoFar, Heap) {
 /// The line of a history on the program's heap.
 fn line(history: &[u8]) -> String {
     run_on(report_heap(), history).0.to_string()
-}
-
-/// All eight buffers, the waiting list too.
-fn lists(buffers: &Buffers) -> impl PartialEq + std::fmt::Debug {
-    (buffers.clone(), buffers.waiting.clone())
 }
 
 /// Random records for 8 roots, with no collection in them.
@@ -263,6 +260,40 @@ fn forced_collections() {
     assert_eq!(heap_now.roots(), [0, 0, 0, 6]);
 }
 
+/// While a collection in steps is open, a record that collects stops the run with 14; and where no chunk is free none is forced
+/// or counted, and 5 stops it. Every other record is run.
+#[test]
+fn with_a_collection_open() {
+    let mut heap = small_heap();
+    let run = heap.run_records(SoFar::default(), &allocate(5, 0));
+    let run = run.expect("accepted");
+    assert_eq!(heap.open_collection(), Ok(()));
+    let others = [copy(0, 1), write(1, 3, 0), read(3, 0, 2), clear(1)];
+    let run = heap.run_records(run, others.as_flattened());
+    assert_eq!(run, Ok(so_far(0, 5, [1, 5, 5, 0, 5, 1])));
+    let run = run.expect("accepted");
+    let open = heap.clone();
+    assert!(open.is_open());
+
+    let stopped = heap.run_records(run, &COLLECT);
+    assert_eq!(stopped, Ok(so_far(14, 5, [1, 5, 5, 0, 5, 1])));
+    assert_eq!(
+        stopped.expect("accepted").to_string(),
+        "refused 14 at record 5"
+    );
+    assert_eq!(heap, open);
+    let stopped = heap.run_records(run, &allocate(8, 0));
+    assert_eq!(stopped, Ok(so_far(5, 5, [1, 5, 5, 0, 5, 1])));
+    assert_eq!(heap, open);
+
+    // Closed, both are run.
+    let closed = heap.step_collection(9).expect("open");
+    assert_eq!((closed.steps, closed.freed), (1, 0));
+    let history = [COLLECT, clear(0), clear(2), allocate(8, 1)];
+    let run = heap.run_records(run, history.as_flattened());
+    assert_eq!(run, Ok(so_far(0, 9, [2, 13, 8, 2, 8, 1])));
+}
+
 /// A history in pieces of whole records comes to what the whole comes to, by each way in.
 #[test]
 fn pieces_are_the_whole() {
@@ -411,26 +442,14 @@ fn the_limit() {
 /// A heap that is lent, with anything in its waiting list.
 fn refused(width: usize, buffers: &Buffers, run: SoFar, bytes: &[u8]) -> Reply {
     let mut lent = buffers.clone();
-    let unique = Unique {
-        blocks: 8,
-        width,
-        a: &mut lent.a,
-        b: &mut lent.b,
-        counts: &mut lent.counts,
-        cells: &mut lent.cells,
-        roots: &mut lent.roots,
-        waiting: &mut lent.waiting,
-        sections: &mut lent.sections,
-        data: &mut lent.data,
-    };
-    let Ran { reply, run } = lent::run_records(unique, run, bytes);
+    let Ran { reply, run } = lent::run_records(lend(8, width, &mut lent), run, bytes);
     assert_ne!(reply.number, 0);
     assert_eq!(run, SoFar::default());
     assert!(lists(&lent) == lists(buffers));
     reply
 }
 
-/// 1, 2, 11, 19, in this order; a refusal writes nothing and answers a run of all 0.
+/// 1, 2, 11, 13, 19, in this order; a refusal writes nothing and answers a run of all 0.
 #[test]
 fn refusals() {
     let reply = |number, value| Reply {
@@ -443,7 +462,9 @@ fn refusals() {
     let bad = so_far(0, 3, [4, 6, 3, 0, 6, 0]);
     let mut buffers = small_heap().into_buffers();
     buffers.waiting.fill(99);
-    let mut stale = buffers.clone();
+    let mut untidy = buffers.clone();
+    untidy.list[7] = 1;
+    let mut stale = untidy.clone();
     stale.sections[0] = 4;
     let mut damaged = stale.clone();
     damaged.b[0] = 254;
@@ -454,6 +475,7 @@ fn refusals() {
         assert_eq!(refused(2, &short, run, &record), reply(1, 0));
         assert_eq!(refused(2, &damaged, run, &record), reply(2, 1));
         assert_eq!(refused(2, &stale, run, &record), reply(11, 0));
+        assert_eq!(refused(2, &untidy, run, &record), reply(13, 0));
     }
     assert_eq!(refused(2, &buffers, bad, &record), reply(19, 0));
 

@@ -2,9 +2,8 @@
 //! is not.
 
 mod common;
-use common::block;
-use huwekapo::lent::{self, Reply, Shared, Unique};
-use huwekapo::{Buffers, Heap, Refusal, SoFar};
+use common::{block, call, is_out_of_turn, lent_to_calls, refusal, refused, FORMATTING, OTHERS};
+use huwekapo::{Heap, Refusal, SoFar};
 
 fn fresh(blocks: usize) -> Heap {
     Heap::new(blocks, 2, 4).expect("a good shape")
@@ -33,128 +32,17 @@ fn figures(heap: &Heap) -> Vec<u16> {
         .collect()
 }
 
-/// All eight buffers, the waiting list too.
-fn lists(buffers: &Buffers) -> impl PartialEq + std::fmt::Debug {
-    (buffers.clone(), buffers.waiting.clone())
-}
-
-/// The calls that format the heap, and so look at no content, and all others.
-const FORMATTING: [&str; 2] = ["format", "replay"];
-const OTHERS: [&str; 12] = [
-    "check",
-    "allocate",
-    "store_root",
-    "store_cell",
-    "return_roots",
-    "collect",
-    "look",
-    "free_blocks",
-    "allocate_data",
-    "write_number",
-    "read_number",
-    "run_records",
-];
-
-/// Makes a call whose own numbers are right, on a heap whose object of one block at block 0 is in root 0, and whose data of one
-/// block at block 1 is in root 2.
-fn call(name: &str, blocks: usize, buffers: &mut Buffers) -> Reply {
-    let Buffers {
-        a,
-        b,
-        counts,
-        cells,
-        roots,
-        waiting,
-        sections,
-        data,
-    } = buffers;
-    let width = 2;
-    let reading = ["check", "look", "free_blocks", "read_number"];
-    if reading.contains(&name) {
-        let shared = Shared {
-            blocks,
-            width,
-            a,
-            b,
-            counts,
-            cells,
-            roots,
-            waiting,
-            sections,
-            data,
-        };
-        return match name {
-            "check" => lent::check(shared),
-            "look" => lent::look(shared, 0),
-            "read_number" => lent::read_number(shared, 1, 3),
-            _ => lent::free_blocks(shared),
-        };
-    }
-    let unique = Unique {
-        blocks,
-        width,
-        a,
-        b,
-        counts,
-        cells,
-        roots,
-        waiting,
-        sections,
-        data,
-    };
-    match name {
-        "format" => lent::format(unique),
-        "replay" => lent::replay(unique, &[], &mut []),
-        "allocate" => lent::allocate(unique, 1, 1),
-        "store_root" => lent::store_root(unique, 1, 1),
-        "store_cell" => lent::store_cell(unique, 0, 0, 1),
-        "return_roots" => lent::return_roots(unique, 1),
-        "collect" => lent::collect(unique),
-        "allocate_data" => lent::allocate_data(unique, 1, 1),
-        "write_number" => lent::write_number(unique, 1, 3, 65_535),
-        "run_records" => {
-            let ran = lent::run_records(unique, SoFar::default(), &[6, 0, 0, 0, 0, 0, 0, 0]);
-            assert!(ran.reply.number == 0 || ran.run == SoFar::default());
-            ran.reply
-        }
-        _ => panic!("{name} is no call"),
-    }
-}
-
-/// The heap of `call`, with anything in its waiting list.
-fn lent_to_calls(blocks: usize) -> Buffers {
-    let mut heap = fresh(blocks);
-    assert_eq!(heap.allocate(1, 0).map(block), Ok(0));
-    assert_eq!(heap.allocate_data(1, 2).map(block), Ok(1));
-    let mut buffers = heap.into_buffers();
-    buffers.waiting.fill(99);
-    buffers
-}
-
-/// What a call that is refused replies. Nothing is written.
-fn refused(name: &str, blocks: usize, buffers: &Buffers) -> Reply {
-    let mut now = buffers.clone();
-    let reply = call(name, blocks, &mut now);
-    assert_eq!(lists(&now), lists(buffers), "{name}");
-    reply
-}
-
-fn refusal(number: usize) -> Reply {
-    Reply {
-        number,
-        value: 0,
-        second: 0,
-    }
-}
-
 #[test]
 fn the_calls_are_accepted() {
     for blocks in [8, 256, 512, 8192] {
-        for name in FORMATTING.iter().chain(&OTHERS) {
-            let mut buffers = lent_to_calls(blocks);
-            assert_eq!(call(name, blocks, &mut buffers).number, 0, "{name}");
-            let heap = Heap::from_buffers(blocks, 2, buffers);
-            assert_eq!(heap.sections(), figures(&heap), "{name}");
+        for open in [false, true] {
+            for name in FORMATTING.iter().chain(&OTHERS) {
+                let mut buffers = lent_to_calls(blocks, open);
+                let due = if is_out_of_turn(name, open) { 14 } else { 0 };
+                assert_eq!(call(name, blocks, &mut buffers).number, due, "{name}");
+                let heap = Heap::from_buffers(blocks, 2, buffers);
+                assert_eq!(heap.sections(), figures(&heap), "{name}");
+            }
         }
     }
 }
@@ -178,7 +66,7 @@ fn a_wrong_length() {
         (8192, &[0, 31, 33]),
     ] {
         for length in lengths {
-            let mut buffers = lent_to_calls(blocks);
+            let mut buffers = lent_to_calls(blocks, false);
             buffers.sections.resize(*length, 256);
             for name in FORMATTING.iter().chain(&OTHERS) {
                 assert_eq!(refused(name, blocks, &buffers), refusal(1), "{name}");
@@ -190,8 +78,11 @@ fn a_wrong_length() {
 /// One number that is one too large or one too small, or far off, in the first section or the last.
 #[test]
 fn a_stale_list() {
-    for blocks in [8, 256, 512, 8192] {
-        let good = lent_to_calls(blocks);
+    for (blocks, open) in [8, 256, 512, 8192]
+        .into_iter()
+        .zip([false, true, true, false])
+    {
+        let good = lent_to_calls(blocks, open);
         let last = good.sections.len() - 1;
         for place in [0, last] {
             let right = good.sections[place];
@@ -214,7 +105,7 @@ fn a_stale_list() {
 /// "11, the list doesn't match the maps, next after 2": behind 1 and 2, before the call's own numbers.
 #[test]
 fn refusals_in_order() {
-    let mut stale = lent_to_calls(8);
+    let mut stale = lent_to_calls(8, false);
     stale.sections[0] = 8;
     let mut heap = Heap::from_buffers(8, 2, stale.clone());
     assert_eq!(heap.allocate(0, 9), Err(Refusal::StaleSections));
@@ -222,6 +113,7 @@ fn refusals_in_order() {
     assert_eq!(heap.store_cell(9, 99, 9), Err(Refusal::StaleSections));
     assert_eq!(heap.return_roots(u64::MAX), Err(Refusal::StaleSections));
     assert_eq!(heap.look(9), Err(Refusal::StaleSections));
+    assert_eq!(heap.step_collection(1), Err(Refusal::StaleSections));
     assert_eq!(Refusal::StaleSections.number(), 11);
 
     let mut damaged = stale.clone();
