@@ -46,12 +46,25 @@ Cells of an object made as data hold any 16-bit number, and no reference:
     >>> heap.read_number(pixels, 7), heap.data[0]
     (65535, 1)
 
+A collection that may not stop the program for long is opened and stepped. Two objects that name each other, and that no root names:
+
+    >>> for root in 1, 2:
+    ...     heap.allocate(1, root)
+    2
+    3
+    >>> heap.store_cell(2, 0, 4), heap.store_cell(3, 0, 3), heap.return_roots(6)
+    (0, 0, 0)
+    >>> heap.open_collection()
+    >>> while heap.is_open:
+    ...     heap.step_collection(10)
+    Stepped(steps=1, freed=2)
+
 `python3 -m huwekapo` has the commands. The heap is the library libhuwekapo.so; this package lends it buffers and hands on what it
 answers. Nothing is proved of the package itself.
 """
 
 from .unreached import Garbage, Held, Kinds, data, garbage, in_use, kinds, objects, stuck
-from .heap import Heap, Look, Reply
+from .heap import Heap, Look, Reply, Stepped
 from .history import History, run
 from .library import VERSION, Figures, LibraryMissing
 from .refused import Damage, Number, Refused
@@ -73,6 +86,7 @@ __all__ = [
     "Refused",
     "Reply",
     "Run",
+    "Stepped",
     "Stopped",
     "data",
     "garbage",

@@ -5,7 +5,7 @@ from __future__ import annotations
 import ctypes
 import operator
 import threading
-from typing import Any, Iterable, NamedTuple, Sequence, Union
+from typing import Any, Iterable, List, NamedTuple, Sequence, Union
 
 from . import library
 from .library import MAX_BLOCKS, MAX_ROOTS, MAX_SECTION, MAX_WIDTH, REPORT_BLOCKS, REPORT_ROOTS, REPORT_WIDTH
@@ -23,6 +23,13 @@ class Look(NamedTuple):
     count: int  # type: ignore[assignment]
 
 
+class Stepped(NamedTuple):
+    """What steps of a collection did: how many were taken, and the blocks that they freed."""
+
+    steps: int
+    freed: int
+
+
 class Reply(NamedTuple):
     """A reply of a list of calls, as the library gave it: number 0 is acceptance."""
 
@@ -38,8 +45,14 @@ class Heap:
     call of the library, and hands on what it answers: a refusal is raised as `Refused`, and has changed nothing. References are 0, or
     1 + the first block of an object; cells of an object made as data hold any 16-bit number.
 
-    The buffers are readable as memoryviews: `a`, `b`, `counts` and `data` of bytes, `cells`, `roots`, `waiting` and `sections` of 16-bit
-    numbers. They show the heap as it is, also after later calls. A heap may be used from several threads: its calls wait for each other.
+    The buffers are readable as memoryviews: `a`, `b`, `counts`, `data` and `marks` of bytes, `cells`, `roots`, `waiting`, `sections` and
+    `list` of 16-bit numbers. They show the heap as it is, also after later calls. A heap may be used from several threads: its calls wait
+    for each other.
+
+    A collection is made at once by `collect`, or in small steps: `open_collection`, then `step_collection` until `is_open` is false. While
+    one is open every other call may be made, but a second opening and `collect`. Nothing that a root leads to is ever freed; what no root
+    led to at the opening, and no object of a later store was or led to, is gone at the end; and the steps are at most the objects at the
+    opening.
 
     Two heaps are equal where blocks, width and all buffers but the waiting lists are; `copy` makes another that is.
     """
@@ -186,6 +199,23 @@ class Heap:
         return self._view("data")
 
     @property
+    def marks(self) -> memoryview:
+        """The mark map: while a collection is open, 1 on the first block of each object that it has met; else all 0."""
+        return self._view("marks")
+
+    @property
+    def list(self) -> memoryview:
+        """The second list: 1 + the first blocks of the marked objects that a collection has still to look at, strictly rising, then 0s.
+        The last place is 1 while one is open and else 0."""
+        return self._view("list")
+
+    @property
+    def is_open(self) -> bool:
+        """Whether a collection in small steps is open."""
+        places = self._arrays["list"]
+        return bool(self._blocks < len(places) and places[self._blocks] == 1)
+
+    @property
     def section_blocks(self) -> int:
         """The blocks of a section: 256, or all where there are fewer."""
         return min(self._blocks, MAX_SECTION)
@@ -195,58 +225,70 @@ class Heap:
         self._value("format")
 
     def check(self) -> None:
-        """Tests the whole heap. Refusals: 1, 2, 11."""
+        """Tests the whole heap. Refusals: 1, 2, 11, 13."""
         self._value("check")
 
     def allocate(self, n: int, r: int) -> int:
-        """Allocates n blocks into root r. The value is the first block. Refusals: 1, 2, 11, 3, 4, 5."""
+        """Allocates n blocks into root r. The value is the first block. Refusals: 1, 2, 11, 13, 3, 4, 5."""
         return self._stored("allocate", n, r)
 
     def allocate_data(self, n: int, r: int) -> int:
         """Allocates n blocks of data into root r: its cells are 0, and hold any number. The value is the first block.
-        Refusals: 1, 2, 11, 3, 4, 5."""
+        Refusals: 1, 2, 11, 13, 3, 4, 5."""
         return self._stored("allocate_data", n, r)
 
     def write_number(self, at: int, j: int, v: int) -> None:
         """Writes v, 0 to 65,535, into cell j of the data at block `at`, and changes nothing else. Another v is no number of a cell:
-        OverflowError. Refusals: 1, 2, 11, 6, 7, 12."""
+        OverflowError. Refusals: 1, 2, 11, 13, 6, 7, 12."""
         if not 0 <= operator.index(v) < 1 << 16:
             raise OverflowError(f"{v} is no 16-bit number")
         self._value("write_number", at, j, v)
 
     def read_number(self, at: int, j: int) -> int:
-        """The number in cell j of the data at block `at`. Refusals: 1, 2, 11, 6, 7, 12."""
+        """The number in cell j of the data at block `at`. Refusals: 1, 2, 11, 13, 6, 7, 12."""
         return self._value("read_number", at, j)
 
     def store_root(self, r: int, v: int) -> int:
-        """Stores v in root r. The value is the number of blocks freed. Refusals: 1, 2, 11, 4, 8."""
+        """Stores v in root r. The value is the number of blocks freed. Refusals: 1, 2, 11, 13, 4, 8."""
         return self._stored("store_root", r, v)
 
     def store_cell(self, at: int, j: int, v: int) -> int:
         """Stores v in cell j of the object at block `at`. The value is the number of blocks freed.
-        Refusals: 1, 2, 11, 6, 7, 12, 8."""
+        Refusals: 1, 2, 11, 13, 6, 7, 12, 8."""
         return self._stored("store_cell", at, j, v)
 
     def return_roots(self, chosen: int) -> int:
         """Clears the roots of a set, bit r of `chosen` for root r. The value is the number of blocks freed in all.
-        Refusals: 1, 2, 11, 4."""
+        Refusals: 1, 2, 11, 13, 4."""
         return self._value("return_roots", chosen)
 
     def collect(self) -> int:
         """Frees the objects that no root reaches, and counts the references of the others anew. The value is the number of blocks
-        freed. Refusals: 1, 2, 11."""
+        freed. Refusals: 1, 2, 11, 13, 14."""
         return self._value("collect")
 
+    def open_collection(self) -> None:
+        """Opens a collection in small steps: marks and lists every object that a root names, and changes nothing else.
+        Refusals: 1, 2, 11, 13, 14 (one is open)."""
+        self._value("open_collection")
+
+    def step_collection(self, budget: int) -> Stepped:
+        """Takes at most `budget` steps of the open collection: as many, unless the list runs out. A step takes the lowest object off the
+        list, and marks and lists what its cells name that is unmarked. Where the list is empty then, and the budget is not 0, the
+        collection closes: it frees what is unmarked. Refusals: 1, 2, 11, 13, 14 (none is open)."""
+        reply = _accepted(self._call("step_collection", _word(budget)))
+        return Stepped(reply.value, reply.second)
+
     def look(self, at: int) -> Look:
-        """Looks at the object at block `at`. Refusals: 1, 2, 11, 6."""
+        """Looks at the object at block `at`. Refusals: 1, 2, 11, 13, 6."""
         reply = _accepted(self._call("look", _word(at)))
         return Look(reply.value, reply.second)
 
     def free_blocks(self) -> int:
-        """The number of free blocks. Refusals: 1, 2, 11."""
+        """The number of free blocks. Refusals: 1, 2, 11, 13."""
         return self._value("free_blocks")
 
-    def replay(self, calls: Iterable[Sequence[int]]) -> list[Reply]:
+    def replay(self, calls: Iterable[Sequence[int]]) -> List[Reply]:
         """Formats the heap and makes a list of calls, each a code and its arguments, as include/huwekapo.h has them: `(2, n, r)` is an
         allocation. Answers a reply for each; a refused call of the list raises nothing. Refusals: 1, 9."""
         words: list[int] = []
@@ -263,7 +305,7 @@ class Heap:
 
     def run_records(self, run: Run, piece: Bytes) -> Run:
         """Runs a piece of a history from where `run` stands, and answers where it stands then. Only the last piece may end inside a
-        record, since that stops the run; a run that was stopped is answered as it is. Refusals: 1, 2, 11, 19."""
+        record, since that stops the run; a run that was stopped is answered as it is. Refusals: 1, 2, 11, 13, 19."""
         array = (ctypes.c_uint8 * len(piece)).from_buffer_copy(piece)
         return self._run(run, ctypes.addressof(array), len(array))
 

@@ -12,7 +12,7 @@ import os
 from typing import Any, Callable, Iterator, List, NamedTuple
 
 #: The version of the library that this package is for, and its own.
-VERSION = "0.4.0"
+VERSION = "0.5.0"
 
 #: The environment variable that names the library: its file, or the folder that it lies in.
 VARIABLE = "HUWEKAPO_LIBRARY"
@@ -53,6 +53,8 @@ BUFFERS = (
     Buffer("waiting", ctypes.c_uint16, lambda blocks, width, roots: blocks),
     Buffer("sections", ctypes.c_uint16, lambda blocks, width, roots: max(1, blocks // MAX_SECTION)),
     Buffer("data", ctypes.c_uint8, lambda blocks, width, roots: blocks // 8),
+    Buffer("marks", ctypes.c_uint8, lambda blocks, width, roots: blocks // 8),
+    Buffer("list", ctypes.c_uint16, lambda blocks, width, roots: blocks + 1),
 )
 
 
@@ -111,6 +113,8 @@ FUNCTIONS: dict[str, tuple[list[Any], Any]] = {
     "allocate_data": ([WORD, WORD], Reply),
     "write_number": ([WORD, WORD, ctypes.c_uint16], Reply),
     "read_number": ([WORD, WORD], Reply),
+    "open_collection": ([], Reply),
+    "step_collection": ([WORD], Reply),
     "replay": ([ctypes.c_void_p, WORD, ctypes.c_void_p, WORD], Reply),
     "run_records": ([RunSoFar, ctypes.c_void_p, WORD], Ran),
 }

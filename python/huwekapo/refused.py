@@ -22,6 +22,8 @@ class Number(enum.IntEnum):
     CUT_OFF = 10
     STALE_SECTIONS = 11
     WRONG_KIND = 12
+    BAD_MARKS = 13
+    OUT_OF_TURN = 14
     SHORT_REPLIES = 18
     BAD_RUN = 19
 
@@ -46,11 +48,15 @@ _CALL_WORDS: Dict[int, str] = {
     Number.NO_OBJECT: "`at` is not a first block (or not below blocks)",
     Number.BAD_CELL: "j is not below 4 times the object's size",
     Number.BAD_REFERENCE: "v is neither 0 nor 1 + a first block",
-    Number.NO_CALL: "an entry is no call: its code is above 11, or it writes a number above 65,535",
+    Number.NO_CALL: "an entry is no call: its code is above 13, or it writes a number above 65,535",
     Number.CUT_OFF: "the list ends inside a call",
     Number.STALE_SECTIONS: "a number of `sections` is not the size of the largest free chunk of its section",
     Number.WRONG_KIND: "a reference is stored in a cell of data, or read from one; or a number is written or read where the object is "
     "not data",
+    Number.BAD_MARKS: "while a collection is open: the list is not of its form or holds an object that is unmarked, a mark is not on a "
+    "first block, or a root, or a marked object that is not on the list, names an unmarked one; while none is: a mark or a place of the "
+    "list is not 0",
+    Number.OUT_OF_TURN: "a step while no collection is open; an opening or a full collection while one is",
     Number.SHORT_REPLIES: "`replies` is too short for the replies of all calls",
     Number.BAD_RUN: "no run leaves these numbers",
 }
@@ -64,6 +70,7 @@ _RECORD_WORDS: Dict[int, str] = {
     Number.NO_CALL: "an unknown operation, or a field that has to be 0 and is not",
     Number.CUT_OFF: "the file ends inside a record, or goes on past 4,294,967,295 records",
     Number.WRONG_KIND: "a reference is stored in data or read from it, or a number is written where the object is not data",
+    Number.OUT_OF_TURN: "a full collection while one in small steps is open",
 }
 
 _DAMAGE_WORDS: Dict[int, str] = {

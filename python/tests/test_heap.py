@@ -134,7 +134,7 @@ class Calls(unittest.TestCase):
         self.assertEqual(replies, [Reply(0, 0, 0), Reply(0, 2, 0), Reply(0, 4, 0), Reply(0, 3, 1), Reply(3, 0, 0), Reply(0, 5, 0)])
         self.assertEqual(heap.replay([]), [])
         with self.refused(9, 0, "NO_CALL"):
-            heap.replay([(12,)])
+            heap.replay([(14,)])
         with self.refused(9, 0, "NO_CALL"):
             heap.replay([(9, 1, 0), (10, 0, 0, 65536)])
         self.assertEqual(heap.replay([(9, 1, 0), (10, 0, 3, 65535), (11, 0, 3)]), [Reply(0, 0, 0), Reply(0, 0, 0), Reply(0, 65535, 0)])
@@ -161,7 +161,7 @@ class Calls(unittest.TestCase):
         self.assertEqual(pickle.loads(pickle.dumps(Refused(2, 3))).name, "UNALIGNED")
 
     def test_damage(self) -> None:
-        fresh = {"counts": [0, 0], "cells": 32 * [0], "roots": 4 * [0], "sections": [8], "data": [0]}
+        fresh = {"counts": [0, 0], "cells": 32 * [0], "roots": 4 * [0], "sections": [8], "data": [0], "marks": [0], "list": 9 * [0]}
         for a, b, kind in [(0, 254, "END_ON_FREE"), (1, 255, "OPEN_END"), (6, 251, "UNALIGNED")]:
             heap = Heap.from_buffers(8, 2, a=[a], b=[b], **fresh)
             with self.subTest(kind=kind), self.refused(2, Damage[kind], kind):
@@ -194,9 +194,9 @@ class Calls(unittest.TestCase):
 
     def test_views(self) -> None:
         heap = Heap(16, 3, 5)
-        views = {name: getattr(heap, name) for name in ["a", "b", "counts", "cells", "roots", "waiting", "sections", "data"]}
-        lengths = {name: len(view) for name, view in views.items()}
-        self.assertEqual(lengths, {"a": 2, "b": 2, "counts": 6, "cells": 64, "roots": 5, "waiting": 16, "sections": 1, "data": 2})
+        lengths = {"a": 2, "b": 2, "counts": 6, "cells": 64, "roots": 5, "waiting": 16, "sections": 1, "data": 2, "marks": 2, "list": 17}
+        views = {name: getattr(heap, name) for name in lengths}
+        self.assertEqual({name: len(view) for name, view in views.items()}, lengths)
         with self.assertRaises(TypeError):
             views["roots"][0] = 1
         heap.allocate(1, 4)
@@ -374,12 +374,13 @@ class Header(unittest.TestCase):
         found = re.findall(r"struct huwekapo_(\w+) huwekapo_(\w+)\((.*?)\);", self.code, flags=re.DOTALL)
         self.assertEqual({name for _, name, _ in found}, set(library.FUNCTIONS))
         # Every function begins with the same buffers, which a macro names once.
-        macro = re.search(r"#define HUWEKAPO_BUFFERS_\(byte, number, cell, root\)(.*?[^\\])\n", self.code, flags=re.DOTALL)
+        macro = re.search(r"#define HUWEKAPO_BUFFERS_\([\w, ]*\)(.*?[^\\])\n", self.code, flags=re.DOTALL)
         assert macro
         lent = [argument.split()[-1].lstrip("*") for argument in macro.group(1).replace("\\\n", " ").split(",")]
         names = [buffer.name for buffer in library.BUFFERS]
         self.assertEqual(lent, ["blocks", "width", *(word for name in names for word in (name, f"{name}_length"))])
-        lending = ["HUWEKAPO_BUFFERS", "HUWEKAPO_BUFFERS_BUT_ROOTS", "HUWEKAPO_CONST_BUFFERS_BUT_CELLS", "HUWEKAPO_CONST_BUFFERS"]
+        lending = re.findall(r"#define (HUWEKAPO_\w+) (?:\\\n +)?HUWEKAPO_BUFFERS_\(", self.code)
+        self.assertEqual(len(lending), 6)
         for answer, name, arguments in found:
             first, *others = arguments.split(",")
             self.assertIn(first.strip(), lending, name)

@@ -52,6 +52,23 @@ class Lines(unittest.TestCase):
         self.assertEqual(huwekapo.run(again, 8, 1, 4).line(), "2 16 8 1 8 2\n")
         self.assertEqual(huwekapo.run(allocate_data(8, 0) + allocate_data(1, 1), 8, 1, 4, may_stop=True).figures.collections, 1)
 
+    def test_with_a_collection_open(self) -> None:
+        heap = Heap(8, 2, 4)
+        run = heap.run_records(Run(), allocate(5, 0))
+        heap.open_collection()
+        run = heap.run_records(run, copy(0, 1) + write(1, 3, 0) + read(3, 0, 2) + clear(1))
+        self.assertEqual(run.line(), "1 5 5 0 5 1\n")
+        before = heap.copy()
+        # A full one is refused, also where an allocation would force it: then it is not counted.
+        for record_, line_ in [(COLLECT, "refused 14 at record 5\n"), (allocate(8, 0), "refused 5 at record 5\n")]:
+            stopped = heap.run_records(run, record_)
+            self.assertEqual((stopped.line(), stopped.figures), (line_, run.figures))
+            self.assertTrue(heap == before and heap.is_open)
+        self.assertEqual(heap.run_records(run, COLLECT).stop_in_words(), "a full collection while one in small steps is open")
+        self.assertEqual(heap.step_collection(9), (1, 0))
+        run = heap.run_records(run, COLLECT + clear(0) + clear(2) + allocate(8, 1))
+        self.assertEqual(run.line(), "2 13 8 2 8 1\n")
+
     def test_stops(self) -> None:
         for number, history in [
             (3, allocate(0, 99)),

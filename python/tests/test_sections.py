@@ -4,33 +4,12 @@ from __future__ import annotations
 
 import random
 import unittest
-from typing import Callable, Dict, List
+from typing import Dict, List
 
 from huwekapo import Heap, Number, Refused, Run, library
 from huwekapo.sections import text
 
-from .records import COLLECT
-
-#: Calls whose own numbers are right, on a heap whose object of one block at block 0 is in root 0. The first two format the heap, and
-#: so look at no content.
-FORMATTING: Dict[str, Callable[[Heap], object]] = {
-    "format": lambda heap: heap.format(),
-    "replay": lambda heap: heap.replay([]),
-}
-OTHERS: Dict[str, Callable[[Heap], object]] = {
-    "check": lambda heap: heap.check(),
-    "allocate": lambda heap: heap.allocate(1, 1),
-    "store_root": lambda heap: heap.store_root(1, 1),
-    "store_cell": lambda heap: heap.store_cell(0, 0, 1),
-    "return_roots": lambda heap: heap.return_roots(1),
-    "collect": lambda heap: heap.collect(),
-    "look": lambda heap: heap.look(0),
-    "free_blocks": lambda heap: heap.free_blocks(),
-    "allocate_data": lambda heap: heap.allocate_data(1, 1),
-    "write_number": lambda heap: heap.write_number(1, 3, 65535),
-    "read_number": lambda heap: heap.read_number(1, 3),
-    "run_records": lambda heap: heap.run_records(Run(), COLLECT),
-}
+from .calls import FORMATTING, OTHERS, OUT_OF_TURN, Call, buffers, lent
 
 
 def figure(a: memoryview, first: int, size: int) -> int:
@@ -45,20 +24,8 @@ def figures(heap: Heap) -> List[int]:
     return [figure(heap.a, first, size) for first in range(0, heap.blocks, size)]
 
 
-def buffers(heap: Heap) -> Dict[str, List[int]]:
-    return {buffer.name: getattr(heap, buffer.name).tolist() for buffer in library.BUFFERS}
-
-
-def lent(blocks: int) -> Dict[str, List[int]]:
-    """The buffers of the heap for the calls above, with anything in the waiting list."""
-    heap = Heap(blocks, 2, 4)
-    heap.allocate(1, 0)
-    heap.allocate_data(1, 2)
-    return {**buffers(heap), "waiting": blocks * [99]}
-
-
 class Sections(unittest.TestCase):
-    def refused(self, name: str, call: Callable[[Heap], object], blocks: int, given: Dict[str, List[int]], number: int) -> None:
+    def refused(self, name: str, call: Call, blocks: int, given: Dict[str, List[int]], number: int) -> None:
         """A call is refused, and writes nothing."""
         heap = Heap.from_buffers(blocks, 2, **given)
         with self.subTest(call=name, blocks=blocks, sections=given["sections"]):
@@ -74,10 +41,13 @@ class Sections(unittest.TestCase):
     def test_every_call_is_there(self) -> None:
         self.assertEqual({*FORMATTING, *OTHERS}, set(library.FUNCTIONS))
         for blocks in [8, 256, 512, 8192]:
-            for name, call in {**FORMATTING, **OTHERS}.items():
-                heap = Heap.from_buffers(blocks, 2, **lent(blocks))
-                call(heap)
-                self.assertEqual(heap.sections.tolist(), figures(heap), name)
+            for is_open in [False, True]:
+                for name, call in {**FORMATTING, **OTHERS}.items():
+                    heap = Heap.from_buffers(blocks, 2, **lent(blocks, is_open))
+                    if name in OUT_OF_TURN[is_open]:
+                        continue
+                    call(heap)
+                    self.assertEqual(heap.sections.tolist(), figures(heap), name)
 
     def test_formatted(self) -> None:
         for blocks, expected in [(8, [8]), (128, [128]), (256, [256]), (512, [256, 256]), (8192, 32 * [256])]:
@@ -96,7 +66,7 @@ class Sections(unittest.TestCase):
         for blocks in [8, 512, 8192]:
             for place in [0, -1]:
                 for change in [-1, 1]:
-                    given = lent(blocks)
+                    given = lent(blocks, blocks == 512)
                     given["sections"][place] += change
                     for name, call in OTHERS.items():
                         self.refused(name, call, blocks, given, Number.STALE_SECTIONS)
@@ -115,6 +85,7 @@ class Sections(unittest.TestCase):
             "store_cell": lambda heap: heap.store_cell(99, 99, 99),
             "return_roots": lambda heap: heap.return_roots(2**64 - 1),
             "look": lambda heap: heap.look(99),
+            "step_collection": lambda heap: heap.step_collection(1),
             "run_records": lambda heap: heap.run_records(Run(records=2**40), b""),
         }.items():
             self.refused(name, call, 8, given, Number.STALE_SECTIONS)

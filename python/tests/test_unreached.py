@@ -93,7 +93,8 @@ class ByHand(unittest.TestCase):
         heap.return_roots(31)
         self.assertEqual(garbage(heap), Garbage(Held(2, 3), Held(2, 2), Held(1, 1)))
         # Unlimited counts would have freed 0 and 2, and no others.
-        wide = Heap.from_buffers(16, 4, a=heap.a, b=heap.b, counts=bytes(8), cells=heap.cells, roots=bytes(5), sections=heap.sections, data=bytes(2))
+        buffers = {buffer.name: getattr(heap, buffer.name) for buffer in library.BUFFERS}
+        wide = Heap.from_buffers(16, 4, **{**buffers, "counts": bytes(8)})
         self.assertEqual(objects(wide), {0: 2, 2: 1, 3: 1, 4: 1, 5: 1})
 
 
