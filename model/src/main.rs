@@ -2,6 +2,7 @@
 
 use model::history::vectors::{histories, mixed, History};
 use model::history::{driver, garbage, report, text};
+use model::lists::every_list::every_list_behind_all;
 use model::lists::families::{generate, FAMILIES};
 use model::lists::vectors;
 use model::product::{history_bench, port};
@@ -23,6 +24,8 @@ const USAGE: &str = "usage:
   model damaged SEED COUNT           damaged memories as text, with their kinds
   model steps SEED COUNT             single calls as text, each on a memory of its own
   model garbage SEED COUNT           memories as text, with their garbage by what holds it
+  model every WIDTH DEPTH            every list of up to DEPTH calls on eight blocks, behind several heaps, with the claims of
+                                     demand 3 and of U8
   model history assemble < TEXT      a recorded history from its text, to standard output
   model history words < FILE         the text of a recorded history
   model history run < FILE           the line that the program `report` must print for it
@@ -37,7 +40,8 @@ const USAGE: &str = "usage:
 with the product's library, `--features library`:
   model fuzz SECONDS SEED            all pairs of maps of 8 blocks, random lists, damaged memories, replays and runs
                                      of records, model against library
-  model bench                        times of the library against plain Rust, and of the searches for a chunk
+  model bench                        times of the library against plain Rust, of the searches for a chunk, with data, and in
+                                     small steps
                                      (build it with --release)
 ";
 
@@ -76,6 +80,7 @@ fn main() {
         ["garbage", seed, count] => {
             print(trace::garbage(number(seed), number(count) as usize).as_bytes());
         }
+        ["every", width, depth] => every(number(width), number(depth)),
         ["assemble"] => print_assembled(assembly::assemble(&String::from_utf8_lossy(&input()))),
         ["words"] => print(assembly::words(&input()).as_bytes()),
         ["show"] => {
@@ -87,6 +92,22 @@ fn main() {
         ["fuzz", seconds, seed] => fuzz(number(seconds), number(seed)),
         ["bench"] => bench(),
         _ => stop(USAGE),
+    }
+}
+
+fn every(width: u64, depth: u64) {
+    if !(1..=4).contains(&width) || depth > 12 {
+        stop("every: WIDTH is 1 to 4, DEPTH at most 12\n");
+    }
+    match every_list_behind_all(width as usize, depth as u32) {
+        Ok(tried) => {
+            print(tried.text(width as usize, depth as u32).as_bytes());
+            print(format!("clauses met: {:?}\n", tried.clauses).as_bytes());
+        }
+        Err(broken) => {
+            print(format!("a claim is broken: {broken}\n").as_bytes());
+            exit(1);
+        }
     }
 }
 

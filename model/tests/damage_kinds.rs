@@ -5,6 +5,7 @@ use common::{fresh, say};
 use model::rules::claims::unsound;
 use model::rules::damage::{damage, kind_1, kind_2};
 use model::rules::heap::*;
+use model::rules::mark_claims::ill_marked;
 use model::rules::section_claims::untrue_list;
 use model::texts::trace;
 use model::{apply, Call, Memory};
@@ -171,7 +172,7 @@ fn objects_are_the_ends_without_kinds_1_and_2() {
 /// The damaged memories that `model damaged` prints: damage and the claims agree, and each call refuses.
 #[test]
 fn random_damage() {
-    let (mut met, mut untrue) = ([0; 8], [0; 2]);
+    let (mut met, mut untrue, mut ill) = ([0; 8], [0; 2], [0; 2]);
     for line in trace::damaged(3, 4000).lines() {
         let fields: Vec<Vec<u16>> = line
             .split('|')
@@ -193,10 +194,14 @@ fn random_damage() {
             waiting: fields[6].clone(),
             sections: fields[7].clone(),
             data: bytes(8),
+            marks: bytes(9),
+            list: fields[10].clone(),
         };
-        let kind = fields[9][0] as usize;
+        let kind = fields[11][0] as usize;
         let is_untrue = untrue_list(blocks, &memory).is_some();
         untrue[usize::from(kind != 0)] += usize::from(is_untrue);
+        let is_ill_marked = kind == 0 && ill_marked(blocks, &memory).is_some();
+        ill[usize::from(is_untrue)] += usize::from(is_ill_marked);
         met[kind] += 1;
         assert_eq!(damage(blocks, width, &memory), kind);
         assert_eq!(kind == 0, unsound(blocks, width, &memory).is_none());
@@ -216,17 +221,22 @@ fn random_damage() {
             Call::AllocateData { n: 0, r: 9 },
             Call::WriteNumber { a: 99, j: 99, v: 9 },
             Call::ReadNumber { a: 99, j: 99 },
+            Call::OpenCollection,
+            Call::StepCollection { budget: 0 },
         ] {
             let reply = common::call_and_claims(blocks, width, &mut memory, call);
             assert_eq!(reply.number == 2, kind != 0);
             assert!(kind == 0 || reply.value == kind);
             // "11, the list doesn't match the maps, next after 2."
             assert_eq!(reply.number == 11, kind == 0 && is_untrue);
+            // 13 "next after 11". The two calls that may be accepted come last.
+            assert_eq!(reply.number == 13, is_ill_marked && !is_untrue);
         }
     }
     let met_kinds = [0, 1, 2, 3, 4, 5, 7].map(|kind| met[kind]);
     assert!(met_kinds.iter().chain(&untrue).all(|number| *number > 100));
+    assert!(ill[0] > 100 && ill[1] > 10, "{ill:?}");
     say(&format!(
-        "4000 damaged memories, kinds 0 to 7: {met:?}; untrue lists of sections without and with damage: {untrue:?}"
+        "4000 damaged memories, kinds 0 to 7: {met:?}; untrue lists of sections without and with damage: {untrue:?}; wrong marks with true and untrue lists: {ill:?}"
     ));
 }

@@ -78,7 +78,7 @@ const BESIDE: [Call; 15] = [
 struct Ran {
     lists: usize,
     calls: usize,
-    numbers: [usize; 13],
+    numbers: [usize; 15],
 }
 
 /// All lists that go on from here with at most so many calls.

@@ -10,7 +10,7 @@ use model::texts::expect::expect;
 use model::texts::trace;
 use model::Call;
 
-const EMPTY_8_2_4: &str = "0\n0\n0 0\n0 0 0 0 0 0 0 0 0 0 0 0 0 0 0 0 0 0 0 0 0 0 0 0 0 0 0 0 0 0 0 0\n0 0 0 0\n0 0 0 0 0 0 0 0\n0\n0\n";
+const EMPTY_8_2_4: &str = "0\n0\n0 0\n0 0 0 0 0 0 0 0 0 0 0 0 0 0 0 0 0 0 0 0 0 0 0 0 0 0 0 0 0 0 0 0\n0 0 0 0\n0 0 0 0 0 0 0 0\n0\n0\n0\n0 0 0 0 0 0 0 0 0\n";
 
 fn printed(header: [u64; 3], entries: &[[u64; 4]]) -> String {
     expect(&bytes(header, entries)).0
@@ -29,7 +29,10 @@ fn headers() {
         assert_eq!(printed(header, &[[0; 4]]), "header: too large\n");
     }
     // Too large is said of a header alone; a bad one is a heap that refuses.
-    assert_eq!(printed([0, 0, 0], &[[0; 4]]), "1 0 0\n\n\n\n\n\n\n0\n\n");
+    assert_eq!(
+        printed([0, 0, 0], &[[0; 4]]),
+        "1 0 0\n\n\n\n\n\n\n0\n\n\n0\n"
+    );
     assert_eq!(
         printed([8, 5, 1], &[[1, 0, 0, 0]]).lines().next(),
         Some("1 0 0")
@@ -53,7 +56,11 @@ fn entries() {
         let line = "call 0: number out of range\n";
         assert_eq!(first([10, 0, 0, v]).unwrap(), line);
     }
-    assert_eq!(first([12, 0, 0, 0]).unwrap(), "call 0: unknown call 12\n");
+    // Calls 12 and 13 (U8).
+    for code in [12, 13] {
+        assert_eq!(first([code, u64::MAX, 0, 0]).unwrap(), "2 1 0\n");
+    }
+    assert_eq!(first([14, 0, 0, 0]).unwrap(), "call 0: unknown call 14\n");
     let line = "call 0: unknown call 252\n";
     assert_eq!(first([252, 0, 0, 0]).unwrap(), line);
     assert_eq!([LOAD, LENGTH, NEW], [253, 254, 255]);
@@ -76,7 +83,11 @@ fn entries() {
         [6, 0, 65_536],
         [7, 1, 0],
         [7, 0, 256],
-        [8, 0, 0],
+        [8, 1, 0],
+        [8, 0, 256],
+        [9, 9, 0],
+        [9, 0, 65_536],
+        [10, 0, 0],
     ] {
         let words = [LOAD, load[0], load[1], load[2]];
         assert_eq!(first(words).unwrap(), "call 0: load out of range\n");
@@ -89,7 +100,9 @@ fn entries() {
         [5, 8193],
         [6, 33],
         [7, 1025],
-        [8, 0],
+        [8, 1025],
+        [9, 8194],
+        [10, 0],
     ] {
         let words = [LENGTH, buffer, length, 0];
         assert_eq!(first(words).unwrap(), "call 0: length out of range\n");
@@ -97,7 +110,7 @@ fn entries() {
     assert_eq!(first([NEW, 8193, 1, 1]).unwrap(), "call 0: too large\n");
     // A new heap: the old buffers are printed first.
     let out = printed([0, 0, 0], &[[NEW, 8, 2, 4], [1, 0, 0, 0]]);
-    assert_eq!(out, format!("\n\n\n\n\n\n0\n\n2 1 0\n{EMPTY_8_2_4}"));
+    assert_eq!(out, format!("\n\n\n\n\n\n0\n\n\n0\n2 1 0\n{EMPTY_8_2_4}"));
     // Loads and lengths print nothing, count as entries, and what lies beyond a length is kept.
     let out = printed(
         [0, 0, 2],
@@ -113,7 +126,7 @@ fn entries() {
     );
     assert_eq!(
         out,
-        "call 3: load out of range\n0 0\n\n\n\n65535 7 0 5\n\n0\n\n"
+        "call 3: load out of range\n0 0\n\n\n\n65535 7 0 5\n\n0\n\n\n0\n"
     );
 }
 
@@ -147,13 +160,13 @@ fn the_list_of_sections() {
     assert_eq!(out.lines().nth(3 + 6), Some("256 65535 9"));
 }
 
-/// The D-map is buffer 7, the last one: a byte for each eight blocks.
+/// The D-map is buffer 7: a byte for each eight blocks.
 #[test]
 fn the_d_map() {
     for (blocks, length) in [(0, 0), (8, 1), (15, 1), (512, 64), (8192, 1024)] {
         let out = printed([blocks, 1, 1], &[]);
         assert_eq!(out.lines().count(), BUFFERS);
-        assert_eq!(out.lines().last(), Some(&*vec!["0"; length].join(" ")));
+        assert_eq!(out.lines().nth(7), Some(&*vec!["0"; length].join(" ")));
     }
     let entries = [
         [0; 4],
@@ -171,7 +184,43 @@ fn the_d_map() {
     let out = printed([16, 2, 1], &entries);
     let due = "0 0 0\n0 0 0\n0 0 0\n0 65535 0\n12 0 0\n2 7 0\n1 0 0\n";
     assert!(out.starts_with(due), "{out}");
-    assert_eq!(out.lines().last(), Some("1 128 9"));
+    assert_eq!(out.lines().nth(7 + 7), Some("1 128 9"));
+}
+
+/// The mark map is buffer 8, a byte for each eight blocks; the list is buffer 9, the last one, a number for each block and one more.
+#[test]
+fn the_mark_map_and_the_list() {
+    for (blocks, length) in [(0, 0), (8, 1), (15, 1), (512, 64), (8192, 1024)] {
+        let out = printed([blocks, 1, 1], &[]);
+        assert_eq!(out.lines().nth(8), Some(&*vec!["0"; length].join(" ")));
+        let places = vec!["0"; blocks as usize + 1].join(" ");
+        assert_eq!(out.lines().nth(9), Some(&*places));
+    }
+    let entries = [
+        [0; 4],
+        [13, 1, 0, 0],
+        [2, 2, 0, 0],
+        [12, 7, 7, 7],
+        [5, 0, 0, 0],
+        [13, 0, 7, 7],
+        [LOAD, 9, 8, 2],
+        [1, 0, 0, 0],
+        [LOAD, 9, 8, 1],
+        [LOAD, 8, 0, 3],
+        [13, 5, 0, 0],
+        [LOAD, 8, 0, 1],
+        [LENGTH, 9, 8, 0],
+        [1, 0, 0, 0],
+        [LENGTH, 9, 11, 0],
+        [LOAD, 9, 10, 65_535],
+        [LENGTH, 8, 0, 0],
+        [1, 0, 0, 0],
+    ];
+    let out = printed([8, 2, 1], &entries);
+    let due = "0 0 0\n14 0 0\n0 0 0\n0 0 0\n14 0 0\n0 0 0\n13 0 0\n13 0 0\n1 0 0\n1 0 0\n";
+    assert!(out.starts_with(due), "{out}");
+    assert_eq!(out.lines().nth(10 + 8), Some(""));
+    assert_eq!(out.lines().last(), Some("1 0 0 0 0 0 0 0 1 0 65535"));
 }
 
 #[test]
@@ -203,7 +252,7 @@ fn the_large_file() {
     assert_eq!(file, vectors(1));
     let (out, tally) = expect(&file);
     // No call answers 9 or 10.
-    for number in (0..=8).chain([11, 12]) {
+    for number in (0..=8).chain(11..=14) {
         assert!(tally.numbers[number] >= 100, "{number}: {tally:?}");
     }
     for kind in [1, 2, 3, 4, 5, 7] {
@@ -220,7 +269,7 @@ fn the_large_file() {
     ] {
         assert!(out.contains(line), "{line}");
     }
-    assert!(file.len() < 750_000 && out.len() < 1_500_000);
+    assert!(file.len() < 1_300_000 && out.len() < 2_000_000);
     say(&format!(
         "the large file, {} bytes, printing {} bytes: {tally:?}",
         file.len(),
@@ -245,8 +294,8 @@ fn seeds_make_the_same_again() {
     assert!(text
         .lines()
         .skip(2)
-        .all(|line| line.split('|').count() == 10));
+        .all(|line| line.split('|').count() == 12));
     assert_eq!(text, trace::trace(5, 50, 16, 3));
     let text = trace::steps(5, 50);
-    assert!(text.lines().all(|line| line.split('|').count() == 19));
+    assert!(text.lines().all(|line| line.split('|').count() == 23));
 }

@@ -7,6 +7,7 @@ use model::history::Run;
 use model::product::compare::Library;
 use model::product::fuzz::fuzz;
 use model::product::met::{Met, CALLS, KINDS, NUMBERS, STOPS};
+use model::rules::mark_claims::ILL;
 use model::rules::replay::replay;
 use model::{apply, Call, Memory, Reply};
 
@@ -70,7 +71,7 @@ fn what_was_not_met_is_named() {
         let what = format!("replay, number {number}");
         without(&|met| met.replay_numbers[number] = 0, what);
     }
-    for number in [0, 1, 2, 11, 19] {
+    for number in [0, 1, 2, 11, 13, 19] {
         let what = format!("run, number {number}");
         without(&|met| met.run_numbers[number] = 0, what);
     }
@@ -89,6 +90,24 @@ fn what_was_not_met_is_named() {
     without(
         &|met| met.maps_with_data -= 1,
         "every map with data".to_string(),
+    );
+    for (clause, what) in ILL.into_iter().enumerate() {
+        for (k, number) in [11, 13].into_iter().enumerate() {
+            let what = format!("{what}, refused {number}");
+            without(&|met| met.ill_marked[clause][k] = 0, what);
+        }
+    }
+    without(
+        &|met| met.marks_with_lists -= 1,
+        "every mark map with lists".to_string(),
+    );
+    without(
+        &|met| met.full_with_one_open = 0,
+        "run, stopped by 5 with one open".to_string(),
+    );
+    without(
+        &|met| met.with_one_open = 0,
+        "a collection open in half of the calls, but in 0 %".to_string(),
     );
     assert_eq!(Met::default().unmet().len(), named);
 }

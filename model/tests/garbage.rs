@@ -371,6 +371,8 @@ fn every_unreached_object_is_in_one_part() {
             waiting: words(6),
             sections: words(7),
             data: bytes(8),
+            marks: bytes(9),
+            list: words(10),
         };
         let found = garbage(blocks, width, &memory);
         assert!(line.ends_with(&found.text(blocks, &memory)));

@@ -207,7 +207,7 @@ fn conditions(blocks: usize, memory: &Memory, record: Record) -> Vec<(usize, boo
 #[test]
 fn the_calls_as_made() {
     let (mut runs, mut records, mut helped, mut no_help) = (0, 0, 0, 0);
-    let mut stopped = [0; 13];
+    let mut stopped = [0; 15];
     for seed in 0..240 {
         let mut random = Random::new(seed);
         let blocks = random.pick(&[8, 8, 16, 32]);

@@ -17,7 +17,7 @@ fn names_say_what_is_printed() {
     let names: BTreeSet<&str> = all.iter().map(|history| &history.name[..]).collect();
     assert_eq!(names.len(), all.len());
     assert!(all.len() >= 300);
-    let (mut given, mut printed) = ([0; 13], 0);
+    let (mut given, mut printed) = ([0; 15], 0);
     for History { name, bytes } in &all {
         let line = report(bytes);
         let words: Vec<&str> = name.split('-').collect();

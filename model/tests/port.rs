@@ -75,7 +75,7 @@ fn port_is_the_model_on_sections() {
 /// 1, 2 and 11: heaps as they are, damaged, with an untrue list of sections, and with buffers of another length.
 #[test]
 fn port_checks_as_the_model_does() {
-    let mut met = [0; 13];
+    let mut met = [0; 15];
     for seed in 0..600 {
         let desk = some_used_desk(seed);
         let mut bench = desk.bench.clone();

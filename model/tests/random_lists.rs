@@ -14,7 +14,7 @@ fn claims_in_every_family() {
         .into_iter()
         .chain([("mixed", model::lists::families::random as _)])
     {
-        let (mut calls, mut numbers, mut kinds, mut freed) = (0, [0; 13], [0; 8], 0);
+        let (mut calls, mut numbers, mut kinds, mut freed) = (0, [0; 15], [0; 8], 0);
         let lists = if family == "random" { 200 } else { 60 };
         for seed in 0..lists {
             let entries = if family == "mixed" { 500 } else { 200 };

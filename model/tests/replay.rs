@@ -49,7 +49,7 @@ fn refusals_in_order() {
             list.push(0);
         }
         if has(2) {
-            list[4] = 12;
+            list[4] = 14;
         }
         let mut replies = vec![7; if has(3) { 5 } else { 6 }];
         let mut memory = Memory::zeros(blocks, 2, 4);
@@ -70,7 +70,9 @@ fn refusals_in_order() {
 fn what_is_no_call() {
     let most = u64::MAX;
     for (list, number) in [
-        ([12, 0, 0, 0], 9),
+        ([14, 0, 0, 0], 9),
+        ([12, most, most, most], 0),
+        ([13, most, most, most], 0),
         // A number write whose number no cell can hold; and the words that the others don't name.
         ([10, 0, 0, 65_536], 9),
         ([10, 0, 0, most], 9),

@@ -1,5 +1,6 @@
 //! Document 02, U10: "Give one call a set of roots as a 64-bit number, bit r for root r." "With no collection open,
-//! the heap afterwards is that of clearing them singly in whatever order".
+//! the heap afterwards is that of clearing them singly in whatever order; with one open, in ascending order." The heaps of half of the
+//! lists have one open: there, too, no order was met that ends otherwise.
 
 mod common;
 use common::{call_and_claims, each_call, fresh, say};
@@ -114,7 +115,7 @@ fn try_all(make: Return) -> Tried {
             });
         }
     }
-    for seed in 0..40 {
+    for seed in 0..160 {
         let mut desk = Desk::new(Random::new(seed), [32, 1 + seed % 4, 63 + seed / 4 % 2]);
         desk.call(Call::Format);
         for _ in 0..60 {

@@ -12,6 +12,7 @@ use model::rules::calls::{apply_undamaged, is_chosen};
 use model::rules::chunks::{least_power_of_two, lowest_free_chunk};
 use model::rules::damage::damage;
 use model::rules::heap::*;
+use model::rules::marks;
 use model::rules::sections::{figures, leave_list_true};
 use model::{apply, Call, Memory, Reply};
 use std::collections::BTreeSet;
@@ -474,6 +475,7 @@ impl Heap<'_> {
             Call::Check | Call::Look { .. } | Call::FreeBlocks => {
                 apply_undamaged(blocks, width, self.memory, call)
             }
+            Call::OpenCollection | Call::StepCollection { .. } => unreachable!("not asked"),
         }
     }
 
@@ -509,6 +511,17 @@ impl Heap<'_> {
         }
         reply
     }
+}
+
+/// Whether a call is of request U8, or writes while a collection is open, or is refused 13: these heaps know nothing of it, and aren't
+/// asked.
+fn is_of_steps(bench: &Bench, call: Call) -> bool {
+    let (blocks, memory) = (bench.blocks, &bench.memory);
+    let is_clear =
+        memory.marks.iter().all(|byte| *byte == 0) && memory.list.iter().all(|v| *v == 0);
+    let knows = || call.only_reads() && !misshapen(blocks, bench.width, memory);
+    matches!(call, Call::OpenCollection | Call::StepCollection { .. })
+        || !is_clear && (!knows() || marks::is_wrong(blocks, memory))
 }
 
 /// Whether a heap gives something else than the model for a call.
@@ -560,6 +573,9 @@ fn told_apart(each: impl FnOnce(&mut dyn FnMut(&Bench, Call))) -> ([usize; WRONG
     let mut told = [0; WRONG.len()];
     let mut calls = 0;
     each(&mut |bench, call| {
+        if is_of_steps(bench, call) {
+            return;
+        }
         calls += 1;
         assert!(!differs(Wrong::Nothing, bench, call), "{call:?} {bench:?}");
         for (k, wrong) in WRONG.into_iter().enumerate() {
@@ -584,7 +600,7 @@ fn the_lists_tell_wrong_readings_apart() {
 fn random_lists_tell_wrong_readings_apart() {
     let (told, calls) = told_apart(|show| {
         for (family, _) in FAMILIES {
-            for seed in 0..16 {
+            for seed in 0..56 {
                 each_call(family, seed, 120, |bench, call| {
                     if bench.blocks <= 64 {
                         show(bench, call);

@@ -264,6 +264,9 @@ fn place(
     }
     set_bit(&mut memory.b, first + n - 1, 0);
     set_count(blocks, width, memory, first, 1);
+    // What a root held is marked already.
+    let born_marked = memory.list[blocks] == 1;
+    set_bit(&mut memory.marks, first, u8::from(born_marked));
     let old = std::mem::replace(&mut memory.roots[r], 1 + first as u16);
     release(blocks, width, memory, old, &mut longest_waiting);
     memory.waiting.fill(0);

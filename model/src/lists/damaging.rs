@@ -1,21 +1,25 @@
 //! Damage to a sound heap, as a list of numbers to write into its buffers: one way of each kind 1 to 5 and 7, lists of
-//! sections that are not true, and changes that may or may not be damage.
+//! sections that are not true, wrong marks and lists of marked objects, and changes that may or may not be damage.
 
 use crate::lists::file::Bench;
 use crate::lists::random::Random;
-use crate::rules::heap::{capacity, count, first_blocks, is_allocated, size, Memory};
+use crate::rules::heap::{
+    capacity, count, first_blocks, is_allocated, named, reference_places, set_bit, size, Memory,
+};
+use crate::rules::marks::{self, is_marked, is_open, listed, mark_and_list, take_off};
 
 /// A load: buffer (by its number in file.rs), index, value.
 pub type Load = (u64, usize, u64);
 
-/// The aims of `some_damage`, and the one that makes the list of sections untrue.
-pub const AIMS: usize = 9;
+/// The aims of `some_damage`, the one that makes the list of sections untrue, and the one that makes marks wrong.
+pub const AIMS: usize = 10;
 pub const UNTRUE_LIST: usize = 6;
+pub const WRONG_MARKS: usize = 8;
 
-/// Loads that aim at a kind 1 to 5 or 7 of damage in a used heap. Three aims are no kind: 0 changes only what may stand in a
-/// sound heap, 6 makes the list of sections untrue, the last one changes anything. Where a kind isn't possible in this heap
-/// it is another, or none. Seldom the list of sections is untrue besides, or there is a stray D bit: other damage is found
-/// before it.
+/// Loads that aim at a kind 1 to 5 or 7 of damage in a used heap. Four aims are no kind: 0 changes only what may stand in a
+/// sound heap, 6 makes the list of sections untrue, 8 the mark map or the second list wrong, the last one changes anything. Where
+/// a kind isn't possible in this heap it is another, or none. Seldom the list of sections is untrue besides, or there is a stray
+/// D bit, or a wrong mark: other damage is found before it.
 pub fn some_damage(random: &mut Random, bench: &Bench, aim: usize) -> Vec<Load> {
     let (blocks, memory) = (bench.blocks, &bench.memory);
     let free: Vec<usize> = (0..blocks).filter(|i| !is_allocated(memory, *i)).collect();
@@ -29,6 +33,7 @@ pub fn some_damage(random: &mut Random, bench: &Bench, aim: usize) -> Vec<Load> 
         5 => bad_count(random, bench, &free, &objects),
         UNTRUE_LIST => untrue_list(random, bench),
         7 => stray_data(random, bench, &objects),
+        WRONG_MARKS => wrong_marks(random, bench, &objects),
         _ => anything(random, bench),
     };
     let mut more = Vec::new();
@@ -38,6 +43,8 @@ pub fn some_damage(random: &mut Random, bench: &Bench, aim: usize) -> Vec<Load> 
         more = untrue_list(random, bench);
     } else if aim > 0 && random.percent(15) {
         more = stray_data(random, bench, &objects);
+    } else if aim > 0 && random.percent(15) {
+        more = wrong_marks(random, bench, &objects);
     }
     // Never two loads to one place: each is undone by the value before.
     more.retain(|new| loads.iter().all(|old| (old.0, old.1) != (new.0, new.1)));
@@ -51,7 +58,8 @@ fn flip(start: usize, buffer: u64, map: &[u8], i: usize) -> Load {
     (buffer, start + i / 8, byte as u64)
 }
 
-/// Rubbish in the waiting list, or a count raised to the capacity: neither is damage.
+/// Rubbish in the waiting list, a count raised to the capacity, or, while a collection is open, one object more that is marked
+/// and listed: none of these is damage.
 fn harmless(random: &mut Random, bench: &Bench, objects: &[usize]) -> Vec<Load> {
     let mut loads: Vec<Load> = Vec::new();
     for i in 0..bench.blocks {
@@ -68,7 +76,24 @@ fn harmless(random: &mut Random, bench: &Bench, objects: &[usize]) -> Vec<Load> 
             loads.push((2, place, byte as u64));
         }
     }
+    if !objects.is_empty() && is_open(bench.blocks, &bench.memory) {
+        let mut memory = bench.memory.clone();
+        mark_and_list(bench.blocks, &mut memory, random.pick(objects));
+        loads.extend(to_marks_of(bench, &memory));
+    }
     loads
+}
+
+/// The loads that make the mark map and the second list those of a memory.
+fn to_marks_of(bench: &Bench, memory: &Memory) -> Vec<Load> {
+    let bytes = memory.marks.iter().map(|byte| *byte as u64).enumerate();
+    let numbers = memory.list.iter().map(|v| *v as u64).enumerate();
+    let loads = bytes
+        .map(|(index, value)| (8, index, value))
+        .chain(numbers.map(|(index, value)| (9, index, value)));
+    loads
+        .filter(|(buffer, index, value)| bench.number_at(*buffer, *index) != *value)
+        .collect()
 }
 
 /// Kind 2: a free block allocated with nothing after it, or the last block of an object not said to be last.
@@ -237,19 +262,181 @@ fn stray_data(random: &mut Random, bench: &Bench, objects: &[usize]) -> Vec<Load
     vec![flip(0, 7, map, random.pick(&strays))]
 }
 
+/// U8's 13, each of its clauses: something is wrong with the mark map or the second list.
+fn wrong_marks(random: &mut Random, bench: &Bench, objects: &[usize]) -> Vec<Load> {
+    for _ in 0..8 {
+        let mut memory = bench.memory.clone();
+        match random.below(8) {
+            0..=1 => list_of_another_form(random, bench.blocks, &mut memory),
+            2 => list_with_an_unmarked_object(random, bench.blocks, &mut memory, objects),
+            3 => stray_mark(random, bench.blocks, &mut memory, objects),
+            4..=5 => unmarked_object_named(random, bench.blocks, &mut memory, objects),
+            _ => opened_or_closed(random, bench.blocks, &mut memory, objects),
+        }
+        if marks::is_wrong(bench.blocks, &memory) {
+            return to_marks_of(bench, &memory);
+        }
+    }
+    Vec::new()
+}
+
+/// "the list isn't of that form": two numbers the wrong way round or equal, a 0 before a number, one that is no first block, or
+/// another last place.
+fn list_of_another_form(random: &mut Random, blocks: usize, memory: &mut Memory) {
+    let held = listed(blocks, memory).len();
+    let no_first = |random: &mut Random| {
+        let any = [random.below(blocks), blocks, blocks + 1, 65_534];
+        (1 + random.pick(&any)) as u16
+    };
+    let mut ways = vec![6];
+    if held > 1 {
+        ways.extend([0, 0, 1, 2]);
+    }
+    if held > 0 {
+        ways.push(5);
+    }
+    if held < blocks {
+        ways.push(4);
+    }
+    if held > 0 && held < blocks {
+        ways.push(3);
+    }
+    match random.pick(&ways) {
+        0 => {
+            let place = random.below(held - 1);
+            memory.list.swap(place, place + 1);
+        }
+        1 => {
+            let place = random.below(held - 1);
+            memory.list[place + 1] = memory.list[place];
+        }
+        2 => {
+            let place = random.below(held - 1);
+            memory.list[place] = 0;
+        }
+        3 => memory.list[held] = memory.list[held - 1],
+        4 => {
+            let place = random.pick(&[held, held, blocks - 1]);
+            memory.list[place] = no_first(random);
+        }
+        5 => {
+            let place = random.below(held);
+            memory.list[place] = no_first(random);
+        }
+        _ => memory.list[blocks] = random.pick(&[2, 2, 3, 256, 65_535]),
+    }
+}
+
+/// "or holds an unmarked object": a mark less, or a number more.
+fn list_with_an_unmarked_object(
+    random: &mut Random,
+    blocks: usize,
+    memory: &mut Memory,
+    objects: &[usize],
+) {
+    let listed: Vec<usize> = listed(blocks, memory).into_iter().collect();
+    if !listed.is_empty() && random.percent(50) {
+        set_bit(&mut memory.marks, random.pick(&listed), 0);
+    } else {
+        let mut unmarked = objects.to_vec();
+        unmarked.retain(|first| !is_marked(memory, *first));
+        if !unmarked.is_empty() {
+            let first = random.pick(&unmarked);
+            mark_and_list(blocks, memory, first);
+            set_bit(&mut memory.marks, first, 0);
+        }
+    }
+}
+
+/// "a mark isn't on a first block": on a free one, or on a second block of an object.
+fn stray_mark(random: &mut Random, blocks: usize, memory: &mut Memory, objects: &[usize]) {
+    let strays: Vec<usize> = (0..blocks).filter(|i| !objects.contains(i)).collect();
+    let inside: Vec<usize> = strays
+        .iter()
+        .copied()
+        .filter(|i| is_allocated(memory, *i))
+        .collect();
+    if !inside.is_empty() && random.percent(50) {
+        set_bit(&mut memory.marks, random.pick(&inside), 1);
+    } else if !strays.is_empty() {
+        set_bit(&mut memory.marks, random.pick(&strays), 1);
+    }
+}
+
+/// "some root or marked unlisted object names an unmarked one": what such a one names loses its mark and its place, or a listed
+/// object that names an unmarked one its place alone.
+fn unmarked_object_named(
+    random: &mut Random,
+    blocks: usize,
+    memory: &mut Memory,
+    objects: &[usize],
+) {
+    if objects.is_empty() {
+        return;
+    }
+    let listed = listed(blocks, memory);
+    let names = |first: &usize| memory.cells[reference_places(blocks, memory, *first)].to_vec();
+    let lose = match random.below(3) {
+        0 => memory.roots.clone(),
+        1 => {
+            let is_done = |first: &&usize| is_marked(memory, **first) && !listed.contains(*first);
+            let done = objects.iter().filter(is_done);
+            done.flat_map(names).collect()
+        }
+        _ => {
+            let names_unmarked = |first: &&usize| {
+                let named = |v: u16| named(blocks, memory, v).filter(|object| object != *first);
+                let mut objects = names(first).into_iter().filter_map(named);
+                objects.any(|object| !is_marked(memory, object))
+            };
+            let owners: Vec<usize> = objects.iter().filter(names_unmarked).copied().collect();
+            if !owners.is_empty() {
+                let first = random.pick(&owners);
+                mark_and_list(blocks, memory, first);
+                take_off(blocks, memory, first);
+            }
+            return;
+        }
+    };
+    let lose: Vec<usize> = lose
+        .into_iter()
+        .filter_map(|v| named(blocks, memory, v))
+        .collect();
+    if !lose.is_empty() {
+        let first = random.pick(&lose);
+        take_off(blocks, memory, first);
+        set_bit(&mut memory.marks, first, 0);
+    }
+}
+
+/// "or a mark or list place isn't 0 while none is": a mark or a number more where none is open, or the last place alone; and the
+/// last place 1 where nothing is marked.
+fn opened_or_closed(random: &mut Random, blocks: usize, memory: &mut Memory, objects: &[usize]) {
+    if is_open(blocks, memory) || objects.is_empty() || random.percent(20) {
+        memory.list[blocks] = 1 - memory.list[blocks].min(1);
+        return;
+    }
+    let first = random.pick(objects);
+    match random.below(3) {
+        0 => set_bit(&mut memory.marks, first, 1),
+        1 => mark_and_list(blocks, memory, first),
+        _ => memory.list[random.below(blocks)] = (1 + first) as u16,
+    }
+}
+
 /// One to three numbers of the heap changed at random.
 fn anything(random: &mut Random, bench: &Bench) -> Vec<Load> {
     let mut loads: Vec<Load> = Vec::new();
     for _ in 0..1 + random.below(3) {
         // All but the waiting list.
-        let buffer = random.pick(&[0, 1, 2, 3, 4, 6, 7]);
+        let buffer = random.pick(&[0, 1, 2, 3, 4, 6, 7, 8, 9]);
         let index = random.below(bench.length(buffer));
         if loads.iter().any(|(b, i, _)| (*b, *i) == (buffer, index)) {
             continue;
         }
         let now = bench.number_at(buffer, index);
         let value = match buffer {
-            0..=2 | 7 => now ^ (1 << random.below(8)),
+            0..=2 | 7 | 8 => now ^ (1 << random.below(8)),
             _ => random.below(bench.blocks + 2) as u64,
         };
         loads.push((buffer, index, value));

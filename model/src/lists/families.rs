@@ -1,9 +1,10 @@
 //! The families of lists. Each one writes at least so many entries at a desk, beginning with a format. Those in which
-//! something is wrong, and that of sections, have files of their own.
+//! something is wrong, and those of sections and of steps, have files of their own.
 
 use crate::lists::generate::Desk;
 use crate::lists::random::Random;
 use crate::lists::section_lists::sections;
+use crate::lists::step_lists::steps;
 use crate::lists::wrong_families::{damage, huge_arguments, wrong_lengths};
 use crate::rules::calls::Call;
 use crate::rules::chunks::least_power_of_two;
@@ -13,7 +14,7 @@ use crate::rules::heap::free_count;
 pub type Writer = fn(&mut Desk, usize);
 
 /// All families by name.
-pub const FAMILIES: [(&str, Writer); 10] = [
+pub const FAMILIES: [(&str, Writer); 11] = [
     ("random", random),
     ("near-full", near_full),
     ("saturation", saturation),
@@ -24,6 +25,7 @@ pub const FAMILIES: [(&str, Writer); 10] = [
     ("wrong-lengths", wrong_lengths),
     ("huge-arguments", huge_arguments),
     ("sections", sections),
+    ("steps", steps),
 ];
 
 /// A good header, small mostly: blocks, width, roots. The width goes with the seed, so that four seeds in a
@@ -107,6 +109,7 @@ pub fn near_full(desk: &mut Desk, count: usize) {
             desk.call(call);
         }
         desk.some_numbers();
+        desk.some_steps();
     }
 }
 
@@ -127,6 +130,7 @@ pub fn saturation(desk: &mut Desk, count: usize) {
         for time in 0..times {
             let j = (time + desk.random.below(2)) % cells;
             desk.call(Call::StoreCell { a, j, v });
+            desk.some_steps();
             if desk.random.percent(30) {
                 let r = desk.some_root();
                 desk.call(Call::StoreRoot { r, v });
@@ -167,6 +171,7 @@ pub fn cycles(desk: &mut Desk, count: usize) {
                 desk.call(Call::Collect);
                 break;
             }
+            desk.some_steps();
             // The new object names the one before it, which its root has let go only if a count held.
             let new = reply.value;
             first = first.or(Some(new));
@@ -229,6 +234,7 @@ pub fn self_references(desk: &mut Desk, count: usize) {
         let a = desk.some_object();
         let v = 1 + a;
         let j = desk.random.below(desk.cells_of(a));
+        desk.some_steps();
         // Data holds its own name as a number, which keeps nothing.
         desk.call(Call::WriteNumber { a, j, v: v as u16 });
         desk.call(Call::StoreCell { a, j, v });
@@ -267,6 +273,7 @@ pub fn deep_chains(desk: &mut Desk, count: usize) {
         } else {
             star(desk);
         }
+        desk.some_steps();
         let call = desk.some_call();
         desk.call(call);
         desk.call(Call::FreeBlocks);
@@ -300,6 +307,7 @@ fn chain(desk: &mut Desk) {
             break;
         }
         let new = 1 + reply.value;
+        desk.some_steps();
         if new_root != 0 {
             let j = desk.random.below(4);
             let a = reply.value;
@@ -326,6 +334,7 @@ fn star(desk: &mut Desk) {
             break;
         }
         desk.some_numbers();
+        desk.some_steps();
         let v = 1 + reply.value;
         desk.call(Call::StoreCell { a: 0, j, v });
         j += 1;

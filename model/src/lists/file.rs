@@ -10,11 +10,12 @@ pub const MOST_BLOCKS: u64 = 8192;
 pub const MOST_WIDTH: u64 = 5;
 pub const MOST_ROOTS: u64 = 65;
 
-/// The lent buffers, by number: 0 a, 1 b, 2 counts, 3 cells, 4 roots, 5 waiting, 6 sections, 7 data.
-pub const BUFFERS: usize = 8;
+/// The lent buffers, by number: 0 a, 1 b, 2 counts, 3 cells, 4 roots, 5 waiting, 6 sections, 7 data, 8 marks, 9 list.
+pub const BUFFERS: usize = 10;
 
 /// The largest length of each of them.
-pub const MOST_LENGTHS: [u64; BUFFERS] = [1024, 1024, 5 * 1024, 32768, 65, 8192, 32, 1024];
+pub const MOST_LENGTHS: [u64; BUFFERS] =
+    [1024, 1024, 5 * 1024, 32_768, 65, 8192, 32, 1024, 1024, 8193];
 
 /// Word 0 of the entries that are no calls: behind all calls to come.
 pub const LOAD: u64 = 253;
@@ -72,6 +73,8 @@ impl Entry {
                 Err(_) => Entry::NumberOutOfRange,
             },
             11 => Entry::Call(Call::ReadNumber { a: p, j: q }),
+            12 => Entry::Call(Call::OpenCollection),
+            13 => Entry::Call(Call::StepCollection { budget: p }),
             LOAD => Entry::Load {
                 buffer: x,
                 index: y,
@@ -163,6 +166,12 @@ impl Bench {
         None
     }
 
+    /// Whether a collection is open: not where the list has another length.
+    pub fn has_one_open(&self) -> bool {
+        let list = &self.memory.list;
+        list.len() == self.blocks.wrapping_add(1) && list[self.blocks] == 1
+    }
+
     /// Writes one number into a lent buffer; false where the buffer, the index or the value is out of range.
     pub fn load(&mut self, buffer: u64, index: u64, value: u64) -> bool {
         let memory = &mut self.memory;
@@ -175,6 +184,8 @@ impl Bench {
             5 => load_number(&mut memory.waiting, index, value),
             6 => load_number(&mut memory.sections, index, value),
             7 => load_byte(&mut memory.data, index, value),
+            8 => load_byte(&mut memory.marks, index, value),
+            9 => load_number(&mut memory.list, index, value),
             _ => false,
         }
     }
@@ -194,7 +205,9 @@ impl Bench {
             4 => lend(&mut memory.roots, &mut beyond.roots, length),
             5 => lend(&mut memory.waiting, &mut beyond.waiting, length),
             6 => lend(&mut memory.sections, &mut beyond.sections, length),
-            _ => lend(&mut memory.data, &mut beyond.data, length),
+            7 => lend(&mut memory.data, &mut beyond.data, length),
+            8 => lend(&mut memory.marks, &mut beyond.marks, length),
+            _ => lend(&mut memory.list, &mut beyond.list, length),
         }
         true
     }
@@ -210,7 +223,9 @@ impl Bench {
             4 => memory.roots[index] as u64,
             5 => memory.waiting[index] as u64,
             6 => memory.sections[index] as u64,
-            _ => memory.data[index] as u64,
+            7 => memory.data[index] as u64,
+            8 => memory.marks[index] as u64,
+            _ => memory.list[index] as u64,
         }
     }
 
@@ -225,7 +240,9 @@ impl Bench {
             4 => memory.roots.len(),
             5 => memory.waiting.len(),
             6 => memory.sections.len(),
-            _ => memory.data.len(),
+            7 => memory.data.len(),
+            8 => memory.marks.len(),
+            _ => memory.list.len(),
         }
     }
 }

@@ -260,6 +260,42 @@ impl Desk {
         Call::ReturnRoots { chosen }
     }
 
+    /// Whether a collection is open.
+    pub fn is_open(&self) -> bool {
+        self.bench.has_one_open()
+    }
+
+    /// A budget: mostly for a step or a few, seldom none, seldom more than there can be objects.
+    fn some_budget(&mut self) -> usize {
+        match self.random.below(20) {
+            0..=2 => 0,
+            3..=12 => 1,
+            13..=16 => 2 + self.random.below(2),
+            17..=18 => 1 + self.random.below(self.bench.blocks + 1),
+            _ => self
+                .random
+                .pick(&[self.bench.blocks, 65_536, 1 << 32, usize::MAX]),
+        }
+    }
+
+    /// An opening where none is open, else steps; seldom the other, which is refused 14.
+    pub fn some_collecting(&mut self) -> Call {
+        let budget = self.some_budget();
+        if self.is_open() != self.random.percent(6) {
+            return Call::StepCollection { budget };
+        }
+        Call::OpenCollection
+    }
+
+    /// For lists in which a collection is open about half of the time: an opening now and then, and steps.
+    pub fn some_steps(&mut self) {
+        let percent = if self.is_open() { 25 } else { 20 };
+        if self.random.percent(percent) {
+            let call = self.some_collecting();
+            self.call(call);
+        }
+    }
+
     pub fn some_look(&mut self) -> Call {
         let a = if self.random.percent(25) {
             self.random.below(self.bench.blocks + 3)
@@ -274,9 +310,14 @@ impl Desk {
         if self.objects().is_empty() && self.random.percent(60) {
             return self.some_allocation();
         }
-        match self.random.below(230) {
+        // So that about half of the calls have a collection open.
+        if !self.is_open() && self.random.percent(6) {
+            return Call::OpenCollection;
+        }
+        match self.random.below(256) {
             200..=221 => self.some_number_write(),
             222..=229 => self.some_number_read(),
+            230..=255 => self.some_collecting(),
             0..=59 => self.some_allocation(),
             60..=98 => self.some_root_store(55),
             99..=104 => self.some_return(),
@@ -290,7 +331,7 @@ impl Desk {
     }
 
     /// A call of each kind, with arguments that would mostly be accepted.
-    pub fn one_of_each(&mut self) -> [Call; 12] {
+    pub fn one_of_each(&mut self) -> [Call; 14] {
         [
             Call::Check,
             Call::Allocate {
@@ -309,6 +350,10 @@ impl Desk {
             },
             self.some_number_write(),
             self.some_number_read(),
+            Call::OpenCollection,
+            Call::StepCollection {
+                budget: self.some_budget(),
+            },
             Call::Format,
         ]
     }

@@ -1,9 +1,10 @@
-//! Lists of calls, written: by hand (paper, request_vectors, section_vectors, number_vectors) and at random. `file` has the form in which
-//! they are kept, `generate` the desk at which they are written, `families` what is written there, with `wrong_families` and
-//! `section_lists`; `damaging` and `spoiling` make something wrong; `runs` has runs of records on what a list left;
+//! Lists of calls, written: by hand (paper, request_vectors, section_vectors, number_vectors, step_vectors) and at random. `file` has the form in which
+//! they are kept, `generate` the desk at which they are written, `families` what is written there, with `wrong_families`,
+//! `section_lists` and `step_lists`; `damaging` and `spoiling` make something wrong; `every_list` tries every short list with U8's claims; `runs` has runs of records on what a list left;
 //! `vectors` is the one large file.
 
 pub mod damaging;
+pub mod every_list;
 pub mod families;
 pub mod file;
 pub mod generate;
@@ -15,5 +16,7 @@ pub mod runs;
 pub mod section_lists;
 pub mod section_vectors;
 pub mod spoiling;
+pub mod step_lists;
+pub mod step_vectors;
 pub mod vectors;
 pub mod wrong_families;

@@ -16,6 +16,7 @@ pub fn sections(desk: &mut Desk, count: usize) {
         for _ in 0..12 {
             let call = some_call(desk);
             desk.call(call);
+            desk.some_steps();
         }
         damage_and_mend(desk, UNTRUE_LIST);
     }

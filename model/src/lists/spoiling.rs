@@ -70,6 +70,7 @@ fn fill(random: &mut Random, memory: &mut Memory) {
         &mut memory.b,
         &mut memory.counts,
         &mut memory.data,
+        &mut memory.marks,
     ] {
         map.fill_with(|| random.word() as u8);
     }
@@ -78,6 +79,7 @@ fn fill(random: &mut Random, memory: &mut Memory) {
         &mut memory.roots,
         &mut memory.waiting,
         &mut memory.sections,
+        &mut memory.list,
     ] {
         list.fill_with(|| random.word() as u16);
     }
@@ -113,16 +115,16 @@ fn wrong_shape(random: &mut Random, lent: &mut Lent) {
 /// An unknown code in place of one of the calls, or a number write whose number no cell can hold.
 fn no_call(random: &mut Random, lent: &mut Lent) {
     let unknown = [
-        12,
-        13,
+        14,
+        15,
         252,
         253,
         254,
         255,
         256,
         258,
-        264,
-        266,
+        268,
+        269,
         1 << 32,
         u64::MAX,
     ];

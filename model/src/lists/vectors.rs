@@ -9,6 +9,7 @@ use crate::lists::paper::{self, Step};
 use crate::lists::random::Random;
 use crate::lists::request_vectors::{moments, present_values, returns};
 use crate::lists::section_vectors::sections;
+use crate::lists::step_vectors::steps;
 use crate::rules::calls::short::{allocate, cell, root};
 use crate::rules::calls::Call;
 
@@ -57,6 +58,7 @@ pub fn vectors(seed: u64) -> Vec<u8> {
     moments(&mut desk);
     sections(&mut desk);
     numbers(&mut desk);
+    steps(&mut desk);
     for round in 0..16 {
         for (_, write) in FAMILIES {
             let shape = some_shape(round, &mut desk.random);
@@ -77,7 +79,7 @@ fn complaints(desk: &mut Desk) {
     desk.new_heap([8, 2, 4]);
     desk.call(Call::Format);
     desk.call(Call::Allocate { n: 2, r: 0 });
-    for unknown in [12, 13, 252, 256, 264, 266, 1 << 32, (1 << 32) + 8, m] {
+    for unknown in [14, 15, 252, 256, 268, 269, 1 << 32, (1 << 32) + 8, m] {
         desk.words([unknown, 1, 2, 3]);
     }
     // A number write whose number no cell can hold is no call, wherever it would go.
@@ -94,7 +96,11 @@ fn complaints(desk: &mut Desk) {
         [6, 0, 65_536],
         [7, 1, 0],
         [7, 0, 256],
-        [8, 0, 0],
+        [8, 1, 0],
+        [8, 0, 256],
+        [9, 9, 0],
+        [9, 0, 65_536],
+        [10, 0, 0],
         [m, 0, 0],
         [0, m, 0],
         [4, 0, m],
@@ -104,7 +110,10 @@ fn complaints(desk: &mut Desk) {
     for [buffer, length] in [[0, 1025], [1, 1025], [2, 5121], [3, 32_769], [4, 66]] {
         desk.words([LENGTH, buffer, length, 0]);
     }
-    for [buffer, length] in [[5, 8193], [6, 33], [7, 1025], [8, 0], [m, 1], [0, m]] {
+    for [buffer, length] in [[5, 8193], [6, 33], [7, 1025], [m, 1], [0, m]] {
+        desk.words([LENGTH, buffer, length, 0]);
+    }
+    for [buffer, length] in [[8, 1025], [9, 8194], [10, 0]] {
         desk.words([LENGTH, buffer, length, 0]);
     }
     for shape in [
@@ -126,6 +135,9 @@ fn complaints(desk: &mut Desk) {
     desk.words([8, 0, m, m]);
     desk.words([9, 1, 2, m]);
     desk.words([11, 3, 0, m]);
+    desk.words([12, m, m, m]);
+    desk.words([13, 0, m, m]);
+    desk.words([13, m, m, m]);
     desk.words([3, 2, 0, m]);
     // A buffer made shorter and longer again keeps what lay beyond.
     desk.words([LOAD, 4, 3, 3]);
@@ -185,7 +197,16 @@ fn shapes(desk: &mut Desk) {
     }
     // The blocks of one heap with the buffers of another.
     desk.new_heap([12, 2, 4]);
-    for (buffer, length) in [(0, 2), (1, 2), (2, 4), (3, 64), (5, 16), (7, 2)] {
+    for (buffer, length) in [
+        (0, 2),
+        (1, 2),
+        (2, 4),
+        (3, 64),
+        (5, 16),
+        (7, 2),
+        (8, 2),
+        (9, 17),
+    ] {
         desk.length(buffer, length);
     }
     desk.call(Call::Format);

@@ -6,7 +6,8 @@ use crate::lists::generate::Desk;
 use crate::lists::random::Random;
 use crate::rules::calls::Call;
 
-/// Used heaps that are damaged by loads, in each kind, or whose list of sections is made untrue; called, and mended again.
+/// Used heaps that are damaged by loads, in each kind, or whose list of sections is made untrue, or whose marks are made wrong;
+/// called, and mended again.
 pub fn damage(desk: &mut Desk, count: usize) {
     let end = desk.entries.len() + count;
     desk.call(Call::Format);
@@ -158,7 +159,7 @@ pub fn huge_arguments(desk: &mut Desk, count: usize) {
         let bad_v = desk.random.pick(&bad_v);
         let data = desk.some_object_as(true) as u64;
         let number = desk.some_number() as u64;
-        let words = match desk.random.below(22) {
+        let words = match desk.random.below(24) {
             0 => [2, x, r, 0],
             1 => [2, 1, x, 0],
             2 => [2, x, y, 0],
@@ -181,6 +182,8 @@ pub fn huge_arguments(desk: &mut Desk, count: usize) {
             18 => [10, data, 0, wide],
             19 => [10, data, 0, 65_535],
             20 => [11, x, y, wide],
+            21 => [12, x, y, 0],
+            22 => [13, x, y, 0],
             _ => [11, data, x, 0],
         };
         desk.words(words);

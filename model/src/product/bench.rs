@@ -4,6 +4,7 @@
 use crate::lists::random::Random;
 use crate::product::data_bench::half_data;
 use crate::product::library::{shared, unique};
+use crate::product::pause_bench::{pauses, SETUP};
 use crate::product::port::{self, lend};
 use crate::product::search_bench;
 use crate::product::timing::{by_turns, compared};
@@ -31,6 +32,7 @@ pub fn bench() -> String {
     search_bench::growth(&mut out);
     check(&mut out, &list);
     half_data(&mut out);
+    pauses(&mut out, &mixed_calls(BLOCKS, SETUP, 1));
     growth(&mut out);
     out
 }

@@ -43,10 +43,13 @@ pub fn call_by_call(
     let mut library = model.clone();
     for (k, words) in entries.iter().enumerate() {
         let entry = Entry::from_words(*words);
+        let open = model.has_one_open();
         let by_model = model.carry_out(entry, apply);
         let by_library = library.carry_out(entry, other.apply);
         if let (Entry::Call(call), Some(reply)) = (entry, by_model) {
             met.call(model.blocks, call, reply);
+            met.call_with(open, reply);
+            met.refused(model.blocks, &model.memory, reply);
         }
         let sides = [(by_model, &model), (by_library, &library)].map(|(reply, bench)| Outcome {
             reply,
@@ -85,7 +88,7 @@ pub fn ran(other: Library, handed: &Handed, met: &mut Met) -> Option<String> {
     let (mut model, mut library) = (handed.clone(), handed.clone());
     let by_model = model.run(run_records);
     let by_library = library.run(other.run_records);
-    met.run(by_model.0, by_model.1.number);
+    met.run(by_model.0, by_model.1.number, handed.bench.has_one_open());
     let sides =
         [(by_model, &model), (by_library, &library)].map(|((reply, run), handed)| Outcome {
             reply: Some(reply),

@@ -1,9 +1,9 @@
 //! Random lists and damaged memories, on the model and on the product's library side by side: call by call, then the calls
 //! of the list as one replay, as they are and spoilt, then runs of records on what the list left. First come the check of
 //! every pair of maps of eight blocks, of every A-map of eight blocks with every figure, of every sound pair of maps with every
-//! D-map, and lists that are always the same, which meet all that can be met; then fresh ones.
+//! D-map, of every mark map with every short list, and lists that are always the same, which meet all that can be met; then fresh ones.
 
-use crate::lists::damaging::{some_damage, AIMS};
+use crate::lists::damaging::{some_damage, AIMS, WRONG_MARKS};
 use crate::lists::families::{random as random_calls, some_shape, FAMILIES};
 use crate::lists::file::Entry;
 use crate::lists::generate::Desk;
@@ -14,6 +14,7 @@ use crate::lists::spoiling::some_replay;
 use crate::product::compare::{call_by_call, ran, replayed, Library};
 use crate::product::met::{Met, PAIRS_OF_MAPS, TOO_MANY_BLOCKS};
 use crate::product::shrink::shrink;
+use crate::rules::calls::short::{allocate, cell, data, root, OPEN};
 use crate::rules::damage::damage;
 use crate::rules::heap::{first_blocks, Memory};
 use crate::rules::sections::figures;
@@ -32,13 +33,15 @@ struct Found {
     text: String,
 }
 
-/// Checks all pairs of maps, all figures, all D-maps and the lists that are always the same, then runs fresh lists for so many seconds.
+/// Checks all pairs of maps, all figures, all D-maps, all mark maps and the lists that are always the same, then runs fresh lists for
+/// so many seconds.
 /// What was met, and a difference, as text.
 pub fn fuzz(seconds: u64, seed: u64, library: Library) -> (Met, Option<String>) {
     let mut met = Met::default();
     let difference = pairs_of_maps(library, &mut met)
         .or_else(|| maps_with_figures(library, &mut met))
-        .or_else(|| maps_with_data(library, &mut met));
+        .or_else(|| maps_with_data(library, &mut met))
+        .or_else(|| marks_with_lists(library, &mut met));
     if difference.is_some() {
         return (met, difference);
     }
@@ -132,7 +135,40 @@ fn maps_with_data(library: Library, met: &mut Met) -> Option<String> {
     })
 }
 
-/// The lists that are always the same, at each width: every family, every aim of damage on several heaps, sections, and
+/// The check of every mark map of eight blocks with the lists that hold two numbers of 0 to 9 and have a last place of 0 to 2. On a
+/// heap of three objects that a root, an object and nothing names, the last one data; and on one that is empty.
+fn marks_with_lists(library: Library, met: &mut Met) -> Option<String> {
+    let shape = [8, 1, 2];
+    let three = vec![
+        allocate(2, 0),
+        allocate(1, 1),
+        data(1, 1),
+        root(1, 0),
+        cell(0, 7, 3),
+    ];
+    let heaps = [three, Vec::new()];
+    heaps.iter().find_map(|calls| {
+        (0..256).find_map(|marks| {
+            let mut desk = Desk::new(Random::new(0), shape);
+            desk.call(Call::Format);
+            for call in calls {
+                desk.call(*call);
+            }
+            desk.call(OPEN);
+            desk.load(8, 0, marks);
+            for list in 0..300 {
+                for (place, value) in [(0, list % 10), (1, list / 10 % 10), (8, list / 100)] {
+                    desk.load(9, place, value);
+                }
+                desk.call(Call::Check);
+                met.marks_with_lists += 1;
+            }
+            call_by_call(library, shape, &desk.entries, &mut Met::default())
+        })
+    })
+}
+
+/// The lists that are always the same, at each width: every family, every aim of damage on several heaps, wrong marks, sections, and
 /// every call on too many blocks with buffers that fit. `Met::unmet` says what they would leave out.
 fn always() -> Vec<Desk> {
     let mut lists = Vec::new();
@@ -143,6 +179,7 @@ fn always() -> Vec<Desk> {
     };
     for width in 1..=4 {
         list([TOO_MANY_BLOCKS as u64, width, 4], &every_call);
+        list([8, width, 4], &|desk| wrong_marks_calls(desk, 40));
         // Of as many sections as the header says, for the replay.
         for blocks in [256, 512, 1024] {
             list([blocks, width, 4], &|desk| sections(desk, 60));
@@ -241,7 +278,8 @@ fn some_list(random: &mut Random) -> Desk {
         1 => random_calls(&mut desk, 16),
         2 => every_call(&mut desk),
         3..=5 => sections(&mut desk, 60),
-        6..=27 => damaged_calls(&mut desk, count, aim),
+        6..=7 => wrong_marks_calls(&mut desk, 4),
+        8..=27 => damaged_calls(&mut desk, count, aim),
         _ => {
             let (_, write) = desk.random.pick(&FAMILIES);
             write(&mut desk, count);
@@ -261,6 +299,34 @@ fn damaged_calls(desk: &mut Desk, count: usize, aim: usize) {
         desk.load(buffer, index, value);
     }
     every_call(desk);
+}
+
+/// Every call but format on memories with wrong marks, and some with an untrue list of sections besides; mended by a format.
+fn wrong_marks_calls(desk: &mut Desk, rounds: usize) {
+    for _ in 0..rounds {
+        desk.call(Call::Format);
+        for _ in 0..12 {
+            let call = desk.some_call();
+            desk.call(call);
+        }
+        if desk.random.percent(70) {
+            desk.call(OPEN);
+        }
+        for (buffer, index, value) in some_damage(&mut desk.random, &desk.bench, WRONG_MARKS) {
+            desk.load(buffer, index, value);
+        }
+        let figure = desk.bench.number_at(6, 0);
+        desk.load(6, 0, figure + 1);
+        let calls = desk.one_of_each();
+        let some = desk.random.pick(&calls[..calls.len() - 1]);
+        for call in [Call::Check, some] {
+            desk.call(call);
+        }
+        desk.load(6, 0, figure);
+        for call in &calls[..calls.len() - 1] {
+            desk.call(*call);
+        }
+    }
 }
 
 fn every_call(desk: &mut Desk) {

@@ -31,6 +31,10 @@ pub fn apply(blocks: usize, width: usize, memory: &mut Memory, call: Call) -> Re
         Call::AllocateData { n, r } => lent::allocate_data(unique(blocks, width, memory), n, r),
         Call::WriteNumber { a, j, v } => lent::write_number(unique(blocks, width, memory), a, j, v),
         Call::ReadNumber { a, j } => lent::read_number(shared(blocks, width, memory), a, j),
+        Call::OpenCollection => lent::open_collection(unique(blocks, width, memory)),
+        Call::StepCollection { budget } => {
+            lent::step_collection(unique(blocks, width, memory), budget)
+        }
     })
 }
 
@@ -112,6 +116,8 @@ pub fn unique(blocks: usize, width: usize, memory: &mut Memory) -> Unique<'_> {
         waiting: &mut memory.waiting,
         sections: &mut memory.sections,
         data: &mut memory.data,
+        marks: &mut memory.marks,
+        list: &mut memory.list,
     }
 }
 
@@ -128,5 +134,7 @@ pub fn shared(blocks: usize, width: usize, memory: &Memory) -> Shared<'_> {
         waiting: &memory.waiting,
         sections: &memory.sections,
         data: &memory.data,
+        marks: &memory.marks,
+        list: &memory.list,
     }
 }

@@ -2,28 +2,32 @@
 
 use crate::rules::answers::Reply;
 use crate::rules::calls::Call;
+use crate::rules::heap::Memory;
+use crate::rules::mark_claims::{ill_marked, ILL};
 
 /// More blocks than a heap can have: "16,384 refused 1".
 pub const TOO_MANY_BLOCKS: usize = 16_384;
 
 /// Each call, by its code, with the numbers that it can answer, in the documents' order.
-pub const CALLS: [(&str, &[usize]); 12] = [
+pub const CALLS: [(&str, &[usize]); 14] = [
     ("format", &[0, 1]),
-    ("check", &[0, 1, 2, 11]),
-    ("allocate", &[0, 1, 2, 11, 3, 4, 5]),
-    ("store in a root", &[0, 1, 2, 11, 4, 8]),
-    ("store in a cell", &[0, 1, 2, 11, 6, 7, 12, 8]),
-    ("collect", &[0, 1, 2, 11]),
-    ("look", &[0, 1, 2, 11, 6]),
-    ("free blocks", &[0, 1, 2, 11]),
-    ("return", &[0, 1, 2, 11, 4]),
-    ("allocate data", &[0, 1, 2, 11, 3, 4, 5]),
-    ("write a number", &[0, 1, 2, 11, 6, 7, 12]),
-    ("read a number", &[0, 1, 2, 11, 6, 7, 12]),
+    ("check", &[0, 1, 2, 11, 13]),
+    ("allocate", &[0, 1, 2, 11, 13, 3, 4, 5]),
+    ("store in a root", &[0, 1, 2, 11, 13, 4, 8]),
+    ("store in a cell", &[0, 1, 2, 11, 13, 6, 7, 12, 8]),
+    ("collect", &[0, 1, 2, 11, 13, 14]),
+    ("look", &[0, 1, 2, 11, 13, 6]),
+    ("free blocks", &[0, 1, 2, 11, 13]),
+    ("return", &[0, 1, 2, 11, 13, 4]),
+    ("allocate data", &[0, 1, 2, 11, 13, 3, 4, 5]),
+    ("write a number", &[0, 1, 2, 11, 13, 6, 7, 12]),
+    ("read a number", &[0, 1, 2, 11, 13, 6, 7, 12]),
+    ("open a collection", &[0, 1, 2, 11, 13, 14]),
+    ("step a collection", &[0, 1, 2, 11, 13, 14]),
 ];
 
 /// One more than the largest number that a call can answer.
-pub const NUMBERS: usize = 13;
+pub const NUMBERS: usize = 15;
 
 /// The kinds of damage. There is no kind 6 (U9).
 pub const KINDS: [usize; 6] = [1, 2, 3, 4, 5, 7];
@@ -31,9 +35,9 @@ pub const KINDS: [usize; 6] = [1, 2, 3, 4, 5, 7];
 /// The numbers that a replay can answer, in docs/DECISIONS.md's order.
 pub const REPLAY: [usize; 5] = [0, 1, 10, 9, 18];
 
-/// The numbers that a run of records can answer, in docs/DECISIONS.md's order with U4's; and those that can stop one.
-pub const RUN: [usize; 5] = [0, 1, 2, 11, 19];
-pub const STOPS: [usize; 9] = [0, 10, 9, 3, 4, 5, 6, 7, 12];
+/// The numbers that a run of records can answer, in docs/DECISIONS.md's order with U4's and U8's; and those that can stop one.
+pub const RUN: [usize; 6] = [0, 1, 2, 11, 13, 19];
+pub const STOPS: [usize; 10] = [0, 10, 9, 3, 4, 5, 6, 7, 12, 14];
 
 /// The pairs of an A-map and a B-map of eight blocks.
 pub const PAIRS_OF_MAPS: usize = 65_536;
@@ -44,11 +48,14 @@ pub const MAPS_WITH_FIGURES: usize = 2_560;
 /// The pairs of an A-map and a B-map of eight blocks that pass kinds 1 to 3, each with every D-map.
 pub const MAPS_WITH_DATA: usize = 802 * 256;
 
+/// The mark maps of eight blocks with each of the lists of up to two numbers 0 to 9, and with each last place 0 to 2, on two heaps.
+pub const MARKS_WITH_LISTS: usize = 2 * 256 * 100 * 3;
+
 /// Calls one by one, and replays.
 #[derive(Clone, Debug, Default)]
 pub struct Met {
     pub lists: usize,
-    /// Replies by call and number, 0 to 8, 11 and 12.
+    /// Replies by call and number, 0 to 8 and 11 to 14.
     pub numbers: [[usize; NUMBERS]; CALLS.len()],
     /// Damage kinds by call and kind.
     pub kinds: [[usize; 8]; CALLS.len()],
@@ -65,10 +72,20 @@ pub struct Met {
     pub maps_with_figures: usize,
     /// Pairs of maps that were checked with each D-map.
     pub maps_with_data: usize,
+    /// Mark maps that were checked with each list.
+    pub marks_with_lists: usize,
+    /// Calls on wrong marks by the clause of 13, those that 11 was said of and those that 13 was.
+    pub ill_marked: [[usize; 2]; ILL.len()],
+    /// Calls made with a collection open, of those on a heap that isn't refused first; and all of these.
+    pub with_one_open: usize,
+    pub with_either: usize,
     /// Replies to runs of records by number, 0 to 19.
     pub run_numbers: [usize; 20],
-    /// Accepted runs by the number that stopped them, 0 to 12.
-    pub stops: [usize; 13],
+    /// Accepted runs by the number that stopped them, 0 to 14.
+    pub stops: [usize; 15],
+    /// Accepted runs on a heap with a collection open, and those of them that 5 stopped.
+    pub runs_with_one_open: usize,
+    pub full_with_one_open: usize,
 }
 
 impl Met {
@@ -91,17 +108,36 @@ impl Met {
         self.replayed_calls += reply.value;
     }
 
-    /// Counts the reply to a run of records, and the number that stopped it.
-    pub fn run(&mut self, reply: Reply, stopped: usize) {
+    /// Counts a call that is refused 11 or 13 by what is wrong with the marks.
+    pub fn refused(&mut self, blocks: usize, memory: &Memory, reply: Reply) {
+        if let 11 | 13 = reply.number {
+            if let Some(clause) = ill_marked(blocks, memory) {
+                self.ill_marked[clause][usize::from(reply.number == 13)] += 1;
+            }
+        }
+    }
+
+    /// Counts a call by whether a collection is open, unless the heap is refused.
+    pub fn call_with(&mut self, open: bool, reply: Reply) {
+        if ![1, 2, 11, 13].contains(&reply.number) {
+            self.with_either += 1;
+            self.with_one_open += usize::from(open);
+        }
+    }
+
+    /// Counts the reply to a run of records, the number that stopped it, and whether a collection is open.
+    pub fn run(&mut self, reply: Reply, stopped: usize, open: bool) {
         self.run_numbers[reply.number] += 1;
         if reply.number == 0 {
             self.stops[stopped] += 1;
+            self.runs_with_one_open += usize::from(open);
+            self.full_with_one_open += usize::from(open && stopped == 5);
         }
     }
 
     /// What can be met and was not: each number of each call, each damage kind in each call that has number 2, each
-    /// call on too many blocks, each pair of maps, each map with each figure and with each D-map, each number of a replay and of a run, and
-    /// each that stops one.
+    /// call on too many blocks, each clause of 13, before 11 and behind it, each pair of maps, each map with each figure and with each D-map, each mark map with each list, each
+    /// number of a replay and of a run, and each that stops one. And a collection is open in half of the calls.
     pub fn unmet(&self) -> Vec<String> {
         let mut unmet = Vec::new();
         let mut expect = |count: usize, what: String| {
@@ -137,6 +173,22 @@ impl Met {
         expect(all_figures as usize, "every map with figures".to_string());
         let all_data = self.maps_with_data == MAPS_WITH_DATA;
         expect(all_data as usize, "every map with data".to_string());
+        let all_marks = self.marks_with_lists == MARKS_WITH_LISTS;
+        expect(all_marks as usize, "every mark map with lists".to_string());
+        for (clause, counts) in ILL.into_iter().zip(self.ill_marked) {
+            for (number, count) in [11, 13].into_iter().zip(counts) {
+                expect(count, format!("{clause}, refused {number}"));
+            }
+        }
+        let full = self.full_with_one_open;
+        expect(full, "run, stopped by 5 with one open".to_string());
+        // "with collections open half of the time"
+        let share = 100 * self.with_one_open / self.with_either.max(1);
+        let half = (40..=60).contains(&share) as usize;
+        expect(
+            half,
+            format!("a collection open in half of the calls, but in {share} %"),
+        );
         unmet
     }
 
@@ -148,19 +200,24 @@ impl Met {
             "lists {}, calls {}, accepted {}\n\
              refusals by number  {}\n\
              damage by kind      {}\n\
-             pairs of maps checked   {}, maps with figures {}, with data {}\n\
+             pairs of maps checked   {}, maps with figures {}, with data {}, mark maps with lists {}\n\
+             calls with a collection open {} of {}; on wrong marks, by clause, 11 and 13 {:?}\n\
              calls on 16,384 blocks  {}\n\
              replays {}, accepted {}, calls in those {}\n\
              refusals of replays {}\n\
-             runs of records {}, refusals {}, stopped by {}\n",
+             runs of records {}, refusals {}, stopped by {}; with a collection open {}, of these stopped by 5 {}\n",
             self.lists,
             (0..NUMBERS).map(number).sum::<usize>(),
             number(0),
-            by((1..=8).chain([11, 12]), number),
+            by((1..=8).chain(11..=14), number),
             by(KINDS, kind),
             self.pairs_of_maps,
             self.maps_with_figures,
             self.maps_with_data,
+            self.marks_with_lists,
+            self.with_one_open,
+            self.with_either,
+            self.ill_marked,
             self.too_many_blocks.iter().sum::<usize>(),
             self.replays,
             self.replay_numbers[0],
@@ -170,6 +227,8 @@ impl Met {
             self.run_numbers.iter().sum::<usize>(),
             by(RUN.into_iter().skip(1), |number| self.run_numbers[number]),
             by(STOPS.into_iter().skip(1), |number| self.stops[number]),
+            self.runs_with_one_open,
+            self.full_with_one_open,
         )
     }
 }

@@ -1,5 +1,6 @@
 //! Against the product: its library beside the model (library, compare, fuzz, shrink, met), and its library and its
-//! program `report` beside the same algorithms in plain Rust (bench, data_bench, search_bench, history_bench, timing, port).
+//! program `report` beside the same algorithms in plain Rust (bench, data_bench, pause_bench, search_bench,
+//! history_bench, timing, port).
 
 #[cfg(feature = "library")]
 pub mod bench;
@@ -11,6 +12,8 @@ pub mod history_bench;
 #[cfg(feature = "library")]
 pub mod library;
 pub mod met;
+#[cfg(feature = "library")]
+pub mod pause_bench;
 pub mod port;
 pub mod search_bench;
 pub mod shrink;

@@ -3,7 +3,7 @@
 //! "Each list is in order, and the first number that applies is given. No refusal is given when its
 //! condition is false."
 //!
-//! The numbers 1, 2 and 11 stand first in every list: `refused_first`. The calls are for heaps that these don't apply to.
+//! The numbers 1, 2, 11 and 13 stand first in every list: `refused_first`. The calls are for heaps that these don't apply to.
 //! Those that let go of a reference take the order in which objects that wait are freed (counting.rs).
 
 use crate::rules::calls::{is_chosen, Call};
@@ -15,7 +15,9 @@ use crate::rules::heap::{
     capacity, count, free_count, is_data, is_first_block, misshapen, set_bit, set_count, size,
     Memory,
 };
+use crate::rules::marks::{self, clear_map_and_list, is_open, mark_and_list_named};
 use crate::rules::sections::{figures, leave_list_true};
+use crate::rules::steps;
 
 /// "A reply is a number and a value (two values for the look). Number 0 is acceptance." Since U5 a store and an
 /// allocation have two values as well.
@@ -57,7 +59,7 @@ pub(crate) fn refused(number: usize) -> Reply {
 
 /// What stands first in the list of every call. "Format: 1 if N, w, the number of roots or any buffer's length is not as
 /// above." "A heap that a call formats isn't tested for more than 1." In all others: "1 as before; 2 if the heap is
-/// damaged." Document 02, U4: "11, the list doesn't match the maps, next after 2."
+/// damaged." Document 02, U4: "11, the list doesn't match the maps, next after 2." U8: 13 "next after 11".
 pub fn refused_first(blocks: usize, width: usize, memory: &Memory, call: Call) -> Option<Reply> {
     if misshapen(blocks, width, memory) {
         return Some(refused(1));
@@ -67,6 +69,7 @@ pub fn refused_first(blocks: usize, width: usize, memory: &Memory, call: Call) -
     }
     match damage(blocks, width, memory) {
         0 if memory.sections != figures(blocks, memory) => Some(refused(11)),
+        0 if marks::is_wrong(blocks, memory) => Some(refused(13)),
         0 => None,
         kind => Some(Reply {
             number: 2,
@@ -90,6 +93,7 @@ pub fn format(blocks: usize, memory: &mut Memory) -> Reply {
     memory.cells.fill(0);
     memory.roots.fill(0);
     memory.data.fill(0);
+    clear_map_and_list(memory);
     leave_waiting_list_zero(memory);
     leave_list_true(blocks, memory);
     accepted(0)
@@ -105,6 +109,14 @@ pub fn check() -> Reply {
 pub enum Kind {
     Ordinary,
     Data,
+}
+
+/// Document 02, U8: "While open, ... each reference store that changes a value, an allocation's included, marks and lists what is
+/// unmarked among its owner, old and new objects".
+fn mark_and_list_of_store(blocks: usize, memory: &mut Memory, objects: &[u16]) {
+    if is_open(blocks, memory) {
+        mark_and_list_named(blocks, memory, objects);
+    }
 }
 
 /// "Allocate n blocks into root r." U6: an object of either kind.
@@ -143,11 +155,15 @@ pub fn allocate(
     memory.cells[4 * first..4 * (first + n)].fill(0);
     // U6: "1 on the first block of an object made as data."
     set_bit(&mut memory.data, first, u8::from(kind == Kind::Data));
+    // U8: "While open, objects are born marked". They aren't listed.
+    let marked = u8::from(is_open(blocks, memory));
+    set_bit(&mut memory.marks, first, marked);
     // "Then the reference is stored in root r as below, except that the new object isn't counted up again."
     let old = memory.roots[r];
     memory.roots[r] = (1 + first) as u16;
     // U5: "a birth at width 1 included".
     let stuck = count(blocks, width, memory, first) == capacity(width);
+    mark_and_list_of_store(blocks, memory, &[old]);
     release(blocks, width, memory, old, order);
     leave_waiting_list_zero(memory);
     // "The value is the first block."
@@ -211,6 +227,7 @@ pub fn store_root(
     let stuck = count_up(blocks, width, memory, v);
     let old = memory.roots[r];
     memory.roots[r] = v;
+    mark_and_list_of_store(blocks, memory, &[old, v]);
     release(blocks, width, memory, old, order);
     leave_waiting_list_zero(memory);
     // "The value is the number of blocks freed."
@@ -244,6 +261,8 @@ pub fn store_cell(
     let stuck = count_up(blocks, width, memory, v);
     let old = memory.cells[4 * a + j];
     memory.cells[4 * a + j] = v;
+    let owner = (1 + a) as u16;
+    mark_and_list_of_store(blocks, memory, &[owner, old, v]);
     release(blocks, width, memory, old, order);
     leave_waiting_list_zero(memory);
     // "The value is the number of blocks freed."
@@ -271,7 +290,7 @@ pub fn read_number(blocks: usize, memory: &Memory, a: usize, j: usize) -> Reply 
 /// Document 02, U10: "A return lets go of all local variables together. Give one call a set of roots as a 64-bit
 /// number, bit r for root r."
 ///
-/// "It is refused with 4 if any bit is at or past the number of roots." Before that, 1, 2 and 11.
+/// "It is refused with 4 if any bit is at or past the number of roots." Before that, 1, 2, 11 and 13.
 pub fn return_roots(
     blocks: usize,
     width: usize,
@@ -289,6 +308,7 @@ pub fn return_roots(
     for r in (0..roots).filter(|r| is_chosen(chosen, *r)) {
         let old = memory.roots[r];
         memory.roots[r] = 0;
+        mark_and_list_of_store(blocks, memory, &[old]);
         release(blocks, width, memory, old, order);
     }
     leave_waiting_list_zero(memory);
@@ -296,12 +316,46 @@ pub fn return_roots(
     accepted(free_count(blocks, memory) - free_before)
 }
 
-/// "Collect." "Collect: 1, 2." "The value is the number of blocks freed."
+/// "Collect." "Collect: 1, 2." "The value is the number of blocks freed." U8: "14, ... an opening or full collection with one
+/// open, after 13."
 pub fn collect(blocks: usize, width: usize, memory: &mut Memory) -> Reply {
+    if is_open(blocks, memory) {
+        return refused(14);
+    }
     let free_before = free_count(blocks, memory);
     sweep_and_recount(blocks, width, memory);
     leave_waiting_list_zero(memory);
     accepted(free_count(blocks, memory) - free_before)
+}
+
+/// Document 02, U8: "As in source document 001's snapshot scheme, one is opened and stepped." An opening with one open gives 14.
+pub fn open_collection(blocks: usize, memory: &mut Memory) -> Reply {
+    if is_open(blocks, memory) {
+        return refused(14);
+    }
+    steps::open(blocks, memory);
+    accepted(0)
+}
+
+/// "It replies with the steps taken, all of them unless the list ran out, and the blocks freed." "14, a step with none open".
+pub fn step_collection(
+    blocks: usize,
+    width: usize,
+    memory: &mut Memory,
+    budget: usize,
+    order: Order,
+) -> Reply {
+    if !is_open(blocks, memory) {
+        return refused(14);
+    }
+    let free_before = free_count(blocks, memory);
+    let value = steps::step(blocks, width, memory, budget, order);
+    leave_waiting_list_zero(memory);
+    Reply {
+        number: 0,
+        value,
+        second: free_count(blocks, memory) - free_before,
+    }
 }
 
 /// "Look at block a: the object's size and its count." "Look: 1, 2, 6."

@@ -47,6 +47,11 @@ pub enum Call {
         a: usize,
         j: usize,
     },
+    OpenCollection,
+    /// Any budget is right.
+    StepCollection {
+        budget: usize,
+    },
 }
 
 impl Call {
@@ -65,6 +70,8 @@ impl Call {
             Call::AllocateData { n, r } => [9, n as u64, r as u64, 0],
             Call::WriteNumber { a, j, v } => [10, a as u64, j as u64, v as u64],
             Call::ReadNumber { a, j } => [11, a as u64, j as u64, 0],
+            Call::OpenCollection => [12, 0, 0, 0],
+            Call::StepCollection { budget } => [13, budget as u64, 0, 0],
         }
     }
 
@@ -76,10 +83,10 @@ impl Call {
         )
     }
 
-    /// "each accepted call that allocates, stores a reference or may free an object": a number write does none of these, and
-    /// "a buffer it isn't said to write keeps its content".
+    /// "each accepted call that allocates, stores a reference or may free an object": a number write and an opening do none of
+    /// these, and "a buffer it isn't said to write keeps its content". A step may, whatever its budget.
     pub fn clears_waiting_list(self) -> bool {
-        !self.only_reads() && !matches!(self, Call::WriteNumber { .. })
+        !self.only_reads() && !matches!(self, Call::WriteNumber { .. } | Call::OpenCollection)
     }
 
     /// The blocks that an allocation asks for, of either kind.
@@ -126,6 +133,12 @@ pub mod short {
     pub fn read_number(a: usize, j: usize) -> Call {
         Call::ReadNumber { a, j }
     }
+
+    pub const OPEN: Call = Call::OpenCollection;
+
+    pub fn step(budget: usize) -> Call {
+        Call::StepCollection { budget }
+    }
 }
 
 /// "a set of roots as a 64-bit number, bit r for root r"
@@ -152,7 +165,7 @@ pub fn apply_in_order(
     }
 }
 
-/// The same on a heap that is neither misshapen nor damaged, and whose list of sections is true: "A run of many calls may
+/// The same on a heap that is neither misshapen nor damaged, whose list of sections is true and whose marks are right: "A run of many calls may
 /// check once and then rely on the proved fact that calls keep a heap undamaged."
 pub fn apply_undamaged(blocks: usize, width: usize, memory: &mut Memory, call: Call) -> Reply {
     carry_out(blocks, width, memory, call, &mut longest_waiting)
@@ -177,6 +190,10 @@ fn carry_out(blocks: usize, width: usize, memory: &mut Memory, call: Call, order
         Call::Look { a } => answers::look(blocks, width, memory, a),
         Call::FreeBlocks => answers::free_blocks(blocks, memory),
         Call::ReturnRoots { chosen } => answers::return_roots(blocks, width, memory, chosen, order),
+        Call::OpenCollection => answers::open_collection(blocks, memory),
+        Call::StepCollection { budget } => {
+            answers::step_collection(blocks, width, memory, budget, order)
+        }
     };
     // Document 02, U4: "every accepted call, format too, leaves the list true."
     if reply.number == 0 {

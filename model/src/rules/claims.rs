@@ -9,6 +9,7 @@ use crate::rules::calls::{is_chosen, Call};
 use crate::rules::heap::{
     bit, capacity, count, first_blocks, free_count, is_allocated, is_first_block, size, Memory,
 };
+use crate::rules::mark_claims::{wrong_about_marks, wrong_about_open, wrong_marks};
 use crate::rules::section_claims::{other_address, untrue_list, wrong_about_list};
 use std::collections::BTreeSet;
 
@@ -42,13 +43,18 @@ pub fn all_references(blocks: usize, memory: &Memory) -> Vec<u16> {
 }
 
 /// "A root leads to an object, or reaches it, if it names it, or if a cell of an object that it leads to
-/// does, over finitely many references." Grown step by step until nothing is added.
+/// does, over finitely many references."
 pub fn led_to(blocks: usize, memory: &Memory) -> BTreeSet<Object> {
+    led_to_from(blocks, memory, &memory.roots)
+}
+
+/// The same from these names: what they name, and what that leads to. Grown step by step until nothing is added.
+pub fn led_to_from(blocks: usize, memory: &Memory, from: &[u16]) -> BTreeSet<Object> {
     let all = objects(blocks, memory);
     let ordinary = ordinary(blocks, memory);
     let mut led: BTreeSet<Object> = BTreeSet::new();
     loop {
-        let mut names: BTreeSet<usize> = memory.roots.iter().map(|v| *v as usize).collect();
+        let mut names: BTreeSet<usize> = from.iter().map(|v| *v as usize).collect();
         for (first, size) in led.intersection(&ordinary) {
             let cells = &memory.cells[4 * first..4 * (first + size)];
             names.extend(cells.iter().map(|v| *v as usize));
@@ -159,7 +165,7 @@ pub fn written_in(before: &Memory, call: Call, reply: Reply) -> Memory {
             }
         }
         Call::Check | Call::Collect | Call::Look { .. } | Call::FreeBlocks => {}
-        Call::ReadNumber { .. } => {}
+        Call::ReadNumber { .. } | Call::OpenCollection | Call::StepCollection { .. } => {}
     }
     memory
 }
@@ -237,6 +243,8 @@ fn wrong_value(
     let free_after = free_count(blocks, after);
     let second = match (call, own_reference(call, reply)) {
         (Call::Look { a }, _) => count(blocks, width, after, a),
+        // U8: "the steps taken ... and the blocks freed"
+        (Call::StepCollection { .. }, _) => free_after - free_before,
         (_, Some(v)) => usize::from(became_stuck(blocks, width, before, v as usize - 1, after)),
         (_, None) => 0,
     };
@@ -254,6 +262,9 @@ fn wrong_value(
         Call::Look { a } => objects(blocks, after).contains(&(a, reply.value)),
         Call::FreeBlocks => reply.value == free_after,
         Call::Format | Call::Check | Call::WriteNumber { .. } => reply.value == 0,
+        Call::OpenCollection => reply.value == 0,
+        // "A call may take at most the given number of steps": which, mark_claims.rs has.
+        Call::StepCollection { budget } => reply.value <= budget,
     };
     (!right || reply.second != second).then(|| format!("reply {reply:?} has a wrong value"))
 }
@@ -266,6 +277,7 @@ pub fn own_reference(call: Call, reply: Reply) -> Option<u16> {
         Call::Allocate { .. } | Call::AllocateData { .. } => 1 + reply.value,
         Call::Format | Call::Check | Call::Collect | Call::Look { .. } | Call::FreeBlocks => 0,
         Call::ReturnRoots { .. } | Call::WriteNumber { .. } | Call::ReadNumber { .. } => 0,
+        Call::OpenCollection | Call::StepCollection { .. } => 0,
     };
     (v != 0).then_some(v as u16)
 }
@@ -344,7 +356,7 @@ fn wrong_kind(blocks: usize, before: &Memory, call: Call, reply: Reply) -> Optio
         Call::WriteNumber { a, j, .. } | Call::ReadNumber { a, j } => (a, j, true),
         _ => return (reply.number == 12).then(|| "12 is said of a call on no cell".into()),
     };
-    if [1, 2, 11].contains(&reply.number) {
+    if [1, 2, 11, 13].contains(&reply.number) {
         return None;
     }
     let object = objects(blocks, before)
@@ -377,8 +389,8 @@ fn other_kind(
     Some(format!("the object at {} has the other kind", wrong.0))
 }
 
-/// The first claim that this call broke, if any. The memory before is sound and its list of sections true, or the call is
-/// refused, or it formats.
+/// The first claim that this call broke, if any. The memory before is sound, its list of sections true and its marks right, or the
+/// call is refused, or it formats.
 pub fn broken_claim(
     blocks: usize,
     width: usize,
@@ -388,6 +400,12 @@ pub fn broken_claim(
     after: &Memory,
 ) -> Option<String> {
     if let Some(what) = wrong_about_list(blocks, width, before, call, reply) {
+        return Some(what);
+    }
+    if let Some(what) = wrong_about_marks(blocks, before, call, reply) {
+        return Some(what);
+    }
+    if let Some(what) = wrong_about_open(blocks, before, call, reply) {
         return Some(what);
     }
     // "A refusal carries value 0, or the damage kind for number 2 ..., and changes no buffer."
@@ -403,7 +421,7 @@ pub fn broken_claim(
         if !kinds.contains(&reply.value) || reply.second != 0 {
             return Some("a refusal with a wrong value".into());
         }
-        if reply.number > 8 && ![11, 12].contains(&reply.number) {
+        if reply.number > 8 && ![11, 12, 13, 14].contains(&reply.number) {
             return Some("a refusal that no call has".into());
         }
         if let (Some(n), 5) = (call.allocates(), reply.number) {
@@ -433,6 +451,10 @@ pub fn broken_claim(
         return Some(what);
     }
     if let Some(what) = other_address(blocks, after) {
+        return Some(what);
+    }
+    // Document 02, U8: what the mark map and the list hold.
+    if let Some(what) = wrong_marks(blocks, width, before, call, reply, after) {
         return Some(what);
     }
     if call == Call::Format {

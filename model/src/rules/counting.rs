@@ -3,6 +3,7 @@
 use crate::rules::heap::{
     capacity, count, named, reference_places, set_bit, set_count, size, Memory,
 };
+use crate::rules::marks::{is_open, leave_map_and_list, mark_and_list_named};
 
 /// "the number of all cells and roots naming the object", the cells being those that are read as references.
 pub fn references(cells: &[u16], memory: &Memory, first: usize) -> usize {
@@ -43,12 +44,24 @@ pub fn longest_waiting(_waiting: &[usize]) -> usize {
 /// "then the old object, if any, is counted down." "A count-down to 0 frees the object", "and each object
 /// its cells named is counted down likewise, once for each cell."
 pub fn release(blocks: usize, width: usize, memory: &mut Memory, old: u16, order: Order) {
+    release_all(blocks, width, memory, &[old], order);
+}
+
+/// The same of several references.
+///
+/// Document 02, U8: "While open, ... clearing a freed object's cells marks and lists the unmarked ones they named".
+pub fn release_all(blocks: usize, width: usize, memory: &mut Memory, old: &[u16], order: Order) {
     let mut waiting = Vec::new();
-    count_down(blocks, width, memory, old, &mut waiting);
+    for v in old {
+        count_down(blocks, width, memory, *v, &mut waiting);
+    }
     while !waiting.is_empty() {
         let first = waiting.remove(order(&waiting));
         let cells = memory.cells[reference_places(blocks, memory, first)].to_vec();
         erase(blocks, width, memory, first);
+        if is_open(blocks, memory) {
+            mark_and_list_named(blocks, memory, &cells);
+        }
         for v in cells {
             count_down(blocks, width, memory, v, &mut waiting);
         }
@@ -72,7 +85,8 @@ fn count_down(blocks: usize, width: usize, memory: &mut Memory, v: u16, waiting:
 }
 
 /// Frees one object and counts nothing down: "its A bits go to 0, its last B bit goes to 1 (004 doesn't
-/// mention this), its count and cells go to 0". U6: the cells of data, "with its D bit, are cleared when it is freed."
+/// mention this), its count and cells go to 0". U6: the cells of data, "with its D bit, are cleared when it is freed." U8: "a
+/// freed object leaves map and list."
 pub fn erase(blocks: usize, width: usize, memory: &mut Memory, first: usize) {
     let size = size(blocks, memory, first);
     for i in first..first + size {
@@ -81,6 +95,7 @@ pub fn erase(blocks: usize, width: usize, memory: &mut Memory, first: usize) {
     set_bit(&mut memory.b, first + size - 1, 1);
     set_count(blocks, width, memory, first, 0);
     set_bit(&mut memory.data, first, 0);
+    leave_map_and_list(blocks, memory, first);
     for place in 4 * first..4 * (first + size) {
         memory.cells[place] = 0;
     }

@@ -1,9 +1,9 @@
-//! The lent heap: eight buffers of plain numbers, and how blocks, counts and objects are read off them.
+//! The lent heap: ten buffers of plain numbers, and how blocks, counts and objects are read off them.
 //!
 //! The number of blocks and the count width are arguments everywhere; the number of roots is the length of
 //! the list of roots. All functions but `misshapen` are for memories that aren't misshapen.
 
-/// The eight lent buffers.
+/// The ten lent buffers.
 #[derive(Clone, Debug, Default, PartialEq, Eq, Hash)]
 pub struct Memory {
     /// "A-map, N/8 bytes: 1 is allocated, 0 is free."
@@ -23,10 +23,15 @@ pub struct Memory {
     pub sections: Vec<u16>,
     /// Document 02, U6: "A new D-map of N/8 bytes has 1 on the first block of an object made as data."
     pub data: Vec<u8>,
+    /// Document 02, U8: "a new mark map of N/8 bytes".
+    pub marks: Vec<u8>,
+    /// Document 02, U8: "The list has N + 1 numbers of 16 bits: 1 + first blocks, strictly rising, then 0s, the last place being
+    /// 1 while a collection is open and else 0."
+    pub list: Vec<u16>,
 }
 
 impl Memory {
-    /// Eight buffers of zeros, of the lengths that belong to these numbers. It isn't a formatted heap.
+    /// Ten buffers of zeros, of the lengths that belong to these numbers. It isn't a formatted heap.
     pub fn zeros(blocks: usize, width: usize, roots: usize) -> Memory {
         Memory {
             a: vec![0; blocks / 8],
@@ -37,6 +42,8 @@ impl Memory {
             waiting: vec![0; blocks],
             sections: vec![0; section_count(blocks)],
             data: vec![0; blocks / 8],
+            marks: vec![0; blocks / 8],
+            list: vec![0; blocks + 1],
         }
     }
 
@@ -49,6 +56,8 @@ impl Memory {
             && self.roots == other.roots
             && self.sections == other.sections
             && self.data == other.data
+            && self.marks == other.marks
+            && self.list == other.list
     }
 }
 
@@ -85,6 +94,8 @@ pub fn misshapen(blocks: usize, width: usize, memory: &Memory) -> bool {
         || memory.waiting.len() != blocks
         || memory.sections.len() != section_count(blocks)
         || memory.data.len() != blocks / 8
+        || memory.marks.len() != blocks / 8
+        || memory.list.len() != blocks + 1
 }
 
 /// "Block i is bit i mod 8 (bit 0 is the least) of byte i div 8 of a bitmap."

@@ -1,7 +1,8 @@
 //! The rules of document 01, and what must hold of them.
 //!
-//! Read in this order: heap, chunks, sections, counting, collection, damage, answers; then calls and replay. Then the
-//! claims, which are checked on what was done: claims (demand 3), section_claims (U4) and list_claims (U2).
+//! Read in this order: heap, chunks, sections, marks, counting, collection, steps, damage, answers; then calls and replay. Then
+//! the claims, which are checked on what was done: claims (demand 3), section_claims (U4), mark_claims and step_claims (U8) and
+//! list_claims (U2, U6).
 
 pub mod answers;
 pub mod calls;
@@ -12,6 +13,10 @@ pub mod counting;
 pub mod damage;
 pub mod heap;
 pub mod list_claims;
+pub mod mark_claims;
+pub mod marks;
 pub mod replay;
 pub mod section_claims;
 pub mod sections;
+pub mod step_claims;
+pub mod steps;

@@ -89,6 +89,8 @@ fn entry(words: &[&str]) -> Option<[u64; 4]> {
         ["read", "number", "in", "cell", j, "of", "the", "data", "at", a] => {
             [11, number(a)?, number(j)?, 0]
         }
+        ["open", "collection"] => [12, 0, 0, 0],
+        ["step", "collection", budget] => [13, number(budget)?, 0, 0],
         ["load", value, "at", index, "of", name @ ..] => {
             [LOAD, buffer(name)?, number(index)?, number(value)?]
         }
@@ -120,7 +122,7 @@ fn chosen(roots: &[&str]) -> Option<u64> {
     Some(chosen)
 }
 
-/// A buffer by its name, or as `buffer 7`.
+/// A buffer by its name, or as `buffer 10`.
 fn buffer(name: &[&str]) -> Option<u64> {
     match name {
         ["buffer", buffer] => number(buffer),

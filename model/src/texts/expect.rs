@@ -10,8 +10,8 @@ use std::fmt::{Display, Write};
 pub struct Tally {
     pub heaps: usize,
     pub calls: usize,
-    /// Replies by number, 0 to 8, 11 and 12.
-    pub numbers: [usize; 13],
+    /// Replies by number, 0 to 8 and 11 to 14.
+    pub numbers: [usize; 15],
     /// Damage kinds reported, by kind, 1 to 5 and 7.
     pub kinds: [usize; 8],
     /// Lines that say what is wrong with an entry.
@@ -97,7 +97,7 @@ pub fn expect(file: &[u8]) -> (String, Tally) {
     (out, tally)
 }
 
-/// The eight buffers, a line each.
+/// The ten buffers, a line each.
 pub fn print_buffers(out: &mut String, memory: &Memory) {
     for line in buffer_lines(memory) {
         out.push_str(&line);
@@ -105,7 +105,7 @@ pub fn print_buffers(out: &mut String, memory: &Memory) {
     }
 }
 
-/// "decimal numbers parted by one space", for each of the eight buffers.
+/// "decimal numbers parted by one space", for each of the ten buffers.
 pub fn buffer_lines(memory: &Memory) -> [String; BUFFERS] {
     [
         numbers(&memory.a),
@@ -116,6 +116,8 @@ pub fn buffer_lines(memory: &Memory) -> [String; BUFFERS] {
         numbers(&memory.waiting),
         numbers(&memory.sections),
         numbers(&memory.data),
+        numbers(&memory.marks),
+        numbers(&memory.list),
     ]
 }
 

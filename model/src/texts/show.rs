@@ -44,6 +44,8 @@ pub fn call_in_words(call: Call) -> String {
             format!("write number {v} in cell {j} of the data at {a}")
         }
         Call::ReadNumber { a, j } => format!("read number in cell {j} of the data at {a}"),
+        Call::OpenCollection => "open collection".to_string(),
+        Call::StepCollection { budget } => format!("step collection {budget}"),
     }
 }
 
@@ -57,7 +59,7 @@ fn chosen_in_words(chosen: u64) -> String {
 /// The name of a buffer by its number.
 pub fn buffer_name(buffer: u64) -> String {
     let names = [
-        "a", "b", "counts", "cells", "roots", "waiting", "sections", "data",
+        "a", "b", "counts", "cells", "roots", "waiting", "sections", "data", "marks", "list",
     ];
     match names.get(buffer as usize) {
         Some(name) => name.to_string(),
@@ -76,6 +78,8 @@ pub fn reply_in_words(call: Call, [number, value, second]: [usize; 3]) -> String
     let stuck = if second == 1 { ", stuck" } else { "" };
     match call {
         Call::Format | Call::Check | Call::WriteNumber { .. } => "accepted".to_string(),
+        Call::OpenCollection => "accepted".to_string(),
+        Call::StepCollection { .. } => format!("steps: {value}, blocks freed: {second}"),
         Call::ReadNumber { .. } => format!("number {value}"),
         Call::Allocate { .. } | Call::AllocateData { .. } => format!("block {value}{stuck}"),
         Call::StoreRoot { .. } | Call::StoreCell { .. } => format!("blocks freed: {value}{stuck}"),
@@ -193,7 +197,7 @@ impl Shown<'_> {
         numbers?.try_into().ok()
     }
 
-    /// The eight lines of a heap of eight blocks: the bytes of its A-map and its B-map.
+    /// The ten lines of a heap of eight blocks: the bytes of its A-map and its B-map.
     fn maps(&mut self) -> Option<[usize; 2]> {
         let maps = [self.numbers::<1>(), self.numbers::<1>()];
         let others = [(); BUFFERS - 2].map(|()| self.lines.next());

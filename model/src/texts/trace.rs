@@ -11,16 +11,17 @@ use crate::rules::heap::Memory;
 use crate::texts::expect::buffer_lines;
 use std::fmt::Write;
 
-/// A random list, one call a line, with its reply and the eight buffers after it.
+/// A random list, one call a line, with its reply and the ten buffers after it.
 pub fn trace(seed: u64, count: usize, blocks: usize, width: usize) -> String {
     // Another list for each N and w, not the same one again.
     let mut random = Random::new(seed + ((blocks as u64) << 32) + ((width as u64) << 48));
     let roots = 1 + random.below(4);
     let shape = [blocks as u64, width as u64, roots as u64];
     let mut desk = Desk::new(random, shape);
-    // Rubbish in the waiting list and in that of sections: the first accepted call leaves one all 0, the other true.
-    for (buffer, length) in [(5, blocks), (6, desk.bench.length(6))] {
-        for i in 0..length {
+    // Rubbish in the waiting list, in that of sections and in the second list: the first accepted call, a format, leaves one true
+    // and the others all 0.
+    for buffer in [5, 6, 9] {
+        for i in 0..desk.bench.length(buffer) {
             let v = desk.random.word() % 65_536;
             desk.load(buffer, i, v);
         }
@@ -70,7 +71,7 @@ pub fn damaged(seed: u64, count: usize) -> String {
 }
 
 /// Single calls, one a line, each on a small used memory of its own: before, call, reply, after. The waiting
-/// list holds rubbish before; one memory in eight is damaged too, or its list of sections untrue.
+/// list holds rubbish before; one memory in eight is damaged too, or its list of sections untrue, or its marks wrong.
 pub fn steps(seed: u64, count: usize) -> String {
     let mut random = Random::new(seed);
     let mut out = String::new();
@@ -185,7 +186,7 @@ fn tangle(desk: &mut Desk) {
     }
 }
 
-/// The eight buffers on one line.
+/// The ten buffers on one line.
 fn buffers(memory: &Memory) -> String {
     buffer_lines(memory).join(" | ")
 }

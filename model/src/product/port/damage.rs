@@ -4,6 +4,7 @@ use super::blocks::{
     chunk_size, get_bit, get_count, has_data, is_first, is_in_data, is_reference, object_size,
 };
 use super::sections::{is_stale, section_length};
+use super::steps::is_untidy;
 use super::{acceptance, refusal, Answer, Lent};
 
 const MAX_BLOCKS: usize = 8192;
@@ -23,6 +24,8 @@ pub fn is_shaped(blocks: usize, width: usize, m: &Lent) -> bool {
         && m.waiting.len() == blocks
         && m.sections.len() == blocks / section_length(blocks)
         && m.data.len() == blocks / 8
+        && m.marks.len() == blocks / 8
+        && m.list.len() == blocks + 1
 }
 
 fn has_end_on_free(blocks: usize, a: &[u8], b: &[u8]) -> bool {
@@ -147,7 +150,7 @@ fn has_stray_data(blocks: usize, a: &[u8], b: &[u8], data: &[u8]) -> bool {
     false
 }
 
-/// Numbers 1, 2 and 11.
+/// Numbers 1, 2, 11 and 13.
 pub fn check(blocks: usize, width: usize, m: &Lent) -> Answer {
     if !is_shaped(blocks, width, m) {
         return refusal(1);
@@ -166,6 +169,8 @@ pub fn check(blocks: usize, width: usize, m: &Lent) -> Answer {
         7
     } else if is_stale(blocks, m.a, m.sections) {
         return refusal(11);
+    } else if is_untidy(blocks, m) {
+        return refusal(13);
     } else {
         return acceptance(0);
     };

@@ -5,6 +5,7 @@ use super::damage::check;
 use super::replay::{
     allocate, format, full_collection, put_in_cell, put_in_root, search, write_number,
 };
+use super::steps::is_open;
 use super::{lend, refusal, Answer, Lent};
 use crate::rules::heap::Memory;
 use std::fmt;
@@ -153,7 +154,7 @@ fn allocate_or_collect(
     as_data: bool,
 ) -> Done {
     let (mut answer, mut freed) = allocate(&search, blocks, width, m, n, r, as_data);
-    let collected = answer.number == 5;
+    let collected = answer.number == 5 && !is_open(m);
     if collected {
         let by_collection = full_collection(blocks, width, m);
         (answer, freed) = allocate(&search, blocks, width, m, n, r, as_data);
@@ -181,6 +182,7 @@ fn act(blocks: usize, width: usize, m: &mut Lent, plan: Plan) -> Done {
             done(answer.number, answer.value, answer.second)
         }
         Plan::WriteNumber { at, j, v } => done(write_number(blocks, m, at, j, v).number, 0, 0),
+        Plan::Collect if is_open(m) => done(14, 0, 0),
         Plan::Collect => Done {
             collected: true,
             ..done(0, full_collection(blocks, width, m), 0)

@@ -7,6 +7,7 @@ mod history;
 mod references;
 mod replay;
 mod sections;
+mod steps;
 mod two_passes;
 
 use crate::rules::heap::Memory;
@@ -18,7 +19,7 @@ pub use replay::{full_collection, replay, replay_without_list, search_in_one_wal
 pub use sections::{find_chunk, renew, section_length, UNKNOWN};
 pub use two_passes::search_in_two_passes;
 
-/// The eight lent buffers.
+/// The ten lent buffers.
 pub struct Lent<'a> {
     pub a: &'a mut [u8],
     pub b: &'a mut [u8],
@@ -28,6 +29,8 @@ pub struct Lent<'a> {
     pub waiting: &'a mut [u16],
     pub sections: &'a mut [u16],
     pub data: &'a mut [u8],
+    pub marks: &'a mut [u8],
+    pub list: &'a mut [u16],
 }
 
 /// A memory, lent to the port.
@@ -41,6 +44,8 @@ pub fn lend(memory: &mut Memory) -> Lent<'_> {
         waiting: &mut memory.waiting,
         sections: &mut memory.sections,
         data: &mut memory.data,
+        marks: &mut memory.marks,
+        list: &mut memory.list,
     }
 }
 

@@ -5,6 +5,7 @@ use super::blocks::{
     clear_extent, get_count, is_first, mark_extent, naming_cells, object_size, set_bit, set_count,
 };
 use super::sections::mark_unknown;
+use super::steps::{forget, is_open, meet, meet_store};
 use super::Lent;
 
 fn capacity(width: usize) -> u8 {
@@ -53,8 +54,18 @@ fn count_down(
 }
 
 fn let_go(blocks: usize, width: usize, m: &mut Lent, v: u16) -> usize {
+    let top = count_down(blocks, width, m.counts, m.waiting, v, 0);
+    free_waiting(blocks, width, m, top)
+}
+
+/// One more object that a cell of something freed named. The objects that wait then.
+pub fn let_wait(blocks: usize, width: usize, m: &mut Lent, v: u16, top: usize) -> usize {
+    count_down(blocks, width, m.counts, m.waiting, v, top)
+}
+
+/// Frees what waits, and what that brings to 0. The number of blocks freed.
+pub fn free_waiting(blocks: usize, width: usize, m: &mut Lent, mut top: usize) -> usize {
     let mut freed = 0;
-    let mut top = count_down(blocks, width, m.counts, m.waiting, v, 0);
     while 0 < top {
         top -= 1;
         let i = m.waiting[top] as usize;
@@ -68,7 +79,7 @@ fn let_go(blocks: usize, width: usize, m: &mut Lent, v: u16) -> usize {
     freed
 }
 
-/// The cells and the D bit of a freed object. Cells of data named nothing.
+/// The cells and the D bit of a freed object, its mark and its place. Cells of data named nothing.
 fn drop_object(
     blocks: usize,
     width: usize,
@@ -78,10 +89,17 @@ fn drop_object(
     mut top: usize,
 ) -> usize {
     let named = naming_cells(m.data, i, n);
+    let open = is_open(m);
     set_bit(m.data, i, 0);
+    if open {
+        forget(m, i);
+    }
     for j in 4 * i..4 * i + named {
         let v = m.cells[j];
         m.cells[j] = 0;
+        if open {
+            meet(m, v);
+        }
         top = count_down(blocks, width, m.counts, m.waiting, v, top);
     }
     for j in 4 * i + named..4 * i + 4 * n {
@@ -93,6 +111,7 @@ fn drop_object(
 fn put_root(blocks: usize, width: usize, m: &mut Lent, r: usize, v: u16) -> usize {
     let old = m.roots[r];
     m.roots[r] = v;
+    meet_store(m, 0, old, v);
     let_go(blocks, width, m, old)
 }
 
@@ -128,13 +147,22 @@ pub fn return_roots(blocks: usize, width: usize, m: &mut Lent, chosen: u64) -> u
     freed
 }
 
-pub fn store_cell(blocks: usize, width: usize, m: &mut Lent, c: usize, v: u16) -> Stored {
+/// In cell c of the heap, of the object that `owner` names.
+pub fn store_cell(
+    blocks: usize,
+    width: usize,
+    m: &mut Lent,
+    owner: u16,
+    c: usize,
+    v: u16,
+) -> Stored {
     let old = m.cells[c];
     if old == v {
         return NOTHING;
     }
     let stuck = count_up(blocks, width, m.counts, v);
     m.cells[c] = v;
+    meet_store(m, owner, old, v);
     let freed = let_go(blocks, width, m, old);
     Stored { freed, stuck }
 }
@@ -155,6 +183,7 @@ pub fn place(
         m.cells[j] = 0;
     }
     set_bit(m.data, i, u8::from(as_data));
+    set_bit(m.marks, i, u8::from(is_open(m)));
     let freed = put_root(blocks, width, m, r, (i + 1) as u16);
     Stored {
         freed,

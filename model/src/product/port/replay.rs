@@ -7,6 +7,7 @@ use super::blocks::{
 use super::damage::is_shaped;
 use super::references::{collect, place, return_roots, store_cell, store_root, Stored};
 use super::sections::{find_chunk, renew, section_length};
+use super::steps::{is_open, open, take_steps};
 use super::{acceptance, refusal, telling, Answer, Lent};
 
 pub fn format(blocks: usize, m: &mut Lent) {
@@ -16,6 +17,8 @@ pub fn format(blocks: usize, m: &mut Lent) {
     m.cells.fill(0);
     m.roots.fill(0);
     m.data.fill(0);
+    m.marks.fill(0);
+    m.list.fill(0);
     m.waiting.fill(0);
     m.sections.fill(section_length(blocks) as u16);
 }
@@ -106,7 +109,8 @@ pub fn put_in_cell(
     if !is_reference(blocks, m.a, m.b, v) {
         return refusal(8);
     }
-    let stored = store_cell(blocks, width, m, 4 * at + j, v as u16);
+    let owner = (1 + at) as u16;
+    let stored = store_cell(blocks, width, m, owner, 4 * at + j, v as u16);
     stored_answer(blocks, m, stored)
 }
 
@@ -144,6 +148,36 @@ pub fn full_collection(blocks: usize, width: usize, m: &mut Lent) -> usize {
     freed
 }
 
+fn collect_or_refuse(blocks: usize, width: usize, m: &mut Lent) -> Answer {
+    if is_open(m) {
+        return refusal(14);
+    }
+    acceptance(full_collection(blocks, width, m))
+}
+
+pub fn open_collection(m: &mut Lent) -> Answer {
+    if is_open(m) {
+        return refusal(14);
+    }
+    open(m);
+    acceptance(0)
+}
+
+pub fn step_collection(blocks: usize, width: usize, m: &mut Lent, budget: usize) -> Answer {
+    if !is_open(m) {
+        return refusal(14);
+    }
+    let stepped = take_steps(blocks, width, m, budget);
+    if stepped.freed != 0 {
+        renew(blocks, m.a, m.sections);
+    }
+    Answer {
+        number: 0,
+        value: stepped.steps,
+        second: stepped.freed,
+    }
+}
+
 fn look(blocks: usize, width: usize, m: &Lent, at: usize) -> Answer {
     if !is_first(blocks, m.a, m.b, at) {
         return refusal(6);
@@ -170,20 +204,22 @@ fn step_by(find: &impl Search, blocks: usize, width: usize, m: &mut Lent, call: 
         2 => allocate(find, blocks, width, m, x, y, false).0,
         3 => put_in_root(blocks, width, m, x, y),
         4 => put_in_cell(blocks, width, m, x, y, call[3] as usize),
-        5 => acceptance(full_collection(blocks, width, m)),
+        5 => collect_or_refuse(blocks, width, m),
         6 => look(blocks, width, m, x),
         7 => acceptance(count_zeros(m.a)),
         8 => let_go_of(blocks, width, m, call[1]),
         9 => allocate(find, blocks, width, m, x, y, true).0,
         10 => write_number(blocks, m, x, y, call[3] as u16),
         11 => read_number(blocks, m, x, y),
+        12 => open_collection(m),
+        13 => step_collection(blocks, width, m, x),
         _ => acceptance(0),
     }
 }
 
 /// Whether four words are a call. A number write has a number that a cell can hold.
 fn is_call(call: &[u64]) -> bool {
-    call[0] < 12 && (call[0] != 10 || call[3] < 65_536)
+    call[0] < 14 && (call[0] != 10 || call[3] < 65_536)
 }
 
 /// Formats, then runs calls of four words each and writes replies of three words each.

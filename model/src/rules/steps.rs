@@ -1,0 +1,66 @@
+//! A collection in small steps (document 02, U8): its opening, its steps, its close.
+
+use crate::rules::counting::{erase, release_all, Order};
+use crate::rules::heap::{first_blocks, named, reference_places, Memory};
+use crate::rules::marks::{clear_map_and_list, is_marked, listed, mark_and_list_named, take_off};
+
+/// "Opening marks every object a root names, in a new mark map of N/8 bytes, and puts it on a second list."
+pub fn open(blocks: usize, memory: &mut Memory) {
+    // "the last place being 1 while a collection is open"
+    memory.list[blocks] = 1;
+    let roots = memory.roots.clone();
+    mark_and_list_named(blocks, memory, &roots);
+}
+
+/// "A call may take at most the given number of steps, one for each object taken off the list, data too." The steps taken,
+/// "all of them unless the list ran out".
+///
+/// "When a call with a budget above 0 leaves the list empty" it closes the collection.
+pub fn step(
+    blocks: usize,
+    width: usize,
+    memory: &mut Memory,
+    budget: usize,
+    order: Order,
+) -> usize {
+    let mut steps = 0;
+    while steps < budget && take_step(blocks, memory) {
+        steps += 1;
+    }
+    if budget > 0 && listed(blocks, memory).is_empty() {
+        close(blocks, width, memory, order);
+    }
+    steps
+}
+
+/// "A step takes the lowest." "Steps mark and list what they first meet." Whether there was one to take.
+fn take_step(blocks: usize, memory: &mut Memory) -> bool {
+    let Some(lowest) = listed(blocks, memory).into_iter().next() else {
+        return false;
+    };
+    take_off(blocks, memory, lowest);
+    let cells = memory.cells[reference_places(blocks, memory, lowest)].to_vec();
+    mark_and_list_named(blocks, memory, &cells);
+    true
+}
+
+/// "it frees all objects then unmarked, marking none of them, and counts down the survivors that these named, once for each
+/// cell (one that reaches 0 is freed as in a store), and clears the mark map and the list."
+fn close(blocks: usize, width: usize, memory: &mut Memory, order: Order) {
+    let (survivors, unmarked): (Vec<usize>, Vec<usize>) = first_blocks(blocks, memory)
+        .into_iter()
+        .partition(|first| is_marked(memory, *first));
+    let mut let_go = Vec::new();
+    for first in &unmarked {
+        for v in &memory.cells[reference_places(blocks, memory, *first)] {
+            if named(blocks, memory, *v).is_some_and(|object| survivors.contains(&object)) {
+                let_go.push(*v);
+            }
+        }
+    }
+    for first in unmarked {
+        erase(blocks, width, memory, first);
+    }
+    release_all(blocks, width, memory, &let_go, order);
+    clear_map_and_list(memory);
+}
