@@ -21,6 +21,8 @@ use Rattle.rules.specs.Calls.{
   readNumber,
   openCollection,
   takeSteps,
+  writeReason,
+  writeShape,
 }
 use Rattle.types.specs.declared.Reply.{Reply}
 use Rattle.theory.specs.Words.{Made}
@@ -67,6 +69,8 @@ countedIn (writeNumber at j x) t = t
 countedIn (readNumber at j) t = t
 countedIn openCollection t = t
 countedIn (takeSteps budget) t = t
+countedIn (writeReason at room) t = t
+countedIn (writeShape room) t = t
 
 -- "Every store and allocation passes the fact on": it is their second value
 unfoldable pub toldStuck : Call → Reply → Bool
@@ -84,6 +88,8 @@ toldStuck (writeNumber at j y) x = false
 toldStuck (readNumber at j) x = false
 toldStuck openCollection x = false
 toldStuck (takeSteps budget) x = false
+toldStuck (writeReason at room) x = false
+toldStuck (writeShape room) x = false
 
 unfoldable pub momentIn : Bool → Tally → Tally
 momentIn moment t = elim moment [ true ↦ becameStuck t | false ↦ t ]

@@ -25,6 +25,8 @@ use Rattle.rules.specs.Calls.{
   readNumber,
   openCollection,
   takeSteps,
+  writeReason,
+  writeShape,
 }
 use Rattle.rules.specs.Calls.{answer, lastMemory}
 use Rattle.rules.proofs.Shape.{shape-facts}
@@ -79,6 +81,8 @@ counted-peak (writeNumber a j x) p t = refl
 counted-peak (readNumber a j) p t = refl
 counted-peak openCollection p t = refl
 counted-peak (takeSteps budget) p t = refl
+counted-peak (writeReason at room) p t = refl
+counted-peak (writeShape room) p t = refl
 
 moment-peak : (s : Bool) (p : ℕ) (t : Tally) → momentIn s (withPeak p t) ≡ withPeak p (momentIn s t)
 unfolding momentIn
@@ -118,6 +122,8 @@ counted-blocks (writeNumber a j x) t = omega arith
 counted-blocks (readNumber a j) t = omega arith
 counted-blocks openCollection t = omega arith
 counted-blocks (takeSteps budget) t = omega arith
+counted-blocks (writeReason at room) t = omega arith
+counted-blocks (writeShape room) t = omega arith
 
 moment-blocks : (s : Bool) (t : Tally) → momentIn s t .blocks ≡ t .blocks
 unfolding momentIn

@@ -1,5 +1,7 @@
 pub mod Cases
+pub mod Questions
 pub mod WrongAnswers
+pub mod WrongOutputs
 pub mod Tests
 pub mod Searches
 pub mod Tabulate

@@ -10,14 +10,16 @@ use native.Mathlib.Decide.{ℕ-discrete}
 use native.Mathlib.Omega.{arith}
 use lib.Dec.{leb, ltb, eqb}
 use lib.ListN.{length}
-use borrow.Author.Tests.{eq-eqb, ne-eqb, eqb-true, leb-true, le-leb, ltb-true, lt-ltb}
+use borrow.Author.Tests.{eq-eqb, ne-eqb, eqb-true, leb-true, le-leb, ltb-true, ltb-false, lt-ltb, le-ltb}
 use Rattle.rules.specs.Tools.{isSome, firstNumber}
 use Rattle.rules.specs.Heap.{Memory, shaped, isFirst, sizeAt, exponent, lowestFree, isRef, isData}
 use Rattle.rules.specs.Damage.{damage}
 use Rattle.rules.specs.Sections.{staleFigures}
 use Rattle.rules.specs.Store.{chosenBelow}
 use Rattle.rules.specs.Steps.{isOpen, isUntidy}
-use Rattle.rules.specs.Calls.{Call, format, check, collect, freeBlocks, allocate, storeRoot, storeCell, look, returnRoots, allocateData, writeNumber, readNumber}
+use Rattle.rules.specs.Shape.{shapeOf}
+use Rattle.rules.specs.Sentence.{sentenceFor}
+use Rattle.rules.specs.Calls.{Call, format, check, collect, freeBlocks, allocate, storeRoot, storeCell, look, returnRoots, allocateData, writeNumber, readNumber, writeReason, writeShape}
 use Rattle.rules.specs.Calls.{openCollection, takeSteps, Answer, testsHeap, allocationRefusals, cellRefusals, ownRefusals, refusals, refusedWith, refused}
 use Rattle.rules.specs.Calls.{freeing, outcome, answer}
 use Rattle.rules.proofs.Tests.{and-true, true-and, and-false, false-and, first-past, first-no, first-not}
@@ -40,6 +42,8 @@ module _ (N w : ℕ) (h : Memory) where
   outcome-accepts (allocateData n r) = refl
   outcome-accepts (writeNumber a j x) = refl
   outcome-accepts (readNumber a j) = refl
+  outcome-accepts (writeReason a room) = refl
+  outcome-accepts (writeShape room) = refl
   outcome-accepts openCollection = refl
   outcome-accepts (takeSteps budget) = refl
 
@@ -94,6 +98,8 @@ Passed N h (returnRoots chosen) = chosenBelow chosen (length (h .roots)) ≡ tru
 Passed N h (allocateData n r) = AllocationPassed N h n r
 Passed N h (writeNumber a j x) = (isFirst N h a ≡ true) × (j < 4 * sizeAt N h a) × (isData (h .d) a ≡ true)
 Passed N h (readNumber a j) = (isFirst N h a ≡ true) × (j < 4 * sizeAt N h a) × (isData (h .d) a ≡ true)
+Passed N h (writeReason a room) = (isFirst N h a ≡ true) × (length (sentenceFor N h a) ≤ room)
+Passed N h (writeShape room) = length (shapeOf N h) ≤ room
 Passed N h format = Unit {0}
 Passed N h check = Unit {0}
 Passed N h freeBlocks = Unit {0}
@@ -153,6 +159,11 @@ module _ (N : ℕ) (h : Memory) where
   own-passed collect e = first-no 14 (isOpen N h) _ (omega arith) e .0
   own-passed openCollection e = first-no 14 (isOpen N h) _ (omega arith) e .0
   own-passed (takeSteps budget) e = first-not 14 (isOpen N h) _ (omega arith) e .0
+  own-passed (writeReason a room) e =
+      let first = first-not 6 (isFirst N h a) _ (omega arith) e in
+      (first .0, ltb-false room (length (sentenceFor N h a)) (first-no 15 (ltb room (length (sentenceFor N h a))) _ (omega arith) (first .1) .0))
+  own-passed (writeShape room) e =
+      ltb-false room (length (shapeOf N h)) (first-no 16 (ltb room (length (shapeOf N h))) _ (omega arith) e .0)
 
   pub passed-own : (c : Call) → Passed N h c → firstNumber (ownRefusals N h c) ≡ 0
   unfolding ownRefusals firstNumber Passed isSome
@@ -172,6 +183,8 @@ module _ (N : ℕ) (h : Memory) where
   passed-own collect shut = rw shut
   passed-own openCollection shut = rw shut
   passed-own (takeSteps budget) is-open = rw is-open
+  passed-own (writeReason a room) (first, long) = rw (first, le-ltb room (length (sentenceFor N h a)) long)
+  passed-own (writeShape room) long = rw (le-ltb room (length (shapeOf N h)) long)
 
 -- ---- the numbers of the heap
 

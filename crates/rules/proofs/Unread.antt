@@ -19,6 +19,10 @@ use Rattle.rules.specs.Steps.{names, isListed, isOpen, withProgress, wit
 use Rattle.rules.specs.Steps.{taken, stepsFrom, survivorsDown, survivorsLetGo, unmarkedFreed, closed, closes, stepped, wasMarked, namedByFreed}
 use Rattle.rules.specs.Steps.{toSurvivor, marksAfter, listAfter, shaded, storeRootShading, storeCellShading, allocateShading}
 use Rattle.rules.specs.Steps.{clearShading, returnShading}
+use Rattle.rules.specs.Walk.{referencesOf, followed, numbered}
+use Rattle.rules.specs.Shape.{cellsOf, described, shapeOf}
+use Rattle.rules.specs.Reason.{chainTo}
+use Rattle.rules.specs.Sentence.{sentenceFor}
 use Rattle.rules.proofs.Tests.{choose, choose-both}
 
 -- the lists that letting go does not read, with the others empty
@@ -270,3 +274,13 @@ module _ (N w : ℕ) (others : Memory → Memory) where
   return-aside h chosen zero = refl
   return-aside h chosen (suc n) =
       ap (λ (g : Memory). clearShading N w g chosen n) (return-aside h chosen n) ∙ clear-aside (returnShading N w h chosen n) chosen n
+
+-- ---- requests U13 and U11: neither the list nor the sentence reads it
+
+pub shape-aside : (N : ℕ) (x : List ℕ) (h : Memory) → shapeOf N (withWaiting x h) ≡ shapeOf N h
+unfolding shapeOf numbered followed referencesOf described cellsOf
+shape-aside N x h = refl
+
+pub sentence-aside : (N : ℕ) (x : List ℕ) (h : Memory) (a : ℕ) → sentenceFor N (withWaiting x h) a ≡ sentenceFor N h a
+unfolding sentenceFor chainTo followed referencesOf
+sentence-aside N x h a = refl

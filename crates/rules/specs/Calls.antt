@@ -14,6 +14,8 @@ use Rattle.rules.specs.Store.{formatted, storeSticks, chosenBelow, birth
 use Rattle.rules.specs.Collection.{collected}
 use Rattle.rules.specs.Steps.{isOpen, isUntidy, opened, progressOf, stepsFrom, stepped}
 use Rattle.rules.specs.Steps.{storeRootShading, storeCellShading, allocateShading, returnShading}
+use Rattle.rules.specs.Shape.{shapeOf}
+use Rattle.rules.specs.Sentence.{sentenceFor}
 use Rattle.types.specs.declared.Reply.{Reply}
 
 -- the calls with their own arguments
@@ -31,6 +33,9 @@ pub data Call : Type 0 where
   -- request U8: a collection "is opened and stepped"
   openCollection : Call
   takeSteps : (budget : ℕ) → Call
+  -- requests U11 and U13: each writes into a lent output, which is no part of the heap; `room` is its length
+  writeReason : (at room : ℕ) → Call
+  writeShape : (room : ℕ) → Call
 
 -- an allocation, of an object made as data or of an ordinary one
 abbrev pub allocateAs : (asData : Bool) → (n r : ℕ) → Call
@@ -66,6 +71,8 @@ testsHeap (writeNumber at j x) = true
 testsHeap (readNumber at j) = true
 testsHeap openCollection = true
 testsHeap (takeSteps budget) = true
+testsHeap (writeReason at room) = true
+testsHeap (writeShape room) = true
 
 -- of an allocation: "3 if n is 0 or above N; 4 if r is not below the number of roots; 5 if no chunk of s
 -- blocks is free"
@@ -99,6 +106,10 @@ ownRefusals N h freeBlocks = []
 ownRefusals N h collect = (14, isOpen N h) ∷ []
 ownRefusals N h openCollection = (14, isOpen N h) ∷ []
 ownRefusals N h (takeSteps budget) = (14, not (isOpen N h)) ∷ []
+-- request U11: "15, the lent output is shorter than the sentence, after 6"
+ownRefusals N h (writeReason at room) = (6, not (isFirst N h at)) ∷ (15, ltb room (length (sentenceFor N h at))) ∷ []
+-- request U13: "16, the lent list is too short, after the check's refusals"
+ownRefusals N h (writeShape room) = (16, ltb room (length (shapeOf N h))) ∷ []
 
 -- all numbers of a call: "1 if N, w, the number of roots or any buffer's length is not as above"; "2 if the
 -- heap is damaged"; request U4: "11, the list doesn't match the maps, next after 2"; request U8: 13, "next
@@ -164,6 +175,10 @@ outcome N w h (takeSteps budget) =
     let t = stepsFrom budget N h (progressOf N h) in
     let g = stepped N w h budget (t .reached) in
     (reply 0 (t .steps) (zeros (g .a) - zeros (h .a)), settled N g)
+-- request U11: "The value is the length in bytes"; request U13: "The value is how many numbers were written".
+-- The heap is only read; what the output holds afterwards is `outputAfter` (Promise.antt).
+outcome N w h (writeReason at room) = accepted h (length (sentenceFor N h at))
+outcome N w h (writeShape room) = accepted h (length (shapeOf N h))
 
 -- ---- the answer
 

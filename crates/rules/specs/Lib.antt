@@ -6,9 +6,15 @@ pub mod Sections
 pub mod Store
 pub mod Collection
 pub mod Steps
+pub mod Walk
+pub mod Shape
+pub mod Reason
+pub mod Sentence
 pub mod Calls
 pub mod Promise
 pub mod Cases
 pub mod Distinctions
 pub mod StepCases
+pub mod OutputCases
 pub mod WrongAnswers
+pub mod WrongOutputs

@@ -85,12 +85,12 @@ unfoldable pub unreached : Memory
 unreached = eightBlocks 31 239 1 1 (replicate 32 0) (replicate 4 0)
 
 -- data of 2 blocks at 0, in root 0, whose cell 7 holds the number 9 (request U6)
-unfoldable pub numbered : Memory
-numbered = withD (1 ∷ []) (eightBlocks 3 253 1 0 (cellHolding 7 9) (rootHolding 0 1))
+unfoldable pub numeric : Memory
+numeric = withD (1 ∷ []) (eightBlocks 3 253 1 0 (cellHolding 7 9) (rootHolding 0 1))
 
 -- the same with two numbers
-unfoldable pub numberedCells : (j x : ℕ) → Memory
-numberedCells j x = withCells (set (cellHolding 7 9) j x) numbered
+unfoldable pub numericCells : (j x : ℕ) → Memory
+numericCells j x = withCells (set (cellHolding 7 9) j x) numeric
 
 -- ---- the questions, call by call
 
@@ -349,27 +349,27 @@ wrongAnswers =
     ((gives 4, allocatedTwo) ∷ (gives 4, withD (48 ∷ []) allocatedTwo) ∷ (gives 4, withD (32 ∷ []) allocatedTwo) ∷ (refuses 12, used chained)
     ∷ (refuses 5, used chained) ∷ (gives 4, used (withD (16 ∷ []) allocatedTwo)) ∷ (sticking 4, withD (16 ∷ []) allocatedTwo) ∷ [])
     -- a number written: one cell, and nothing else
-    ∷ question 2 (used numbered) (writeNumber 0 0 5) (gives 0, used (numberedCells 0 5))
+    ∷ question 2 (used numeric) (writeNumber 0 0 5) (gives 0, used (numericCells 0 5))
     -- never writes; the waiting list cleared; the number for the value; the next cell; the block; taken for a
     -- reference; refused
-    ((gives 0, used numbered) ∷ (gives 0, numberedCells 0 5) ∷ (gives 5, used (numberedCells 0 5)) ∷ (gives 0, used (numberedCells 1 5))
-    ∷ (gives 0, used (numberedCells 5 0)) ∷ (refuses 8, used numbered) ∷ (refuses 12, used numbered)
-    ∷ (gives 0, used (withD (0 ∷ []) (numberedCells 0 5))) ∷ [])
+    ((gives 0, used numeric) ∷ (gives 0, numericCells 0 5) ∷ (gives 5, used (numericCells 0 5)) ∷ (gives 0, used (numericCells 1 5))
+    ∷ (gives 0, used (numericCells 5 0)) ∷ (refuses 8, used numeric) ∷ (refuses 12, used numeric)
+    ∷ (gives 0, used (withD (0 ∷ []) (numericCells 0 5))) ∷ [])
     -- a number that would name the data itself
-    ∷ question 2 (used numbered) (writeNumber 0 0 1) (gives 0, used (numberedCells 0 1))
+    ∷ question 2 (used numeric) (writeNumber 0 0 1) (gives 0, used (numericCells 0 1))
     -- counted up; told as one that sticks
-    ((gives 0, used (withCounts (0 ∷ 1 ∷ []) (numberedCells 0 1))) ∷ (sticking 0, used (numberedCells 0 1)) ∷ [])
+    ((gives 0, used (withCounts (0 ∷ 1 ∷ []) (numericCells 0 1))) ∷ (sticking 0, used (numericCells 0 1)) ∷ [])
     -- a number read
-    ∷ question 2 (used numbered) (readNumber 0 7) (gives 9, used numbered)
+    ∷ question 2 (used numeric) (readNumber 0 7) (gives 9, used numeric)
     -- 0 always; the block that it would name; another cell's; as a second value; cleared; the waiting list
     -- cleared; refused
-    ((gives 0, used numbered) ∷ (gives 8, used numbered) ∷ (gives 1, used numbered) ∷ (reply 0 0 9, used numbered)
-    ∷ (gives 9, used (withCells (replicate 32 0) numbered)) ∷ (gives 9, numbered) ∷ (refuses 8, used numbered) ∷ (refuses 12, used numbered) ∷ [])
+    ((gives 0, used numeric) ∷ (gives 8, used numeric) ∷ (gives 1, used numeric) ∷ (reply 0 0 9, used numeric)
+    ∷ (gives 9, used (withCells (replicate 32 0) numeric)) ∷ (gives 9, numeric) ∷ (refuses 8, used numeric) ∷ (refuses 12, used numeric) ∷ [])
     -- a reference store on data
-    ∷ question 2 (used numbered) (storeCell 0 0 1) (refuses 12, used numbered)
+    ∷ question 2 (used numeric) (storeCell 0 0 1) (refuses 12, used numeric)
     -- stores it, and counts; writes it as a number; other numbers; writes in a refusal
-    ((gives 0, withCounts (0 ∷ 1 ∷ []) (numberedCells 0 1)) ∷ (gives 0, used (numberedCells 0 1)) ∷ (refuses 8, used numbered)
-    ∷ (refuses 7, used numbered) ∷ (refuses 12, numbered) ∷ (reply 12 0 1, used numbered) ∷ [])
+    ((gives 0, withCounts (0 ∷ 1 ∷ []) (numericCells 0 1)) ∷ (gives 0, used (numericCells 0 1)) ∷ (refuses 8, used numeric)
+    ∷ (refuses 7, used numeric) ∷ (refuses 12, numeric) ∷ (reply 12 0 1, used numeric) ∷ [])
     -- numbers on an ordinary object
     ∷ question 2 (used chained) (writeNumber 0 7 3) (refuses 12, used chained)
     -- replies 0 always; writes; makes it data; another number
@@ -378,13 +378,13 @@ wrongAnswers =
     -- reads the reference; in a refusal
     ((gives 3, used chained) ∷ (reply 12 3 0, used chained) ∷ [])
     -- data is let go
-    ∷ question 2 (used numbered) (storeRoot 0 0) (gives 2, fresh 2)
+    ∷ question 2 (used numeric) (storeRoot 0 0) (gives 2, fresh 2)
     -- the D bit left; the numbers left; not freed
-    ((gives 2, withD (1 ∷ []) (fresh 2)) ∷ (gives 2, withCells (cellHolding 7 9) (fresh 2)) ∷ (gives 0, withRoots (replicate 4 0) numbered) ∷ [])
+    ((gives 2, withD (1 ∷ []) (fresh 2)) ∷ (gives 2, withCells (cellHolding 7 9) (fresh 2)) ∷ (gives 0, withRoots (replicate 4 0) numeric) ∷ [])
     -- and reached by a collection
-    ∷ question 2 (used numbered) collect (gives 0, numbered)
+    ∷ question 2 (used numeric) collect (gives 0, numeric)
     -- freed; its numbers, or its D bit, cleared; refused for its number
-    ((gives 2, fresh 2) ∷ (gives 0, withCells (replicate 32 0) numbered) ∷ (gives 0, withD (0 ∷ []) numbered) ∷ (damaged 4, used numbered) ∷ [])
+    ((gives 2, fresh 2) ∷ (gives 0, withCells (replicate 32 0) numeric) ∷ (gives 0, withD (0 ∷ []) numeric) ∷ (damaged 4, used numeric) ∷ [])
     -- a D bit where no object starts: passed over; other kinds; repaired
     ∷ question 2 (withD (128 ∷ []) chained) check (damaged 7, withD (128 ∷ []) chained)
     ((gives 0, withD (128 ∷ []) chained) ∷ (damaged 6, withD (128 ∷ []) chained) ∷ (damaged 4, withD (128 ∷ []) chained) ∷ (refuses 11, withD (128 ∷ []) chained)
@@ -392,7 +392,7 @@ wrongAnswers =
     -- before the list of sections; a D-map of another length; and a format clears it
     ∷ question 2 (withD (128 ∷ []) stale) check (damaged 7, withD (128 ∷ []) stale) ((refuses 11, withD (128 ∷ []) stale) ∷ [])
     ∷ question 2 (withD (0 ∷ 0 ∷ []) chained) check (refuses 1, withD (0 ∷ 0 ∷ []) chained) ((gives 0, withD (0 ∷ 0 ∷ []) chained) ∷ [])
-    ∷ question 2 (used numbered) format (gives 0, fresh 2) ((gives 0, withD (1 ∷ []) (fresh 2)) ∷ [])
+    ∷ question 2 (used numeric) format (gives 0, fresh 2) ((gives 0, withD (1 ∷ []) (fresh 2)) ∷ [])
     -- the heap's numbers before a call's own
     ∷ question 2 stale (allocateData 0 9) (refuses 11, stale) ((refuses 3, stale) ∷ (refuses 4, stale) ∷ [])
     ∷ question 2 stale (writeNumber 1 9 9) (refuses 11, stale) ((refuses 6, stale) ∷ (refuses 7, stale) ∷ (refuses 12, stale) ∷ [])
@@ -434,16 +434,16 @@ wrongAnswers =
     ∷ (gives 4, collecting 21 5 (withD (16 ∷ []) allocatedTwo)) ∷ (gives 4, collecting 21 0 allocatedTwo) ∷ (gives 4, withD (16 ∷ []) allocatedTwo)
     ∷ (refuses 14, used (collecting 5 0 chained)) ∷ [])
     -- a number written while one is open
-    ∷ question 2 (used (collecting 1 1 numbered)) (writeNumber 0 0 1) (gives 0, used (collecting 1 1 (numberedCells 0 1)))
+    ∷ question 2 (used (collecting 1 1 numeric)) (writeNumber 0 0 1) (gives 0, used (collecting 1 1 (numericCells 0 1)))
     -- refused; the waiting list cleared; taken off the list; none open any more
-    ((refuses 14, used (collecting 1 1 numbered)) ∷ (gives 0, collecting 1 1 (numberedCells 0 1)) ∷ (gives 0, used (collecting 1 0 (numberedCells 0 1)))
-    ∷ (gives 0, used (numberedCells 0 1)) ∷ [])
+    ((refuses 14, used (collecting 1 1 numeric)) ∷ (gives 0, collecting 1 1 (numericCells 0 1)) ∷ (gives 0, used (collecting 1 0 (numericCells 0 1)))
+    ∷ (gives 0, used (numericCells 0 1)) ∷ [])
     -- a step on data, whose number 9 names nothing: the close
-    ∷ question 2 (used (collecting 1 1 numbered)) (takeSteps 2) (reply 0 1 0, numbered)
+    ∷ question 2 (used (collecting 1 1 numeric)) (takeSteps 2) (reply 0 1 0, numeric)
     -- data costs no step; the budget for the steps; freed; its numbers, or its D bit, cleared; the number
     -- taken for a block
-    ((reply 0 0 0, numbered) ∷ (reply 0 2 0, numbered) ∷ (reply 0 1 2, fresh 2) ∷ (reply 0 1 0, withCells (replicate 32 0) numbered)
-    ∷ (reply 0 1 0, withD (0 ∷ []) numbered) ∷ (refuses 13, used (collecting 1 1 numbered)) ∷ [])
+    ((reply 0 0 0, numeric) ∷ (reply 0 2 0, numeric) ∷ (reply 0 1 2, fresh 2) ∷ (reply 0 1 0, withCells (replicate 32 0) numeric)
+    ∷ (reply 0 1 0, withD (0 ∷ []) numeric) ∷ (refuses 13, used (collecting 1 1 numeric)) ∷ [])
     -- "14": with one open, with none open
     ∷ question 2 (used (collecting 8 4 cyclic)) collect (refuses 14, used (collecting 8 4 cyclic))
     ((gives 3, collectedCyclic) ∷ (gives 3, collecting 8 4 collectedCyclic) ∷ (refuses 13, used (collecting 8 4 cyclic)) ∷ (gives 0, used (collecting 8 4 cyclic)) ∷ [])

@@ -1,10 +1,11 @@
 -- Laws of texts written into a buffer, one behind the other.
-use mathlib.Core.Path.{_≡_, sym, ap, _∙_}
-use mathlib.Core.List.{List, _++_, append-assoc}
-use Prim.Native.Nat.{ℕ, _+_, _≤_}
+use mathlib.Core.Path.{_≡_, refl, sym, ap, _∙_}
+use mathlib.Core.List.{List, [], _∷_, _++_, append-assoc}
+use Prim.Native.Nat.{ℕ, _+_, _≤_, _<_}
+use native.Mathlib.Numerals.{add-one}
 use native.Mathlib.Omega.{arith}
-use lib.ListN.{length, take, drop, length-append}
-use lib.Seq.{take-at, drop-at, drop-drop, length-take-le}
+use lib.ListN.{length, set, take, drop, length-append, length-drop}
+use lib.Seq.{take-at, drop-at, drop-drop, length-take-le, set-split, append-snoc, paste-zero}
 use Rattle.text.specs.Text.{Put}
 
 -- two texts, the second behind the first, are one
@@ -31,3 +32,45 @@ put-both {before} {middle} {after} {s} {t} {at} {next} {end} room first second =
           ∙ ap (λ (l : List ℕ). l ++ drop (at + length (s ++ t)) before) (append-assoc (take at before) s t);
       end-is = omega (arith, first .end-is, second .end-is, length-append s t);
     }
+
+-- equal texts, equal ends
+pub put-as : {before s t after : List ℕ} {at e f : ℕ} → s ≡ t → e ≡ f → Put before at s after e → Put before at t after f
+put-as {before} {s} {t} {after} {at} same end put =
+    record {
+      written = put .written ∙ ap (λ (u : List ℕ). take at before ++ u ++ drop (at + length u) before) same;
+      end-is = sym end ∙ put .end-is ∙ ap (λ (u : List ℕ). at + length u) same;
+    }
+
+-- the buffer keeps its length
+pub put-length :
+    {before text after : List ℕ} {at end : ℕ} → at + length text ≤ length before → Put before at text after end → length after ≡ length before
+put-length {before} {text} {after} {at} {end} room put =
+    ap length (put .written)
+    ∙ omega (
+      arith,
+      length-append (take at before ++ text) (drop (at + length text) before),
+      length-append (take at before) text,
+      length-take-le at before (omega arith),
+      length-drop (at + length text) before,
+    )
+
+-- ---- one byte, or number, behind the other
+
+pub put-none : (before : List ℕ) (at : ℕ) → Put before at [] before (at + 0)
+put-none before at = record { written = paste-zero before at []; end-is = refl }
+
+pub put-one : (before : List ℕ) (at v : ℕ) → at < length before → Put before at (v ∷ []) (set before at v) (at + 1)
+put-one before at v inside =
+    record {
+      written =
+          set-split before at v inside ∙ ap (λ (k : ℕ). take at before ++ v ∷ drop k before) (sym (add-one at))
+          ∙ sym (append-snoc (take at before) v (drop (at + 1) before));
+      end-is = refl;
+    }
+
+pub put-more :
+    {before text after : List ℕ} {at end : ℕ} (v : ℕ) → at + length text < length before → Put before at text after end
+    → Put before at (text ++ (v ∷ [])) (set after end v) (end + 1)
+put-more {before} {text} {after} {at} {end} v room put =
+    let same = put-length {before = before} {text = text} {after = after} {at = at} {end = end} (omega arith) put in
+    put-both (omega arith) put (put-one after end v (omega (arith, same, put .end-is)))

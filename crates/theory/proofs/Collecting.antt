@@ -18,7 +18,7 @@ use Rattle.rules.specs.Collection.{marked}
 use Rattle.rules.specs.Steps.{isOpen, isMarked, isListed, withNone, withProgress, rootNames, opened, Progress, progressOf, stepsFrom}
 use Rattle.rules.specs.Steps.{unmarkedFreed, closed, closes, stepped, storeRootShading, storeCellShading, allocateShading, returnShading}
 use Rattle.rules.specs.Calls.{Call, format, check, collect, freeBlocks, allocate, storeRoot, storeCell, look, returnRoots, openCollection, takeSteps}
-use Rattle.rules.specs.Calls.{allocateData, writeNumber, readNumber, Answer, reply, settled, freeing, outcome, answer, lastMemory}
+use Rattle.rules.specs.Calls.{allocateData, writeNumber, readNumber, writeReason, writeShape, Answer, reply, settled, freeing, outcome, answer, lastMemory}
 use Rattle.rules.specs.Promise.{Promise}
 use Rattle.types.specs.declared.Reply.{Reply}
 use Rattle.rules.proofs.Replies.{answer-either, accepted-outcome, Passed, passed}
@@ -115,6 +115,8 @@ stepping (returnRoots chosen) = false
 stepping (allocateData m r) = false
 stepping (writeNumber a j v) = false
 stepping (readNumber a j) = false
+stepping (writeReason a room) = false
+stepping (writeShape room) = false
 
 no-steps : (c : Call) (x : Reply) → stepping c ≡ false → stepsOf c x ≡ 0
 unfolding stepsOf
@@ -132,6 +134,8 @@ no-steps (returnRoots chosen) x e = refl
 no-steps (allocateData m r) x e = refl
 no-steps (writeNumber a j v) x e = refl
 no-steps (readNumber a j) x e = refl
+no-steps (writeReason a room) x e = refl
+no-steps (writeShape room) x e = refl
 
 refused-steps : (c : Call) (x : Reply) → x .number ≢ 0 → stepsOf c x ≡ 0
 unfolding stepsOf
@@ -149,6 +153,8 @@ refused-steps (returnRoots chosen) x n = refl
 refused-steps (allocateData m r) x n = refl
 refused-steps (writeNumber a j v) x n = refl
 refused-steps (readNumber a j) x n = refl
+refused-steps (writeReason a room) x n = refl
+refused-steps (writeShape room) x n = refl
 
 not-stepping : {A : Type 0} (c : Call) (budget : ℕ) → stepping c ≡ false → c ≡ takeSteps budget → A
 not-stepping c budget none is = absurd (false≢true (sym none ∙ ap stepping is))
@@ -444,6 +450,8 @@ module _ (N w : ℕ) (h : Memory) (before : Open N w h) (fit : Fit N w h) where
       (λ b e. Party.new-of-allocation true n r b e) low high place found
   outcome-during (writeNumber a j x) (first, place, made) = number-during a j x first place made
   outcome-during (readNumber a j) p = same-during (readNumber a j) _ (no-steps (readNumber a j) _ refl) (λ _. refl)
+  outcome-during (writeReason a room) p = same-during (writeReason a room) _ (no-steps (writeReason a room) _ refl) (λ _. refl)
+  outcome-during (writeShape room) p = same-during (writeShape room) _ (no-steps (writeShape room) _ refl) (λ _. refl)
   outcome-during (storeRoot r v) (place, ref) = root-during r v _ place ref
   outcome-during (storeCell a j v) (first, place, ordinary, ref) = cell-during a j v _ first place ordinary ref
   outcome-during (returnRoots chosen) p = return-during chosen

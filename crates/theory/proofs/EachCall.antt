@@ -25,3 +25,4 @@ pub mod Numbers
 pub mod Stay
 pub mod Makes
 pub mod Born
+pub mod Outputs

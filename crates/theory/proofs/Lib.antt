@@ -2,6 +2,8 @@ pub mod Graphs
 pub mod Maps
 pub mod Memories
 pub mod EachCall
+pub mod Walks
+pub mod Sentences
 pub mod Calls
 pub mod Collecting
 pub mod Demand

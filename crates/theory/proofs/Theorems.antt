@@ -71,6 +71,14 @@ use Rattle.theory.proofs.EachCall.Makes.{allocations-make}
 use Rattle.theory.proofs.EachCall.Born.{born-marked}
 use Rattle.theory.proofs.EachCall.Moments as moments
 use Rattle.theory.proofs.EachCall.StepsStick as sticking
+use Rattle.theory.proofs.Walks.Reached.{all-numbered}
+use Rattle.theory.proofs.Walks.Equal.{equal-shape}
+use Rattle.theory.proofs.Walks.Bounds.{shape-bounded}
+use Rattle.theory.proofs.Walks.Best.{chain-is-best, none-exactly, walk-finds-chain}
+use Rattle.theory.proofs.Walks.Order.{numbered-by-chains}
+use Rattle.theory.proofs.Sentences.Says.{read-in-one-way, sentence-says}
+use Rattle.theory.proofs.Sentences.Bounds.{sentence-bounded}
+use Rattle.theory.proofs.EachCall.Outputs.{reason-given, shape-given, fifteen, sixteen}
 
 intact-healthy : (N w : ℕ) (h : Memory) → Intact N w h → Healthy N w h
 intact-healthy N w h u = healthy-facts N w h (u .right-shape) (u .no-damage)
@@ -306,4 +314,18 @@ theory =
       twelve-exactly = twelve-exactly;
       numbers-stay = numbers-stay;
       data-while-it-lives = data-while-it-lives;
+      all-numbered = all-numbered;
+      equal-shape = equal-shape;
+      shape-bounded = shape-bounded;
+      shape-given = shape-given;
+      sixteen-exactly = λ N w h u room. sixteen N w h (undamaged-fit N w h u) room;
+      chain-is-best = chain-is-best;
+      none-exactly = none-exactly;
+      walk-finds-chain = walk-finds-chain;
+      numbered-by-chains = numbered-by-chains;
+      read-in-one-way = read-in-one-way;
+      sentence-says = sentence-says;
+      sentence-bounded = sentence-bounded;
+      reason-given = reason-given;
+      fifteen-exactly = λ N w h u at n room object. fifteen N w h (undamaged-fit N w h u) room at (object .first);
     }

@@ -8,7 +8,7 @@ use lib.Dec.{eqb}
 use Rattle.bitmap.specs.Bit.{zeros}
 use Rattle.rules.specs.Heap.{Memory, isFirst, sizeAt}
 use Rattle.rules.specs.Calls.{Call, format, check, collect, freeBlocks, allocate, storeRoot, storeCell, look, returnRoots, openCollection, takeSteps}
-use Rattle.rules.specs.Calls.{allocateData, writeNumber, readNumber, allocateAs, answer}
+use Rattle.rules.specs.Calls.{allocateData, writeNumber, readNumber, writeReason, writeShape, allocateAs, answer}
 use Rattle.types.specs.declared.Reply.{Reply}
 use Rattle.theory.specs.Words.{Made, leftBy}
 use Rattle.theory.specs.Demand.{Chain}
@@ -47,6 +47,8 @@ allocates (returnRoots chosen) = 0
 allocates (allocateData n r) = n
 allocates (writeNumber at j x) = 0
 allocates (readNumber at j) = 0
+allocates (writeReason at room) = 0
+allocates (writeShape room) = 0
 allocates openCollection = 0
 allocates (takeSteps budget) = 0
 

@@ -13,4 +13,8 @@ pub mod Sections
 pub mod Moments
 pub mod Usable
 pub mod Data
+pub mod Shape
+pub mod Trail
+pub mod Reason
+pub mod Outputs
 pub mod Theory

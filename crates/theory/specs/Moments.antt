@@ -9,7 +9,7 @@ use lib.Dec.{eqb}
 use Rattle.rules.specs.Heap.{Memory, withCounts, capacity, countOf, isFirst}
 use Rattle.rules.specs.Store.{countUp, placed}
 use Rattle.rules.specs.Calls.{Call, format, check, collect, freeBlocks, allocate, storeRoot, storeCell, look, returnRoots, openCollection, takeSteps}
-use Rattle.rules.specs.Calls.{allocateData, writeNumber, readNumber, allocateAs, answer}
+use Rattle.rules.specs.Calls.{allocateData, writeNumber, readNumber, writeReason, writeShape, allocateAs, answer}
 use Rattle.types.specs.declared.Reply.{Reply}
 use Rattle.theory.specs.Words.{Object}
 use Rattle.theory.specs.Stuck.{writes}
@@ -31,6 +31,8 @@ counted N w (look at) h x = h
 counted N w (returnRoots chosen) h x = h
 counted N w (writeNumber at j v) h x = h
 counted N w (readNumber at j) h x = h
+counted N w (writeReason at room) h x = h
+counted N w (writeShape room) h x = h
 counted N w openCollection h x = h
 counted N w (takeSteps budget) h x = h
 

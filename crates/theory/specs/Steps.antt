@@ -13,7 +13,7 @@ use Rattle.rules.specs.Heap.{Memory, withWaiting, isFirst, reference}
 use Rattle.rules.specs.Store.{isChosen}
 use Rattle.rules.specs.Steps.{isOpen, isMarked, isListed}
 use Rattle.rules.specs.Calls.{Call, format, check, collect, freeBlocks, allocate, storeRoot, storeCell, look, returnRoots, openCollection, takeSteps}
-use Rattle.rules.specs.Calls.{allocateData, writeNumber, readNumber, allocateAs, reply, answer}
+use Rattle.rules.specs.Calls.{allocateData, writeNumber, readNumber, writeReason, writeShape, allocateAs, reply, answer}
 use Rattle.types.specs.declared.Reply.{Reply}
 use Rattle.theory.specs.Words.{Object, Leads, written, Made, leftBy}
 
@@ -72,6 +72,8 @@ stepsOf (returnRoots chosen) x = 0
 stepsOf (allocateData n r) x = 0
 stepsOf (writeNumber at j v) x = 0
 stepsOf (readNumber at j) x = 0
+stepsOf (writeReason at room) x = 0
+stepsOf (writeShape room) x = 0
 
 unfoldable pub stepsIn : List Made → ℕ
 stepsIn [] = 0

@@ -4,7 +4,7 @@ use mathlib.Core.Path.{_≡_}
 use mathlib.Core.List.{List, [], _∷_, _++_}
 use Rattle.rules.specs.Heap.{Memory, capacity, countOf}
 use Rattle.rules.specs.Calls.{Call, format, check, collect, freeBlocks, allocate, storeRoot, storeCell, look, returnRoots, openCollection, takeSteps}
-use Rattle.rules.specs.Calls.{allocateData, writeNumber, readNumber}
+use Rattle.rules.specs.Calls.{allocateData, writeNumber, readNumber, writeReason, writeShape}
 use Rattle.types.specs.declared.Reply.{Reply}
 use Rattle.theory.specs.Words.{Object, numberOfReferences, stored, Made, leftBy}
 
@@ -23,6 +23,8 @@ writes (returnRoots chosen) x = 0
 writes (allocateData n r) x = 1 + x .value
 writes (writeNumber at j v) x = 0
 writes (readNumber at j) x = 0
+writes (writeReason at room) x = 0
+writes (writeShape room) x = 0
 writes openCollection x = 0
 writes (takeSteps budget) x = 0
 

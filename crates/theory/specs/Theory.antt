@@ -13,6 +13,9 @@ use Rattle.theory.specs.Marks.{MarksOrderUnseen}
 use Rattle.theory.specs.Sections.{SectionsFindLowest, FiguresAreLargest, StaleExactly, ListLeftTrue}
 use Rattle.theory.specs.Moments.{StuckTold, NoneUntold, CollectionSticksNone, StepsStickNone}
 use Rattle.theory.specs.Data.{DataNeverFollowed, DataNamesNothing, AllocationsMake, NumbersWritten, TwelveExactly, NumbersStay, DataWhileItLives}
+use Rattle.theory.specs.Shape.{AllNumbered, EqualShape, ShapeBounded}
+use Rattle.theory.specs.Reason.{ChainIsBest, NoneExactly, WalkFindsChain, NumberedByChains, ReadInOneWay, SentenceSays, SentenceBounded}
+use Rattle.theory.specs.Outputs.{ReasonGiven, ShapeGiven, FifteenExactly, SixteenExactly}
 
 pub record Theory : Type 0 where
   -- demand 3, and what makes it usable
@@ -70,3 +73,17 @@ pub record Theory : Type 0 where
   pub twelve-exactly : TwelveExactly
   pub numbers-stay : NumbersStay
   pub data-while-it-lives : DataWhileItLives
+  pub all-numbered : AllNumbered
+  pub equal-shape : EqualShape
+  pub shape-bounded : ShapeBounded
+  pub shape-given : ShapeGiven
+  pub sixteen-exactly : SixteenExactly
+  pub chain-is-best : ChainIsBest
+  pub none-exactly : NoneExactly
+  pub walk-finds-chain : WalkFindsChain
+  pub numbered-by-chains : NumberedByChains
+  pub read-in-one-way : ReadInOneWay
+  pub sentence-says : SentenceSays
+  pub sentence-bounded : SentenceBounded
+  pub reason-given : ReasonGiven
+  pub fifteen-exactly : FifteenExactly

@@ -10,7 +10,7 @@ use Rattle.rules.specs.Store.{isChosen}
 use Rattle.rules.specs.Tools.{tabulate}
 use Rattle.rules.specs.Collection.{referencesFrom}
 use Rattle.rules.specs.Calls.{Call, format, check, collect, freeBlocks, allocate, storeRoot, storeCell, look, returnRoots, openCollection, takeSteps}
-use Rattle.rules.specs.Calls.{allocateData, writeNumber, readNumber, Answer, lastMemory}
+use Rattle.rules.specs.Calls.{allocateData, writeNumber, readNumber, writeReason, writeShape, Answer, lastMemory}
 use Rattle.types.specs.declared.Reply.{Reply}
 
 -- an object of n blocks whose first block is b
@@ -63,6 +63,8 @@ written h (returnRoots chosen) x = withRoots (rootsWithout chosen (h .roots)) h
 written h (allocateData n r) x = withRoots (set (h .roots) r (1 + x .value)) h
 written h (writeNumber at j v) x = withCells (set (h .cells) (4 * at + j) v) h
 written h (readNumber at j) x = h
+written h (writeReason at room) x = h
+written h (writeShape room) x = h
 
 -- a refused call stores nothing
 unfoldable pub stored : Memory → Call → Reply → Memory

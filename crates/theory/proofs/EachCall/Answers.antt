@@ -4,7 +4,7 @@ use mathlib.Core.Bool.{true, false}
 use Prim.Native.Nat.{ℕ}
 use Rattle.rules.specs.Heap.{Memory}
 use Rattle.rules.specs.Calls.{Call, format, check, collect, freeBlocks, allocate, storeRoot, storeCell, look, returnRoots, openCollection, takeSteps}
-use Rattle.rules.specs.Calls.{allocateData, writeNumber, readNumber, outcome, answer}
+use Rattle.rules.specs.Calls.{allocateData, writeNumber, readNumber, writeReason, writeShape, outcome, answer}
 use Rattle.rules.proofs.Replies.{answer-either, Passed, passed}
 use Rattle.theory.proofs.Memories.Fit.{Fit}
 use Rattle.theory.proofs.EachCall.Served.{no-collection, Served, unchanged, refused-served, number-served, format-served}
@@ -44,6 +44,8 @@ module _ (N w : ℕ) (h : Memory) (fit : Fit N w h) where
       (allocate-served N w h (fit .healthy) n r _ low high place found true _)
   outcome-served (writeNumber a j x) (first, place, made) = number-served N w h (fit .healthy) a j x first place made
   outcome-served (readNumber a j) p = unchanged N w h (fit .healthy) (readNumber a j) _ (no-collection (readNumber a j) refl)
+  outcome-served (writeReason a room) p = unchanged N w h (fit .healthy) (writeReason a room) _ (no-collection (writeReason a room) refl)
+  outcome-served (writeShape room) p = unchanged N w h (fit .healthy) (writeShape room) _ (no-collection (writeShape room) refl)
   outcome-served openCollection p = open-served N w h (fit .healthy)
   outcome-served (takeSteps budget) p = steps-served N w h fit p budget _
 

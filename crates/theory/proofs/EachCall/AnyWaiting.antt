@@ -15,11 +15,11 @@ use Rattle.rules.specs.Collection.{collected}
 use Rattle.rules.specs.Steps.{isListed, opened, StepsTaken, progressOf, stepsFrom, stepped}
 use Rattle.rules.specs.Steps.{storeRootShading, storeCellShading, allocateShading, returnShading}
 use Rattle.rules.specs.Calls.{Call, format, check, collect, freeBlocks, allocate, storeRoot, storeCell, look, returnRoots, openCollection, takeSteps}
-use Rattle.rules.specs.Calls.{allocateData, writeNumber, readNumber, allocated, Answer}
+use Rattle.rules.specs.Calls.{allocateData, writeNumber, readNumber, writeReason, writeShape, allocated, Answer}
 use Rattle.rules.specs.Calls.{reply, ownRefusals, refusals, refusedWith, refused, settled, freeing, outcome, answer}
 use Rattle.types.specs.declared.Reply.{Reply}
 use Rattle.rules.proofs.Unread.{store-root-aside, store-cell-aside, return-aside, allocate-aside, collect-beside, open-aside, steps-aside}
-use Rattle.rules.proofs.Unread.{stepped-aside}
+use Rattle.rules.proofs.Unread.{stepped-aside, sentence-aside, shape-aside}
 use Rattle.theory.specs.Words.{heapOf}
 use Rattle.theory.specs.Statements.{WaitingUnread}
 use Rattle.theory.proofs.Memories.TidyHeap.{waiting-untidy}
@@ -63,6 +63,8 @@ module _ (N w : ℕ) (h : Memory) (x : List ℕ) (same-length : length x ≡ len
   same-own (allocateData n r) = refl
   same-own (writeNumber a j v) = refl
   same-own (readNumber a j) = refl
+  same-own (writeReason a room) = rw (sentence-aside N x h a)
+  same-own (writeShape room) = rw (shape-aside N x h)
   same-own openCollection = refl
   same-own (takeSteps budget) = refl
 
@@ -96,6 +98,8 @@ module _ (N w : ℕ) (h : Memory) (x : List ℕ) (same-length : length x ≡ len
   outcome-alike (allocateData n r) = allocation-alike true n r
   outcome-alike (writeNumber a j v) = record { reply-is = refl; heap-is = refl }
   outcome-alike (readNumber a j) = unchanged-alike (reply 0 (getD (h .cells) (4 * a + j) 0) 0)
+  outcome-alike (writeReason a room) = record { reply-is = rw (sentence-aside N x h a); heap-is = refl }
+  outcome-alike (writeShape room) = record { reply-is = rw (shape-aside N x h); heap-is = refl }
   outcome-alike (storeRoot r v) =
       freeing-alike (storeRootShading N w g r v) (storeRootShading N w h r v) _ (store-root-aside N w (withWaiting x) h r v)
   outcome-alike (storeCell a j v) =

@@ -18,7 +18,7 @@ use Rattle.rules.proofs.Plain.{storeRootIn, storeCellIn, returnIn}
 use Rattle.rules.specs.Collection.{collected}
 use Rattle.rules.specs.Steps.{isOpen, opened, progressOf, stepsFrom, withProgress, stepped}
 use Rattle.rules.specs.Calls.{Call, format, check, collect, freeBlocks, allocate, storeRoot, storeCell, look, returnRoots, openCollection, takeSteps}
-use Rattle.rules.specs.Calls.{allocateData, writeNumber, readNumber, allocateAs, Answer}
+use Rattle.rules.specs.Calls.{allocateData, writeNumber, readNumber, writeReason, writeShape, allocateAs, Answer}
 use Rattle.rules.specs.Calls.{reply, accepted, refused, testsHeap, freeing, settled, outcome, answer}
 use Rattle.types.specs.declared.Reply.{Reply}
 use Rattle.rules.proofs.Replies.{answer-either, accepted-outcome, Passed, passed}
@@ -355,6 +355,8 @@ module _ (N w : ℕ) (h : Memory) (fit : Fit N w h) where
       let g : Memory = withCells (set (h .cells) (4 * a + j) x) h in
       plain (writeNumber a j x) (reply 0 0 0) g refl (same-blocks g refl refl)
   outcome-even (readNumber a j) p = plain (readNumber a j) _ h refl (same-blocks h refl refl)
+  outcome-even (writeReason a room) p = plain (writeReason a room) _ h refl (same-blocks h refl refl)
+  outcome-even (writeShape room) p = plain (writeShape room) _ h refl (same-blocks h refl refl)
   outcome-even (storeRoot r v) (place, ref) =
       freeing-even (storeRoot r v) _ _ _ (store-root-shading N w h sized r v) (store-root-even r v _ place ref)
   outcome-even (storeCell a j v) (first, place, ordinary, ref) =

@@ -5,7 +5,7 @@ use mathlib.Core.Bool.{true, false}
 use Prim.Native.Nat.{ℕ}
 use native.Mathlib.Omega.{arith}
 use Rattle.rules.specs.Heap.{Memory}
-use Rattle.rules.specs.Calls.{format, check, collect, freeBlocks, allocate, storeRoot, storeCell, look, returnRoots, allocateData, writeNumber, readNumber}
+use Rattle.rules.specs.Calls.{format, check, collect, freeBlocks, allocate, storeRoot, storeCell, look, returnRoots, allocateData, writeNumber, readNumber, writeReason, writeShape}
 use Rattle.rules.specs.Calls.{openCollection, takeSteps}
 use Rattle.rules.specs.Calls.{Call, ownRefusals, refusals, refusedWith, answer}
 use Rattle.rules.proofs.Tests.{Each, done, also, first-other}
@@ -34,6 +34,9 @@ five-to-allocations N w h (writeNumber at j x) e =
     absurd (not-five N w h (writeNumber at j x) (also (omega arith) (also (omega arith) (also (omega arith) done))) e)
 five-to-allocations N w h (readNumber at j) e =
     absurd (not-five N w h (readNumber at j) (also (omega arith) (also (omega arith) (also (omega arith) done))) e)
+five-to-allocations N w h (writeReason at room) e =
+    absurd (not-five N w h (writeReason at room) (also (omega arith) (also (omega arith) done)) e)
+five-to-allocations N w h (writeShape room) e = absurd (not-five N w h (writeShape room) (also (omega arith) done) e)
 five-to-allocations N w h (storeRoot r v) e = absurd (store-root-not-five N w h r v e)
 five-to-allocations N w h (storeCell at j v) e = absurd (store-cell-not-five N w h at j v e)
 five-to-allocations N w h (look at) e = absurd (not-five N w h (look at) (also (omega arith) done) e)

@@ -21,7 +21,7 @@ use Rattle.rules.specs.Store.{placed, allocateIn}
 use Rattle.rules.specs.Collection.{collected}
 use Rattle.rules.specs.Steps.{isOpen}
 use Rattle.rules.specs.Calls.{Call, format, check, collect, freeBlocks, allocate, storeRoot, storeCell, look, returnRoots, openCollection, takeSteps}
-use Rattle.rules.specs.Calls.{allocateData, writeNumber, readNumber, allocateAs, Answer}
+use Rattle.rules.specs.Calls.{allocateData, writeNumber, readNumber, writeReason, writeShape, allocateAs, Answer}
 use Rattle.rules.specs.Calls.{reply, testsHeap, ownRefusals, settled, freeing, outcome, answer}
 use Rattle.types.specs.declared.Reply.{Reply}
 use Rattle.rules.proofs.Tests.{test-cases, first-found}
@@ -410,6 +410,8 @@ module _ (N w : ℕ) (h : Memory) (fit : Fit N w h) where
       go (returnRoots chosen) was is low top wrote = absurd (omega (arith, wrote .reference))
       go (writeNumber a j x) was is low top wrote = absurd (omega (arith, wrote .reference))
       go (readNumber a j) was is low top wrote = absurd (omega (arith, wrote .reference))
+      go (writeReason a room) was is low top wrote = absurd (omega (arith, wrote .reference))
+      go (writeShape room) was is low top wrote = absurd (omega (arith, wrote .reference))
       go openCollection was is low top wrote = absurd (omega (arith, wrote .reference))
       go (takeSteps budget) was is low top wrote = absurd (omega (arith, wrote .reference))
 

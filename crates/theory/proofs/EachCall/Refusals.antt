@@ -14,7 +14,7 @@ use Rattle.rules.specs.Heap.{Memory, shaped, isFirst, sizeAt, reference}
 use Rattle.rules.specs.Damage.{damage}
 use Rattle.rules.specs.Sections.{staleFigures}
 use Rattle.rules.specs.Steps.{names, isOpen, isMarked, isListed, badNext, badPlace, strayMark, rootMissed, cellMissed, isUntidy}
-use Rattle.rules.specs.Calls.{format, check, collect, freeBlocks, allocate, storeRoot, storeCell, look, returnRoots, allocateData, writeNumber, readNumber}
+use Rattle.rules.specs.Calls.{format, check, collect, freeBlocks, allocate, storeRoot, storeCell, look, returnRoots, allocateData, writeNumber, readNumber, writeReason, writeShape}
 use Rattle.rules.specs.Calls.{openCollection, takeSteps, Call, testsHeap, ownRefusals, refusals, refusedWith, answer}
 use Rattle.rules.proofs.Tests.{Each, done, also, test-cases, and-true, true-and, and-false, false-and, or-true, true-or, some-true, true-some}
 use Rattle.rules.proofs.Tests.{first-past, first-found, first-other, first-after}
@@ -273,6 +273,8 @@ module _ (N w : ℕ) (h : Memory) where
       own-other 13 (writeNumber a j x) (omega arith) (also (omega arith) (also (omega arith) (also (omega arith) done)))
   own-not-thirteen (readNumber a j) =
       own-other 13 (readNumber a j) (omega arith) (also (omega arith) (also (omega arith) (also (omega arith) done)))
+  own-not-thirteen (writeReason a room) = own-other 13 (writeReason a room) (omega arith) (also (omega arith) (also (omega arith) done))
+  own-not-thirteen (writeShape room) = own-other 13 (writeShape room) (omega arith) (also (omega arith) done)
 
   thirteen-there : (c : Call) → answer N w h c .0 .number ≡ 13
       → (testsHeap c ≡ true) × Intact N w h × (stale ≡ false) × Untidy N h
@@ -341,6 +343,8 @@ module _ (N w : ℕ) (h : Memory) where
   fourteen-there (allocateData n r) e = absurd (never (allocateData n r) (also (omega arith) (also (omega arith) (also (omega arith) done))) e)
   fourteen-there (writeNumber a j x) e = absurd (never (writeNumber a j x) (also (omega arith) (also (omega arith) (also (omega arith) done))) e)
   fourteen-there (readNumber a j) e = absurd (never (readNumber a j) (also (omega arith) (also (omega arith) (also (omega arith) done))) e)
+  fourteen-there (writeReason a room) e = absurd (never (writeReason a room) (also (omega arith) (also (omega arith) done)) e)
+  fourteen-there (writeShape room) e = absurd (never (writeShape room) (also (omega arith) done) e)
 
   fourteen-own : {c : Call} → OutOfTurn N h c → firstNumber (ownRefusals N h c) ≡ 14
   unfolding ownRefusals

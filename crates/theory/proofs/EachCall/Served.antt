@@ -10,7 +10,7 @@ use lib.ListN.{length, getD, set, length-set, length-replicate}
 use Rattle.rules.specs.Heap.{Memory, withCells, capacity, countOf, isFirst, sizeAt, isData, reference}
 use Rattle.rules.specs.Store.{formatted}
 use Rattle.rules.specs.Calls.{Call, format, check, collect, freeBlocks, allocate, storeRoot, storeCell, look, returnRoots, openCollection, takeSteps}
-use Rattle.rules.specs.Calls.{allocateData, writeNumber, readNumber, Answer}
+use Rattle.rules.specs.Calls.{allocateData, writeNumber, readNumber, writeReason, writeShape, Answer}
 use Rattle.rules.specs.Calls.{reply, accepted, refused, settled}
 use Rattle.theory.specs.Words.{Object, Leads, root, cell, written, stored}
 use Rattle.theory.specs.Stuck.{Wrote}
@@ -48,6 +48,8 @@ collecting (returnRoots chosen) = false
 collecting (allocateData n r) = false
 collecting (writeNumber a j x) = false
 collecting (readNumber a j) = false
+collecting (writeReason a room) = false
+collecting (writeShape room) = false
 collecting openCollection = false
 collecting (takeSteps budget) = false
 

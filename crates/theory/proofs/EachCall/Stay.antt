@@ -19,7 +19,7 @@ use Rattle.rules.proofs.Plain.{storeRootIn, storeCellIn, returnIn}
 use Rattle.rules.specs.Collection.{marked, collected}
 use Rattle.rules.specs.Steps.{withNone, withProgress, opened, Progress, progressOf, stepsFrom, closed, closes, stepped}
 use Rattle.rules.specs.Calls.{Call, format, check, collect, freeBlocks, allocate, storeRoot, storeCell, look, returnRoots, openCollection, takeSteps}
-use Rattle.rules.specs.Calls.{allocateData, writeNumber, readNumber, settled, freeing, outcome, answer}
+use Rattle.rules.specs.Calls.{allocateData, writeNumber, readNumber, writeReason, writeShape, settled, freeing, outcome, answer}
 use Rattle.rules.proofs.Replies.{answer-either, Passed, passed}
 use Rattle.theory.specs.Words.{Object}
 use Rattle.theory.specs.Data.{StaysSo}
@@ -292,6 +292,8 @@ module _ (N w : ℕ) (h : Memory) (fit : Fit N w h) where
       (allocate-stays N w h (fit .healthy) true (allocateData n r) n r _ low place found)
   outcome-stays (writeNumber a j x) (first, place, made) = number-stays N w h (fit .healthy) a j x first place
   outcome-stays (readNumber a j) p = stay-same N w h (fit .healthy) (readNumber a j) h refl refl
+  outcome-stays (writeReason a room) p = stay-same N w h (fit .healthy) (writeReason a room) h refl refl
+  outcome-stays (writeShape room) p = stay-same N w h (fit .healthy) (writeShape room) h refl refl
   outcome-stays openCollection p = open-stays N w h (fit .healthy)
   outcome-stays (takeSteps budget) is-open =
       let reached : Progress = (stepsFrom budget N h (progressOf N h)) .reached in

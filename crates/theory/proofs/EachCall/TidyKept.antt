@@ -16,7 +16,7 @@ use Rattle.rules.proofs.Plain.{storeRootIn, storeCellIn, clearChosen, returnIn}
 use Rattle.rules.specs.Steps.{isOpen, isUntidy, withNone, withProgress, rootNames, opened, Progress, progressOf, stepsFrom, closed, closes, stepped}
 use Rattle.rules.specs.Steps.{shaded, storeRootShading, storeCellShading, allocateShading, clearShading, returnShading}
 use Rattle.rules.specs.Calls.{Call, format, check, collect, freeBlocks, allocate, storeRoot, storeCell, look, returnRoots, openCollection, takeSteps}
-use Rattle.rules.specs.Calls.{allocateData, writeNumber, readNumber, settled, freeing, outcome, answer}
+use Rattle.rules.specs.Calls.{allocateData, writeNumber, readNumber, writeReason, writeShape, settled, freeing, outcome, answer}
 use Rattle.rules.proofs.Tests.{test-cases}
 use Rattle.rules.proofs.Replies.{answer-either, Passed, passed}
 use Rattle.rules.proofs.Unread.{Keeps, store-root-keeps, change-cell-keeps, allocate-keeps, return-keeps, collect-keeps}
@@ -135,6 +135,8 @@ module _ (N w : ℕ) (h : Memory) (fit : Fit N w h) where
   outcome-tidy (allocateData n r) (low, high, place, found) = allocates true n r _ low high place found
   outcome-tidy (writeNumber a j x) (first, place, made) = numbers a j x first place made
   outcome-tidy (readNumber a j) p = fit .tidy
+  outcome-tidy (writeReason a room) p = fit .tidy
+  outcome-tidy (writeShape room) p = fit .tidy
   outcome-tidy (storeRoot r v) (place, ref) =
       either (storeRootShading N w h r v) (storeRootIn N w h r v) (store-root-keeps N w h r v) (λ e. store-root-none N w h e r v)
       (λ e. root-goes N w h (opened-heap e) v ref r place .after .tidy)

@@ -6,7 +6,7 @@ use Rattle.rules.specs.Heap.{Memory}
 use Rattle.rules.specs.Store.{formatted}
 use Rattle.rules.specs.Steps.{withProgress, opened}
 use Rattle.rules.specs.Calls.{Call, format, check, collect, freeBlocks, allocate, storeRoot, storeCell, look, returnRoots, openCollection, takeSteps}
-use Rattle.rules.specs.Calls.{allocateData, writeNumber, readNumber, Answer}
+use Rattle.rules.specs.Calls.{allocateData, writeNumber, readNumber, writeReason, writeShape, Answer}
 use Rattle.rules.specs.Calls.{testsHeap, freeing, outcome, answer}
 use Rattle.rules.proofs.Replies.{answer-either, accepted-outcome}
 use Rattle.theory.specs.Sections.{ListLeftTrue}
@@ -28,6 +28,8 @@ outcome-listed N w h (returnRoots chosen) listed = refl
 outcome-listed N w h (allocateData n r) listed = refl
 outcome-listed N w h (writeNumber a j x) listed = listed refl
 outcome-listed N w h (readNumber a j) listed = listed refl
+outcome-listed N w h (writeReason a room) listed = listed refl
+outcome-listed N w h (writeShape room) listed = listed refl
 outcome-listed N w h openCollection listed = listed refl
 outcome-listed N w h (takeSteps budget) listed = refl
 
