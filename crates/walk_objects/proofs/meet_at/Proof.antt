@@ -1,0 +1,77 @@
+-- `walk_objects::meet_at` meets its contract.
+use Prim.Native.Nat.{_<_}
+use native.Mathlib.Omega.{arith}
+use borrow.Author.Needs.{needs}
+use Rattle.walk_objects.proofs.Tracing.{trace-nothing, trace-again, space, trace-new}
+use Rattle.walk_objects.proofs.meet_at.Statement.{statement}
+use Rattle.walk_objects.proofs.meet_at.Tie as tie
+
+-- there is room
+fits : (c : tie.Else2) → c .before .before .before .args .met < c .before .before .before .args .blocks
+fits c = search space
+
+small : (c : tie.Else2) → c .before .before .before .args .blocks < 8193
+small c = omega (arith, c .before .before .before .pre .0 .walking .small)
+
+returns : tie.Need-returns
+returns c = search trace-nothing
+
+sub-block : tie.Need-sub-block
+sub-block c = search needs
+
+mul-if2 : tie.Need-mul-if2
+mul-if2 c = search needs
+
+element-copy-out-if2 : tie.Need-element-copy-out-if2
+element-copy-out-if2 c = search needs
+
+returns-2 : tie.Need-returns-2
+returns-2 c = search trace-again
+
+mul-order : tie.Need-mul-order
+mul-order c = omega (arith, fits c, small c)
+
+element-write-order : tie.Need-element-write-order
+element-write-order c = omega (arith, fits c, small c)
+
+add-numbers : tie.Need-add-numbers
+add-numbers c = omega (arith, fits c, small c)
+
+cast-numbers : tie.Need-cast-numbers
+cast-numbers c = omega (arith, fits c, small c)
+
+mul-numbers : tie.Need-mul-numbers
+mul-numbers c = search needs
+
+element-write-numbers : tie.Need-element-write-numbers
+element-write-numbers c = search needs
+
+cast-owners : tie.Need-cast-owners
+cast-owners c = search needs
+
+mul-owners : tie.Need-mul-owners
+mul-owners c = omega (arith, fits c, small c)
+
+element-write-owners : tie.Need-element-write-owners
+element-write-owners c = omega (arith, fits c, small c)
+
+cast-vias : tie.Need-cast-vias
+cast-vias c = search needs
+
+mul-vias : tie.Need-mul-vias
+mul-vias c = omega (arith, fits c, small c)
+
+element-write-vias : tie.Need-element-write-vias
+element-write-vias c = omega (arith, fits c, small c)
+
+add-result : tie.Need-add-result
+add-result c = omega (arith, fits c, small c)
+
+returns-3 : tie.Need-returns-3
+returns-3 c = search trace-new
+
+pub meet-at-spec : {M : Type 1} → statement M
+meet-at-spec =
+    tie.close
+    (tie.spec returns sub-block mul-if2 element-copy-out-if2 returns-2 mul-order element-write-order add-numbers cast-numbers mul-numbers
+    element-write-numbers cast-owners mul-owners element-write-owners cast-vias mul-vias element-write-vias add-result returns-3)

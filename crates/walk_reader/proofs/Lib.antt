@@ -1,0 +1,5 @@
+pub mod Laws
+pub mod Links
+pub mod Fits
+pub mod Told
+pub mod ReadBack

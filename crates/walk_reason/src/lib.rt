@@ -1,0 +1,142 @@
+// The call of request U11: the sentence that gives the reason why an object is kept.
+ghost use mathlib.Core.Path.{_≡_};
+ghost use mathlib.Core.List.{_++_};
+ghost use Prim.Native.Nat.{_+_, _*_, _≤_, _<_};
+ghost use lib.ListN.{length};
+ghost use Rattle.rules.specs.Heap.{maxBlocks};
+ghost use Rattle.rules.specs.Lent.{before, after, lent};
+ghost use Rattle.rules.specs.Promise.{ReasonPromise};
+ghost use Rattle.rules.specs.Sentence.{sentence};
+ghost use Rattle.text.specs.Text.{decimal, Put};
+ghost use Rattle.theory.specs.Statements.{Undamaged};
+ghost use Rattle.theory.proofs.Walks.Reached.{Named};
+ghost use Rattle.walk_objects.specs.Walking.{walkedHeap};
+ghost use Rattle.walk_reason.specs.Telling.{reasonIn, Found};
+use types::MAX_BLOCKS;
+use types::Ref;
+use types::Reply;
+use types::replies;
+
+// How many digits n has.
+fn digits_of(n: u64) -> usize
+    ensures { λ r. ⌜ (r ≡ length (decimal n)) × (r ≤ 20) ⌝ }
+{
+    let mut digits = [0u8; 20];
+    io::decimal(n, &mut digits)
+}
+
+// Writes a text and a number at place `at`. The place behind them.
+fn put_numbered(out: &mut [u8], at: usize, words: &[u8], n: u64) -> usize
+    requires { ⌜ at + length (now words ++ decimal n) ≤ length (now out) ⌝ }
+    ensures { λ r. ⌜ Put (now (out .entry)) at (now (words .entry) ++ decimal n) (now (out .exit)) r ⌝ }
+{
+    let to = text::put_text(out, at, words);
+    text::put_decimal(out, to, n)
+}
+
+// How long the sentence for block `at` is, from the links to its object, the last one first; no links are no
+// chain.
+fn sentence_length(links: &[Ref], at: usize) -> usize
+    requires { ⌜ length (now links) ≤ maxBlocks ⌝ }
+    ensures { λ r. ⌜ r ≡ length (sentence (reasonIn (now (links .entry))) at) ⌝ }
+{
+    if links.len() == 0 {
+        return 22 + (digits_of(at as u64) + 1);
+    }
+    let mut i = links.len() - 1;
+    let mut n = 5 + digits_of(links[i] as u64);
+    while i != 0 {
+        i -= 1;
+        n += 6 + digits_of(links[i] as u64);
+    }
+    n + (7 + (digits_of(at as u64) + 1))
+}
+
+// Writes the sentence. How long it is.
+fn write_sentence(links: &[Ref], at: usize, out: &mut [u8]) -> usize
+    requires { ⌜ (length (now links) ≤ maxBlocks) × (length (sentence (reasonIn (now links)) at) ≤ length (now out)) ⌝ }
+    ensures { λ r. ⌜ Put (now (out .entry)) 0 (sentence (reasonIn (now (links .entry))) at) (now (out .exit)) r ⌝ }
+{
+    if links.len() == 0 {
+        let to = put_numbered(out, 0, b"no root reaches block ", at as u64);
+        return text::put_text(out, to, b"\n");
+    }
+    let mut i = links.len() - 1;
+    let mut to = put_numbered(out, 0, b"root ", links[i] as u64);
+    while i != 0 {
+        i -= 1;
+        to = put_numbered(out, to, b" cell ", links[i] as u64);
+    }
+    let to = put_numbered(out, to, b" block ", at as u64);
+    text::put_text(out, to, b"\n")
+}
+
+// Finds the links by which the object at block `at` was first met. How many they are.
+fn links_for(
+    blocks: usize,
+    a: &[u8],
+    b: &[u8],
+    d: &[u8],
+    cells: &[Ref],
+    roots: &[Ref],
+    at: usize,
+    links: &mut [Ref; MAX_BLOCKS],
+) -> usize
+    requires { ⌜ (at < blocks) × (blocks ≤ maxBlocks) × (length (now links) ≡ maxBlocks) × (blocks ≤ 8 * length (now b)) × (blocks ≤ 8 * length (now d))
+        × (length (now cells) ≡ 4 * blocks) × (length (now roots) ≤ 64)
+        × Named blocks (walkedHeap (now a) (now b) (now d) (now cells) (now roots)) ⌝ }
+    ensures { λ r.
+        ⌜ Found blocks (walkedHeap (now (a .entry)) (now (b .entry)) (now (d .entry)) (now (cells .entry)) (now (roots .entry))) at (now (links .exit)) r ⌝ }
+{
+    let mut order = [0 as Ref; MAX_BLOCKS];
+    let mut numbers = [0 as Ref; MAX_BLOCKS];
+    let mut owners = [0 as Ref; MAX_BLOCKS];
+    let mut vias = [0 as Ref; MAX_BLOCKS];
+    let met = walk_objects::trace_all(
+        blocks,
+        a,
+        b,
+        d,
+        cells,
+        roots,
+        &mut order,
+        &mut numbers,
+        &mut owners,
+        &mut vias,
+    );
+    walk_objects::links_to(&owners, &vias, links, numbers[at] as usize)
+}
+
+// The reason why the object at block `at` is kept, as a sentence, written into `out`.
+pub fn reason(
+    blocks: usize,
+    width: usize,
+    a: &[u8],
+    b: &[u8],
+    counts: &[u8],
+    cells: &[Ref],
+    roots: &[Ref],
+    waiting: &[Ref],
+    sections: &[Ref],
+    d: &[u8],
+    marks: &[u8],
+    list: &[Ref],
+    at: usize,
+    out: &mut [u8],
+) -> Reply
+    requires { ⌜ Undamaged blocks width (lent a b counts cells roots waiting sections d marks list) ⌝ }
+    ensures { λ reply.
+        ⌜ ReasonPromise blocks width at (before a b counts cells roots waiting sections d marks list) (now (out .entry)) reply
+        (after a b counts cells roots waiting sections d marks list) (now (out .exit)) ⌝ }
+{
+    if !map_objects::objects::is_first(blocks, a, b, at) {
+        return replies::refusal(6);
+    }
+    let mut links = [0 as Ref; MAX_BLOCKS];
+    let t = links_for(blocks, a, b, d, cells, roots, at, &mut links);
+    let n = sentence_length(&links[..t], at);
+    if out.len() < n {
+        return replies::refusal(15);
+    }
+    replies::acceptance(write_sentence(&links[..t], at, out))
+}

@@ -1,0 +1,185 @@
+// The call of request U13: the heap as a list of numbers, from the local arrays of the walk.
+ghost use mathlib.Core.Path.{_≡_};
+ghost use mathlib.Core.Bool.{false};
+ghost use mathlib.Core.List.{map};
+ghost use Prim.Native.Nat.{ℕ, _+_, _-_, _*_, _≤_, _<_};
+ghost use lib.ListN.{length, getD};
+ghost use Rattle.rules.specs.Heap.{maxBlocks, sizeFrom, isData};
+ghost use Rattle.rules.specs.Lent.{before, after, lent};
+ghost use Rattle.rules.specs.Promise.{ShapePromise};
+ghost use Rattle.text.specs.Text.{Put};
+ghost use Rattle.theory.specs.Statements.{Undamaged};
+ghost use Rattle.walk_objects.specs.Walking.{part};
+ghost use Rattle.walk_shape.specs.Listing.{numberOf, Known, describedIn, shapeUpTo, Listed};
+use types::MAX_BLOCKS;
+use types::Ref;
+use types::Reply;
+use types::replies;
+
+// The number of what v names, or 0.
+fn number_of(numbers: &[Ref; MAX_BLOCKS], v: Ref) -> u32
+    requires { ⌜ Known (now numbers) v ⌝ }
+    ensures { λ r. ⌜ r ≡ numberOf (now (numbers .entry)) v ⌝ }
+{
+    if v == 0 {
+        return 0;
+    }
+    numbers[v as usize - 1] as u32
+}
+
+// Writes the numbers of what the n references from place j on name to place `at`. The place behind them.
+fn put_numbers(
+    numbers: &[Ref; MAX_BLOCKS],
+    refs: &[Ref],
+    j: usize,
+    n: usize,
+    out: &mut [u32],
+    at: usize,
+) -> usize
+    requires { ⌜ (at + n ≤ length (now out)) × (j + n ≤ length (now refs)) × ((i : ℕ) → i < n → Known (now numbers) (getD (now refs) (j + i) 0)) ⌝ }
+    ensures { λ r. ⌜ Put (now (out .entry)) at (map (numberOf (now (numbers .entry))) (part (now (refs .entry)) j n)) (now (out .exit)) r ⌝ }
+{
+    let mut i = 0;
+    while i < n {
+        out[at + i] = number_of(numbers, refs[j + i]);
+        i += 1;
+    }
+    at + n
+}
+
+// Writes the n cells from place j on to place `at`, as they stand. The place behind them.
+fn put_cells(cells: &[Ref], j: usize, n: usize, out: &mut [u32], at: usize) -> usize
+    requires { ⌜ (at + n ≤ length (now out)) × (j + n ≤ length (now cells)) ⌝ }
+    ensures { λ r. ⌜ Put (now (out .entry)) at (part (now (cells .entry)) j n) (now (out .exit)) r ⌝ }
+{
+    let mut i = 0;
+    while i < n {
+        out[at + i] = cells[j + i] as u32;
+        i += 1;
+    }
+    at + n
+}
+
+// Writes the object at block `at` to place `to`: size, D bit and cells. The place behind it.
+fn write_object(
+    blocks: usize,
+    b: &[u8],
+    d: &[u8],
+    cells: &[Ref],
+    numbers: &[Ref; MAX_BLOCKS],
+    at: usize,
+    out: &mut [u32],
+    to: usize,
+) -> usize
+    requires { ⌜ (to + length (describedIn blocks (now b) (now d) (now cells) (now numbers) at) ≤ length (now out)) × (at < blocks) × (blocks ≤ maxBlocks)
+        × (blocks ≤ 8 * length (now b)) × (blocks ≤ 8 * length (now d)) × (length (now cells) ≡ 4 * blocks)
+        × (isData (now d) at ≡ false → (i : ℕ) → i < 4 * sizeFrom (blocks - at) (now b) at → Known (now numbers) (getD (now cells) (4 * at + i) 0)) ⌝ }
+    ensures { λ r.
+        ⌜ Put (now (out .entry)) to (describedIn blocks (now (b .entry)) (now (d .entry)) (now (cells .entry)) (now (numbers .entry)) at) (now (out .exit)) r ⌝ }
+{
+    let size = map_objects::objects::object_size(blocks, b, at);
+    let bit = bitmap::get_bit(d, at);
+    out[to] = size as u32;
+    out[to + 1] = bit as u32;
+    if bit == 1 {
+        return put_cells(cells, 4 * at, 4 * size, out, to + 2);
+    }
+    put_numbers(numbers, cells, 4 * at, 4 * size, out, to + 2)
+}
+
+// How many numbers the list has. It has as many whatever `numbers` holds.
+fn shape_length(
+    blocks: usize,
+    b: &[u8],
+    d: &[u8],
+    cells: &[Ref],
+    roots: &[Ref],
+    order: &[Ref; MAX_BLOCKS],
+    numbers: &[Ref; MAX_BLOCKS],
+    met: usize,
+) -> usize
+    requires { ⌜ Listed blocks (now b) (now d) (now cells) (now roots) (now order) (now numbers) met ⌝ }
+    ensures { λ r.
+        ⌜ r ≡ length (shapeUpTo blocks (now (b .entry)) (now (d .entry)) (now (cells .entry)) (now (roots .entry)) (now (order .entry)) (now (numbers .entry)) met) ⌝ }
+{
+    let mut n = 1 + roots.len();
+    let mut k = 0;
+    while k < met {
+        n += 2 + 4 * map_objects::objects::object_size(blocks, b, order[k] as usize - 1);
+        k += 1;
+    }
+    n
+}
+
+// Writes the list. How many numbers it has.
+fn write_shape(
+    blocks: usize,
+    b: &[u8],
+    d: &[u8],
+    cells: &[Ref],
+    roots: &[Ref],
+    order: &[Ref; MAX_BLOCKS],
+    numbers: &[Ref; MAX_BLOCKS],
+    met: usize,
+    out: &mut [u32],
+) -> usize
+    requires { ⌜ Listed blocks (now b) (now d) (now cells) (now roots) (now order) (now numbers) met
+        × (length (shapeUpTo blocks (now b) (now d) (now cells) (now roots) (now order) (now numbers) met) ≤ length (now out)) ⌝ }
+    ensures { λ r.
+        ⌜ Put (now (out .entry)) 0
+        (shapeUpTo blocks (now (b .entry)) (now (d .entry)) (now (cells .entry)) (now (roots .entry)) (now (order .entry)) (now (numbers .entry)) met)
+        (now (out .exit)) r ⌝ }
+{
+    out[0] = roots.len() as u32;
+    let mut to = put_numbers(numbers, roots, 0, roots.len(), out, 1);
+    let mut k = 0;
+    while k < met {
+        to = write_object(blocks, b, d, cells, numbers, order[k] as usize - 1, out, to);
+        k += 1;
+    }
+    to
+}
+
+// The heap's shape as a list of numbers, written into `out`.
+pub fn shape(
+    blocks: usize,
+    width: usize,
+    a: &[u8],
+    b: &[u8],
+    counts: &[u8],
+    cells: &[Ref],
+    roots: &[Ref],
+    waiting: &[Ref],
+    sections: &[Ref],
+    d: &[u8],
+    marks: &[u8],
+    list: &[Ref],
+    out: &mut [u32],
+) -> Reply
+    requires { ⌜ Undamaged blocks width (lent a b counts cells roots waiting sections d marks list) ⌝ }
+    ensures { λ reply.
+        ⌜ ShapePromise blocks width (before a b counts cells roots waiting sections d marks list) (now (out .entry)) reply
+        (after a b counts cells roots waiting sections d marks list) (now (out .exit)) ⌝ }
+{
+    let mut order = [0 as Ref; MAX_BLOCKS];
+    let mut numbers = [0 as Ref; MAX_BLOCKS];
+    let mut owners = [0 as Ref; MAX_BLOCKS];
+    let mut vias = [0 as Ref; MAX_BLOCKS];
+    let met = walk_objects::trace_all(
+        blocks,
+        a,
+        b,
+        d,
+        cells,
+        roots,
+        &mut order,
+        &mut numbers,
+        &mut owners,
+        &mut vias,
+    );
+    let n = shape_length(blocks, b, d, cells, roots, &order, &numbers, met);
+    if out.len() < n {
+        return replies::refusal(16);
+    }
+    replies::acceptance(write_shape(blocks, b, d, cells, roots, &order, &numbers, met, out))
+}
