@@ -41,6 +41,21 @@ static void open_collection(void) { made(huwekapo_heap_open_collection(&heap)); 
 /* All steps of a collection, and its close. */
 static void step_collection(void) { made(huwekapo_heap_step_collection(&heap, BLOCKS)); }
 
+/* The object that the chain in root 0 ends with. */
+static void reason(void) {
+    static uint8_t output[HUWEKAPO_REASON_LENGTH(BLOCKS)];
+    static uint32_t cells[BLOCKS];
+    struct huwekapo_reply reply = huwekapo_heap_reason(&heap, 0, output, sizeof output);
+    made(reply);
+    struct huwekapo_reading reading = huwekapo_read_reason(output, reply.value, cells, BLOCKS);
+    failures += reading.kind != HUWEKAPO_KEPT || reading.root != 0 || reading.links < 900 || reading.block != 0;
+}
+
+static void shape(void) {
+    static uint32_t output[HUWEKAPO_SHAPE_LENGTH(BLOCKS, ROOTS)];
+    made(huwekapo_heap_shape(&heap, output, sizeof output / sizeof *output));
+}
+
 static void replay(void) {
     made(huwekapo_heap_replay(&heap, calls, HUWEKAPO_CALLS_LENGTH(CALLS), replies, HUWEKAPO_REPLIES_LENGTH(CALLS)));
     for (size_t i = 0; i < CALLS; i++) {
@@ -162,6 +177,8 @@ int main(void) {
         {"read_number", read_number, 18000, EVER},
         {"open_collection", open_collection, 18000, NONE_OPEN},
         {"step_collection", step_collection, 18000, ONE_OPEN},
+        {"reason", reason, 95000, EVER},
+        {"shape", shape, 80000, EVER},
         {"replay", replay, 5000, EVER},
         {"run_records", run_records, 18000, EVER},
     };

@@ -1,5 +1,6 @@
 /* A list of three objects, through the struct of huwekapo_heap.h: built, walked, let go; the largest free chunk beside it; a pair
- * that only a collection frees; and a list that a collection in small steps walks, while the program goes on. */
+ * that only a collection frees; a list that a collection in small steps walks, while the program goes on; and why the last of that
+ * list is kept. */
 #include "huwekapo_heap.h"
 
 #include <stdio.h>
@@ -62,5 +63,13 @@ int main(void) {
         printf("steps taken: %zu, blocks freed: %zu\n", value("step", steps), steps.second);
         value("allocate", huwekapo_heap_allocate(&heap, 1, NODE));
     }
+
+    size_t last = HUWEKAPO_BLOCK(heap.roots[LIST]);
+    while (heap.cells[HUWEKAPO_CELL(last, 0)] != 0) {
+        last = HUWEKAPO_BLOCK(heap.cells[HUWEKAPO_CELL(last, 0)]);
+    }
+    static uint8_t sentence[HUWEKAPO_REASON_LENGTH(BLOCKS)];
+    size_t length = value("reason", huwekapo_heap_reason(&heap, last, sentence, sizeof sentence));
+    fwrite(sentence, 1, length, stdout);
     return 0;
 }

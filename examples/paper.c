@@ -5,6 +5,7 @@
 #include "huwekapo.h"
 
 #include <stdio.h>
+#include <string.h>
 
 enum { BLOCKS = 8, WIDTH = 2, ROOTS = 4 };
 
@@ -188,6 +189,39 @@ static void step_by_step(void) {
     expect("free blocks", huwekapo_free_blocks(HEAP), HUWEKAPO_ACCEPTED, 4, 0);
 }
 
+/* The reason and the shape, of what the steps left: the object at 0 names that at 1, and root 1 data of 2 blocks at 4. Their outputs
+ * have one place more than they need. */
+static const char due_sentence[] = "root 0 cell 0 block 1\n";
+static const uint32_t due_shape[] = {4, 1, 2, 0, 0, 1, 0, 3, 0, 0, 0, 2, 1, 0, 0, 0, 0, 0, 0, 0, 0, 1, 0, 0, 0, 0, 0};
+
+static void write_outputs(void) {
+    enum { BYTES = sizeof due_sentence - 1, NUMBERS = sizeof due_shape / sizeof *due_shape };
+    static uint8_t sentence[BYTES + 1];
+    static uint32_t shape[NUMBERS + 1], links[1];
+    sentence[BYTES] = 7;
+    shape[NUMBERS] = 7;
+    expect("reason of 2", huwekapo_reason(HEAP, 2, sentence, 0), HUWEKAPO_NO_OBJECT, 0, 0);
+    expect("reason of 1, too short", huwekapo_reason(HEAP, 1, sentence, BYTES - 1), HUWEKAPO_SHORT_REASON, 0, 0);
+    printf("nothing written  ");
+    verdict(sentence[0] == 0);
+    expect("reason of 1", huwekapo_reason(HEAP, 1, sentence, sizeof sentence), HUWEKAPO_ACCEPTED, BYTES, 0);
+    printf("%.*s  ", BYTES - 1, (const char *)sentence);
+    verdict(memcmp(sentence, due_sentence, BYTES) == 0 && sentence[BYTES] == 7);
+    struct huwekapo_reading reading = huwekapo_read_reason(sentence, BYTES, links, 0);
+    printf("read back, without room for its cell  ");
+    verdict(reading.kind == HUWEKAPO_NO_ROOM && reading.links == 1);
+    reading = huwekapo_read_reason(sentence, BYTES, links, 1);
+    printf("read back: root %zu cell %u block %zu  ", reading.root, (unsigned)links[0], reading.block);
+    verdict(reading.kind == HUWEKAPO_KEPT && reading.root == 0 && reading.links == 1 && links[0] == 0 && reading.block == 1);
+    reading = huwekapo_read_reason(sentence, BYTES - 1, links, 1);
+    printf("without its line end it is none  ");
+    verdict(reading.kind == HUWEKAPO_NO_SENTENCE);
+    expect("shape, too short", huwekapo_shape(HEAP, shape, NUMBERS - 1), HUWEKAPO_SHORT_SHAPE, 0, 0);
+    expect("shape", huwekapo_shape(HEAP, shape, NUMBERS + 1), HUWEKAPO_ACCEPTED, NUMBERS, 0);
+    printf("its numbers, and none behind them  ");
+    verdict(memcmp(shape, due_shape, sizeof due_shape) == 0 && shape[NUMBERS] == 7);
+}
+
 /* The same in a list: an object that names itself, opened and stepped. */
 static const uint64_t step_list[] = {2, 1, 0, 0, 4, 0, 0, 1, 3, 0, 0, 0, 12, 0, 0, 0, 13, 5, 0, 0, 13, 5, 0, 0};
 
@@ -225,6 +259,7 @@ int main(void) {
     expect("store 1 in root 3", huwekapo_store_root(HEAP, 3, 1), HUWEKAPO_ACCEPTED, 0, 0);
     write_pixels();
     step_by_step();
+    write_outputs();
     replay_p1();
     replay_wide();
     replay_numbers();

@@ -24,7 +24,7 @@
  * number that is written into data is as wide as a cell: any such number is right. Format, both allocations, both stores, the
  * return, collect, steps, replay and runs of records leave `waiting` all 0, and `sections` as it must be, when accepted; the
  * opening of a collection writes `marks` and `list` and nothing else; the write of a number changes one cell and nothing else;
- * check, look, free blocks and the read of a number write nothing.
+ * check, look, free blocks and the read of a number write nothing; the reason and the shape write nothing but their output.
  *
  * The cells of data are never followed, counted or checked as references, whatever they hold. What roots and cells name may be
  * data. When data is freed, its cells become 0, and its D bit too.
@@ -37,8 +37,9 @@
  * none of those objects of a later store was or led to, is gone at the close. The steps from the opening to the close are at
  * most the objects present at the opening.
  *
- * The buffers, the two lists of replay and the bytes of a run must not overlap, and each pointer must be good for its length,
- * and not null even where that is 0.
+ * The buffers, the two lists of replay, the bytes of a run, and the outputs of the reason and of the shape must not overlap, nor
+ * may the text and the cells of a reason that is read; and each pointer must be good for its length, and not null even where that
+ * is 0.
  *
  * huwekapo_heap.h has the ten buffers as one struct, and the same calls on it.
  *
@@ -47,12 +48,12 @@
  *
  *   - x86-64, and of a C library memset and memcpy alone. Nothing is allocated, nothing is printed, and there is no global state:
  *     heaps in different buffers may be used by different threads at once. Calls on one heap must not overlap in time.
- *   - Stack: less than 18,000 bytes in every call but format and replay, which take less than 2,000 and 5,000, whatever the size
- *     of the heap. Recursion goes six deep at most, over the halves of a section.
+ *   - Stack: less than 18,000 bytes in every call but format, replay, the reason and the shape, which take less than 2,000, 5,000,
+ *     95,000 and 80,000, whatever the size of the heap. Recursion goes six deep at most, over the halves of a section.
  *   - Time: every call but format and replay tests the whole heap before it does anything, steps too, and a run of records tests
  *     it once for each piece. Many calls at a time are therefore best made by replay, or by a run of records in long pieces.
- *   - Alignment: the numbers of cells, roots, waiting, sections and list are aligned as uint16_t is, those of replay's lists as
- *     uint64_t is.
+ *   - Alignment: the numbers of cells, roots, waiting, sections and list are aligned as uint16_t is, those of a shape and the cells
+ *     of a reason that is read as uint32_t is, those of replay's lists as uint64_t is.
  */
 #ifndef HUWEKAPO_H
 #define HUWEKAPO_H
@@ -63,9 +64,9 @@
 /* The version of this header, and of the library that it goes with. What changes an argument, a struct or a buffer raises the
  * minor number, and with it the shared library's name. */
 #define HUWEKAPO_VERSION_MAJOR 0
-#define HUWEKAPO_VERSION_MINOR 5
+#define HUWEKAPO_VERSION_MINOR 6
 #define HUWEKAPO_VERSION_PATCH 0
-#define HUWEKAPO_VERSION "0.5.0"
+#define HUWEKAPO_VERSION "0.6.0"
 #define HUWEKAPO_VERSION_NUMBER (1000000 * HUWEKAPO_VERSION_MAJOR + 1000 * HUWEKAPO_VERSION_MINOR + HUWEKAPO_VERSION_PATCH)
 
 /* The number of buffers that every call takes. */
@@ -96,6 +97,10 @@
 /* The lengths of replay's lists, for so many calls. */
 #define HUWEKAPO_CALLS_LENGTH(calls) (4 * (calls))
 #define HUWEKAPO_REPLIES_LENGTH(calls) (3 * (calls))
+
+/* Lengths of output that are enough for every heap of so many blocks and roots: of a reason, in bytes, and of a shape, in numbers. */
+#define HUWEKAPO_REASON_LENGTH(blocks) (8 + 12 * (blocks))
+#define HUWEKAPO_SHAPE_LENGTH(blocks, roots) (1 + (roots) + 6 * (blocks))
 
 /* The number of a cell or root that names the object at a block, and the block that such a number other than 0 names. */
 #define HUWEKAPO_REFERENCE(block) (1 + (block))
@@ -153,6 +158,8 @@ enum huwekapo_number {
                                    mark is not on a first block, or a root, or a marked object that is not on the list, names
                                    an unmarked one. While none is: a mark or a place of the list is not 0 */
     HUWEKAPO_OUT_OF_TURN = 14,  /* a step while no collection is open; an opening or a full collection while one is */
+    HUWEKAPO_SHORT_REASON = 15, /* the output is shorter than the sentence */
+    HUWEKAPO_SHORT_SHAPE = 16,  /* the output is shorter than the list */
     HUWEKAPO_SHORT_REPLIES = 18, /* `replies` is too short for the replies of all calls */
     HUWEKAPO_BAD_RUN = 19       /* the run handed in is out of range */
 };
@@ -287,6 +294,44 @@ struct huwekapo_reply huwekapo_open_collection(HUWEKAPO_CONST_BUFFERS_BUT_MARKS)
  * those that come to 0 as a store does, and makes `marks` and `list` all 0. The value is the number of steps taken, which is
  * `budget` unless the list ran out; `second` is the number of blocks freed. Refusals: 1, 2, 11, 13, 14 (none is open). */
 struct huwekapo_reply huwekapo_step_collection(HUWEKAPO_BUFFERS_BUT_ROOTS, size_t budget);
+
+/* Writes why the object at block `at` is kept, as a sentence, in the front of `output`: `root 1 cell 2 block 4`, with `cell J` once
+ * for each link followed from the object that the root names, J the cell's number within its owner; or, where no root reaches the
+ * object, `no root reaches block 4`. One space parts the words, numbers carry no leading zeros, and a line end (byte 10) closes. The
+ * chain has the fewest links; among those the lowest root, then the lowest cell at the first difference. The cells of data are no
+ * links. The value is the length in bytes, the line end among them; later bytes of `output` keep their values, and nothing else is
+ * written, `waiting` neither. A refusal writes nothing, not even what would fit. Refusals: 1, 2, 11, 13, 6, 15. */
+struct huwekapo_reply huwekapo_reason(HUWEKAPO_CONST_BUFFERS, size_t at, uint8_t *output, size_t output_length);
+
+/* Writes the shape of what the roots reach as a list of numbers in the front of `output`. Objects are numbered from 1 as first met,
+ * breadth first: from root 0 upwards, then from the cells of object 1, of object 2 and so on, each from cell 0 upwards. First comes
+ * the number of roots, then each root's object number or 0; then, for each object, its size, its D bit and its cells, references as
+ * object numbers and data as it is. Two heaps, of any sizes and widths, have equal lists exactly where their reached objects can be
+ * paired one to one, keeping roots and their number, sizes, D bits, references and data. The value is how many numbers were written;
+ * later ones keep theirs, and nothing else is written, `waiting` neither. A refusal writes nothing. Refusals: 1, 2, 11, 13, 16. */
+struct huwekapo_reply huwekapo_shape(HUWEKAPO_CONST_BUFFERS, uint32_t *output, size_t output_length);
+
+/* What a text says. */
+enum huwekapo_reading_kind {
+    HUWEKAPO_NO_SENTENCE = 0, /* it is no sentence of huwekapo_reason, or has a number above 4,294,967,295 */
+    HUWEKAPO_KEPT = 1,        /* a chain */
+    HUWEKAPO_UNREACHED = 2,   /* no root reaches the block */
+    HUWEKAPO_NO_ROOM = 3      /* a chain of more links than `cells` has room for */
+};
+
+/* A sentence read back: what it says, as huwekapo_reading_kind has it; of a chain the root, and how many links are followed; and the
+ * block. What it does not say is 0. */
+struct huwekapo_reading {
+    size_t kind;
+    size_t root;
+    size_t links;
+    size_t block;
+};
+
+/* Reads any text as a sentence of huwekapo_reason, line end included. The cells of a chain, the one followed first in front, go to
+ * the front of `cells`; later numbers keep their values, and where there is no chain, or no room for its cells, nothing is written.
+ * Each sentence can be read in only one way. */
+struct huwekapo_reading huwekapo_read_reason(const uint8_t *text, size_t text_length, uint32_t *cells, size_t cells_length);
 
 /* Formats the heap and runs a list of calls, each an entry of four words, a code and arguments:
  *

@@ -131,6 +131,15 @@ static inline struct huwekapo_reply huwekapo_heap_step_collection(struct huwekap
     return huwekapo_step_collection(HUWEKAPO_LEND_(heap), budget);
 }
 
+static inline struct huwekapo_reply huwekapo_heap_reason(const struct huwekapo_heap *heap, size_t at, uint8_t *output,
+                                                         size_t output_length) {
+    return huwekapo_reason(HUWEKAPO_LEND_(heap), at, output, output_length);
+}
+
+static inline struct huwekapo_reply huwekapo_heap_shape(const struct huwekapo_heap *heap, uint32_t *output, size_t output_length) {
+    return huwekapo_shape(HUWEKAPO_LEND_(heap), output, output_length);
+}
+
 /* Whether a collection in small steps is open. */
 static inline int huwekapo_heap_is_open(const struct huwekapo_heap *heap) {
     return heap->list[heap->blocks] == 1;

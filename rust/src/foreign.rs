@@ -1,6 +1,6 @@
 //! The functions of libcapi.a, as include/huwekapo.h declares them. A slice is a pointer and a length.
 
-use crate::lent::{Ran, Reply};
+use crate::lent::{Ran, Reading, Reply};
 use crate::{Ref, SoFar};
 
 /// Declares functions that take the blocks, the width, each buffer as a pointer and a length, and what is named further. First
@@ -42,6 +42,13 @@ extern "C" {
     pub fn huwekapo_version() -> usize;
 
     pub fn huwekapo_buffers() -> usize;
+
+    pub fn huwekapo_read_reason(
+        text: *const u8,
+        text_length: usize,
+        cells: *mut u32,
+        cells_length: usize,
+    ) -> Reading;
 }
 
 declared! {
@@ -59,6 +66,13 @@ declared! {
     huwekapo_read_number(const, const, const, at: usize, j: usize) -> Reply;
     huwekapo_open_collection(const, const, mut) -> Reply;
     huwekapo_step_collection(mut, const, mut, budget: usize) -> Reply;
+    huwekapo_reason(
+        const, const, const,
+        at: usize,
+        output: *mut u8,
+        output_length: usize
+    ) -> Reply;
+    huwekapo_shape(const, const, const, output: *mut u32, output_length: usize) -> Reply;
     huwekapo_replay(
         mut, mut, mut,
         calls: *const u64,

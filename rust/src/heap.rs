@@ -3,6 +3,10 @@
 use crate::lent::{self, Reply, Shared, Unique};
 use crate::{Ref, Refusal, SoFar};
 
+/// The largest numbers of blocks and of roots.
+const MAX_BLOCKS: usize = 8192;
+const MAX_ROOTS: usize = 64;
+
 /// The ten buffers of a heap, as [`lent`](crate::lent) has them. Two are equal where all but the waiting lists are: that
 /// list is working space.
 #[derive(Clone, Debug, Default)]
@@ -63,8 +67,8 @@ impl Eq for Buffers {}
 /// A heap of some number of blocks, with counts of some width. Format, both allocations, both stores, the return, collect,
 /// steps, replay and runs of records leave `waiting` all 0, and `sections` as it must be, when accepted; the opening of a
 /// collection writes `marks` and `list` and nothing else; the write of a number changes one cell and nothing else; check, look,
-/// free blocks and the read of a number write nothing. Two heaps are equal where blocks, width and all buffers but the waiting
-/// lists are.
+/// free blocks, the read of a number, the reason and the shape write nothing. Two heaps are equal where blocks, width and all
+/// buffers but the waiting lists are; what the roots of both reach is the same, wherever it lies, where their shapes are equal.
 #[derive(Clone, Debug, PartialEq, Eq)]
 #[must_use = "a heap does nothing by itself"]
 pub struct Heap {
@@ -114,14 +118,14 @@ impl Heap {
     /// roots. Refusals: 1.
     pub fn new(blocks: usize, width: usize, roots: usize) -> Result<Heap, Refusal> {
         // Numbers that are too large are refused by the library; no buffers of that size are made for it.
-        let most = blocks.min(8192);
+        let most = blocks.min(MAX_BLOCKS);
         let bytes = most / 8;
         let buffers = Buffers {
             a: vec![0; bytes],
             b: vec![0; bytes],
             counts: vec![0; width.min(4) * bytes],
             cells: vec![0; 4 * most],
-            roots: vec![0; roots.min(65)],
+            roots: vec![0; roots.min(MAX_ROOTS + 1)],
             waiting: vec![0; most],
             sections: vec![0; (most / 256).max(1)],
             data: vec![0; bytes],
@@ -293,6 +297,27 @@ impl Heap {
             steps,
             freed: reply.second,
         })
+    }
+
+    /// Why the object at block `at` is kept, as a sentence with a line end: a chain, `root 1 cell 2 block 4`, of the fewest
+    /// links, the lowest root and the lowest cells; or `no root reaches block 4`. [`lent::reason`] states it, and
+    /// [`read_reason`](crate::read_reason) reads it back. Refusals: 1, 2, 11, 13, 6.
+    pub fn reason(&self, at: usize) -> Result<String, Refusal> {
+        let mut output = vec![0; lent::reason_length(self.blocks.min(MAX_BLOCKS))];
+        let length = value(lent::reason(self.shared(), at, &mut output))?;
+        output.truncate(length);
+        Ok(output.into_iter().map(char::from).collect())
+    }
+
+    /// The shape of what the roots reach, as a list of numbers: [`lent::shape`] states it. Two heaps have equal ones exactly
+    /// where reached objects can be paired one to one, keeping roots, sizes, D bits, references and data.
+    /// Refusals: 1, 2, 11, 13.
+    pub fn shape(&self) -> Result<Vec<u32>, Refusal> {
+        let roots = self.buffers.roots.len().min(MAX_ROOTS);
+        let mut output = vec![0; lent::shape_length(self.blocks.min(MAX_BLOCKS), roots)];
+        let length = value(lent::shape(self.shared(), &mut output))?;
+        output.truncate(length);
+        Ok(output)
     }
 
     /// Formats the heap and runs a list of calls, in the form that [`lent::replay`] states; their replies go to `replies`,

@@ -24,7 +24,8 @@
 //! refused 8. Only the number that is written into data is as wide as a cell: any such number is right. Format, both
 //! allocations, both stores, the return, collect, steps, replay and runs of records leave `waiting` all 0, and `sections` as
 //! it must be, when accepted; the opening of a collection writes `marks` and `list` and nothing else; the write of a number
-//! changes one cell and nothing else; check, look, free blocks and the read of a number write nothing.
+//! changes one cell and nothing else; check, look, free blocks and the read of a number write nothing; the reason and the
+//! shape write nothing but their output.
 //!
 //! The cells of data are never followed, counted or checked as references, whatever they hold. What roots and cells name
 //! may be data. When data is freed, its cells become 0, and its D bit too.
@@ -70,6 +71,37 @@ pub struct Ran {
     pub reply: Reply,
     /// Where the run stands; all 0 in a refusal.
     pub run: SoFar,
+}
+
+/// What a text says, as [`read_reason`] found.
+#[repr(C)]
+#[derive(Clone, Copy, Debug, PartialEq, Eq, Hash)]
+#[must_use = "the text may be no sentence"]
+pub struct Reading {
+    /// 0: no sentence of [`reason`], or one with a number above 4,294,967,295. 1: a chain. 2: no root reaches the block. 3: a
+    /// chain of more links than there was room for.
+    pub kind: usize,
+    /// Of a chain, its root.
+    pub root: usize,
+    /// Of a chain, how many links are followed.
+    pub links: usize,
+    /// Of a sentence, the block.
+    pub block: usize,
+}
+
+/// Outputs that are long enough for the [`reason`] of any object in a heap of so many blocks, in bytes.
+#[must_use]
+pub fn reason_length(blocks: usize) -> usize {
+    blocks.saturating_mul(12).saturating_add(8)
+}
+
+/// Outputs that are long enough for the [`shape`] of any heap of so many blocks and roots, in numbers.
+#[must_use]
+pub fn shape_length(blocks: usize, roots: usize) -> usize {
+    blocks
+        .saturating_mul(6)
+        .saturating_add(roots)
+        .saturating_add(1)
 }
 
 /// The ten buffers, to be read.
@@ -303,6 +335,57 @@ pub fn step_collection(heap: Unique, budget: usize) -> Reply {
         as_ptr,
         as_mut_ptr,
         budget
+    )
+}
+
+/// Writes why the object at block `at` is kept, as a sentence, in the front of `output`: `root 1 cell 2 block 4`, with `cell J`
+/// once for each link followed from the object that the root names, J the cell's number within its owner; or, where no root
+/// reaches the object, `no root reaches block 4`. One space parts the words, numbers carry no leading zeros, and a line end
+/// closes. The chain has the fewest links; among those the lowest root, then the lowest cell at the first difference. The
+/// cells of data are no links. The value is the length in bytes, the line end among them; later bytes of `output` keep their
+/// values, and nothing else is written, `waiting` neither. A refusal writes nothing, not even what would fit.
+/// Refusals: 1, 2, 11, 13, 6, 15.
+pub fn reason(heap: Shared, at: usize, output: &mut [u8]) -> Reply {
+    let output_at = output.as_mut_ptr();
+    lend!(
+        huwekapo_reason,
+        heap,
+        as_ptr,
+        as_ptr,
+        as_ptr,
+        at,
+        output_at,
+        output.len()
+    )
+}
+
+/// Reads any text as a sentence of [`reason`], line end included. The cells of a chain, the one followed first in front, go to
+/// the front of `cells`; later numbers keep their values, and where there is no chain, or no room for its cells, nothing is
+/// written. Each sentence can be read in only one way.
+pub fn read_reason(text: &[u8], cells: &mut [u32]) -> Reading {
+    // Safe, as the calls on a heap are.
+    unsafe {
+        foreign::huwekapo_read_reason(text.as_ptr(), text.len(), cells.as_mut_ptr(), cells.len())
+    }
+}
+
+/// Writes the shape of what the roots reach as a list of numbers in the front of `output`. Objects are numbered from 1 as
+/// first met, breadth first: from root 0 upwards, then from the cells of object 1, of object 2 and so on, each from cell 0
+/// upwards. First comes the number of roots, then each root's object number or 0; then, for each object, its size, its D bit
+/// and its cells, references as object numbers and data as it is. Two heaps, of any sizes and widths, have equal lists exactly
+/// where their reached objects can be paired one to one, keeping roots and their number, sizes, D bits, references and data.
+/// The value is how many numbers were written; later ones keep theirs, and nothing else is written, `waiting` neither. A
+/// refusal writes nothing. Refusals: 1, 2, 11, 13, 16.
+pub fn shape(heap: Shared, output: &mut [u32]) -> Reply {
+    let output_at = output.as_mut_ptr();
+    lend!(
+        huwekapo_shape,
+        heap,
+        as_ptr,
+        as_ptr,
+        as_ptr,
+        output_at,
+        output.len()
     )
 }
 

@@ -44,6 +44,13 @@
 //! }
 //! assert_eq!(freed, 2);
 //! assert_eq!(heap.look(0), Err(Refusal::NoObject));
+//!
+//! // Why an object is kept, and what the heap means wherever its objects lie.
+//! let owner = heap.allocate(1, 0)?.block;
+//! heap.store_cell(owner, 3, 1 + pixels)?;
+//! heap.store_root(2, 0)?;
+//! assert_eq!(heap.reason(pixels)?, format!("root 0 cell 3 block {pixels}\n"));
+//! assert_eq!(heap.shape()?[..11], [4, 1, 2, 0, 0, 1, 0, 0, 0, 0, 3]);
 //! # Ok::<(), Refusal>(())
 //! ```
 
@@ -53,11 +60,13 @@ mod foreign;
 mod heap;
 mod history;
 pub mod lent;
+mod reason;
 mod refusal;
 mod run;
 
 pub use heap::{Allocated, Buffers, Heap, Look, Stepped, Stored};
 pub use history::{SoFar, Stopped, Tally};
+pub use reason::{read_reason, Reason};
 pub use refusal::{Damage, Refusal};
 pub use run::{Run, RunError};
 

@@ -36,6 +36,10 @@ pub enum Refusal {
     BadMarks,
     /// 14: a step while no collection is open, or an opening or a full collection while one is.
     OutOfTurn,
+    /// 15: the output is shorter than the sentence of a reason.
+    ShortReason,
+    /// 16: the output is shorter than the list of a shape.
+    ShortShape,
     /// 18: a replay's `replies` is too short.
     ShortReplies,
     /// 19: a run of records is out of range.
@@ -80,6 +84,8 @@ impl Refusal {
             12 => Some(Refusal::WrongKind),
             13 => Some(Refusal::BadMarks),
             14 => Some(Refusal::OutOfTurn),
+            15 => Some(Refusal::ShortReason),
+            16 => Some(Refusal::ShortShape),
             18 => Some(Refusal::ShortReplies),
             19 => Some(Refusal::BadRun),
             number => unreachable!("the library has no refusal {number}"),
@@ -104,6 +110,8 @@ impl Refusal {
             Refusal::WrongKind => 12,
             Refusal::BadMarks => 13,
             Refusal::OutOfTurn => 14,
+            Refusal::ShortReason => 15,
+            Refusal::ShortShape => 16,
             Refusal::ShortReplies => 18,
             Refusal::BadRun => 19,
         }
@@ -174,6 +182,8 @@ impl fmt::Display for Refusal {
             Refusal::OutOfTurn => {
                 "a step while no collection is open; an opening or a full collection while one is"
             }
+            Refusal::ShortReason => "the output is shorter than the sentence",
+            Refusal::ShortShape => "the output is shorter than the list",
             Refusal::ShortReplies => "`replies` is too short for the replies of all calls",
             Refusal::BadRun => {
                 "the run has more records than there can be, or more allocations, blocks, collections or stuck objects \

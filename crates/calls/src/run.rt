@@ -40,7 +40,14 @@ fn next_entry(lengths: &mut [usize; lent::BUFFERS], k: usize) -> Entry
     } else if kind == calls_entries::WRITE_NUMBER && e.z > calls_entries::MAX_NUMBER {
         say_wrong(k, b"number out of range\n");
         e.kind = calls_entries::LENGTH;
+    } else if kind == calls_entries::REASON && e.y > calls_entries::MAX_OUTPUT
+        || kind == calls_entries::SHAPE && e.x > calls_entries::MAX_OUTPUT
+    {
+        say_wrong(k, b"length out of range\n");
+        e.kind = calls_entries::LENGTH;
     } else if kind > calls_entries::LAST_CALL
+        && kind != calls_entries::REASON
+        && kind != calls_entries::SHAPE
         && kind != calls_entries::LOAD
         && kind != calls_entries::NEW
     {

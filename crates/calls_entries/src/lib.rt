@@ -1,13 +1,22 @@
 // The entries of a list of calls, performed: for the program `calls`.
+mod outputs;
 pub mod perform;
 
-// The kinds of entries: calls, from 0 to LAST_CALL; and, at the end of a byte's numbers, out of the way of calls to come, what is none.
+// The kinds of entries: calls, from 0 to LAST_CALL, those that have an output from REASON on; and, at the end of a byte's numbers, out of
+// the way of calls to come, what is none.
 pub const LAST_CALL: usize = 13;
 
 // The call that writes a number, and the largest number that a cell holds.
 pub const WRITE_NUMBER: usize = 10;
 
 pub const MAX_NUMBER: usize = 65535;
+
+// The calls that write an output, and the largest length of one, in bytes or in numbers, which is enough for every heap.
+pub const REASON: usize = 240;
+
+pub const SHAPE: usize = 241;
+
+pub const MAX_OUTPUT: usize = 65536;
 
 pub const LOAD: usize = 253;
 

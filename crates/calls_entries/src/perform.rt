@@ -1,5 +1,6 @@
 // What is done with the lent buffers. Here alone they are all lent on.
 use crate::Entry;
+use crate::outputs;
 use types::Ref;
 use types::Reply;
 use types::replies;
@@ -12,7 +13,8 @@ fn outcome(done: bool) -> Reply {
     replies::refusal(1)
 }
 
-// What only reads: check, look, free blocks and the read of a number; of a length nothing is left to do; at the end of a heap its buffers, a line each.
+// What only reads the buffers: check, look, free blocks, the read of a number, and what writes an output; of a length nothing is left to do; at
+// the end of a heap its buffers, a line each.
 fn read(
     n: usize,
     w: usize,
@@ -89,6 +91,37 @@ fn read(
             e.x,
             e.y,
         ),
+        240 => outcome(outputs::reason(
+            n,
+            w,
+            a,
+            b,
+            counts,
+            cells,
+            roots,
+            waiting,
+            sections,
+            d,
+            marks,
+            list,
+            e.x,
+            e.y,
+        )),
+        241 => outcome(outputs::shape(
+            n,
+            w,
+            a,
+            b,
+            counts,
+            cells,
+            roots,
+            waiting,
+            sections,
+            d,
+            marks,
+            list,
+            e.x,
+        )),
         254 => outcome(true),
         _ => {
             calls_output::say_bytes(a);

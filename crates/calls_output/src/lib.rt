@@ -48,11 +48,27 @@ fn wide_ref(number: Ref) -> usize {
     number as usize
 }
 
+fn wide_word(number: u32) -> usize {
+    number as usize
+}
+
 // The line of a buffer of bytes.
 pub fn say_bytes(list: &[u8]) -> bool {
     let mut i = 0;
     while i < list.len() {
         if !say_item(i, wide(list[i])) {
+            return false;
+        }
+        i += 1;
+    }
+    end_line()
+}
+
+// The line of a list of 32-bit numbers.
+pub fn say_words(list: &[u32]) -> bool {
+    let mut i = 0;
+    while i < list.len() {
+        if !say_item(i, wide_word(list[i])) {
             return false;
         }
         i += 1;

@@ -55,7 +55,7 @@ pub fn show(blocks: usize, width: usize, buffers: &Buffers) -> Shared<'_> {
 
 /// The calls that format the heap, and so look at no content, and all others.
 pub const FORMATTING: [&str; 2] = ["format", "replay"];
-pub const OTHERS: [&str; 14] = [
+pub const OTHERS: [&str; 16] = [
     "check",
     "allocate",
     "store_root",
@@ -69,6 +69,8 @@ pub const OTHERS: [&str; 14] = [
     "read_number",
     "open_collection",
     "step_collection",
+    "reason",
+    "shape",
     "run_records",
 ];
 
@@ -88,6 +90,18 @@ pub fn call(name: &str, blocks: usize, buffers: &mut Buffers) -> Reply {
         "look" => lent::look(show(blocks, 2, buffers), 0),
         "read_number" => lent::read_number(show(blocks, 2, buffers), 1, 3),
         "free_blocks" => lent::free_blocks(show(blocks, 2, buffers)),
+        "reason" => {
+            let mut output = [99; 16];
+            let reply = lent::reason(show(blocks, 2, buffers), 0, &mut output);
+            assert!(reply.number == 0 || output == [99; 16]);
+            reply
+        }
+        "shape" => {
+            let mut output = [99; 23];
+            let reply = lent::shape(show(blocks, 2, buffers), &mut output);
+            assert!(reply.number == 0 || output == [99; 23]);
+            reply
+        }
         _ => writing_call(name, lend(blocks, 2, buffers)),
     }
 }
