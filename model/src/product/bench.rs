@@ -1,9 +1,10 @@
 //! Times of the product's library against the port in plain safe Rust: one run, same input, buffers warm. And those of the
-//! port's searches against each other (search_bench).
+//! port's searches against each other (search_bench), and of its check by bytes against that by blocks (check_bench).
 
 use crate::lists::random::Random;
+use crate::product::check_bench::{by_bytes, check_times, collect_times};
 use crate::product::data_bench::half_data;
-use crate::product::library::{shared, unique};
+use crate::product::library::unique;
 use crate::product::pause_bench::{pauses, SETUP};
 use crate::product::port::{self, lend};
 use crate::product::search_bench;
@@ -31,6 +32,7 @@ pub fn bench() -> String {
     search_bench::searches(&mut out);
     search_bench::growth(&mut out);
     check(&mut out, &list);
+    by_bytes(&mut out);
     half_data(&mut out);
     pauses(&mut out, &mixed_calls(BLOCKS, SETUP, 1));
     growth(&mut out);
@@ -150,72 +152,17 @@ fn used(blocks: usize, list: &[u64]) -> Memory {
 
 /// One whole-heap check, out of many.
 fn check(out: &mut String, list: &[u64]) {
-    let times = check_times(BLOCKS, list);
-    writeln!(out, "a check, N = {BLOCKS}, w = {WIDTH}: {}", ratio(times)).unwrap();
-}
-
-fn check_times(blocks: usize, list: &[u64]) -> [Duration; 2] {
-    const ROUNDS: u32 = 50;
-    let memory = used(blocks, list);
-    let mut other = memory.clone();
-    let other = lend(&mut other);
-    let times = by_turns(
-        || {
-            for _ in 0..ROUNDS {
-                let reply = lent::check(shared(blocks, WIDTH, black_box(&memory)));
-                assert_eq!(reply.number, 0);
-            }
-        },
-        || {
-            for _ in 0..ROUNDS {
-                let answer = port::check(blocks, WIDTH, black_box(&other));
-                assert_eq!(answer.number, 0);
-            }
-        },
-    );
-    times.map(|time| time / ROUNDS)
-}
-
-/// A collection, with the check that the public call makes before it.
-fn collect_times(blocks: usize, list: &[u64]) -> [Duration; 2] {
-    const ROUNDS: u32 = 50;
-    let mut memory = used(blocks, list);
-    let mut other = memory.clone();
-    let times = by_turns(
-        || {
-            for _ in 0..ROUNDS {
-                let reply = lent::collect(unique(blocks, WIDTH, black_box(&mut memory)));
-                assert_eq!(reply.number, 0);
-            }
-        },
-        || {
-            for _ in 0..ROUNDS {
-                let mut m = lend(black_box(&mut other));
-                assert_eq!(port::check(blocks, WIDTH, &m).number, 0);
-                m.waiting.fill(0);
-                port::full_collection(blocks, WIDTH, &mut m);
-            }
-        },
-    );
-    assert!(memory == other);
-    times.map(|time| time / ROUNDS)
+    let times = check_times(BLOCKS, &used(BLOCKS, list));
+    writeln!(out, "a check, N = {BLOCKS}, w = {WIDTH}: {}", times.ratio()).unwrap();
 }
 
 /// Check and collect on heaps of growing size.
 fn growth(out: &mut String) {
     for blocks in [1024, 2048, 4096, 8192] {
-        let list = mixed_calls(blocks, 8 * blocks, 2);
-        writeln!(
-            out,
-            "N = {blocks}: check   {}",
-            ratio(check_times(blocks, &list))
-        )
-        .unwrap();
-        writeln!(
-            out,
-            "N = {blocks}: collect {}",
-            ratio(collect_times(blocks, &list))
-        )
-        .unwrap();
+        let memory = used(blocks, &mixed_calls(blocks, 8 * blocks, 2));
+        let check = check_times(blocks, &memory).ratio();
+        let collect = collect_times(blocks, &memory).ratio();
+        writeln!(out, "N = {blocks}: check   {check}").unwrap();
+        writeln!(out, "N = {blocks}: collect {collect}").unwrap();
     }
 }

@@ -2,19 +2,15 @@
 //! whose cells are all 0. Data is not scanned.
 
 use crate::lists::random::Random;
-use crate::product::library::{shared, unique};
+use crate::product::check_bench::{check_times, collect_times, Times};
 use crate::product::port::{self, lend};
-use crate::product::timing::{by_turns, compared};
+use crate::product::timing::compared;
 use crate::rules::heap::Memory;
-use huwekapo::lent;
 use std::fmt::Write;
-use std::hint::black_box;
-use std::time::Duration;
 
 const WIDTH: usize = 3;
 const ROOTS: usize = 64;
 const BLOCKS: usize = 8192;
-const ROUNDS: u32 = 50;
 
 /// The codes of an allocation in a list.
 const ORDINARY: u64 = 2;
@@ -53,65 +49,16 @@ fn heap(array: u64) -> Memory {
     memory
 }
 
-fn ratio(times: [Duration; 2]) -> String {
-    compared(["library", "plain Rust"], times)
-}
-
-/// One check, by the library and by the port.
-fn check_times(memory: &Memory) -> [Duration; 2] {
-    let mut other = memory.clone();
-    let other = lend(&mut other);
-    let times = by_turns(
-        || {
-            for _ in 0..ROUNDS {
-                let reply = lent::check(shared(BLOCKS, WIDTH, black_box(memory)));
-                assert_eq!(reply.number, 0);
-            }
-        },
-        || {
-            for _ in 0..ROUNDS {
-                let answer = port::check(BLOCKS, WIDTH, black_box(&other));
-                assert_eq!(answer.number, 0);
-            }
-        },
-    );
-    times.map(|time| time / ROUNDS)
-}
-
-/// One collection, with the check that the public call makes before it.
-fn collect_times(memory: &Memory) -> [Duration; 2] {
-    let (mut memory, mut other) = (memory.clone(), memory.clone());
-    let times = by_turns(
-        || {
-            for _ in 0..ROUNDS {
-                let reply = lent::collect(unique(BLOCKS, WIDTH, black_box(&mut memory)));
-                assert_eq!(reply.number, 0);
-            }
-        },
-        || {
-            for _ in 0..ROUNDS {
-                let mut m = lend(black_box(&mut other));
-                assert_eq!(port::check(BLOCKS, WIDTH, &m).number, 0);
-                m.waiting.fill(0);
-                port::full_collection(BLOCKS, WIDTH, &mut m);
-            }
-        },
-    );
-    assert!(memory == other);
-    times.map(|time| time / ROUNDS)
-}
-
 /// Both heaps, each by the library and by the port; and the library's times on them against each other.
 pub fn half_data(out: &mut String) {
     let heaps = [heap(DATA), heap(ORDINARY)];
-    for (name, times) in [
-        ("check", heaps.each_ref().map(check_times)),
-        ("collect", heaps.each_ref().map(collect_times)),
-    ] {
-        let [data, ordinary] = times;
-        writeln!(out, "half of it data, {name}: {}", ratio(data)).unwrap();
-        writeln!(out, "half of it arrays of 0s, {name}: {}", ratio(ordinary)).unwrap();
-        let libraries = compared(["as data", "as objects"], [data[0], ordinary[0]]);
+    let ways: [(&str, fn(usize, &Memory) -> Times); 2] =
+        [("check", check_times), ("collect", collect_times)];
+    for (name, times) in ways {
+        let [data, ordinary] = heaps.each_ref().map(|heap| times(BLOCKS, heap));
+        writeln!(out, "half of it data, {name}: {}", data.ratio()).unwrap();
+        writeln!(out, "half of it arrays of 0s, {name}: {}", ordinary.ratio()).unwrap();
+        let libraries = compared(["as data", "as objects"], [data.library, ordinary.library]);
         writeln!(out, "  {name} by the library: {libraries}").unwrap();
     }
 }

@@ -1,4 +1,4 @@
-//! Bits, counts, first blocks, sizes, data, chunks and extents.
+//! Bits, counts, first blocks, sizes, data, chunks and extents: by bytes where the library goes by bytes.
 
 pub fn get_bit(map: &[u8], i: usize) -> u8 {
     (map[i / 8] >> (i % 8)) % 2
@@ -10,9 +10,20 @@ pub fn set_bit(map: &mut [u8], i: usize, v: u8) {
     map[i / 8] = b - (((b >> k) % 2) << k) + (v << k);
 }
 
+/// The byte with its `count` bits from bit `from` on replaced by v, 0 or 1.
+fn fill_byte(byte: u8, from: usize, count: usize, v: u8) -> u8 {
+    let mask = (255u8 >> (8 - count)) << from;
+    (byte & !mask) | (mask * v)
+}
+
+/// Byte by byte, the first and the last by a mask.
 fn fill_bits(map: &mut [u8], from: usize, count: usize, v: u8) {
-    for i in 0..count {
-        set_bit(map, from + i, v);
+    let mut i = 0;
+    while i < count {
+        let at = from + i;
+        let n = (8 - at % 8).min(count - i);
+        map[at / 8] = fill_byte(map[at / 8], at % 8, n, v);
+        i += n;
     }
 }
 
@@ -35,6 +46,24 @@ pub fn get_count(counts: &[u8], bytes: usize, width: usize, block: usize) -> u8 
     count
 }
 
+/// The blocks among the eight of byte k whose count is not 0, as the bits of a byte.
+pub fn some_byte(counts: &[u8], bytes: usize, width: usize, k: usize) -> u8 {
+    let mut some = 0;
+    for plane in 0..width {
+        some |= counts[plane * bytes + k];
+    }
+    some
+}
+
+/// The blocks among the eight of byte k whose count has every bit 1, as the bits of a byte.
+pub fn full_byte(counts: &[u8], bytes: usize, width: usize, k: usize) -> u8 {
+    let mut full = 255;
+    for plane in 0..width {
+        full &= counts[plane * bytes + k];
+    }
+    full
+}
+
 pub fn set_count(counts: &mut [u8], bytes: usize, width: usize, block: usize, value: u8) {
     let mut from = 0;
     for k in 0..width {
@@ -51,13 +80,33 @@ pub fn is_first(blocks: usize, a: &[u8], b: &[u8], i: usize) -> bool {
     i == 0 || get_bit(a, i - 1) == 0 || get_bit(b, i - 1) == 0
 }
 
+/// The first blocks among the eight of byte k, as the bits of a byte.
+pub fn first_byte(a: &[u8], b: &[u8], k: usize) -> u8 {
+    let own = (a[k] & b[k]) << 1;
+    if k == 0 {
+        return a[k] & !own;
+    }
+    let into = own | ((a[k - 1] & b[k - 1]) >> 7);
+    a[k] & !into
+}
+
+/// A byte at a time, whose 0 is found by the count of trailing zeros of what is not in it.
 pub fn object_size(blocks: usize, b: &[u8], i: usize) -> usize {
     let mut at = i;
     while at < blocks {
-        if get_bit(b, at) == 0 {
-            return at + 1 - i;
+        let rest = !b[at / 8] >> (at % 8);
+        if rest != 0 {
+            let last = at + rest.trailing_zeros() as usize;
+            if last < blocks {
+                return last + 1 - i;
+            }
+            return blocks - i;
         }
-        at += 1;
+        let step = 8 - at % 8;
+        if blocks - at <= step {
+            return blocks - i;
+        }
+        at += step;
     }
     blocks - i
 }
@@ -76,12 +125,33 @@ pub fn naming_cells(data: &[u8], i: usize, n: usize) -> usize {
 
 /// Whether the D-map has a bit. Where it has none, a walk needs not look for data.
 pub fn has_data(data: &[u8]) -> bool {
+    let mut any = 0;
     for byte in data {
-        if *byte != 0 {
-            return true;
+        any |= byte;
+    }
+    any != 0
+}
+
+/// How many cells are looked at together: those of eight blocks.
+const STRETCH: usize = 32;
+
+/// Which of the eight blocks of byte k have a cell that is not 0, as the bits of a byte.
+pub fn filled_byte(cells: &[u16], k: usize) -> u8 {
+    let stretch = &cells[STRETCH * k..STRETCH * (k + 1)];
+    let mut any = 0;
+    for v in stretch {
+        any |= v;
+    }
+    if any == 0 {
+        return 0;
+    }
+    let mut filled = 0;
+    for (s, four) in stretch.chunks_exact(4).enumerate() {
+        if four[0] | four[1] | four[2] | four[3] != 0 {
+            filled |= 1 << s;
         }
     }
-    false
+    filled
 }
 
 /// Whether block i is a block of data, in a walk from block 0 upwards: `before` says it of the block before it.

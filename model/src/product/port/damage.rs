@@ -1,13 +1,15 @@
-//! The shape test and the damage kinds.
+//! The shape test and the damage kinds, by bytes. A heap that is shaped has whole bytes: the library's loops over the blocks after the
+//! last whole byte have no turn there, and are left out.
 
 use super::blocks::{
-    chunk_size, get_bit, get_count, has_data, is_first, is_in_data, is_reference, object_size,
+    chunk_size, filled_byte, first_byte, full_byte, get_bit, get_count, has_data, is_in_data,
+    is_reference, object_size, some_byte,
 };
 use super::sections::{is_stale, section_length};
 use super::steps::is_untidy;
 use super::{acceptance, refusal, Answer, Lent};
 
-const MAX_BLOCKS: usize = 8192;
+pub const MAX_BLOCKS: usize = 8192;
 
 pub fn is_shaped(blocks: usize, width: usize, m: &Lent) -> bool {
     let mut power = 8;
@@ -28,21 +30,35 @@ pub fn is_shaped(blocks: usize, width: usize, m: &Lent) -> bool {
         && m.list.len() == blocks + 1
 }
 
-fn has_end_on_free(blocks: usize, a: &[u8], b: &[u8]) -> bool {
-    for i in 0..blocks {
-        if get_bit(a, i) == 0 && get_bit(b, i) == 0 {
-            return true;
-        }
+/// Kind 1, eight blocks at a time.
+fn has_end_on_free(a: &[u8], b: &[u8]) -> bool {
+    let mut found = 0;
+    for (a, b) in a.iter().zip(b) {
+        found |= !(a | b);
     }
-    false
+    found != 0
 }
 
-fn is_free_or_past(blocks: usize, a: &[u8], i: usize) -> bool {
+pub fn is_free_or_past(blocks: usize, a: &[u8], i: usize) -> bool {
     blocks <= i || get_bit(a, i) == 0
 }
 
+/// Kind 2 in all bytes but the last: each is held to itself and the next.
+fn open_end_in(a: &[u8], b: &[u8]) -> bool {
+    let mut found = 0;
+    for (two, b) in a.windows(2).zip(b) {
+        let next = (two[0] >> 1) | (two[1] << 7);
+        found |= (two[0] & b) & !next;
+    }
+    found != 0
+}
+
+/// Kind 2: by bytes, then the last eight blocks one by one.
 fn has_open_end(blocks: usize, a: &[u8], b: &[u8]) -> bool {
-    for i in 0..blocks {
+    if open_end_in(a, b) {
+        return true;
+    }
+    for i in blocks - 8..blocks {
         if get_bit(a, i) != 0 && get_bit(b, i) != 0 && is_free_or_past(blocks, a, i + 1) {
             return true;
         }
@@ -50,18 +66,33 @@ fn has_open_end(blocks: usize, a: &[u8], b: &[u8]) -> bool {
     false
 }
 
+/// Kind 3 of the objects that start at the blocks of byte k which are the bits of `these`.
+fn has_unaligned_of(blocks: usize, b: &[u8], k: usize, these: u8) -> bool {
+    let mut left = these;
+    while left != 0 {
+        let i = 8 * k + left.trailing_zeros() as usize;
+        if i % chunk_size(object_size(blocks, b, i)) != 0 {
+            return true;
+        }
+        left &= left - 1;
+    }
+    false
+}
+
+/// Kind 3, by first blocks.
 fn has_unaligned(blocks: usize, a: &[u8], b: &[u8]) -> bool {
-    for i in 0..blocks {
-        if is_first(blocks, a, b, i) && i % chunk_size(object_size(blocks, b, i)) != 0 {
+    for k in 0..blocks / 8 {
+        if has_unaligned_of(blocks, b, k, first_byte(a, b, k)) {
             return true;
         }
     }
     false
 }
 
+/// Kind 4 of the cells; on a heap with data block by block.
 fn has_bad_cell(blocks: usize, m: &Lent) -> bool {
     if !has_data(m.data) {
-        return has_bad_cell_in(blocks, m, 0, 4 * blocks);
+        return has_bad_reference(blocks, m);
     }
     let mut in_data = false;
     for i in 0..blocks {
@@ -73,8 +104,30 @@ fn has_bad_cell(blocks: usize, m: &Lent) -> bool {
     false
 }
 
+/// Without data: by the blocks that have a cell other than 0, eight blocks at a time.
+fn has_bad_reference(blocks: usize, m: &Lent) -> bool {
+    for k in 0..blocks / 8 {
+        if has_bad_among(blocks, m, k, filled_byte(m.cells, k)) {
+            return true;
+        }
+    }
+    false
+}
+
+fn has_bad_among(blocks: usize, m: &Lent, k: usize, these: u8) -> bool {
+    let mut left = these;
+    while left != 0 {
+        let i = 8 * k + left.trailing_zeros() as usize;
+        if has_bad_cell_in(blocks, m, 4 * i, 4) {
+            return true;
+        }
+        left &= left - 1;
+    }
+    false
+}
+
 /// The n cells from cell `from` on, none of them of data.
-fn has_bad_cell_in(blocks: usize, m: &Lent, from: usize, n: usize) -> bool {
+pub fn has_bad_cell_in(blocks: usize, m: &Lent, from: usize, n: usize) -> bool {
     for (k, v) in m.cells[from..from + n].iter().enumerate() {
         if *v != 0
             && (get_bit(m.a, (from + k) / 4) == 0 || !is_reference(blocks, m.a, m.b, *v as usize))
@@ -85,7 +138,7 @@ fn has_bad_cell_in(blocks: usize, m: &Lent, from: usize, n: usize) -> bool {
     false
 }
 
-fn has_bad_root(blocks: usize, a: &[u8], b: &[u8], roots: &[u16]) -> bool {
+pub fn has_bad_root(blocks: usize, a: &[u8], b: &[u8], roots: &[u16]) -> bool {
     for v in roots {
         if !is_reference(blocks, a, b, *v as usize) {
             return true;
@@ -94,17 +147,37 @@ fn has_bad_root(blocks: usize, a: &[u8], b: &[u8], roots: &[u16]) -> bool {
     false
 }
 
-fn tally(refs: &[u16], at: &mut [u16; MAX_BLOCKS]) {
+/// One more, to 255 at most.
+fn one_more(n: u8) -> u8 {
+    if n == 255 {
+        return 255;
+    }
+    n + 1
+}
+
+fn tally(refs: &[u16], at: &mut [u8; MAX_BLOCKS]) {
     for v in refs {
-        if *v != 0 {
-            at[*v as usize - 1] += 1;
+        let v = *v as usize;
+        if v != 0 {
+            at[v - 1] = one_more(at[v - 1]);
         }
     }
 }
 
-fn tally_cells(blocks: usize, m: &Lent, at: &mut [u16; MAX_BLOCKS]) {
+fn tally_among(cells: &[u16], k: usize, these: u8, at: &mut [u8; MAX_BLOCKS]) {
+    let mut left = these;
+    while left != 0 {
+        let from = 32 * k + 4 * left.trailing_zeros() as usize;
+        tally(&cells[from..from + 4], at);
+        left &= left - 1;
+    }
+}
+
+fn tally_cells(blocks: usize, m: &Lent, at: &mut [u8; MAX_BLOCKS]) {
     if !has_data(m.data) {
-        tally(m.cells, at);
+        for k in 0..blocks / 8 {
+            tally_among(m.cells, k, filled_byte(m.cells, k), at);
+        }
         return;
     }
     let mut in_data = false;
@@ -116,46 +189,58 @@ fn tally_cells(blocks: usize, m: &Lent, at: &mut [u16; MAX_BLOCKS]) {
     }
 }
 
-fn is_bad_count(first: bool, count: u8, capacity: u8, references: u16) -> bool {
-    if !first {
-        return count != 0;
+/// Whether one of the blocks of byte k that are the bits of `these` has a count that is not the tally's.
+fn is_off_tally(
+    these: u8,
+    k: usize,
+    bytes: usize,
+    width: usize,
+    counts: &[u8],
+    at: &[u8; MAX_BLOCKS],
+) -> bool {
+    let mut left = these;
+    while left != 0 {
+        let i = 8 * k + left.trailing_zeros() as usize;
+        if get_count(counts, bytes, width, i) != at[i] {
+            return true;
+        }
+        left &= left - 1;
     }
-    count == 0 || (count < capacity && count as u16 != references)
+    false
 }
 
+/// Kind 5, eight blocks at a time: where an object starts and where a count is not 0 must be the same, and a count below
+/// capacity must be the tally's.
 fn has_bad_count(blocks: usize, width: usize, m: &Lent) -> bool {
     let mut at = [0; MAX_BLOCKS];
     tally(m.roots, &mut at);
     tally_cells(blocks, m, &mut at);
-    let capacity = (1u8 << width) - 1;
-    for (i, references) in at[..blocks].iter().enumerate() {
-        let count = get_count(m.counts, blocks / 8, width, i);
-        let first = is_first(blocks, m.a, m.b, i);
-        if is_bad_count(first, count, capacity, *references) {
+    let bytes = blocks / 8;
+    for k in 0..bytes {
+        let first = first_byte(m.a, m.b, k);
+        if some_byte(m.counts, bytes, width, k) != first {
+            return true;
+        }
+        let these = first & !full_byte(m.counts, bytes, width, k);
+        if is_off_tally(these, k, bytes, width, m.counts, &at) {
             return true;
         }
     }
     false
 }
 
+/// Kind 7, eight blocks at a time.
 fn has_stray_data(blocks: usize, a: &[u8], b: &[u8], data: &[u8]) -> bool {
-    if !has_data(data) {
-        return false;
+    let mut found = 0;
+    for (k, byte) in data[..blocks / 8].iter().enumerate() {
+        found |= byte & !first_byte(a, b, k);
     }
-    for i in 0..blocks {
-        if get_bit(data, i) == 1 && !is_first(blocks, a, b, i) {
-            return true;
-        }
-    }
-    false
+    found != 0
 }
 
-/// Numbers 1, 2, 11 and 13.
-pub fn check(blocks: usize, width: usize, m: &Lent) -> Answer {
-    if !is_shaped(blocks, width, m) {
-        return refusal(1);
-    }
-    let kind = if has_end_on_free(blocks, m.a, m.b) {
+/// The first damage kind that applies, or 0.
+fn damage_kind(blocks: usize, width: usize, m: &Lent) -> usize {
+    if has_end_on_free(m.a, m.b) {
         1
     } else if has_open_end(blocks, m.a, m.b) {
         2
@@ -167,16 +252,39 @@ pub fn check(blocks: usize, width: usize, m: &Lent) -> Answer {
         5
     } else if has_stray_data(blocks, m.a, m.b, m.data) {
         7
-    } else if is_stale(blocks, m.a, m.sections) {
-        return refusal(11);
-    } else if is_untidy(blocks, m) {
-        return refusal(13);
     } else {
-        return acceptance(0);
-    };
-    Answer {
-        number: 2,
-        value: kind,
-        second: 0,
+        0
     }
+}
+
+/// Numbers 1, 2, 11 and 13.
+pub fn check(blocks: usize, width: usize, m: &Lent) -> Answer {
+    check_with(damage_kind, blocks, width, m)
+}
+
+/// The same, with a search for damage of its own.
+pub fn check_with(
+    damage_kind: impl Fn(usize, usize, &Lent) -> usize,
+    blocks: usize,
+    width: usize,
+    m: &Lent,
+) -> Answer {
+    if !is_shaped(blocks, width, m) {
+        return refusal(1);
+    }
+    let kind = damage_kind(blocks, width, m);
+    if kind != 0 {
+        return Answer {
+            number: 2,
+            value: kind,
+            second: 0,
+        };
+    }
+    if is_stale(blocks, m.a, m.sections) {
+        return refusal(11);
+    }
+    if is_untidy(blocks, m) {
+        return refusal(13);
+    }
+    acceptance(0)
 }

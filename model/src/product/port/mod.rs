@@ -2,6 +2,7 @@
 //! product's times against, and makes its list with. It is no model: nothing here says what is right.
 
 mod blocks;
+mod by_blocks;
 mod damage;
 mod history;
 mod references;
@@ -13,6 +14,7 @@ mod two_passes;
 use crate::rules::heap::Memory;
 
 pub use blocks::{lowest_chunk, Searched};
+pub use by_blocks::{check_by_blocks, collection_by_blocks};
 pub use damage::check;
 pub use history::{report, run_records, SoFar, Tally};
 pub use replay::{full_collection, replay, replay_without_list, search_in_one_walk, step};

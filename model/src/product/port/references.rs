@@ -218,7 +218,12 @@ fn visit(
     top
 }
 
-fn mark(blocks: usize, width: usize, m: &mut Lent) {
+fn mark(
+    object_size: impl Fn(usize, &[u8], usize) -> usize,
+    blocks: usize,
+    width: usize,
+    m: &mut Lent,
+) {
     for byte in m.counts.iter_mut() {
         *byte = 0;
     }
@@ -239,7 +244,18 @@ fn mark(blocks: usize, width: usize, m: &mut Lent) {
 
 /// The full collection, on an undamaged heap with a cleared waiting list. The number of blocks freed.
 pub fn collect(blocks: usize, width: usize, m: &mut Lent) -> usize {
-    mark(blocks, width, m);
+    collect_with(object_size, clear_extent, blocks, width, m)
+}
+
+/// The same, with a way of its own to find a size and to clear an extent.
+pub fn collect_with(
+    object_size: impl Fn(usize, &[u8], usize) -> usize + Copy,
+    clear_extent: impl Fn(&mut [u8], &mut [u8], usize, usize),
+    blocks: usize,
+    width: usize,
+    m: &mut Lent,
+) -> usize {
+    mark(object_size, blocks, width, m);
     let mut freed = 0;
     for i in 0..blocks {
         if is_first(blocks, m.a, m.b, i) && get_count(m.counts, blocks / 8, width, i) == 0 {

@@ -1,0 +1,168 @@
+//! The check as it was before it went by bytes, kept to be compared with: kinds 1 to 5 and 7 block by block, a tally of 16-bit
+//! numbers, a size and a run of bits bit by bit; and the collection with that size and those runs.
+
+use super::blocks::{chunk_size, get_bit, get_count, is_first, is_in_data, set_bit};
+use super::damage::{check_with, has_bad_cell_in, has_bad_root, is_free_or_past, MAX_BLOCKS};
+use super::references::collect_with;
+use super::sections::renew;
+use super::{Answer, Lent};
+
+fn fill_bits(map: &mut [u8], from: usize, count: usize, v: u8) {
+    for i in 0..count {
+        set_bit(map, from + i, v);
+    }
+}
+
+fn clear_extent(a: &mut [u8], b: &mut [u8], i: usize, n: usize) {
+    fill_bits(a, i, n, 0);
+    set_bit(b, i + n - 1, 1);
+}
+
+fn object_size(blocks: usize, b: &[u8], i: usize) -> usize {
+    let mut at = i;
+    while at < blocks {
+        if get_bit(b, at) == 0 {
+            return at + 1 - i;
+        }
+        at += 1;
+    }
+    blocks - i
+}
+
+fn has_data(data: &[u8]) -> bool {
+    for byte in data {
+        if *byte != 0 {
+            return true;
+        }
+    }
+    false
+}
+
+fn has_end_on_free(blocks: usize, a: &[u8], b: &[u8]) -> bool {
+    for i in 0..blocks {
+        if get_bit(a, i) == 0 && get_bit(b, i) == 0 {
+            return true;
+        }
+    }
+    false
+}
+
+fn has_open_end(blocks: usize, a: &[u8], b: &[u8]) -> bool {
+    for i in 0..blocks {
+        if get_bit(a, i) != 0 && get_bit(b, i) != 0 && is_free_or_past(blocks, a, i + 1) {
+            return true;
+        }
+    }
+    false
+}
+
+fn has_unaligned(blocks: usize, a: &[u8], b: &[u8]) -> bool {
+    for i in 0..blocks {
+        if is_first(blocks, a, b, i) && i % chunk_size(object_size(blocks, b, i)) != 0 {
+            return true;
+        }
+    }
+    false
+}
+
+fn has_bad_cell(blocks: usize, m: &Lent) -> bool {
+    if !has_data(m.data) {
+        return has_bad_cell_in(blocks, m, 0, 4 * blocks);
+    }
+    let mut in_data = false;
+    for i in 0..blocks {
+        in_data = is_in_data(blocks, m.a, m.b, m.data, i, in_data);
+        if !in_data && has_bad_cell_in(blocks, m, 4 * i, 4) {
+            return true;
+        }
+    }
+    false
+}
+
+fn tally(refs: &[u16], at: &mut [u16; MAX_BLOCKS]) {
+    for v in refs {
+        if *v != 0 {
+            at[*v as usize - 1] += 1;
+        }
+    }
+}
+
+fn tally_cells(blocks: usize, m: &Lent, at: &mut [u16; MAX_BLOCKS]) {
+    if !has_data(m.data) {
+        tally(m.cells, at);
+        return;
+    }
+    let mut in_data = false;
+    for i in 0..blocks {
+        in_data = is_in_data(blocks, m.a, m.b, m.data, i, in_data);
+        if !in_data {
+            tally(&m.cells[4 * i..4 * i + 4], at);
+        }
+    }
+}
+
+fn is_bad_count(first: bool, count: u8, capacity: u8, references: u16) -> bool {
+    if !first {
+        return count != 0;
+    }
+    count == 0 || (count < capacity && count as u16 != references)
+}
+
+fn has_bad_count(blocks: usize, width: usize, m: &Lent) -> bool {
+    let mut at = [0; MAX_BLOCKS];
+    tally(m.roots, &mut at);
+    tally_cells(blocks, m, &mut at);
+    let capacity = (1u8 << width) - 1;
+    for (i, references) in at[..blocks].iter().enumerate() {
+        let count = get_count(m.counts, blocks / 8, width, i);
+        let first = is_first(blocks, m.a, m.b, i);
+        if is_bad_count(first, count, capacity, *references) {
+            return true;
+        }
+    }
+    false
+}
+
+fn has_stray_data(blocks: usize, a: &[u8], b: &[u8], data: &[u8]) -> bool {
+    if !has_data(data) {
+        return false;
+    }
+    for i in 0..blocks {
+        if get_bit(data, i) == 1 && !is_first(blocks, a, b, i) {
+            return true;
+        }
+    }
+    false
+}
+
+fn damage_kind(blocks: usize, width: usize, m: &Lent) -> usize {
+    if has_end_on_free(blocks, m.a, m.b) {
+        1
+    } else if has_open_end(blocks, m.a, m.b) {
+        2
+    } else if has_unaligned(blocks, m.a, m.b) {
+        3
+    } else if has_bad_cell(blocks, m) || has_bad_root(blocks, m.a, m.b, m.roots) {
+        4
+    } else if has_bad_count(blocks, width, m) {
+        5
+    } else if has_stray_data(blocks, m.a, m.b, m.data) {
+        7
+    } else {
+        0
+    }
+}
+
+/// The numbers of `check`.
+pub fn check_by_blocks(blocks: usize, width: usize, m: &Lent) -> Answer {
+    check_with(damage_kind, blocks, width, m)
+}
+
+/// What `full_collection` does.
+pub fn collection_by_blocks(blocks: usize, width: usize, m: &mut Lent) -> usize {
+    let freed = collect_with(object_size, clear_extent, blocks, width, m);
+    if freed != 0 {
+        renew(blocks, m.a, m.sections);
+    }
+    freed
+}
