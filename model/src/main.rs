@@ -40,8 +40,8 @@ const USAGE: &str = "usage:
 with the product's library, `--features library`:
   model fuzz SECONDS SEED            all pairs of maps of 8 blocks, random lists, damaged memories, replays and runs
                                      of records, model against library
-  model bench                        times of the library against plain Rust, of the searches for a chunk, with data, and in
-                                     small steps
+  model bench                        times of the library against plain Rust, of the searches for a chunk, of the check by
+                                     bytes, with data, and in small steps
                                      (build it with --release)
 ";
 

@@ -6,8 +6,10 @@ use model::history::run::run_records;
 use model::history::Run;
 use model::product::compare::Library;
 use model::product::fuzz::fuzz;
-use model::product::met::{Met, CALLS, KINDS, NUMBERS, STOPS};
+use model::product::met::{Met, AROUND, CALLS, KINDS, NUMBERS, READINGS, STOPS};
 use model::rules::mark_claims::ILL;
+use model::rules::outputs::{reason, shape};
+use model::rules::reasons::{read_reason, Reading};
 use model::rules::replay::replay;
 use model::{apply, Call, Memory, Reply};
 
@@ -23,6 +25,9 @@ const MODEL: Library = Library {
     apply,
     replay,
     run_records,
+    reason,
+    shape,
+    read_reason,
 };
 
 #[test]
@@ -101,6 +106,18 @@ fn what_was_not_met_is_named() {
         &|met| met.marks_with_lists -= 1,
         "every mark map with lists".to_string(),
     );
+    for (which, name) in ["reason", "shape"].into_iter().enumerate() {
+        for (k, what) in AROUND.into_iter().enumerate() {
+            let what = format!("{name}, an output {what}");
+            without(&|met| met.around[which][k] = 0, what);
+        }
+    }
+    without(&|met| met.most_links = 3, "reason, four links".to_string());
+    without(&|met| met.no_root = 0, "reason, no root".to_string());
+    for (kind, what) in READINGS.into_iter().enumerate() {
+        let what = format!("reading, {what}");
+        without(&|met| met.readings[kind] = 0, what);
+    }
     without(
         &|met| met.full_with_one_open = 0,
         "run, stopped by 5 with one open".to_string(),
@@ -176,4 +193,64 @@ fn a_difference_is_found_and_cut_down() {
         text.starts_with("a difference: a run of records, "),
         "{text}"
     );
+}
+
+/// One byte too few is enough for it, where nothing is written.
+fn short_reason(
+    blocks: usize,
+    width: usize,
+    memory: &Memory,
+    a: usize,
+    output: &mut [u8],
+) -> Reply {
+    let mut longer = output.to_vec();
+    longer.push(0);
+    let reply = reason(blocks, width, memory, a, &mut longer);
+    if reply.number == 0 && reply.value == longer.len() {
+        return reply;
+    }
+    reason(blocks, width, memory, a, output)
+}
+
+/// Writes what fits before it says 16.
+fn fitting_shape(blocks: usize, width: usize, memory: &Memory, output: &mut [u32]) -> Reply {
+    let reply = shape(blocks, width, memory, output);
+    if let (16, Some(first)) = (reply.number, output.first_mut()) {
+        *first = memory.roots.len() as u32;
+    }
+    reply
+}
+
+/// Takes numbers with leading zeros.
+fn lenient_reading(text: &[u8], cells: &mut [u32]) -> Reading {
+    let plain = String::from_utf8_lossy(text).replace(" 0", " ");
+    match read_reason(text, cells) {
+        Reading { kind: 0, .. } => read_reason(plain.as_bytes(), cells),
+        reading => reading,
+    }
+}
+
+#[test]
+fn wrong_outputs_are_found() {
+    let reason_only = Library {
+        reason: short_reason,
+        ..MODEL
+    };
+    let (_, found) = fuzz(0, 1, reason_only);
+    let text = found.expect("an output that is one byte too short");
+    assert!(text.contains("reason of"), "{text}");
+    let shape_only = Library {
+        shape: fitting_shape,
+        ..MODEL
+    };
+    let (_, found) = fuzz(0, 1, shape_only);
+    let text = found.expect("a number written in a refusal");
+    assert!(text.contains("shape into"), "{text}");
+    let reading_only = Library {
+        read_reason: lenient_reading,
+        ..MODEL
+    };
+    let (_, found) = fuzz(0, 1, reading_only);
+    let text = found.expect("a leading zero");
+    assert!(text.starts_with("a difference: a text read back"), "{text}");
 }

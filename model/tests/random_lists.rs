@@ -58,7 +58,9 @@ fn claims_in_every_family() {
                     Entry::NumberOutOfRange => {
                         assert!(["huge-arguments", "mixed"].contains(&family))
                     }
-                    Entry::Unknown(_) => panic!("an unknown entry"),
+                    Entry::Reason { .. } | Entry::Shape { .. } | Entry::Unknown(_) => {
+                        panic!("an entry of no family")
+                    }
                 }
             }
         }

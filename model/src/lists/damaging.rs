@@ -334,7 +334,8 @@ fn list_with_an_unmarked_object(
     memory: &mut Memory,
     objects: &[usize],
 ) {
-    let listed: Vec<usize> = listed(blocks, memory).into_iter().collect();
+    let listed = listed(blocks, memory).into_iter();
+    let listed: Vec<usize> = listed.filter(|first| *first < blocks).collect();
     if !listed.is_empty() && random.percent(50) {
         set_bit(&mut memory.marks, random.pick(&listed), 0);
     } else {

@@ -3,6 +3,7 @@
 use crate::rules::answers::Reply;
 use crate::rules::calls::{apply, Call};
 use crate::rules::heap::Memory;
+use crate::rules::outputs::{reason, shape};
 
 /// The largest numbers that a header (or an entry "new") may ask for: one more than is good where that
 /// makes refusal 1 reachable.
@@ -17,6 +18,15 @@ pub const BUFFERS: usize = 10;
 pub const MOST_LENGTHS: [u64; BUFFERS] =
     [1024, 1024, 5 * 1024, 32_768, 65, 8192, 32, 1024, 1024, 8193];
 
+/// Word 0 of the calls that write an output, and the largest length of one, in bytes or in numbers. They have no code in a replay.
+pub const REASON: u64 = 240;
+pub const SHAPE: u64 = 241;
+pub const MOST_OUTPUT: u64 = 65_536;
+
+/// What stands in each place of an output before the call: no sentence has such a byte, and no shape such a number.
+pub const UNWRITTEN_BYTE: u8 = 255;
+pub const UNWRITTEN_NUMBER: u32 = u32::MAX;
+
 /// Word 0 of the entries that are no calls: behind all calls to come.
 pub const LOAD: u64 = 253;
 pub const LENGTH: u64 = 254;
@@ -26,6 +36,15 @@ pub const NEW: u64 = 255;
 #[derive(Clone, Copy, Debug, PartialEq, Eq)]
 pub enum Entry {
     Call(Call),
+    /// U11, with an output of so many bytes.
+    Reason {
+        a: u64,
+        length: u64,
+    },
+    /// U13, with an output of so many numbers.
+    Shape {
+        length: u64,
+    },
     Load {
         buffer: u64,
         index: u64,
@@ -75,6 +94,8 @@ impl Entry {
             11 => Entry::Call(Call::ReadNumber { a: p, j: q }),
             12 => Entry::Call(Call::OpenCollection),
             13 => Entry::Call(Call::StepCollection { budget: p }),
+            REASON => Entry::Reason { a: x, length: y },
+            SHAPE => Entry::Shape { length: x },
             LOAD => Entry::Load {
                 buffer: x,
                 index: y,
@@ -161,9 +182,37 @@ impl Bench {
                     *self = next;
                 }
             }
+            Entry::Reason { a, length } => return self.reason(a, length).map(|(reply, _)| reply),
+            Entry::Shape { length } => return self.shape(length).map(|(reply, _)| reply),
             Entry::NumberOutOfRange | Entry::Unknown(_) => {}
         }
         None
+    }
+
+    /// The reason of an entry by the model, with the output as it is then; none where the length is out of range.
+    pub fn reason(&self, a: u64, length: u64) -> Option<(Reply, Vec<u8>)> {
+        if length > MOST_OUTPUT {
+            return None;
+        }
+        let mut output = vec![UNWRITTEN_BYTE; length as usize];
+        let reply = reason(
+            self.blocks,
+            self.width,
+            &self.memory,
+            a as usize,
+            &mut output,
+        );
+        Some((reply, output))
+    }
+
+    /// The shape of an entry by the model, likewise.
+    pub fn shape(&self, length: u64) -> Option<(Reply, Vec<u32>)> {
+        if length > MOST_OUTPUT {
+            return None;
+        }
+        let mut output = vec![UNWRITTEN_NUMBER; length as usize];
+        let reply = shape(self.blocks, self.width, &self.memory, &mut output);
+        Some((reply, output))
     }
 
     /// Whether a collection is open: not where the list has another length.

@@ -1,7 +1,7 @@
 //! The desk at which lists are written: it carries out each entry on the model as it writes it, so that the
 //! next one can be chosen to fit the heap. Most calls are chosen to be accepted; some are chosen not to be.
 
-use crate::lists::file::{bytes, Bench, Entry, LENGTH, LOAD, NEW};
+use crate::lists::file::{bytes, Bench, Entry, LENGTH, LOAD, NEW, REASON, SHAPE};
 use crate::lists::random::Random;
 use crate::rules::answers::Reply;
 use crate::rules::calls::{apply, Call};
@@ -38,6 +38,18 @@ impl Desk {
 
     pub fn call(&mut self, call: Call) -> Reply {
         self.words(call.words()).expect("a call has a reply")
+    }
+
+    /// The reason of a block, with an output of so many bytes.
+    pub fn reason(&mut self, a: usize, length: usize) -> Reply {
+        let words = [REASON, a as u64, length as u64, 0];
+        self.words(words).expect("a length in range")
+    }
+
+    /// The shape, with an output of so many numbers.
+    pub fn shape(&mut self, length: usize) -> Reply {
+        let words = [SHAPE, length as u64, 0, 0];
+        self.words(words).expect("a length in range")
     }
 
     pub fn load(&mut self, buffer: u64, index: usize, value: u64) {

@@ -159,3 +159,48 @@ fn cut_off(random: &mut Random, lent: &mut Lent) {
         lent.words.truncate(lent.words.len().saturating_sub(odd));
     }
 }
+
+/// A sentence (U11) made into another text, which seldom is a sentence, too.
+pub fn spoilt_sentence(sentence: &[u8], random: &mut Random) -> Vec<u8> {
+    let mut text = sentence.to_vec();
+    let place = random.below(text.len());
+    let bytes = b" 0123456789\n\tcrbn-+";
+    let words: [&[u8]; 8] = [
+        b"root ",
+        b" cell 0",
+        b" block 7",
+        b"no ",
+        b"0",
+        b"4294967295",
+        b"4294967296",
+        b"18446744073709551617",
+    ];
+    match random.below(9) {
+        0 => text[place] = random.pick(bytes),
+        1 => text.insert(place, random.pick(bytes)),
+        2 => {
+            text.remove(place);
+        }
+        3 => text.truncate(place),
+        4 => text.push(random.pick(bytes)),
+        5 => text[place] = random.word() as u8,
+        // Something in front of a word, or in place of a number: often a sentence again.
+        6..=7 => {
+            let spaces = (0..text.len()).filter(|k| text[*k] == b' ');
+            let spaces: Vec<usize> = spaces.collect();
+            let space = random.pick(&spaces);
+            let add = random.pick(&words);
+            let end = (space + 1..text.len()).find(|k| !text[*k].is_ascii_digit());
+            let end = end.unwrap_or(text.len());
+            let at = if add[0].is_ascii_digit() {
+                space + 1
+            } else {
+                space
+            };
+            let end = if random.percent(50) { end.max(at) } else { at };
+            text.splice(at..end, add.iter().copied());
+        }
+        _ => text.extend(sentence),
+    }
+    text
+}

@@ -2,9 +2,10 @@
 //! many small heaps, a few large heaps, and every complaint that a file can meet.
 
 use crate::lists::families::{some_shape, FAMILIES};
-use crate::lists::file::{LENGTH, LOAD, NEW};
+use crate::lists::file::{LENGTH, LOAD, MOST_OUTPUT, NEW, REASON, SHAPE};
 use crate::lists::generate::Desk;
 use crate::lists::number_vectors::numbers;
+use crate::lists::output_vectors::outputs;
 use crate::lists::paper::{self, Step};
 use crate::lists::random::Random;
 use crate::lists::request_vectors::{moments, present_values, returns};
@@ -59,6 +60,7 @@ pub fn vectors(seed: u64) -> Vec<u8> {
     sections(&mut desk);
     numbers(&mut desk);
     steps(&mut desk);
+    with_outputs(&mut desk);
     for round in 0..16 {
         for (_, write) in FAMILIES {
             let shape = some_shape(round, &mut desk.random);
@@ -71,6 +73,23 @@ pub fn vectors(seed: u64) -> Vec<u8> {
     file.extend(Call::FreeBlocks.words()[0].to_le_bytes());
     file.extend([0; 5]);
     file
+}
+
+/// The lists of reasons and shapes, and what is wrong with their entries.
+fn with_outputs(desk: &mut Desk) {
+    let own = outputs();
+    desk.new_heap(own.header);
+    for words in own.entries {
+        desk.words(words);
+    }
+    let m = u64::MAX;
+    for length in [MOST_OUTPUT + 1, 1 << 32, m] {
+        desk.words([REASON, 0, length, 0]);
+        desk.words([SHAPE, length, 0, 0]);
+    }
+    // Words that they don't use aren't looked at.
+    desk.words([REASON, 0, 60, m]);
+    desk.words([SHAPE, 9, m, m]);
 }
 
 /// Every line that says what is wrong with an entry, but for the last one's "cut off".

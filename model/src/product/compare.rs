@@ -2,13 +2,20 @@
 
 use crate::history::run::run_records;
 use crate::history::{text, Run};
-use crate::lists::file::{Apply, Bench, Entry, BUFFERS};
+use crate::lists::file::{
+    Apply, Bench, Entry, BUFFERS, MOST_OUTPUT, UNWRITTEN_BYTE, UNWRITTEN_NUMBER,
+};
+use crate::lists::random::Random;
 use crate::lists::runs::{Handed, RunRecords};
 use crate::lists::spoiling::{Lent, Replay};
-use crate::product::met::Met;
+use crate::product::met::{place_of, Met};
 use crate::rules::answers::Reply;
 use crate::rules::calls::apply;
 use crate::rules::heap::Memory;
+use crate::rules::outputs::{
+    due_reason, due_shape, reason, shape, write_due, SHORT_REASON, SHORT_SHAPE,
+};
+use crate::rules::reasons::{read, read_reason, Reading};
 use crate::rules::replay::replay;
 use crate::texts::expect::{buffer_lines, numbers};
 use crate::texts::show::{buffer_name, entry_in_words};
@@ -20,7 +27,18 @@ pub struct Library {
     pub apply: Apply,
     pub replay: Replay,
     pub run_records: RunRecords,
+    pub reason: ReasonOf,
+    pub shape: ShapeOf,
+    pub read_reason: ReadReason,
 }
+
+/// What writes a reason or a shape, and what reads a sentence: the model's, or another.
+pub type ReasonOf = fn(usize, usize, &Memory, usize, &mut [u8]) -> Reply;
+pub type ShapeOf = fn(usize, usize, &Memory, &mut [u32]) -> Reply;
+pub type ReadReason = fn(&[u8], &mut [u32]) -> Reading;
+
+/// So many places behind an output are looked at, too: they must be as before.
+const BEHIND: usize = 8;
 
 /// What one side answered and left. An entry that is no call has no reply; only a replay has replies, and only a run stands
 /// somewhere.
@@ -30,6 +48,8 @@ struct Outcome<'a> {
     memory: &'a Memory,
     replies: &'a [u64],
     run: Option<Run>,
+    /// The output of a reason or a shape, and what lies behind it.
+    output: Vec<u32>,
 }
 
 /// Runs a list on both, comparing the reply and every buffer after every entry.
@@ -44,18 +64,28 @@ pub fn call_by_call(
     for (k, words) in entries.iter().enumerate() {
         let entry = Entry::from_words(*words);
         let open = model.has_one_open();
-        let by_model = model.carry_out(entry, apply);
-        let by_library = library.carry_out(entry, other.apply);
-        if let (Entry::Call(call), Some(reply)) = (entry, by_model) {
-            met.call(model.blocks, call, reply);
+        let (by_model, output) = carried_out(entry, &mut model, apply, (reason, shape));
+        let (by_library, library_output) = carried_out(
+            entry,
+            &mut library,
+            other.apply,
+            (other.reason, other.shape),
+        );
+        if let (Some(code), Some(reply)) = (place_of(entry), by_model) {
+            met.call(model.blocks, code, reply);
             met.call_with(open, reply);
             met.refused(model.blocks, &model.memory, reply);
         }
-        let sides = [(by_model, &model), (by_library, &library)].map(|(reply, bench)| Outcome {
+        let sides = [
+            (by_model, &model, output),
+            (by_library, &library, library_output),
+        ];
+        let sides = sides.map(|(reply, bench, output)| Outcome {
             reply,
             memory: &bench.memory,
             replies: &[],
             run: None,
+            output,
         });
         if sides[0] != sides[1] {
             let [blocks, width, roots] = header;
@@ -65,6 +95,109 @@ pub fn call_by_call(
         }
     }
     None
+}
+
+/// Carries out an entry on one side. A reason and a shape have an output, and some places behind it that aren't lent.
+fn carried_out(
+    entry: Entry,
+    bench: &mut Bench,
+    apply: Apply,
+    (reason, shape): (ReasonOf, ShapeOf),
+) -> (Option<Reply>, Vec<u32>) {
+    let (blocks, width) = (bench.blocks, bench.width);
+    match entry {
+        Entry::Reason { a, length } if length <= MOST_OUTPUT => {
+            let length = length as usize;
+            let mut output = vec![UNWRITTEN_BYTE; length + BEHIND];
+            let lent = &mut output[..length];
+            let reply = reason(blocks, width, &bench.memory, a as usize, lent);
+            (Some(reply), output.into_iter().map(u32::from).collect())
+        }
+        Entry::Shape { length } if length <= MOST_OUTPUT => {
+            let length = length as usize;
+            let mut output = vec![UNWRITTEN_NUMBER; length + BEHIND];
+            let reply = shape(blocks, width, &bench.memory, &mut output[..length]);
+            (Some(reply), output)
+        }
+        _ => (bench.carry_out(entry, apply), Vec::new()),
+    }
+}
+
+/// Asks the library for the reason of a block, or for the shape where there is none, with outputs of these lengths, on what a list
+/// left. The due output is the model's; the output holds anything before. The length with which the library differs.
+pub fn differing_output(
+    other: Library,
+    bench: &Bench,
+    block: Option<usize>,
+    random: &mut Random,
+    met: &mut Met,
+) -> Option<usize> {
+    let (blocks, width, memory) = (bench.blocks, bench.width, &bench.memory);
+    match block {
+        Some(a) => {
+            let due = due_reason(blocks, width, memory, a);
+            if let Ok(Some(said)) = due.as_ref().map(|text| read(text)) {
+                met.said(&said);
+            }
+            let right = due.as_ref().ok().map(Vec::len);
+            lengths_around(right).into_iter().find(|length| {
+                met.output(0, *length, right);
+                let behind = length + BEHIND;
+                let before: Vec<u8> = (0..behind).map(|_| random.word() as u8).collect();
+                let (mut model, mut library) = (before.clone(), before);
+                let by_model = write_due(&due, SHORT_REASON, &mut model[..*length]);
+                let lent = &mut library[..*length];
+                let by_library = (other.reason)(blocks, width, memory, a, lent);
+                (by_model, model) != (by_library, library)
+            })
+        }
+        None => {
+            let due = due_shape(blocks, width, memory);
+            let right = due.as_ref().ok().map(Vec::len);
+            lengths_around(right).into_iter().find(|length| {
+                met.output(1, *length, right);
+                let behind = length + BEHIND;
+                let before: Vec<u32> = (0..behind).map(|_| random.word() as u32).collect();
+                let (mut model, mut library) = (before.clone(), before);
+                let by_model = write_due(&due, SHORT_SHAPE, &mut model[..*length]);
+                let by_library = (other.shape)(blocks, width, memory, &mut library[..*length]);
+                (by_model, model) != (by_library, library)
+            })
+        }
+    }
+}
+
+/// Every length from 0 to the right one and two more; of a long output the first and the last of them, and some between. Where there
+/// is no right one, two lengths.
+fn lengths_around(right: Option<usize>) -> Vec<usize> {
+    match right {
+        None => vec![0, 64],
+        Some(right) if right <= EVERY_LENGTH => (0..=right + 2).collect(),
+        Some(right) => {
+            let between = (3..right - 3).step_by(right / 16);
+            (0..3).chain(between).chain(right - 3..=right + 2).collect()
+        }
+    }
+}
+
+/// Up to this length of the right output, every length is tried.
+const EVERY_LENGTH: usize = 300;
+
+/// Reads a text on both, with room for so many cells, comparing what is said and the cells.
+pub fn read_back(other: Library, text: &[u8], room: usize, met: &mut Met) -> Option<String> {
+    let mut cells = [vec![UNWRITTEN_NUMBER; room + BEHIND], Vec::new()];
+    cells[1] = cells[0].clone();
+    let by_model = read_reason(text, &mut cells[0][..room]);
+    let by_library = (other.read_reason)(text, &mut cells[1][..room]);
+    met.readings[by_model.kind] += 1;
+    (by_model != by_library || cells[0] != cells[1]).then(|| {
+        format!(
+            "a difference: a text read back, with room for {room} cells\n  {:?}\nby the model     {by_model:?} {:?}\nby the library   {by_library:?} {:?}\n",
+            String::from_utf8_lossy(text),
+            cells[0],
+            cells[1],
+        )
+    })
 }
 
 /// Makes a replay on both, comparing the reply, every buffer and every word of the list of replies.
@@ -78,6 +211,7 @@ pub fn replayed(other: Library, lent: &Lent, met: &mut Met) -> Option<String> {
         memory: &lent.bench.memory,
         replies: &lent.replies,
         run: None,
+        output: Vec::new(),
     });
     (sides[0] != sides[1])
         .then(|| difference(&replay_title(lent), &entry_lines(&lent.words), sides))
@@ -95,6 +229,7 @@ pub fn ran(other: Library, handed: &Handed, met: &mut Met) -> Option<String> {
             memory: &handed.bench.memory,
             replies: &[],
             run: Some(run),
+            output: Vec::new(),
         });
     (sides[0] != sides[1]).then(|| {
         let bench = &handed.bench;
@@ -168,10 +303,11 @@ fn named_buffers(memory: &Memory) -> Vec<(String, String)> {
     names.zip(buffer_lines(memory)).collect()
 }
 
-/// The buffers, the replies and where a run stands, by name.
+/// The buffers, the replies, where a run stands and an output, by name.
 fn lists(outcome: &Outcome) -> Vec<(String, String)> {
     let mut lists = named_buffers(outcome.memory);
     lists.push(("replies".to_string(), numbers(outcome.replies)));
     lists.push(("run".to_string(), format!("{:?}", outcome.run)));
+    lists.push(("output".to_string(), numbers(&outcome.output)));
     lists
 }

@@ -1,22 +1,26 @@
 //! Random lists and damaged memories, on the model and on the product's library side by side: call by call, then the calls
-//! of the list as one replay, as they are and spoilt, then runs of records on what the list left. First come the check of
+//! of the list as one replay, as they are and spoilt, then runs of records on what the list left. On that, too, the shape and reasons with outputs of
+//! every length around the right one, and the sentences read back. First come the check of
 //! every pair of maps of eight blocks, of every A-map of eight blocks with every figure, of every sound pair of maps with every
 //! D-map, of every mark map with every short list, and lists that are always the same, which meet all that can be met; then fresh ones.
 
 use crate::lists::damaging::{some_damage, AIMS, WRONG_MARKS};
 use crate::lists::families::{random as random_calls, some_shape, FAMILIES};
-use crate::lists::file::Entry;
+use crate::lists::file::{Entry, REASON, SHAPE};
 use crate::lists::generate::Desk;
+use crate::lists::output_vectors;
 use crate::lists::random::Random;
 use crate::lists::runs::{some_records, some_run};
 use crate::lists::section_lists::sections;
-use crate::lists::spoiling::some_replay;
-use crate::product::compare::{call_by_call, ran, replayed, Library};
+use crate::lists::spoiling::{some_replay, spoilt_sentence};
+use crate::product::compare::{call_by_call, differing_output, ran, read_back, replayed, Library};
 use crate::product::met::{Met, PAIRS_OF_MAPS, TOO_MANY_BLOCKS};
 use crate::product::shrink::shrink;
 use crate::rules::calls::short::{allocate, cell, data, root, OPEN};
 use crate::rules::damage::damage;
 use crate::rules::heap::{first_blocks, Memory};
+use crate::rules::outputs::due_reason;
+use crate::rules::reasons::read;
 use crate::rules::sections::figures;
 use crate::Call;
 use std::time::{Duration, Instant};
@@ -26,6 +30,10 @@ const FURTHER: Duration = Duration::from_secs(5);
 
 /// So many runs of records on what a list left.
 const RUNS: usize = 6;
+
+/// The reasons of so many objects of what a list left, and so many spoilt texts of each.
+const REASONS: usize = 8;
+const SPOILT: usize = 6;
 
 /// A difference, with the length of the list that shows it.
 struct Found {
@@ -41,7 +49,8 @@ pub fn fuzz(seconds: u64, seed: u64, library: Library) -> (Met, Option<String>) 
     let difference = pairs_of_maps(library, &mut met)
         .or_else(|| maps_with_figures(library, &mut met))
         .or_else(|| maps_with_data(library, &mut met))
-        .or_else(|| marks_with_lists(library, &mut met));
+        .or_else(|| marks_with_lists(library, &mut met))
+        .or_else(|| reasons_and_shapes(library));
     if difference.is_some() {
         return (met, difference);
     }
@@ -168,8 +177,14 @@ fn marks_with_lists(library: Library, met: &mut Met) -> Option<String> {
     })
 }
 
+/// The lists of reasons and shapes of the large file.
+fn reasons_and_shapes(library: Library) -> Option<String> {
+    let desk = output_vectors::outputs();
+    call_by_call(library, desk.header, &desk.entries, &mut Met::default())
+}
+
 /// The lists that are always the same, at each width: every family, every aim of damage on several heaps, wrong marks, sections, and
-/// every call on too many blocks with buffers that fit. `Met::unmet` says what they would leave out.
+/// every call on too many blocks with buffers that fit; and the small heaps of reasons and shapes. `Met::unmet` says what they would leave out.
 fn always() -> Vec<Desk> {
     let mut lists = Vec::new();
     let mut list = |shape: [u64; 3], write: &dyn Fn(&mut Desk)| {
@@ -193,6 +208,16 @@ fn always() -> Vec<Desk> {
             }
         }
     }
+    // For their reasons and shapes: among them the longest chain. 6 and 15 are met on each that has an object at 0.
+    for (shape, calls) in output_vectors::heaps() {
+        list(shape, &|desk| {
+            for call in [&[Call::Format], &calls[..]].concat() {
+                desk.call(call);
+            }
+            desk.reason(shape[0] as usize, 40);
+            desk.reason(0, 10);
+        });
+    }
     lists
 }
 
@@ -206,6 +231,10 @@ fn try_list(library: Library, desk: &Desk, met: &mut Met) -> Option<Found> {
     }
     // From the list's own seed.
     let mut random = desk.random.clone();
+    let found = outputs(library, desk, random.clone(), met);
+    if found.is_some() {
+        return found;
+    }
     let calls = calls_of(desk, &mut random);
     let seed = random.word();
     let found = [false, true].into_iter().find_map(|spoilt| {
@@ -222,6 +251,72 @@ fn try_list(library: Library, desk: &Desk, met: &mut Met) -> Option<Found> {
         let seed = random.word();
         cut_down(&records, met, |records, met| {
             ran(library, &some_run(seed, &desk.bench, records), met)
+        })
+    })
+}
+
+/// The shape of what a list left, and the reasons of some blocks, with outputs of every length around the right one; and the sentences
+/// read back, as they are and spoilt.
+fn outputs(library: Library, desk: &Desk, mut random: Random, met: &mut Met) -> Option<Found> {
+    let bench = &desk.bench;
+    let objects = desk.objects();
+    let mut blocks = vec![None, Some(random.below(bench.blocks + 3)), Some(usize::MAX)];
+    // All objects of a small heap.
+    for k in 0..objects.len().min(REASONS) {
+        let any = random.below(objects.len());
+        let which = if objects.len() <= REASONS { k } else { any };
+        blocks.push(Some(objects[which]));
+    }
+    for block in blocks {
+        if let Some(length) = differing_output(library, bench, block, &mut random, met) {
+            let entry = match block {
+                Some(a) => [REASON, a as u64, length as u64, 0],
+                None => [SHAPE, length as u64, 0, 0],
+            };
+            let entries = [&desk.entries[..], &[entry]].concat();
+            let shown = cut_down(&entries, met, |entries, met| {
+                call_by_call(library, desk.header, entries, met)
+            });
+            // What differs only over other bytes than those that an entry lends is shown as it is.
+            return Some(shown.unwrap_or_else(|| Found {
+                length: entries.len(),
+                text: format!(
+                    "a difference: an output of {length} that holds anything, for {block:?}\n"
+                ),
+            }));
+        }
+        let Some(a) = block else { continue };
+        let Ok(sentence) = due_reason(bench.blocks, bench.width, &bench.memory, a) else {
+            continue;
+        };
+        let text = read_back_spoilt(library, &sentence, &mut random, met);
+        if let Some(text) = text {
+            return Some(Found {
+                length: sentence.len(),
+                text,
+            });
+        }
+    }
+    None
+}
+
+/// A sentence read back with room for more cells than it has, as many, and fewer; then spoilt in some ways.
+fn read_back_spoilt(
+    library: Library,
+    sentence: &[u8],
+    random: &mut Random,
+    met: &mut Met,
+) -> Option<String> {
+    let links = read(sentence)?.chain.map_or(0, |chain| chain.cells.len());
+    let rooms = links.saturating_sub(2)..=links + 2;
+    let found = rooms
+        .into_iter()
+        .find_map(|room| read_back(library, sentence, room, met));
+    found.or_else(|| {
+        (0..SPOILT).find_map(|_| {
+            let text = spoilt_sentence(sentence, random);
+            let room = random.below(links + 3);
+            read_back(library, &text, room, met)
         })
     })
 }
@@ -322,15 +417,31 @@ fn wrong_marks_calls(desk: &mut Desk, rounds: usize) {
         for call in [Call::Check, some] {
             desk.call(call);
         }
+        reason_and_shape(desk);
         desk.load(6, 0, figure);
         for call in &calls[..calls.len() - 1] {
             desk.call(*call);
         }
+        reason_and_shape(desk);
     }
 }
 
+/// The two calls that write an output first, and format last.
 fn every_call(desk: &mut Desk) {
+    reason_and_shape(desk);
     for call in desk.one_of_each() {
         desk.call(call);
     }
+}
+
+/// The reason of an object, seldom of another block, and the shape, most of them with outputs that suffice for small heaps.
+fn reason_and_shape(desk: &mut Desk) {
+    let a = match desk.some_look() {
+        Call::Look { a } => a,
+        _ => 0,
+    };
+    let length = desk.random.pick(&[10, 40, 400]);
+    desk.reason(a, length);
+    let length = desk.random.pick(&[10, 60, 400]);
+    desk.shape(length);
 }

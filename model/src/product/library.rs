@@ -6,6 +6,7 @@ use crate::product::compare::Library;
 use crate::rules::answers::Reply;
 use crate::rules::calls::Call;
 use crate::rules::heap::Memory;
+use crate::rules::reasons::Reading;
 use huwekapo::lent::{self, Shared, Unique};
 use huwekapo::{SoFar, Tally};
 
@@ -14,6 +15,9 @@ pub const LIBRARY: Library = Library {
     apply,
     replay,
     run_records,
+    reason,
+    shape,
+    read_reason,
 };
 
 /// Carries out one call by the library, as `calls::apply` does by the model.
@@ -59,6 +63,27 @@ pub fn run_records(
 ) -> (Reply, Run) {
     let ran = lent::run_records(unique(blocks, width, memory), so_far(run), piece);
     (reply_of(ran.reply), run_of(ran.run))
+}
+
+/// Writes a reason by the library, as `outputs::reason` does by the model.
+pub fn reason(blocks: usize, width: usize, memory: &Memory, a: usize, output: &mut [u8]) -> Reply {
+    reply_of(lent::reason(shared(blocks, width, memory), a, output))
+}
+
+/// Writes a shape by the library, as `outputs::shape` does by the model.
+pub fn shape(blocks: usize, width: usize, memory: &Memory, output: &mut [u32]) -> Reply {
+    reply_of(lent::shape(shared(blocks, width, memory), output))
+}
+
+/// Reads a text by the library, as `reasons::read_reason` does by the model.
+pub fn read_reason(text: &[u8], cells: &mut [u32]) -> Reading {
+    let reading = lent::read_reason(text, cells);
+    Reading {
+        kind: reading.kind,
+        root: reading.root,
+        links: reading.links,
+        block: reading.block,
+    }
 }
 
 fn reply_of(reply: lent::Reply) -> Reply {

@@ -1,15 +1,17 @@
 //! What a run of the fuzz met, counted, and what it could have met and didn't.
 
+use crate::lists::file::Entry;
 use crate::rules::answers::Reply;
-use crate::rules::calls::Call;
 use crate::rules::heap::Memory;
 use crate::rules::mark_claims::{ill_marked, ILL};
+use crate::rules::reasons::Said;
 
 /// More blocks than a heap can have: "16,384 refused 1".
 pub const TOO_MANY_BLOCKS: usize = 16_384;
 
-/// Each call, by its code, with the numbers that it can answer, in the documents' order.
-pub const CALLS: [(&str, &[usize]); 14] = [
+/// Each call, by its place here, with the numbers that it can answer, in the documents' order. The place is the code, but for the
+/// last two, which have no code in a replay.
+pub const CALLS: [(&str, &[usize]); 16] = [
     ("format", &[0, 1]),
     ("check", &[0, 1, 2, 11, 13]),
     ("allocate", &[0, 1, 2, 11, 13, 3, 4, 5]),
@@ -24,10 +26,22 @@ pub const CALLS: [(&str, &[usize]); 14] = [
     ("read a number", &[0, 1, 2, 11, 13, 6, 7, 12]),
     ("open a collection", &[0, 1, 2, 11, 13, 14]),
     ("step a collection", &[0, 1, 2, 11, 13, 14]),
+    ("reason", &[0, 1, 2, 11, 13, 6, 15]),
+    ("shape", &[0, 1, 2, 11, 13, 16]),
 ];
 
 /// One more than the largest number that a call can answer.
-pub const NUMBERS: usize = 15;
+pub const NUMBERS: usize = 17;
+
+/// The place of an entry in `CALLS`, where it is a call.
+pub fn place_of(entry: Entry) -> Option<usize> {
+    match entry {
+        Entry::Call(call) => Some(call.words()[0] as usize),
+        Entry::Reason { .. } => Some(14),
+        Entry::Shape { .. } => Some(15),
+        _ => None,
+    }
+}
 
 /// The kinds of damage. There is no kind 6 (U9).
 pub const KINDS: [usize; 6] = [1, 2, 3, 4, 5, 7];
@@ -51,11 +65,17 @@ pub const MAPS_WITH_DATA: usize = 802 * 256;
 /// The mark maps of eight blocks with each of the lists of up to two numbers 0 to 9, and with each last place 0 to 2, on two heaps.
 pub const MARKS_WITH_LISTS: usize = 2 * 256 * 100 * 3;
 
+/// The lengths of an output beside the right one.
+pub const AROUND: [&str; 3] = ["one too short", "of the right length", "that is longer"];
+
+/// What a text says, read as a sentence, by kind.
+pub const READINGS: [&str; 4] = ["no sentence", "a chain", "no root", "no room for the cells"];
+
 /// Calls one by one, and replays.
 #[derive(Clone, Debug, Default)]
 pub struct Met {
     pub lists: usize,
-    /// Replies by call and number, 0 to 8 and 11 to 14.
+    /// Replies by call and number, 0 to 8 and 11 to 16.
     pub numbers: [[usize; NUMBERS]; CALLS.len()],
     /// Damage kinds by call and kind.
     pub kinds: [[usize; 8]; CALLS.len()],
@@ -86,12 +106,20 @@ pub struct Met {
     /// Accepted runs on a heap with a collection open, and those of them that 5 stopped.
     pub runs_with_one_open: usize,
     pub full_with_one_open: usize,
+    /// Outputs lent for a reason and for a shape on what a list left, of every length around the right one.
+    pub outputs: [usize; 2],
+    /// Reasons and shapes by whether the output was shorter than the right length by one, of it, and longer.
+    pub around: [[usize; 3]; 2],
+    /// The longest chain of a reason, in links, and sentences that no root reaches a block.
+    pub most_links: usize,
+    pub no_root: usize,
+    /// Texts read back, by what they say.
+    pub readings: [usize; 4],
 }
 
 impl Met {
-    /// Counts the reply to a call on so many blocks.
-    pub fn call(&mut self, blocks: usize, call: Call, reply: Reply) {
-        let code = call.words()[0] as usize;
+    /// Counts the reply to a call, by its place, on so many blocks.
+    pub fn call(&mut self, blocks: usize, code: usize, reply: Reply) {
         self.numbers[code][reply.number] += 1;
         if reply.number == 2 {
             self.kinds[code][reply.value] += 1;
@@ -132,6 +160,25 @@ impl Met {
             self.stops[stopped] += 1;
             self.runs_with_one_open += usize::from(open);
             self.full_with_one_open += usize::from(open && stopped == 5);
+        }
+    }
+
+    /// Counts an output lent for a reason (0) or a shape (1), beside the right length.
+    pub fn output(&mut self, which: usize, length: usize, right: Option<usize>) {
+        self.outputs[which] += 1;
+        if let Some(right) = right {
+            let around = &mut self.around[which];
+            around[0] += usize::from(length + 1 == right);
+            around[1] += usize::from(length == right);
+            around[2] += usize::from(length > right);
+        }
+    }
+
+    /// Counts what a sentence says.
+    pub fn said(&mut self, said: &Said) {
+        match &said.chain {
+            Some(chain) => self.most_links = self.most_links.max(chain.cells.len()),
+            None => self.no_root += 1,
         }
     }
 
@@ -180,6 +227,17 @@ impl Met {
                 expect(count, format!("{clause}, refused {number}"));
             }
         }
+        for (name, around) in ["reason", "shape"].into_iter().zip(self.around) {
+            for (what, count) in AROUND.into_iter().zip(around) {
+                expect(count, format!("{name}, an output {what}"));
+            }
+        }
+        let links = self.most_links >= 4;
+        expect(links as usize, "reason, four links".to_string());
+        expect(self.no_root, "reason, no root".to_string());
+        for (kind, count) in READINGS.into_iter().zip(self.readings) {
+            expect(count, format!("reading, {kind}"));
+        }
         let full = self.full_with_one_open;
         expect(full, "run, stopped by 5 with one open".to_string());
         // "with collections open half of the time"
@@ -205,11 +263,13 @@ impl Met {
              calls on 16,384 blocks  {}\n\
              replays {}, accepted {}, calls in those {}\n\
              refusals of replays {}\n\
-             runs of records {}, refusals {}, stopped by {}; with a collection open {}, of these stopped by 5 {}\n",
+             runs of records {}, refusals {}, stopped by {}; with a collection open {}, of these stopped by 5 {}\n\
+             outputs for reasons and shapes {:?}, one too short, right, longer {:?}; most links {}, no root {}\n\
+             texts read back {}\n",
             self.lists,
             (0..NUMBERS).map(number).sum::<usize>(),
             number(0),
-            by((1..=8).chain(11..=14), number),
+            by((1..=8).chain(11..=16), number),
             by(KINDS, kind),
             self.pairs_of_maps,
             self.maps_with_figures,
@@ -229,6 +289,11 @@ impl Met {
             by(STOPS.into_iter().skip(1), |number| self.stops[number]),
             self.runs_with_one_open,
             self.full_with_one_open,
+            self.outputs,
+            self.around,
+            self.most_links,
+            self.no_root,
+            by(0..READINGS.len(), |kind| self.readings[kind]),
         )
     }
 }

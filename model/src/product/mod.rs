@@ -1,9 +1,12 @@
 //! Against the product: its library beside the model (library, compare, fuzz, shrink, met), and its library and its
-//! program `report` beside the same algorithms in plain Rust (bench, data_bench, pause_bench, search_bench,
-//! history_bench, timing, port).
+//! program `report` beside the same algorithms in plain Rust (bench, check_bench, data_bench, pause_bench, search_bench,
+//! history_bench, timing, port). Heaps for both: busy.
 
 #[cfg(feature = "library")]
 pub mod bench;
+pub mod busy;
+#[cfg(feature = "library")]
+pub mod check_bench;
 pub mod compare;
 #[cfg(feature = "library")]
 pub mod data_bench;

@@ -5,15 +5,20 @@ use std::time::{Duration, Instant};
 /// The least of seven times of each of two, taken by turns after one turn that warms up: other work on the machine
 /// can only add to a time.
 pub fn by_turns(mut one: impl FnMut(), mut other: impl FnMut()) -> [Duration; 2] {
-    let mut least = [Duration::MAX; 2];
+    in_turn([&mut one, &mut other])
+}
+
+/// The same of any number of ways.
+pub fn in_turn<const WAYS: usize>(mut ways: [&mut dyn FnMut(); WAYS]) -> [Duration; WAYS] {
+    let mut least = [Duration::MAX; WAYS];
     for turn in 0..8 {
-        let start = Instant::now();
-        one();
-        let middle = Instant::now();
-        other();
-        if turn > 0 {
-            least[0] = least[0].min(middle - start);
-            least[1] = least[1].min(middle.elapsed());
+        for (way, least) in ways.iter_mut().zip(&mut least) {
+            let start = Instant::now();
+            way();
+            let time = start.elapsed();
+            if turn > 0 {
+                *least = time.min(*least);
+            }
         }
     }
     least

@@ -1,6 +1,6 @@
 //! Lists of calls as text, one entry a line. docs/FILES.md states the form.
 
-use crate::lists::file::{bytes, BUFFERS, LENGTH, LOAD, NEW};
+use crate::lists::file::{bytes, BUFFERS, LENGTH, LOAD, NEW, REASON, SHAPE};
 use crate::texts::expect::numbers;
 use crate::texts::show::{buffer_name, entry_in_words};
 
@@ -91,6 +91,8 @@ fn entry(words: &[&str]) -> Option<[u64; 4]> {
         }
         ["open", "collection"] => [12, 0, 0, 0],
         ["step", "collection", budget] => [13, number(budget)?, 0, 0],
+        ["reason", "of", a, "into", length, "bytes"] => [REASON, number(a)?, number(length)?, 0],
+        ["shape", "into", length, "numbers"] => [SHAPE, number(length)?, 0, 0],
         ["load", value, "at", index, "of", name @ ..] => {
             [LOAD, buffer(name)?, number(index)?, number(value)?]
         }

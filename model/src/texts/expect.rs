@@ -2,6 +2,7 @@
 //! followed in order.
 
 use crate::lists::file::{Bench, Entry, BUFFERS};
+use crate::rules::answers::Reply;
 use crate::rules::heap::Memory;
 use std::fmt::{Display, Write};
 
@@ -10,12 +11,27 @@ use std::fmt::{Display, Write};
 pub struct Tally {
     pub heaps: usize,
     pub calls: usize,
-    /// Replies by number, 0 to 8 and 11 to 14.
-    pub numbers: [usize; 15],
+    /// Replies by number, 0 to 8 and 11 to 16.
+    pub numbers: [usize; 17],
     /// Damage kinds reported, by kind, 1 to 5 and 7.
     pub kinds: [usize; 8],
     /// Lines that say what is wrong with an entry.
     pub complaints: usize,
+}
+
+impl Tally {
+    fn call(&mut self, reply: Reply) {
+        self.calls += 1;
+        self.numbers[reply.number] += 1;
+        if reply.number == 2 {
+            self.kinds[reply.value] += 1;
+        }
+    }
+}
+
+/// A reply as it is printed.
+fn reply_line(reply: Reply) -> String {
+    format!("{} {} {}\n", reply.number, reply.value, reply.second)
 }
 
 /// What the program prints, and what was met.
@@ -54,13 +70,23 @@ pub fn expect(file: &[u8]) -> (String, Tally) {
         match Entry::from_words(words) {
             Entry::Call(call) => {
                 let reply = bench.call(call);
-                writeln!(out, "{} {} {}", reply.number, reply.value, reply.second).unwrap();
-                tally.calls += 1;
-                tally.numbers[reply.number] += 1;
-                if reply.number == 2 {
-                    tally.kinds[reply.value] += 1;
-                }
+                out += &reply_line(reply);
+                tally.call(reply);
             }
+            Entry::Reason { a, length } => match bench.reason(a, length) {
+                Some((reply, output)) => {
+                    out += &(reply_line(reply) + &numbers(&output) + "\n");
+                    tally.call(reply);
+                }
+                None => complain("length out of range"),
+            },
+            Entry::Shape { length } => match bench.shape(length) {
+                Some((reply, output)) => {
+                    out += &(reply_line(reply) + &numbers(&output) + "\n");
+                    tally.call(reply);
+                }
+                None => complain("length out of range"),
+            },
             Entry::Load {
                 buffer,
                 index,

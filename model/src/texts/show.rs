@@ -10,6 +10,8 @@ use std::str::Lines;
 pub fn entry_in_words(words: [u64; 4]) -> String {
     match Entry::from_words(words) {
         Entry::Call(call) => call_in_words(call),
+        Entry::Reason { a, length } => format!("reason of {a} into {length} bytes"),
+        Entry::Shape { length } => format!("shape into {length} numbers"),
         Entry::Load {
             buffer,
             index,
