@@ -1,7 +1,7 @@
 #!/bin/bash
 # Proves the library and puts it below PREFIX (target/install unless said): lib/libhuwekapo.a and lib/libhuwekapo.so,
-# include/huwekapo.h and include/huwekapo_heap.h, lib/pkgconfig/huwekapo.pc; and the program `report` with an exit status,
-# bin/huwekapo-report. HUWEKAPO_LIB_DIR names a folder of libcapi.a, as `rt staticlib capi` writes it; where it is not set, the library and
+# include/huwekapo.h, huwekapo_heap.h and huwekapo_record.h, lib/pkgconfig/huwekapo.pc; and the program `report` with an exit status,
+# bin/huwekapo-report, with its manual page. HUWEKAPO_LIB_DIR names a folder of libcapi.a, as `rt staticlib capi` writes it; where it is not set, the library and
 # the program are proved now, unless they stand as these sources make them. Where nothing has changed nothing is written.
 set -eu
 here=$(cd "$(dirname "$0")" && pwd)
@@ -94,6 +94,7 @@ put() {
 }
 put 644 "$here/include/huwekapo.h" include/huwekapo.h
 put 644 "$here/include/huwekapo_heap.h" include/huwekapo_heap.h
+put 644 "$here/include/huwekapo_record.h" include/huwekapo_record.h
 put 644 "$work/libhuwekapo.a" lib/libhuwekapo.a
 put 755 "$work/$shared" "lib/$shared"
 put 644 "$work/huwekapo.pc" lib/pkgconfig/huwekapo.pc
@@ -104,6 +105,7 @@ fi
 if [ -x "$report" ]; then
     put 755 "$report" libexec/huwekapo/report
     put 755 "$here/bin/huwekapo-report" bin/huwekapo-report
+    put 644 "$here/docs/man/huwekapo-report.1" share/man/man1/huwekapo-report.1
 else
     echo "install.sh: target/bin/report is missing, and so bin/huwekapo-report is not installed: \`rt check report\` builds it" >&2
 fi

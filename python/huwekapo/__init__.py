@@ -3,7 +3,7 @@
 `run` takes a history (a path, a binary file that is open, or bytes) through a new heap, and gives its figures:
 
     >>> import huwekapo
-    >>> from huwekapo.records import ALLOCATE, CLEAR, record
+    >>> from huwekapo.record import ALLOCATE, record
     >>> history = b"".join(record(ALLOCATE, d=root, size=size) for root, size in [(0, 2), (1, 1), (2, 3)])
     >>> ran = huwekapo.run(history, blocks=1024, width=2)
     >>> ran.figures.peak, ran.line()
@@ -59,6 +59,29 @@ A collection that may not stop the program for long is opened and stepped. Two o
     ...     heap.step_collection(10)
     Stepped(steps=1, freed=2)
 
+Why an object is kept is a sentence; and two heaps mean the same where their shapes are equal, wherever objects lie:
+
+    >>> heap.allocate(1, 1)
+    2
+    >>> heap.store_cell(2, 3, 1 + pixels), heap.store_root(0, 0)
+    (0, 0)
+    >>> heap.reason(pixels)
+    'root 1 cell 3 block 0\\n'
+    >>> huwekapo.read_reason(heap.reason(pixels))
+    Reason(root=1, cells=(3,), block=0)
+    >>> huwekapo.same_shape(heap, heap.copy()), len(heap.shape())
+    (True, 21)
+
+`Recorder` writes a history as a program runs, and `records` reads one:
+
+    >>> import io
+    >>> file = io.BytesIO()
+    >>> with huwekapo.Recorder(file) as recorder:
+    ...     recorder.allocate(2, 0)
+    ...     recorder.copy(0, 1)
+    >>> list(huwekapo.records(file.getvalue()))
+    [Record(operation=1, d=0, s=0, c=0, size=2, unused=0), Record(operation=2, d=1, s=0, c=0, size=0, unused=0)]
+
 `python3 -m huwekapo` has the commands. The heap is the library libhuwekapo.so; this package lends it buffers and hands on what it
 answers. Nothing is proved of the package itself.
 """
@@ -67,12 +90,17 @@ from .unreached import Garbage, Held, Kinds, data, garbage, in_use, kinds, objec
 from .heap import Heap, Look, Reply, Stepped
 from .history import History, run
 from .library import VERSION, Figures, LibraryMissing
+from .reasons import Reason, holds, read_reason
+from .record import CutOff, Record, records
+from .recorder import Recorder
 from .refused import Damage, Number, Refused
 from .runs import Run, Stopped
+from .shapes import same_shape
 
 __version__ = VERSION
 
 __all__ = [
+    "CutOff",
     "Damage",
     "Figures",
     "Garbage",
@@ -83,6 +111,9 @@ __all__ = [
     "LibraryMissing",
     "Look",
     "Number",
+    "Reason",
+    "Record",
+    "Recorder",
     "Refused",
     "Reply",
     "Run",
@@ -90,9 +121,13 @@ __all__ = [
     "Stopped",
     "data",
     "garbage",
+    "holds",
     "in_use",
     "kinds",
     "objects",
+    "read_reason",
+    "records",
     "run",
+    "same_shape",
     "stuck",
 ]

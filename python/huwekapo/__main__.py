@@ -1,12 +1,12 @@
-"""The commands: python3 -m huwekapo report, widths, plot, sweep, verify, example."""
+"""The commands: python3 -m huwekapo report, widths, plot, why, same, sweep, verify, example, assemble, words, convert, show."""
 
 from __future__ import annotations
 
 import argparse
 import os
 import sys
-from contextlib import contextmanager
-from typing import Callable, Iterable, Iterator, List, Optional, Sequence
+from contextlib import contextmanager, nullcontext
+from typing import BinaryIO, Callable, Dict, Iterable, Iterator, List, Optional, Sequence, Tuple
 
 from . import __version__
 from .examples import PROGRAMS
@@ -15,6 +15,7 @@ from .heap import Heap
 from .history import History
 from .library import MAX_BLOCKS, MAX_ROOTS, MAX_WIDTH, REPORT_BLOCKS, REPORT_ROOTS, REPORT_WIDTH, LibraryMissing
 from .progress import Bar
+from .record import RECORD
 from .refused import Refused
 
 # What only one command needs is imported where it is used: `report` should not wait for it.
@@ -23,12 +24,28 @@ from .refused import Refused
 ENDED, FAILED, WRONG_USE, STOPPED, INTERRUPTED = 0, 1, 2, 3, 130
 
 STATUSES = """exit status:
-  0  all was run to its end; of verify: all is as the table has it
+  0  all was run to its end; of verify: all is as the table has it; of same: both are of one shape
   3  a run stopped: a record was refused, or the file was cut off (the records before it were run)
-  1  something failed: a file that can't be read, a row that is not as it must be
+  1  something failed: a file that can't be read, a line or a row that is not as it must be; of same: the shapes differ
   2  wrong use
   130  interrupted
 """
+
+#: Of each command: what may stand behind its name.
+EXAMPLES = {
+    "report": ["caches.history", "caches.history --blocks 1024 --width 2 --sections", "- --line <caches.history"],
+    "widths": ["caches.history", "caches.history --widths 2-4 --blocks 1024,8192", "caches.history --csv >table.csv"],
+    "plot": ["caches.history -o caches.svg", "caches.history --widths 2,3 --columns 1 --no-title -o caches.pdf"],
+    "why": ["leak.history 1 --records 100", "leak.history --largest", "leak.history --garbage --blocks 1024"],
+    "same": ["caches.history other.history", "caches.history --blocks 1024,8192"],
+    "sweep": ["histories -o table.csv", "histories -o table.csv --widths 1-4 --blocks 1024,8192 --jobs 2"],
+    "verify": ["table.csv histories", "table.csv histories --sample 20 --seed 1"],
+    "example": ["caches -o caches.history", "images --records 5000 --seed 2 -o images.history"],
+    "assemble": ["own.txt -o own.history", "- -o - <own.txt >own.history"],
+    "convert": ["own.events -o own.history", "own.events -o own.history --stack uses --header 2 --leave-out 65536 --table"],
+    "show": ["own.history --blocks 64 --width 2", "own.history --at 20 --blocks 64"],
+    "words": ["own.history", "own.history >own.txt"],
+}
 
 
 def number(word: str) -> int:
@@ -74,6 +91,16 @@ def several(one: Callable[[str], int]) -> Callable[[str], List[int]]:
     return numbers
 
 
+def pair(one: Callable[[str], int]) -> Callable[[str], Tuple[int, int]]:
+    """Two numbers parted by a comma, or one for both, each as `one` has it."""
+
+    def numbers(words: str) -> Tuple[int, int]:
+        first, comma, second = words.partition(",")
+        return one(first), one(second if comma else first)
+
+    return numbers
+
+
 def widths(words: str) -> List[int]:
     """Widths parted by commas, ranges among them: `1,3-4`."""
     found: List[int] = []
@@ -85,6 +112,19 @@ def widths(words: str) -> List[int]:
     return list(dict.fromkeys(found))
 
 
+def words_of_a_header(word: str) -> int:
+    if number(word) > 16:
+        raise argparse.ArgumentTypeError(f"{word}: 0 to 16 words")
+    return number(word)
+
+
+def class_names(words: str) -> List[str]:
+    found = [word.strip() for word in words.split(",")]
+    if not all(found):
+        raise argparse.ArgumentTypeError(f"{words!r}: patterns of names, as own.*, parted by commas")
+    return found
+
+
 def pattern(word: str) -> str:
     if not word.strip("/."):
         raise argparse.ArgumentTypeError(f"{word!r}: the pattern of a file's name, as *.history")
@@ -92,9 +132,11 @@ def pattern(word: str) -> str:
 
 
 def arguments() -> argparse.ArgumentParser:
+    # As it was called: by the command that an installed package has, or as a module.
+    prog = "huwekapo" if os.path.basename(sys.argv[0]) == "huwekapo" else "python3 -m huwekapo"
     parser = argparse.ArgumentParser(
-        prog="python3 -m huwekapo",
-        description="Runs recorded histories on a proved heap.",
+        prog=prog,
+        description="Runs recorded histories on a proved heap. `COMMAND --help` has what a command takes, with examples.",
         epilog=STATUSES,
         formatter_class=argparse.RawDescriptionHelpFormatter,
     )
@@ -102,8 +144,13 @@ def arguments() -> argparse.ArgumentParser:
     commands = parser.add_subparsers(dest="command", required=True, metavar="COMMAND")
 
     def command(name: str, act: Callable[[argparse.Namespace], int], words: str) -> argparse.ArgumentParser:
+        examples = "".join(f"  {prog} {name} {example}\n" for example in EXAMPLES[name])
         made = commands.add_parser(
-            name, help=words, description=words, epilog=STATUSES, formatter_class=argparse.RawDescriptionHelpFormatter
+            name,
+            help=words,
+            description=words,
+            epilog=f"examples:\n{examples}\n{STATUSES}",
+            formatter_class=argparse.RawDescriptionHelpFormatter,
         )
         made.set_defaults(act=act)
         return made
@@ -158,6 +205,23 @@ def arguments() -> argparse.ArgumentParser:
     titles.add_argument("--title", help="the title (the file's name)")
     titles.add_argument("--no-title", action="store_true", help="no title")
 
+    made = command("why", _why, "Why an object of a history is kept, as a sentence; of garbage, what holds it.")
+    history(made)
+    objects = made.add_mutually_exclusive_group(required=True)
+    objects.add_argument("block", type=number, nargs="?", metavar="BLOCK", help="the object that starts at this block")
+    objects.add_argument("--largest", action="store_true", help="the largest object, of several the one at the lowest block")
+    objects.add_argument("--garbage", action="store_true", help="the largest object that no root reaches")
+    shape(made, False, False)
+    made.add_argument("--records", type=positive, metavar="N", help="after so many records (after all)")
+
+    made = command("same", _same, "Whether two histories, or one on two heaps, end in one shape, and where they first part.")
+    history(made)
+    made.add_argument("second", metavar="SECOND", nargs="?", help="the other history (the same one)")
+    words = "of the heap of each, parted by a comma, or one for both"
+    made.add_argument("--blocks", type=pair(blocks), default=(REPORT_BLOCKS, REPORT_BLOCKS), metavar="N,M", help=f"blocks {words}")
+    made.add_argument("--width", type=pair(width), default=(REPORT_WIDTH, REPORT_WIDTH), metavar="W,V", help=f"count width {words}")
+    made.add_argument("--roots", type=pair(roots), default=(REPORT_ROOTS, REPORT_ROOTS), metavar="R,S", help=f"number of roots {words}")
+
     made = command("sweep", _sweep, "A table of a whole collection of histories. A sweep that was stopped goes on where it stopped.")
     made.add_argument("folder", metavar="FOLDER", help="the folder of the histories, with those below it")
     made.add_argument("-o", "--output", required=True, metavar="TABLE", help="the comma-separated table to write")
@@ -180,6 +244,37 @@ def arguments() -> argparse.ArgumentParser:
     made.add_argument("--records", type=positive, default=100_000, metavar="N", help="its length (100000)")
     made.add_argument("--seed", type=int, default=1, help="the seed (1)")
     made.add_argument("-o", "--output", required=True, metavar="FILE", help="the file to write; - is standard output")
+
+    made = command("assemble", _assemble, "A history from its text, one record a line, in the words of docs/FILES.md.")
+    made.add_argument("text", metavar="TEXT", help="the text; - is standard input")
+    made.add_argument("-o", "--output", required=True, metavar="HISTORY", help="the history to write; - is standard output")
+
+    made = command("words", _words, "The text of a history, one record a line, on standard output. `assemble` makes the same history of it.")
+    history(made)
+
+    made = command("show", _show, "The map of a heap behind a history, or behind its first records: objects by letters, and free chunks.")
+    history(made)
+    made.add_argument("--at", type=number, metavar="K", help="behind the first K records (behind all)")
+    shape(made, False, False)
+
+    made = command(
+        "convert", _convert, "A history from a trace of a real program: a text of events, as docs/FILES.md states it. Says what it did."
+    )
+    made.add_argument("events", metavar="EVENTS", help="the events; a name that ends with .gz is of a packed file")
+    made.add_argument("-o", "--output", required=True, metavar="HISTORY", help="the history to write; - is standard output")
+    words = "whether each local variable is a reference, or only what is used later and nothing else holds (slots)"
+    made.add_argument("--stack", choices=["slots", "uses"], default="slots", help=words)
+    words = "words of 4 bytes in front of an object's fields; an array has one more (1)"
+    made.add_argument("--header", type=words_of_a_header, default=1, metavar="WORDS", help=words)
+    words = "leave out arrays of numbers of more bytes: tables that a device has in its ROM, say"
+    made.add_argument("--leave-out", type=number, metavar="BYTES", help=words)
+    words = "only objects whose class has such a name, as own.*; several are parted by commas"
+    made.add_argument("--classes", type=class_names, metavar="PATTERN", help=words)
+    words = "replay events and records apart, and compare them, before anything is written (where there are at most 100,000 events)"
+    made.add_argument("--check", action=argparse.BooleanOptionalAction, help=words)
+    made.add_argument("--table", action="store_true", help="also a table by count width, with both rules side by side")
+    words = f"blocks of the table's heap, a power of two from 8 to {MAX_BLOCKS:,} ({REPORT_BLOCKS})"
+    made.add_argument("--blocks", type=blocks, default=REPORT_BLOCKS, metavar="N", help=words)
     return parser
 
 
@@ -291,6 +386,63 @@ def _plot(chosen: argparse.Namespace) -> int:
     return STOPPED if any(one.run.stopped for one in courses) else ENDED
 
 
+def _why(chosen: argparse.Namespace) -> int:
+    from .reasons import holds
+    from .unreached import Unreached, data, objects
+
+    _needs_output()
+    heap = Heap(chosen.blocks, chosen.width, chosen.roots)
+    with _history(chosen.file) as history:
+        if chosen.records is None:
+            run = history.run(heap, may_stop=True)
+        else:
+            run = next(history.runs(heap, chosen.records))
+    if run.stopped:
+        _say([f"{shown(history.name)}: {run.stop()}: {run.stop_in_words()}: this is the heap before it"])
+    sizes = objects(heap)
+    at = chosen.block
+    if at is None:
+        some = Unreached(heap).objects if chosen.garbage else sizes.keys()
+        if not some:
+            return _failed(ValueError(f"no object {'of garbage ' if chosen.garbage else ''}is there"))
+        at = min(some, key=lambda first: (-sizes[first], first))
+    sys.stdout.write(heap.reason(at))
+    found = heap.look(at)
+    kind = "block" if found.size == 1 else "blocks"
+    kind += " of data" if at in data(heap) else ""
+    print(f"  {found.size:,} {kind}, count {found.count} of at most {heap.capacity}")
+    for words in holds(heap, at):
+        print(f"  {words}")
+    return STOPPED if run.stopped else ENDED
+
+
+def _same(chosen: argparse.Namespace) -> int:
+    from .shapes import objects_of, parting
+
+    _needs_output()
+    if chosen.second == chosen.file == "-":
+        return _failed(ValueError("both histories can't be standard input"), WRONG_USE)
+    shapes, stopped = [], False
+    with _history(chosen.file, again=chosen.second is None) as first:
+        with _history(chosen.second) if chosen.second is not None else nullcontext(first) as second:
+            for history, *sizes in zip((first, second), chosen.blocks, chosen.width, chosen.roots):
+                heap = Heap(*sizes)
+                run = history.run(heap, may_stop=True)
+                if run.stopped:
+                    _say([f"{shown(history.name)}: {run.stop()}: {run.stop_in_words()}: held is the heap before it"])
+                stopped = stopped or run.stopped
+                shapes.append(heap.shape())
+    where = parting(*shapes)
+    if where is None:
+        objects = objects_of(shapes[0])
+        print(f"one shape: {objects:,} object{'' if objects == 1 else 's'}")
+    else:
+        print(f"two shapes, which first part at {where}")
+    if stopped:
+        return STOPPED
+    return ENDED if where is None else FAILED
+
+
 def _sweep(chosen: argparse.Namespace) -> int:
     from .measures import summary
     from .sweep import SweepError, standing, sweep
@@ -364,17 +516,167 @@ def _verify(chosen: argparse.Namespace) -> int:
 def _example(chosen: argparse.Namespace) -> int:
     from .examples import example
 
-    if chosen.output != "-":
-        can_be_written(chosen.output)
-    else:
-        _needs_output()
+    _output_is_there(chosen.output)
     history = example(chosen.name, chosen.records, chosen.seed)
-    if chosen.output == "-":
-        sys.stdout.buffer.write(history)
-    else:
-        with written(chosen.output) as file:
-            file.write(history)
+    with _output(chosen.output) as file:
+        file.write(history)
     return ENDED
+
+
+def _assemble(chosen: argparse.Namespace) -> int:
+    from .words import TextError, assemble
+
+    _output_is_there(chosen.output)
+    size = os.path.getsize(chosen.text) if os.path.isfile(chosen.text) else None
+    with _input(chosen.text) as text, _output(chosen.output) as file, Bar("bytes", size) as bar:
+        try:
+            for record in assemble(_told(text, bar)):
+                file.write(record)
+        except TextError as error:
+            raise _Wrong(f"{_named(chosen.text)}: {error}") from error
+    return ENDED
+
+
+def _words(chosen: argparse.Namespace) -> int:
+    from .words import words
+
+    _needs_output()
+    with _history(chosen.file) as history, Bar("records", history.size()) as bar:
+        for number, line in enumerate(words(history)):
+            sys.stdout.write(line)
+            # Where the lines themselves are seen, no bar is.
+            if number % 1024 == 0 and not sys.stdout.isatty():
+                bar.done(RECORD * number)
+    return ENDED
+
+
+def _told(text: Iterable[bytes], bar: Bar) -> Iterator[bytes]:
+    """The lines of a text, of which a bar is told."""
+    done = 0
+    for number, line in enumerate(text):
+        done += len(line)
+        if number % 1024 == 0:
+            bar.done(done)
+        yield line
+
+
+def _convert(chosen: argparse.Namespace) -> int:
+    import zlib
+
+    from .conversion import side_by_side, text
+    from .convert import RULES, CantBeKept, Converted, convert
+    from .events import opened, trace
+    from .kept import SMALL, Checked, NotKept, check
+    from .words import TextError
+
+    _output_is_there(chosen.output)
+    name = shown(chosen.events)
+    if os.path.exists(chosen.events) and not os.path.isfile(chosen.events):
+        raise _Wrong(f"{name}: is no regular file; events are read twice, to be checked")
+    try:
+        packed = chosen.events.endswith(".gz")
+        with Bar("bytes read", None if packed else os.path.getsize(chosen.events)) as bar, opened(chosen.events) as file:
+            found = trace(iter(file), chosen.header, chosen.leave_out, chosen.classes, bar.done)
+        if not len(found):
+            raise _Wrong(f"{name}: there is no event in it")
+        made: Dict[str, Converted] = {}
+        for rule in RULES:
+            if rule == chosen.stack or chosen.table:
+                with Bar(f"events, rule {rule}", len(found)) as bar:
+                    made[rule] = convert(found, rule, bar.done)
+        checked: Optional[Checked] = None
+        if chosen.check or chosen.check is None and len(found) <= SMALL:
+            for rule, one in made.items():
+                with Bar(f"events compared, rule {rule}", len(found)) as bar, opened(chosen.events) as file:
+                    checked = check(file, one, rule, chosen.header, chosen.leave_out, chosen.classes, progress=bar.done)
+    except (TextError, CantBeKept) as error:
+        raise _Wrong(f"{name}: {error}") from error
+    except NotKept as error:
+        raise _Wrong(f"{name}: the conversion is wrong, and no history is written: {error}") from error
+    except (EOFError, zlib.error) as error:
+        raise _Wrong(f"{name}: can't be unpacked: {error}") from error
+    with _output(chosen.output) as history:
+        history.write(made[chosen.stack].history)
+    with Bar("records counted", len(made[chosen.stack].history)) as bar:
+        said = text(found, made[chosen.stack], chosen.stack, chosen.leave_out, chosen.classes, checked, bar.done)
+    status = ENDED
+    if chosen.table:
+        from .widths import text as table_text
+        from .widths import widths as by_width
+
+        runs = {}
+        for rule, one in made.items():
+            with Bar(f"records run, rule {rule}", 4 * len(one.history)) as bar:
+                runs[rule] = list(by_width(one.history, [chosen.blocks], [1, 2, 3, 4], REPORT_ROOTS, bar.done))
+        tables = side_by_side({rule: table_text(measures) for rule, measures in runs.items()})
+        said += "\nboth rules by count width\n" + "".join(f"  {line}\n" for line in tables.splitlines())
+        if any(measured.run.stopped for measures in runs.values() for measured in measures):
+            status = STOPPED
+    if chosen.output == "-":
+        _say(said.splitlines())
+    else:
+        sys.stdout.write(_printable(said))
+    return status
+
+
+def _show(chosen: argparse.Namespace) -> int:
+    from .show import text
+
+    _needs_output()
+    heap = Heap(chosen.blocks, chosen.width, chosen.roots)
+    with _history(chosen.file) as history, Bar("records", history.size()) as bar:
+        found = history.run_to(heap, chosen.at, bar.done)
+        name = _named(chosen.file)
+    if chosen.at is not None and found.records < chosen.at and not found.stopped:
+        raise _Wrong(f"{name}: has {found.records:,} records, and not {chosen.at:,}")
+    print(f"behind {found.records:,} record{'' if found.records == 1 else 's'}" + (f": {found.stop()}" if found.stopped else ""))
+    sys.stdout.write(text(heap))
+    if found.stopped:
+        _say([f"{name}: {found.stop()}: {found.stop_in_words()}"])
+    return STOPPED if found.stopped else ENDED
+
+
+class _Wrong(Exception):
+    """What is wrong with a file, in words: nothing is written then."""
+
+
+def _named(name: str) -> str:
+    """A file's name for reading."""
+    return "standard input" if name == "-" else shown(name)
+
+
+@contextmanager
+def _input(name: str) -> Iterator[BinaryIO]:
+    """The file of that name; - is standard input."""
+    if name != "-":
+        with open(name, "rb") as file:
+            yield file
+        return
+    if sys.stdin is None:
+        raise OSError("standard input is closed")
+    yield sys.stdin.buffer
+
+
+def _output_is_there(name: str) -> None:
+    """Raises the OSError that writing would end with, before anything is done."""
+    if name == "-":
+        _needs_output()
+    else:
+        can_be_written(name)
+
+
+@contextmanager
+def _output(name: str) -> Iterator[BinaryIO]:
+    """A file of that name to write, whole or not at all; - is standard output, which gets all at the end."""
+    if name != "-":
+        with written(name) as file:
+            yield file
+        return
+    import io
+
+    kept = io.BytesIO()
+    yield kept
+    sys.stdout.buffer.write(kept.getbuffer())
 
 
 def _needs_output() -> None:
@@ -427,6 +729,8 @@ def main(words: Optional[Sequence[str]] = None) -> int:
     except Refused as refused:
         _say([f"huwekapo: refused {refused}"])
         return WRONG_USE
+    except _Wrong as error:
+        return _failed(error)
     except OSError as error:
         _no_more_output()
         return _failed(error)

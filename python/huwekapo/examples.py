@@ -8,7 +8,7 @@ from __future__ import annotations
 
 from typing import Callable, Dict, Iterator, List, Optional
 
-from .records import ALLOCATE, ALLOCATE_DATA, CLEAR, COPY, READ, RECORD, WRITE, WRITE_NUMBER, record
+from .record import ALLOCATE, ALLOCATE_DATA, CLEAR, COPY, READ, RECORD, WRITE, WRITE_NUMBER, record
 
 #: Variables of a program, as many as the program `report` has roots.
 _ROOTS = 64

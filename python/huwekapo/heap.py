@@ -111,6 +111,18 @@ class Heap:
         roots = len(self._arrays["roots"])
         return f"<Heap of {self._blocks:,} blocks, width {self._width}, {roots} roots: {used:,} blocks in use>"
 
+    def __str__(self) -> str:
+        """The map of the heap, its objects and its free chunks, for reading."""
+        from .show import text
+
+        return text(self).rstrip("\n")
+
+    def _repr_html_(self) -> str:
+        """The map, for notebooks."""
+        from .show import page
+
+        return page(self)
+
     def _lend(self, blocks: int, width: int, lengths: dict[str, int]) -> None:
         self._functions = library.load()
         self._lock = threading.Lock()
@@ -287,6 +299,23 @@ class Heap:
     def free_blocks(self) -> int:
         """The number of free blocks. Refusals: 1, 2, 11, 13."""
         return self._value("free_blocks")
+
+    def reason(self, at: int) -> str:
+        """Why the object at block `at` is kept, as a sentence with a line end: a chain, `root 1 cell 2 block 4`, with `cell J` once for
+        each link followed; or `no root reaches block 4`, where none does. The chain has the fewest links; among those the lowest root,
+        then the lowest cell at the first difference. `read_reason` reads it back. Refusals: 1, 2, 11, 13, 6."""
+        output = (ctypes.c_uint8 * library.reason_length(min(self._blocks, MAX_BLOCKS)))()
+        reply = _accepted(self._call("reason", _word(at), ctypes.addressof(output), len(output)))
+        return bytes(output[: reply.value]).decode("ascii")
+
+    def shape(self) -> List[int]:
+        """The shape of what the roots reach, as numbers: the number of roots, each root's object number or 0, then, for each object, its
+        size, its D bit and its cells, references as object numbers. Objects are numbered from 1 as first met, breadth first. Two heaps have
+        equal ones exactly where `same_shape` says so. Refusals: 1, 2, 11, 13."""
+        roots = min(len(self._arrays["roots"]), MAX_ROOTS)
+        output = (ctypes.c_uint32 * library.shape_length(min(self._blocks, MAX_BLOCKS), roots))()
+        reply = _accepted(self._call("shape", ctypes.addressof(output), len(output)))
+        return output[: reply.value]
 
     def replay(self, calls: Iterable[Sequence[int]]) -> List[Reply]:
         """Formats the heap and makes a list of calls, each a code and its arguments, as include/huwekapo.h has them: `(2, n, r)` is an

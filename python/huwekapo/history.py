@@ -11,7 +11,7 @@ from typing import IO, Callable, Iterator, Optional, Tuple, Union
 
 from .heap import Bytes, Heap
 from .library import REPORT_BLOCKS, REPORT_ROOTS, REPORT_WIDTH
-from .records import RECORD
+from .record import RECORD
 from .runs import Run, Stopped
 
 #: The bytes that are run at a time: so many that the check of the heap, which each piece begins with, hardly counts.
@@ -128,6 +128,13 @@ class History:
             for length in _pieces(file, memoryview(buffer), fill):
                 yield ctypes.addressof(array), length
 
+    def pieces(self) -> Iterator[bytes]:
+        """The bytes of the history, a mebibyte at a time. Only the last piece may end inside a record."""
+        buffer = memoryview(bytearray(PIECE))
+        with self._opened() as file:
+            for length in _pieces(file, buffer, fill=True):
+                yield bytes(buffer[:length])
+
     def run(self, heap: Heap, progress: Optional[Progress] = None, may_stop: bool = False) -> Run:
         """Runs the history on a heap, and gives where the run ends. Where it stops before the end it raises `Stopped`, unless it
         may."""
@@ -137,6 +144,20 @@ class History:
                 progress(RECORD * run.records)
         if run.stopped and not may_stop:
             raise Stopped(run, self.name)
+        return run
+
+    def run_to(self, heap: Heap, records: Optional[int], progress: Optional[Progress] = None) -> Run:
+        """Runs the first records of the history on a heap, as many as there are at most, or all; and gives where the run stands then,
+        stopped or not."""
+        if records is None:
+            return self.run(heap, progress, may_stop=True)
+        run = Run()
+        for piece in self.pieces():
+            run = heap.run_records(run, piece[: RECORD * (records - run.records)])
+            if run.stopped or run.records == records:
+                break
+            if progress:
+                progress(RECORD * run.records)
         return run
 
 

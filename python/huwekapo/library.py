@@ -12,7 +12,7 @@ import os
 from typing import Any, Callable, Iterator, List, NamedTuple
 
 #: The version of the library that this package is for, and its own.
-VERSION = "0.5.0"
+VERSION = "0.6.0"
 
 #: The environment variable that names the library: its file, or the folder that it lies in.
 VARIABLE = "HUWEKAPO_LIBRARY"
@@ -99,6 +99,12 @@ class Ran(ctypes.Structure):
     _fields_ = [("reply", Reply), ("run", RunSoFar)]
 
 
+class Reading(ctypes.Structure):
+    """struct huwekapo_reading."""
+
+    _fields_ = [("kind", WORD), ("root", WORD), ("links", WORD), ("block", WORD)]
+
+
 #: Each function: what it takes behind the heap's buffers, and what it answers.
 FUNCTIONS: dict[str, tuple[list[Any], Any]] = {
     "format": ([], Reply),
@@ -115,9 +121,26 @@ FUNCTIONS: dict[str, tuple[list[Any], Any]] = {
     "read_number": ([WORD, WORD], Reply),
     "open_collection": ([], Reply),
     "step_collection": ([WORD], Reply),
+    "reason": ([WORD, ctypes.c_void_p, WORD], Reply),
+    "shape": ([ctypes.c_void_p, WORD], Reply),
     "replay": ([ctypes.c_void_p, WORD, ctypes.c_void_p, WORD], Reply),
     "run_records": ([RunSoFar, ctypes.c_void_p, WORD], Ran),
 }
+
+#: Each function that takes no heap.
+READERS: dict[str, tuple[list[Any], Any]] = {
+    "read_reason": ([ctypes.c_void_p, WORD, ctypes.c_void_p, WORD], Reading),
+}
+
+
+def reason_length(blocks: int) -> int:
+    """Bytes that are enough for the reason of any object in a heap of so many blocks."""
+    return 8 + 12 * blocks
+
+
+def shape_length(blocks: int, roots: int) -> int:
+    """Numbers that are enough for the shape of any heap of so many blocks and roots."""
+    return 1 + roots + 6 * blocks
 
 
 class LibraryMissing(OSError):
@@ -157,7 +180,7 @@ def load() -> dict[str, Any]:
                 raise LibraryMissing(f"{place}: {error}") from error
             continue
         _same_version(library, place)
-        return {name: _declared(library, name) for name in FUNCTIONS}
+        return {name: _declared(library, name) for name in (*FUNCTIONS, *READERS)}
     raise LibraryMissing(
         f"{FILE} was not found: looked for {', '.join(tried)}. `bash install.sh` in Huwekapo's clone makes it; {VARIABLE} may name "
         "the file or its folder."
@@ -211,8 +234,9 @@ def path() -> str:
 
 def _declared(library: Any, name: str) -> Any:
     function = getattr(library, f"huwekapo_{name}")
-    arguments, answer = FUNCTIONS[name]
     # A buffer is a pointer and a length in numbers.
-    function.argtypes = [WORD, WORD] + len(BUFFERS) * [ctypes.c_void_p, WORD] + arguments
+    buffers = [WORD, WORD] + len(BUFFERS) * [ctypes.c_void_p, WORD] if name in FUNCTIONS else []
+    arguments, answer = FUNCTIONS[name] if name in FUNCTIONS else READERS[name]
+    function.argtypes = buffers + arguments
     function.restype = answer
     return function

@@ -10,7 +10,7 @@ from .files import Place, shown, written
 from .heap import Heap
 from .history import History, Progress, Source
 from .measures import GARBAGE_WORDS
-from .records import RECORD
+from .record import RECORD
 from .runs import Run
 from .unreached import Garbage, Held, in_use, survey
 

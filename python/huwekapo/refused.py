@@ -24,6 +24,8 @@ class Number(enum.IntEnum):
     WRONG_KIND = 12
     BAD_MARKS = 13
     OUT_OF_TURN = 14
+    SHORT_REASON = 15
+    SHORT_SHAPE = 16
     SHORT_REPLIES = 18
     BAD_RUN = 19
 
@@ -57,6 +59,8 @@ _CALL_WORDS: Dict[int, str] = {
     "first block, or a root, or a marked object that is not on the list, names an unmarked one; while none is: a mark or a place of the "
     "list is not 0",
     Number.OUT_OF_TURN: "a step while no collection is open; an opening or a full collection while one is",
+    Number.SHORT_REASON: "the output is shorter than the sentence",
+    Number.SHORT_SHAPE: "the output is shorter than the list",
     Number.SHORT_REPLIES: "`replies` is too short for the replies of all calls",
     Number.BAD_RUN: "no run leaves these numbers",
 }

@@ -79,20 +79,50 @@ def garbage(heap: Heap) -> Garbage:
     return survey(heap)[1]
 
 
+def counts(heap: Heap) -> dict[int, int]:
+    """The count of each object, by its first block, of a heap that is not damaged."""
+    length = heap.blocks // 8
+    planes = [_map(heap.counts[plane * length : (plane + 1) * length]) for plane in range(heap.width)]
+    return {first: sum((bits >> first & 1) << plane for plane, bits in enumerate(planes)) for first in objects(heap)}
+
+
+def references(heap: Heap) -> list[int]:
+    """The cells of a heap that is not damaged, with 0 in place of the numbers that data holds."""
+    sizes, cells = objects(heap), heap.cells.tolist()
+    for first in data(heap):
+        cells[4 * first : 4 * (first + sizes[first])] = 4 * sizes[first] * [0]
+    return cells
+
+
+def reached(heap: Heap) -> set[int]:
+    """The first blocks of the objects that a root reaches, of a heap that is not damaged."""
+    return _led_to((v - 1 for v in heap.roots.tolist() if v), objects(heap), references(heap), set())
+
+
 def survey(heap: Heap) -> tuple[Kinds, Garbage]:
     """What a root reaches, by its kind, and what none does, by what holds it, of a heap that is not damaged."""
-    sizes = objects(heap)
-    numbers = data(heap)
-    cells = heap.cells.tolist()
-    for first in numbers:
-        cells[4 * first : 4 * (first + sizes[first])] = 4 * sizes[first] * [0]
-    reached = _led_to((v - 1 for v in heap.roots.tolist() if v), sizes, cells, set())
-    unreached = sizes.keys() - reached
-    alone = _unnamed(unreached, sizes, cells)
-    by_stuck = _led_to((first for first in stuck(heap) if first not in reached), sizes, cells, reached)
-    by_cycles = unreached - alone
-    parts = (alone, by_cycles - by_stuck, by_cycles & by_stuck)
-    return _by_kind({first: sizes[first] for first in reached}, numbers), Garbage(*(_held(some, sizes) for some in parts))
+    found = Unreached(heap)
+    sizes, by_cycles = found.sizes, found.by_cycles
+    by_stuck = _led_to((first for first in stuck(heap) if first not in found.reached), sizes, found.cells, found.reached)
+    parts = (found.objects - by_cycles, by_cycles - by_stuck, by_cycles & by_stuck)
+    return _by_kind({first: sizes[first] for first in found.reached}, data(heap)), Garbage(*(_held(some, sizes) for some in parts))
+
+
+class Unreached:
+    """The objects that no root reaches, of a heap that is not damaged, by their first blocks; and those of them on a cycle of garbage or
+    behind one."""
+
+    def __init__(self, heap: Heap) -> None:
+        self.sizes = objects(heap)
+        self.cells = references(heap)
+        self.reached = _led_to((v - 1 for v in heap.roots.tolist() if v), self.sizes, self.cells, set())
+        self.objects = self.sizes.keys() - self.reached
+        self.by_cycles = self.objects - _unnamed(self.objects, self.sizes, self.cells)
+
+    def names(self, first: int) -> list[tuple[int, int]]:
+        """The cells of an object that name one of these, each its number and the first block of what it names."""
+        own = self.cells[4 * first : 4 * (first + self.sizes[first])]
+        return [(j, v - 1) for j, v in enumerate(own) if v and v - 1 in self.objects]
 
 
 def _held(some: Iterable[int], sizes: dict[int, int]) -> Held:

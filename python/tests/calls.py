@@ -29,6 +29,8 @@ OTHERS: Dict[str, Call] = {
     "read_number": lambda heap: heap.read_number(1, 3),
     "open_collection": lambda heap: heap.open_collection(),
     "step_collection": lambda heap: heap.step_collection(1),
+    "reason": lambda heap: heap.reason(0),
+    "shape": lambda heap: heap.shape(),
     "run_records": lambda heap: heap.run_records(Run(), COLLECT),
 }
 

@@ -2,12 +2,17 @@
 
 from __future__ import annotations
 
+import contextlib
+import io
+import os
 import re
+import tempfile
 import unittest
 from pathlib import Path
 
 import huwekapo
-from huwekapo import examples
+from huwekapo import Number, examples, refused
+from huwekapo.__main__ import EXAMPLES
 from huwekapo.sweep import TABLE_COLUMNS
 from huwekapo.widths import text, widths
 
@@ -34,6 +39,31 @@ class Figures(unittest.TestCase):
                 self.assertTrue(f"{words}, most blocks in use {run.figures.peak:,}" in drawn, (name, width))
 
 
+class Leak(unittest.TestCase):
+    def test_why(self) -> None:
+        history = examples.example("leak", 100_000)
+        self.assertEqual(huwekapo.run(history, 1024, may_stop=True).stop(), "refused 5 at record 25148")
+        heap = huwekapo.Heap(1024)
+        next(huwekapo.History(history).runs(heap, 100))
+        shown = [line[4:] for line in README.splitlines()]
+        self.assertIn(heap.reason(1).rstrip(), shown)
+        first = next(huwekapo.read_reason(line + "\n").block for line in shown if line.startswith("no root"))
+        self.assertIn(heap.reason(first).rstrip(), shown)
+        self.assertEqual([words for words in huwekapo.holds(heap, first) if f"  {words}" not in shown], [])
+
+
+class Pasted(unittest.TestCase):
+    def test_recorder(self) -> None:
+        section = README.split("\n## Histories of one's own\n")[1].split("\n## ")[0]
+        code = "".join(line[4:] + "\n" for line in section.splitlines() if line.startswith("    "))
+        here, out = os.getcwd(), io.StringIO()
+        with tempfile.TemporaryDirectory() as folder, contextlib.redirect_stdout(out):
+            os.chdir(folder)
+            self.addCleanup(os.chdir, here)
+            exec(code, {})
+        self.assertEqual(out.getvalue().split(), "2 3 2 0 3 0".split())
+
+
 class Versions(unittest.TestCase):
     def test_one_version(self) -> None:
         version = huwekapo.__version__
@@ -41,8 +71,25 @@ class Versions(unittest.TestCase):
         self.assertEqual(re.findall(r"^## (\d+\.\d+\.\d+)", (TOP / "CHANGELOG.md").read_text(), re.MULTILINE)[0], version)
         for name in ["Cargo.toml", "Cargo.lock"]:
             self.assertIn(f'name = "huwekapo"\nversion = "{version}"\n', (TOP / "rust" / name).read_text())
+        self.assertIn(f"\nversion: {version}\n", (TOP / "CITATION.cff").read_text())
+        self.assertIn(f'"Huwekapo {version}"', (TOP / "docs/man/huwekapo-report.1").read_text().splitlines()[0])
+
+    def test_manual(self) -> None:
+        page = (TOP / "docs/man/huwekapo-report.1").read_text()
+        for number in Number:
+            words = refused._RECORD_WORDS.get(number)
+            # A program of its own has no collection open.
+            if words and number != Number.OUT_OF_TURN:
+                self.assertIn(f"\n.TP 4\n{int(number)}\n{words}\n", page)
+        usage = (TOP / "bin/huwekapo-report").read_text()
+        statuses = re.findall(r"(\d), ([a-z ]+)[;.]", usage.split("Exit status: ")[1].split("HUWEKAPO_REPORT")[0])
+        self.assertEqual([status for status, _ in statuses], ["0", "3", "1", "2"])
+        for status, words in statuses:
+            self.assertIn(f"\n.TP 4\n{status}\n{words}\n", page)
 
     def test_commands(self) -> None:
+        for name in EXAMPLES:
+            self.assertTrue(f"`{name} " in README, name)
         for name in examples.PROGRAMS:
             self.assertTrue(f"`{name}`" in README, name)
 

@@ -353,7 +353,7 @@ class Header(unittest.TestCase):
         self.assertEqual(self.enum("huwekapo_damage"), {kind.name: kind.value for kind in Damage})
 
     def test_structs(self) -> None:
-        for name, struct in [("reply", library.Reply), ("tally", library.Tally), ("run", library.RunSoFar), ("ran", library.Ran)]:
+        for name, struct in [("reply", library.Reply), ("tally", library.Tally), ("run", library.RunSoFar), ("ran", library.Ran), ("reading", library.Reading)]:
             self.assertEqual(self.fields(f"huwekapo_{name}"), [field[0] for field in struct._fields_], name)
 
     def test_functions(self) -> None:
@@ -362,7 +362,7 @@ class Header(unittest.TestCase):
             "uint16_t": "uint16",
             "uint64_t": "uint64",
             "struct huwekapo_run": "run",
-            **{f"{const}{number} *": "pointer" for const in ("", "const ") for number in ("uint8_t", "uint16_t", "uint64_t")},
+            **{f"{const}{number} *": "pointer" for const in ("", "const ") for number in ("uint8_t", "uint32_t", "uint64_t")},
         }
         declared = {
             library.ctypes.c_uint16: "uint16", library.WORD: "WORD", library.ctypes.c_uint64: "uint64", library.RunSoFar: "run",
@@ -372,7 +372,7 @@ class Header(unittest.TestCase):
         if library.WORD is library.ctypes.c_uint64:
             kinds["uint64_t"] = declared[library.WORD] = "WORD"
         found = re.findall(r"struct huwekapo_(\w+) huwekapo_(\w+)\((.*?)\);", self.code, flags=re.DOTALL)
-        self.assertEqual({name for _, name, _ in found}, set(library.FUNCTIONS))
+        self.assertEqual({name for _, name, _ in found}, {*library.FUNCTIONS, *library.READERS})
         # Every function begins with the same buffers, which a macro names once.
         macro = re.search(r"#define HUWEKAPO_BUFFERS_\([\w, ]*\)(.*?[^\\])\n", self.code, flags=re.DOTALL)
         assert macro
@@ -381,13 +381,16 @@ class Header(unittest.TestCase):
         self.assertEqual(lent, ["blocks", "width", *(word for name in names for word in (name, f"{name}_length"))])
         lending = re.findall(r"#define (HUWEKAPO_\w+) (?:\\\n +)?HUWEKAPO_BUFFERS_\(", self.code)
         self.assertEqual(len(lending), 6)
+        answers = {library.Reply: "reply", library.Ran: "ran", library.Reading: "reading"}
         for answer, name, arguments in found:
-            first, *others = arguments.split(",")
-            self.assertIn(first.strip(), lending, name)
+            others = arguments.split(",")
+            if name in library.FUNCTIONS:
+                self.assertIn(others.pop(0).strip(), lending, name)
+            expected, answered = library.FUNCTIONS[name] if name in library.FUNCTIONS else library.READERS[name]
             words = [re.fullmatch(r"\s*(.*?)(\w+)\s*", argument).groups() for argument in others]  # type: ignore[union-attr]
             rest = [kinds[kind.strip()] for kind, _ in words]
-            self.assertEqual(rest, [declared[kind] for kind in library.FUNCTIONS[name][0]], name)
-            self.assertEqual(answer, {library.Reply: "reply", library.Ran: "ran"}[library.FUNCTIONS[name][1]], name)
+            self.assertEqual(rest, [declared[kind] for kind in expected], name)
+            self.assertEqual(answer, answers[answered], name)
 
 
 if __name__ == "__main__":

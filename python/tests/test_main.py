@@ -18,10 +18,10 @@ from unittest import mock
 
 import huwekapo
 from huwekapo import examples, measures
-from huwekapo.__main__ import STATUSES, blocks, main, several, widths
+from huwekapo.__main__ import EXAMPLES, STATUSES, arguments, blocks, main, several, widths
 from huwekapo.files import written
 
-from .records import allocate
+from .records import allocate, clear, write
 
 PYTHON = Path(__file__).resolve().parent.parent
 THREE = allocate(2, 0) + allocate(1, 1) + allocate(3, 2)
@@ -64,6 +64,52 @@ class Commands(unittest.TestCase):
         self.assertEqual((row["stopped"], row["peak"]), ("refused 4 at record 2", ""))
         (row,) = json.loads(self.start("report", self.three, "--json")[0])
         self.assertEqual((row["stopped"], row["peak"], list(row)), ("", 6, measures.COLUMNS))
+
+    def test_why(self) -> None:
+        # Root 0 names an object of 2 blocks at 0, whose cell 7 names that of 3 blocks at 4; that at 2 names itself.
+        cycle = write(1, 2, 1) + clear(1)
+        history = THREE + write(2, 7, 0) + clear(2) + cycle
+        self.three.write_bytes(history)
+        small = ["--blocks", 8, "--width", 2, "--roots", 4]
+        said = "root 0 cell 7 block 4\n  3 blocks, count 1 of at most 3\n"
+        self.assertEqual(self.start("why", self.three, 4, *small), (said, ""))
+        self.assertEqual(self.start("why", self.three, "--largest"), (said.replace("most 3", "most 7"), ""))
+        self.assertEqual(self.start("why", "-", "--largest", *small, given=history), (said, ""))
+        held = "no root reaches block 2\n  1 block, count 1 of at most 3\n  it is on a cycle: block 2 cell 2 block 2\n"
+        for which in [2, "--garbage"]:
+            self.assertEqual(self.start("why", self.three, which, *small), (held, ""))
+        # After the records that are asked for.
+        for records, root in [(3, "root 2 block 4"), (4, "root 2 block 4"), (5, "root 0 cell 7 block 4"), (99, "root 0 cell 7 block 4")]:
+            self.assertEqual(self.start("why", self.three, 4, "--records", records)[0].splitlines()[0], root)
+        self.assertIn("no object of garbage is there", self.start("why", self.three, "--garbage", "--records", 5, status=1)[1])
+        self.assertIn("refused 6 NO_OBJECT", self.start("why", self.three, 1, status=2)[1])
+        for wrong in [[], [4, "--largest"], ["x"]]:
+            self.start("why", self.three, *wrong, status=2)
+        # A run that stopped tells of the heap before.
+        self.three.write_bytes(THREE + b"...")
+        out, words = self.start("why", self.three, "--largest", status=3)
+        self.assertEqual(out.splitlines()[0], "root 2 block 4")
+        self.assertIn("refused 10 at record 3", words)
+        (self.folder / "empty.history").write_bytes(b"")
+        self.assertIn("no object is there", self.start("why", self.folder / "empty.history", "--largest", status=1)[1])
+
+    def test_same(self) -> None:
+        other = self.folder / "other.history"
+        other.write_bytes(allocate(1, 1) + allocate(3, 2) + allocate(2, 0))
+        self.assertEqual(self.start("same", self.three, other), ("one shape: 3 objects\n", ""))
+        self.assertEqual(self.start("same", self.three, "--blocks", "8,1024", "--width", "1,4"), ("one shape: 3 objects\n", ""))
+        self.assertEqual(self.start("same", "-", "--blocks", "8,1024", given=THREE), ("one shape: 3 objects\n", ""))
+        self.assertEqual(self.start("same", self.three, "-", "--roots", 4, given=other.read_bytes()), ("one shape: 3 objects\n", ""))
+        parting = "two shapes, which first part at number of roots: 4 and 5\n"
+        self.assertEqual(self.start("same", self.three, "--roots", "4,5", status=1), (parting, ""))
+        other.write_bytes(THREE + write(0, 3, 1))
+        parting = "two shapes, which first part at object 2, cell 3, object: 0 and 1\n"
+        self.assertEqual(self.start("same", self.three, other, status=1), (parting, ""))
+        out, words = self.start("same", self.three, "--roots", "3,2", status=3)
+        self.assertEqual(out, "two shapes, which first part at number of roots: 3 and 2\n")
+        self.assertIn("refused 4 at record 2", words)
+        self.start("same", "-", "-", status=2)
+        self.start("same", self.three, "--blocks", "8,9", status=2)
 
     def test_report_of_sections(self) -> None:
         named = self.start("report", self.three)[0]
@@ -113,6 +159,24 @@ class Commands(unittest.TestCase):
         readme = (PYTHON.parent / "README.md").read_text()
         for part in ["3 where a run stopped", "1 where something failed", "2 for wrong use"]:
             self.assertTrue(part in " ".join(readme.split()), part)
+
+    def test_help(self) -> None:
+        parser = arguments()
+        (commands,) = [action.choices for action in parser._actions if isinstance(action.choices, dict)]
+        self.assertEqual(set(commands), set(EXAMPLES))
+        for name, command in commands.items():
+            shown = command.format_help()
+            self.assertTrue(shown.endswith(STATUSES), name)
+            lines = shown.split("\nexamples:\n")[1].split("\n\n")[0].splitlines()
+            self.assertGreaterEqual(len(lines), 2)
+            for line in lines:
+                # Each is taken as it stands, but for what the shell does.
+                words = shlex.split(line.split("<")[0].split(">")[0])
+                at = words.index(name)
+                self.assertEqual(words[:at], ["python3", "-m", "huwekapo"])
+                self.assertEqual(parser.parse_args(words[at:]).command, name)
+        with mock.patch("sys.argv", ["/usr/bin/huwekapo"]):
+            self.assertIn("\n  huwekapo example caches -o", arguments()._actions[-1].choices["example"].format_help())
 
     def test_files_that_are_not_there(self) -> None:
         nowhere = self.folder / "nowhere"
