@@ -229,8 +229,8 @@ def check(
             progress(now)
     if next(source, None) is not None and compared:
         raise NotKept("the history goes on behind the last event")
-    for place, one in enumerate(program.order):
-        _made_alike(program, heap, one, place + 1 + converted.prologue, header)
+    for place, made in enumerate(program.order):
+        _made_alike(program, heap, made, place + 1 + converted.prologue, header)
     return Checked(len(compared), len(program))
 
 
