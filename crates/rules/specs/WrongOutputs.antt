@@ -1,4 +1,4 @@
--- The shapeList calls with an output on a heap of 8 blocks, each with what is right of it and what is wrong: what a
+-- The two calls with an output on a heap of 8 blocks, each with what is right of it and what is wrong: what a
 -- call would give that refuses everything, replies 0 always or never writes; and other mistakes, each named.
 -- That only what is right is promised is one lemma, in proofs/.
 use Prim.Native.Nat.{ℕ}
