@@ -8,7 +8,7 @@ use native.Mathlib.Omega.{arith}
 use lib.Dec.{eqb}
 use lib.Pow.{pow-pos}
 use borrow.Author.Tests.{eq-eqb, ne-eqb}
-use Rattle.rules.specs.Heap.{maxBlocks, isPowerFrom, isBlocks}
+use Rattle.rules.specs.Heap.{doublings, maxBlocks, isPowerFrom, isBlocks}
 
 -- the search for n has come to `power`, and k doublings are left
 pub record Doubling (n power : ℕ) : Type 0 where
@@ -18,7 +18,7 @@ pub record Doubling (n power : ℕ) : Type 0 where
   pub test : isPowerFrom k power n ≡ isBlocks n
 
 pub doubling-start : (n : ℕ) → Doubling n 8
-doubling-start n = record { k = 10; least = omega arith; left = refl; test = refl }
+doubling-start n = record { k = doublings; least = omega arith; left = refl; test = refl }
 
 -- p * 2 ^ (j + 1), as the next power has it
 next-power : (p j : ℕ) → p * 2 ^ suc j ≡ p * 2 * 2 ^ j

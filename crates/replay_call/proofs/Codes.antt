@@ -5,13 +5,13 @@ use mathlib.Core.Bool.{true, false, true≢false}
 use Prim.Native.Nat.{ℕ, _+_, _≤_, _<_}
 use native.Mathlib.Omega.{arith}
 use borrow.Author.Tests.{le-leb, lt-leb, eq-eqb, ne-eqb}
-use Rattle.rules.specs.Heap.{Memory}
+use Rattle.rules.specs.Heap.{Memory, maxNumber}
 use Rattle.rules.specs.Calls.{reply}
 use Rattle.rules.specs.Promise.{Promise}
 use Rattle.types.specs.declared.Reply.{Reply}
 use Rattle.types.specs.declared.Outcome.{Outcome}
 use Rattle.theory.specs.Usable.{replyOf, Worked}
-use Rattle.replay_words.specs.Encoding.{decoded, isCall, maxNumber}
+use Rattle.replay_words.specs.Encoding.{decoded, isCall}
 use Rattle.replay_call.specs.Dispatched.{Dispatched}
 
 -- the call of a known code, as it was made

@@ -2,10 +2,10 @@
 ghost use Rattle.rules.specs.Lent.{before, after, lent};
 ghost use Rattle.theory.specs.Usable.{Usable};
 ghost use Rattle.replay_call.specs.Dispatched.{Dispatched};
-use replay_words::tests::MAX_NUMBER;
 use test_arguments::collecting;
 use test_arguments::looking;
 use test_arguments::numbers;
+use types::MAX_NUMBER;
 use types::Ref;
 use types::Reply;
 use types::replies;
@@ -167,7 +167,7 @@ pub fn step(
             done.reply()
         }
         10 => {
-            if MAX_NUMBER < z {
+            if (MAX_NUMBER as u64) < z {
                 return replies::refusal(9);
             }
             let done = work_tested::write_number(

@@ -5,6 +5,7 @@ use mathlib.Core.List.{List, [], _∷_}
 use lib.ListN.{length, getD}
 use lib.Dec.{leb, eqb}
 use Rattle.rules.specs.Tools.{someBelow}
+use Rattle.rules.specs.Heap.{maxNumber}
 use Rattle.rules.specs.Calls.{
   Call,
   format,
@@ -31,10 +32,6 @@ decoded code x y z =
     (format ∷ check ∷ allocate x y ∷ storeRoot x y ∷ storeCell x y z ∷ collect ∷ look x ∷ freeBlocks ∷ returnRoots x
     ∷ allocateData x y ∷ writeNumber x y z ∷ readNumber x y ∷ openCollection ∷ takeSteps x ∷ [])
     code check
-
--- request U6: "Its cells hold any 16-bit number"
-abbrev pub maxNumber : ℕ
-maxNumber = 65535
 
 -- a known code; the arguments may be any words, save that the number of a number write is one that a cell can
 -- hold: nothing is truncated

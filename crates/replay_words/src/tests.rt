@@ -5,19 +5,17 @@ ghost use lib.ListN.{length};
 ghost use Rattle.rules.specs.Heap.{shape};
 ghost use Rattle.replay_words.specs.Encoding.{isCall, areCalls};
 ghost use Rattle.replay_words.specs.Refusals.{replyOn};
+use types::MAX_NUMBER;
 use types::Reply;
 use types::replies::acceptance;
 use types::replies::refusal;
-
-// The largest number that a cell holds: all 16 bits of a `Ref`.
-pub const MAX_NUMBER: u64 = 65535;
 
 // Whether a code, with the third argument, is a call. All else is answered 9.
 fn is_call(code: u64, z: u64) -> bool
     ensures { λ r. ⌜ r ≡ isCall code z ⌝ }
 {
     if code == 10 {
-        return z <= MAX_NUMBER;
+        return z <= MAX_NUMBER as u64;
     }
     code <= 13
 }

@@ -5,7 +5,7 @@ use mathlib.Core.List.{List, [], _∷_, map}
 use Rattle.bitmap.specs.Bit.{bitAt, setBit, fillBits, countBelow, zeros}
 use Rattle.planes.specs.Plane.{countAt, setCount}
 use Rattle.rules.specs.Tools.{all, holding, someBelow, firstNumber, isSome, tabulate}
-use Rattle.rules.specs.Heap.{isPowerFrom, shape, firstIn, sizeFrom, exponentFrom, exponent, chunkFree, lowestFrom}
+use Rattle.rules.specs.Heap.{isPowerFrom, isBlocks, shape, firstIn, sizeFrom, exponentFrom, exponent, chunkFree, lowestFrom}
 use Rattle.rules.specs.Heap.{lowestFree, refIn, firstAt, inData, refAt}
 use Rattle.rules.specs.Damage.{endOnFree, openEnd, unaligned, badCell, badRoot, badCount, strayData, damage}
 use Rattle.rules.specs.Sections.{largestFree, figure, figures, staleFigures}
@@ -18,7 +18,7 @@ use Rattle.rules.specs.Steps.{isUntidy, rootNames, opened, progressOf, l
 use Rattle.rules.specs.Steps.{unmarkedFreed, closed, closes, stepped, wasMarked, namedByFreed, marksAfter, listAfter, shaded}
 use Rattle.rules.specs.Steps.{storeRootShading, storeCellShading, allocateShading, clearShading, returnShading}
 use Rattle.rules.specs.Calls.{ownRefusals, refusals, refusedWith, freeing, outcome, answer, run, lastMemory}
-use Rattle.rules.specs.Cases.{Case, fresh, freshBut, cases, readings, returns, moments, numbers, given, expected, figuresOfBytes, figuresOfSections, expectedOfSections}
+use Rattle.rules.specs.Cases.{Case, fresh, freshBut, cases, readings, returns, moments, numbers, given, expected, figuresOfBytes, figuresOfSections, expectedOfSections, sizesOfHeaps}
 use Rattle.rules.specs.Distinctions.{eightBlocks, cellHolding, rootHolding, distinctions}
 use Rattle.rules.specs.StepCases.{withRootsOf, openList, noList, half, stepCases, givenSteps, expectedSteps}
 use Rattle.text.specs.Text.{decimalIn, decimal}
@@ -90,3 +90,8 @@ figures-of-bytes = refl
 pub figures-of-sections : figuresOfSections ≡ expectedOfSections
 unfolding computed figuresOfSections expectedOfSections
 figures-of-sections = refl
+
+-- and which numbers of blocks a heap may have, with request U12
+pub sizes-hold : map (λ c. isBlocks (c .0)) sizesOfHeaps ≡ map (λ c. c .1) sizesOfHeaps
+unfolding computed sizesOfHeaps
+sizes-hold = refl

@@ -11,7 +11,7 @@ use lib.Dec.{leb, eqb}
 use lib.ListN.{length, getD, length-replicate, replicate}
 use lib.Pow.{pow-add, pow-mono, pow-lt}
 use borrow.Author.Tests.{leb-true, le-leb, eqb-true, eq-eqb}
-use Rattle.rules.specs.Heap.{Memory, isPowerFrom, isBlocks, shape, shaped, maxBlocks, sectionCount}
+use Rattle.rules.specs.Heap.{Memory, doublings, isPowerFrom, isBlocks, shape, shaped, maxBlocks, sectionCount}
 use Rattle.rules.specs.Store.{formatted}
 use Rattle.rules.proofs.Tests.{test-cases, done, also, all-at, all-passed}
 use Rattle.rules.proofs.TrueList.{length-figures}
@@ -62,24 +62,24 @@ doubled-test (suc f) p n (suc j) l e = elim (test-cases (eqb n p)) [
       (doubled-test f (p * 2) n j (omega arith) (e ∙ ap (λ (x : ℕ). p * x) (pow-succ' 2 j) ∙ sym (mul-assoc p 2 (2 ^ j))))
 ]
 
--- "a power of two from 8 to 8,192"
-pub blocks-facts : (N : ℕ) → isBlocks N ≡ true → (j : ℕ) × (j ≤ 10) × (N ≡ 8 * 2 ^ j)
-blocks-facts N e = doubled-facts 10 8 N e
+-- "a power of two from 8" to the largest heap
+pub blocks-facts : (N : ℕ) → isBlocks N ≡ true → (j : ℕ) × (j ≤ doublings) × (N ≡ 8 * 2 ^ j)
+blocks-facts N e = doubled-facts doublings 8 N e
 
 pub blocks-le : (N : ℕ) → isBlocks N ≡ true → N ≤ maxBlocks
-blocks-le N e = let found = blocks-facts N e in omega (arith, found .2, pow-mono {i = found .0} {j = 10} (found .1))
+blocks-le N e = let found = blocks-facts N e in omega (arith, found .2, pow-mono {i = found .0} {j = doublings} (found .1))
 
 pub blocks-power : (N : ℕ) → isBlocks N ≡ true → (k : ℕ) × (N ≡ 2 ^ k)
 blocks-power N e = let found = blocks-facts N e in (3 + found .0, found .2 ∙ sym (pow-add 2 3 (found .0)))
 
--- 8 to 8,192 are 2 ^ 3 to 2 ^ 13
+-- 8 doubled k times is 2 ^ (3 + k)
 blocks-test : (n k : ℕ) → n ≡ 2 ^ k → 8 ≤ n → n ≤ maxBlocks → isBlocks n ≡ true
 blocks-test n k e low high =
     let least : 3 ≤ k = elim (decLt k 3) [ yes l ↦ absurd (omega (arith, pow-mono {i = k} {j = 2} (omega arith))) | no l ↦ omega arith ] in
-    let most : k ≤ 13 = elim (decLt 13 k) [ yes l ↦ absurd (omega (arith, pow-lt {i = 13} {j = k} l)) | no l ↦ omega arith ] in
+    let most : k ≤ 3 + doublings = elim (decLt (3 + doublings) k) [ yes l ↦ absurd (omega (arith, pow-lt {i = 3 + doublings} {j = k} l)) | no l ↦ omega arith ] in
     let j : ℕ = k - 3 in
     let q : 3 + j ≡ k = omega arith in
-    doubled-test 10 8 n j (omega arith) (e ∙ ap (λ (x : ℕ). 2 ^ x) (sym q) ∙ pow-add 2 3 j)
+    doubled-test doublings 8 n j (omega arith) (e ∙ ap (λ (x : ℕ). 2 ^ x) (sym q) ∙ pow-add 2 3 j)
 
 -- ---- the shape
 
@@ -116,7 +116,7 @@ shape-facts N w h e = record {
     at : (i : ℕ) → getD (tests N w h) i true ≡ true
     at = all-at (tests N w h) e
 
-    found : (j : ℕ) × (j ≤ 10) × (N ≡ 8 * 2 ^ j)
+    found : (j : ℕ) × (j ≤ doublings) × (N ≡ 8 * 2 ^ j)
     found = blocks-facts N (at 0)
 
     j : ℕ

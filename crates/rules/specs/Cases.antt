@@ -1,6 +1,7 @@
 -- Document 01, "Small heaps on paper": the cases marked P, as one list. "N is 8, w is 2 and there are 4 roots unless said; bytes in
 -- decimal." That each case gives what it says is one lemma, in proofs/.
 use Prim.Native.Nat.{ℕ}
+use mathlib.Core.Bool.{Bool, true, false}
 use mathlib.Core.List.{List, [], _∷_, map}
 use lib.ListN.{getD, set, replicate}
 use Rattle.rules.specs.Heap.{Memory, withA, withB, withD}
@@ -172,11 +173,11 @@ moments =
 -- Request U6, "Arrays of numbers"
 unfoldable pub numbers : List Case
 numbers =
-    -- "Its cells hold any 16-bit number": written, read, kept by a collection, and cleared with the D bit
+    -- "Its cells hold any .. number", of 32 bits with request U12: written, read, kept by a collection, and cleared with the D bit
     -- when the object is freed: then an ordinary object at the same block has references in its cells
     case 2 (fresh 2) 1 254
-    ((allocateData 2 0, gives 0) ∷ (readNumber 0 7, gives 0) ∷ (writeNumber 0 7 65535, gives 0) ∷ (writeNumber 0 4 2, gives 0)
-    ∷ (readNumber 0 7, gives 65535) ∷ (check, gives 0) ∷ (look 0, shows 2 1) ∷ (collect, gives 0) ∷ (readNumber 0 4, gives 2)
+    ((allocateData 2 0, gives 0) ∷ (readNumber 0 7, gives 0) ∷ (writeNumber 0 7 4294967295, gives 0) ∷ (writeNumber 0 4 2, gives 0)
+    ∷ (readNumber 0 7, gives 4294967295) ∷ (check, gives 0) ∷ (look 0, shows 2 1) ∷ (collect, gives 0) ∷ (readNumber 0 4, gives 2)
     ∷ (storeRoot 0 0, gives 2) ∷ (check, gives 0) ∷ (allocate 1 0, gives 0) ∷ (storeCell 0 0 1, gives 0) ∷ (look 0, shows 1 2) ∷ [])
     -- ".. are never followed, counted": a number that would name the object at block 1, by which it is not
     -- kept
@@ -242,3 +243,10 @@ figuresOfSections =
 
 unfoldable pub expectedOfSections : List (List ℕ)
 expectedOfSections = (256 ∷ 256 ∷ []) ∷ (128 ∷ 256 ∷ []) ∷ (256 ∷ 128 ∷ []) ∷ (0 ∷ 0 ∷ []) ∷ (128 ∷ []) ∷ []
+
+-- ---- request U12
+
+-- "16,384 to 65,536 blocks are now accepted and 131,072 is refused 1", as every number that is no such power of two
+unfoldable pub sizesOfHeaps : List (ℕ × Bool)
+sizesOfHeaps =
+    (4, false) ∷ (8, true) ∷ (8192, true) ∷ (16384, true) ∷ (24576, false) ∷ (32768, true) ∷ (65536, true) ∷ (131072, false) ∷ []

@@ -10,9 +10,10 @@ use Rattle.bitmap.specs.Bit.{bitAt, countBelow}
 use Rattle.planes.specs.Plane.{countAt}
 use Rattle.rules.specs.Tools.{all, holding}
 
--- the ten lent buffers; `waiting` is the "Waiting list: N unsigned 16-bit numbers of working space",
--- `sections` request U4's "added lent list of 16-bit numbers, one for each section", `d` request U6's "new
--- D-map of N/8 bytes", `marks` and `list` request U8's "new mark map of N/8 bytes" and its "second list"
+-- the ten lent buffers; `waiting` is the "Waiting list: N unsigned .. numbers of working space", `sections`
+-- request U4's "added lent list of .. numbers, one for each section", `d` request U6's "new D-map of N/8
+-- bytes", `marks` and `list` request U8's "new mark map of N/8 bytes" and its "second list". Request U12:
+-- "Cells, roots and working lists become 32-bit numbers, and so do data words, U4's figures and U6's number."
 pub record Memory : Type 0 where
   pub a : List ℕ
   pub b : List ℕ
@@ -79,18 +80,22 @@ withList x h = lentMemory (h .a) (h .b) (h .counts) (h .cells) (h .roots) (h .wa
 
 -- the smallest heap doubled this often is the largest
 abbrev pub doublings : ℕ
-doublings = 10
+doublings = 13
 
--- the largest heap: 8,192
+-- the largest heap. Request U12: "16,384 to 65,536 blocks are now accepted and 131,072 is refused 1."
 abbrev pub maxBlocks : ℕ
 maxBlocks = 8 * 2 ^ doublings
+
+-- the largest number that a cell holds: "Cells .. become 32-bit numbers, and so do data words .. and U6's number"
+abbrev pub maxNumber : ℕ
+maxNumber = 2 ^ 32 - 1
 
 -- n is p, or p doubled at most k times
 unfoldable pub isPowerFrom : (k p n : ℕ) → Bool
 isPowerFrom zero p n = eqb n p
 isPowerFrom (suc k) p n = elim (eqb n p) [ true ↦ true | false ↦ isPowerFrom k (p * 2) n ]
 
--- "a power of two from 8 to 8,192"
+-- "a power of two from 8" to the largest heap
 abbrev pub isBlocks : ℕ → Bool
 isBlocks n = isPowerFrom doublings 8 n
 
@@ -196,7 +201,7 @@ firstAt N a b (suc i) = elim (firstIn N a b (suc i)) [ true ↦ suc i | false �
 unfoldable pub inData : ℕ → (a b d : List ℕ) → ℕ → Bool
 inData N a b d i = elim (isFree a i) [ true ↦ false | false ↦ isData d (firstAt N a b i) ]
 
--- "Its cells hold any 16-bit number, are never followed, counted or checked as references": what cell number
+-- "Its cells hold any .. number, are never followed, counted or checked as references": what cell number
 -- j of all cells holds as a reference, which is 0 for a cell of data
 unfoldable pub refAt : ℕ → (a b d cells : List ℕ) → ℕ → ℕ
 refAt N a b d cells j = elim (inData N a b d (j / 4)) [ true ↦ 0 | false ↦ getD cells j 0 ]

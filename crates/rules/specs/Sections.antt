@@ -19,7 +19,7 @@ largestFree (suc k) a i =
 unfoldable pub figure : ℕ → List ℕ → ℕ → ℕ
 figure N a s = largestFree (exponent (sectionLength N)) a (s * sectionLength N)
 
--- "An added lent list of 16-bit numbers, one for each section": the true list
+-- "An added lent list of .. numbers, one for each section": the true list
 unfoldable pub figures : ℕ → List ℕ → List ℕ
 figures N a = tabulate (sectionCount N) (figure N a)
 

@@ -41,7 +41,7 @@ unfoldable pub rising : (test : ℕ → Bool) → (n : ℕ) → (rest : List ℕ
 rising test zero rest = rest
 rising test (suc n) rest = rising test n (elim (test n) [ true ↦ (n + 1) ∷ rest | false ↦ rest ])
 
--- "The list has N + 1 numbers of 16 bits: 1 + first blocks, strictly rising, then 0s, the last place being 1
+-- "The list has N + 1 numbers ..: 1 + first blocks, strictly rising, then 0s, the last place being 1
 -- while a collection is open"
 unfoldable pub listOf : ℕ → (test : ℕ → Bool) → List ℕ
 listOf N test = rising test N (replicate (N - countBelow test N) 0) ++ (1 ∷ [])

@@ -2,6 +2,7 @@
 ghost use mathlib.Core.Path.{_≡_};
 ghost use Prim.Native.Nat.{ℕ, _*_, _^_, _≤_};
 ghost use lib.ListN.{length};
+ghost use Rattle.rules.specs.Heap.{maxBlocks};
 ghost use Rattle.search_walk.specs.Search.{Part, lowestIn, Search};
 use search_walk::is_judged_free;
 
@@ -17,7 +18,7 @@ pub struct Searched {
 // all are used, eight at once. A used block ends the stretch; the free ones after it begin the next.
 pub fn lowest_chunk(a: &[u8], from: usize, to: usize, size: usize) -> Searched
     requires { ⌜ Part from to size ⌝ }
-    requires { ⌜ (to ≤ 8 * length (now a)) × (to ≤ 65536) ⌝ }
+    requires { ⌜ (to ≤ 8 * length (now a)) × (to ≤ maxBlocks) ⌝ }
     ensures { λ r. ⌜ ((k : ℕ) → size ≡ 2 ^ k → Search from to k (lowestIn from to k (now (a .entry))) (r .at) (r .looks)) ⌝ }
 {
     let mut looks = 0;

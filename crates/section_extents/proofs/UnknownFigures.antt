@@ -12,7 +12,7 @@ use lib.ListN.{length, getD, set, length-set}
 use lib.Seq.{getD-set-same, getD-set-other}
 use Rattle.bitmap.specs.Bit.{bitAt, fillBits}
 use Rattle.bitmap.proofs.Runs.{bit-fill-out}
-use Rattle.rules.specs.Heap.{isBlocks, sectionLength, sectionCount, exponent, chunkFree}
+use Rattle.rules.specs.Heap.{maxBlocks, isBlocks, sectionLength, sectionCount, exponent, chunkFree}
 use Rattle.rules.specs.Sections.{figure, largestFree}
 use Rattle.rules.proofs.Shape.{blocks-facts, blocks-le}
 use Rattle.rules.proofs.Sections.{divided}
@@ -62,7 +62,7 @@ long-section N i large = ap (λ (x : ℕ). i / x) (omega arith)
 pub record Sections (N i n first last : ℕ) : Type 0 where
   pub upward : first ≤ last
   pub below : last < sectionCount N
-  pub few : sectionCount N ≤ 8192
+  pub few : sectionCount N ≤ maxBlocks
   pub starts : first * sectionLength N ≤ i
   pub ends : i + n ≤ (last + 1) * sectionLength N
 

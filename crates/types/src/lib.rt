@@ -5,12 +5,15 @@ ghost use Rattle.bitmap.specs.Bit.{one};
 
 pub mod replies;
 
-// A cell or root: 0, or 1 + the first block of an object. To widen references, the first places to change are this type,
-// MAX_BLOCKS and `doublings` of the rules.
-pub type Ref = u16;
+// A cell or root: 0, or 1 + the first block of an object. Its width and the two bounds below are written here, and in the rules
+// as `doublings` and `maxNumber`.
+pub type Ref = u32;
 
 // The largest heap, in blocks.
-pub const MAX_BLOCKS: usize = 8192;
+pub const MAX_BLOCKS: usize = 65536;
+
+// The largest number that a cell holds: all bits of a `Ref`.
+pub const MAX_NUMBER: usize = 4294967295;
 
 // The widest count, in bits.
 pub const MAX_WIDTH: usize = 4;

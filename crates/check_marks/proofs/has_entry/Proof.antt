@@ -4,6 +4,7 @@ use mathlib.Core.Path.{_≡_, refl, ap, _∙_}
 use mathlib.Core.Bool.{not}
 use lib.Dec.{eqb}
 use lib.ListN.{length, getD}
+use Rattle.rules.specs.Heap.{maxNumber}
 use Rattle.rules.specs.Tools.{someBelow}
 use Rattle.check_marks.proofs.Tests.{sum-more}
 use native.Mathlib.Omega.{arith}
@@ -12,7 +13,7 @@ use Rattle.check_marks.proofs.has_entry.Tie as tie
 
 abbrev Inv-loop : tie.InvT-loop
 Inv-loop list sum₀ k₀ sum k =
-    (k ≤ length list) × (sum ≤ 65535 * k) × (not (eqb sum 0) ≡ someBelow (λ j. not (eqb (getD list j 0) 0)) k)
+    (k ≤ length list) × (sum ≤ maxNumber * k) × (not (eqb sum 0) ≡ someBelow (λ j. not (eqb (getD list j 0) 0)) k)
 
 abbrev μ-loop : tie.MeasureT-loop
 μ-loop list sum₀ k₀ sum k = length list - k

@@ -1,6 +1,7 @@
 -- `step_advance::take_steps` meets its contract.
-use Prim.Native.Nat.{ℕ, _-_}
+use Prim.Native.Nat.{ℕ, _-_, _/_}
 use lib.ListN.{length-replicate}
+use Rattle.rules.specs.Heap.{maxBlocks}
 use Rattle.step_advance.proofs.Flags.{flags-all}
 use native.Mathlib.Omega.{arith}
 use borrow.Author.Needs.{needs}
@@ -13,7 +14,7 @@ slice-aggregate-step-all c = search needs
 step-all-requires : tie.Need-step-all-requires
 step-all-requires c κs =
     let s : tie.Start = search in
-    (s .pre .0, s .pre .1, s .pre .2, s .pre .3, s .pre .4, s .pre .5, s .pre .6, omega (arith, s .pre .1, length-replicate {A = ℕ} 32 1), flags-all 32 (omega (arith, s .pre .1)))
+    (s .pre .0, s .pre .1, s .pre .2, s .pre .3, s .pre .4, s .pre .5, s .pre .6, omega (arith, s .pre .1, length-replicate {A = ℕ} (maxBlocks / 256) 1), flags-all (maxBlocks / 256) (omega (arith, s .pre .1)))
 
 same-length : tie.Need-same-length
 same-length c = search needs
