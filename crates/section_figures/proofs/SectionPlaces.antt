@@ -6,7 +6,7 @@ use Prim.Native.Nat.{ℕ, _+_, _*_, _/_, _%_, _^_, _≤_, _<_}
 use native.Mathlib.Nat.{mul-comm, mul-assoc, mul-le-mul-right, div-self}
 use native.Mathlib.Omega.{arith}
 use lib.Pow.{pow-pos}
-use Rattle.rules.specs.Heap.{isBlocks, exponent, sectionLength, sectionCount}
+use Rattle.rules.specs.Heap.{maxBlocks, isBlocks, exponent, sectionLength, sectionCount}
 use Rattle.rules.specs.Sections.{largestFree, figure}
 use Rattle.rules.proofs.Shape.{blocks-facts, blocks-le}
 use Rattle.rules.proofs.Figures.{figure-le}
@@ -49,7 +49,7 @@ pub record Place (N s size : ℕ) : Type 0 where
   pub inside : s * size + size ≤ N
   pub from-byte : s * size % 8 ≡ 0
   pub bytes : size % 8 ≡ 0
-  pub few : N ≤ 8192
+  pub few : N ≤ maxBlocks
 
 pub place : (N s size : ℕ) → isBlocks N ≡ true → s < sectionCount N → size ≡ sectionLength N → Place N s size
 place N s size blocks below e =

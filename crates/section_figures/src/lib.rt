@@ -1,11 +1,11 @@
 // Sections of the heap (request U4): the size of the largest free chunk of each, read off the A-map.
 ghost use mathlib.Core.Path.{_≡_};
 ghost use mathlib.Core.Bool.{true};
-ghost use Prim.Native.Nat.{_*_, _/_, _<_, _≤_};
-ghost use lib.ListN.{length, replicate};
+ghost use Prim.Native.Nat.{ℕ, _+_, _*_, _/_, _<_, _≤_};
+ghost use lib.ListN.{length, getD, replicate};
 ghost use Rattle.rules.specs.Heap.{isBlocks, sectionLength, sectionCount};
 ghost use Rattle.rules.specs.Sections.{figure, figures, staleFigures};
-ghost use Rattle.section_figures.specs.Figures.{Coherent};
+ghost use Rattle.section_figures.specs.Figures.{Coherent, Renewed};
 use section_halves::largest_free;
 use types::Ref;
 
@@ -60,18 +60,53 @@ pub fn is_stale(blocks: usize, a: &[u8], sections: &[Ref]) -> bool
     false
 }
 
-// Finds the unknown figures anew.
-pub fn renew(blocks: usize, a: &[u8], sections: &mut [Ref])
-    requires { ⌜ Coherent blocks (now a) (now sections) × (blocks ≤ 8 * length (now a)) ⌝ }
-    ensures { λ _. ⌜ now (sections .exit) ≡ figures blocks (now (a .entry)) ⌝ }
+// How many figures are looked at together.
+pub const GROUP: usize = 16;
+
+// The or of a group's figures, the first of which is number `from`: none of them is more. Since figures are powers of two, or 0, it
+// comes to a power of two only where one of them does.
+pub fn group_bound(sections: &[Ref], from: usize) -> Ref
+    requires { ⌜ from + 16 ≤ length (now sections) ⌝ }
+    ensures { λ r. ⌜ ((s : ℕ) → from ≤ s → s < from + 16 → getD (now (sections .entry)) s 0 ≤ r) ⌝ }
 {
-    let mut s = 0;
-    while s < sections.len() {
+    let mut any: Ref = 0;
+    let mut i = 0;
+    while i < GROUP {
+        any = any | sections[from + i];
+        i += 1;
+    }
+    any
+}
+
+// Finds the unknown figures anew from number `from` up to number `to`; those before are known.
+fn renew_part(blocks: usize, a: &[u8], sections: &mut [Ref], from: usize, to: usize)
+    requires { ⌜ Renewed blocks (now a) (now sections) from × (blocks ≤ 8 * length (now a)) × (from ≤ to)
+        × (to ≤ length (now sections)) ⌝ }
+    ensures { λ _. ⌜ Renewed blocks (now (a .entry)) (now (sections .exit)) to ⌝ }
+{
+    let mut s = from;
+    while s < to {
         if sections[s] == UNKNOWN {
             sections[s] = section_figure(blocks, a, s) as Ref;
         }
         s += 1;
     }
+}
+
+// Finds the unknown figures anew. A group in which none is unknown is passed over at once.
+pub fn renew(blocks: usize, a: &[u8], sections: &mut [Ref])
+    requires { ⌜ Coherent blocks (now a) (now sections) × (blocks ≤ 8 * length (now a)) ⌝ }
+    ensures { λ _. ⌜ now (sections .exit) ≡ figures blocks (now (a .entry)) ⌝ }
+{
+    let all = sections.len();
+    let mut s = 0;
+    while GROUP <= all - s {
+        if UNKNOWN <= group_bound(sections, s) {
+            renew_part(blocks, a, sections, s, s + GROUP);
+        }
+        s += GROUP;
+    }
+    renew_part(blocks, a, sections, s, all);
 }
 
 // The same after work that freed so many blocks: where it freed none, no figure is unknown, and the list is not looked at.

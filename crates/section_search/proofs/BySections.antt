@@ -4,7 +4,7 @@ use mathlib.Core.Logic.{_≢_}
 use mathlib.Core.Bool.{true}
 use mathlib.Core.List.{List}
 use mathlib.Core.Option.{Option, none, some}
-use Prim.Native.Nat.{ℕ, suc, _+_, _-_, _*_, _/_, _^_, _≤_, _<_}
+use Prim.Native.Nat.{ℕ, zero, suc, _+_, _-_, _*_, _/_, _^_, _≤_, _<_}
 use native.Mathlib.Nat.{sub-zero}
 use native.Mathlib.Omega.{arith}
 use lib.ListN.{length, getD}
@@ -34,6 +34,18 @@ module _ (sections : List ℕ) (size n : ℕ) where
   suffices-next s l h =
       let more : n - s ≡ suc (n - (s + 1)) = omega arith in
       ap (λ (m : ℕ). sufficesFrom m sections size s) more ∙ rw (lt-leb size (getD sections s 0) h, sufficesFrom)
+
+  -- m of them passed over, up to number t
+  pub suffices-past : (m s t : ℕ) → t ≡ s + m → t ≤ n → ((j : ℕ) → s ≤ j → j < t → getD sections j 0 < size)
+      → sufficesFrom (n - s) sections size s ≡ sufficesFrom (n - t) sections size t
+  suffices-past zero s t e l less =
+      let here : s ≡ t = omega arith in
+      ap (λ (x : ℕ). sufficesFrom (n - x) sections size x) here
+  suffices-past (suc m) s t e l less =
+      let next : s + m + 1 ≡ t = omega arith in
+      suffices-past m s (s + m) refl (omega arith) (λ j p q. less j p (omega arith))
+      ∙ suffices-next (s + m) (omega arith) (less (s + m) (omega arith) (omega arith))
+      ∙ ap (λ (x : ℕ). sufficesFrom (n - x) sections size x) next
 
   pub suffices-none : (s : ℕ) → n ≤ s → sufficesFrom (n - s) sections size s ≡ none
   unfolding sufficesFrom

@@ -9,15 +9,22 @@ ghost use Rattle.rules.specs.Sections.{figures, sufficesFrom};
 ghost use Rattle.search_walk.specs.Search.{orElse};
 ghost use Rattle.section_search.specs.Search.{Found};
 use search_chunk::Searched;
+use section_figures::GROUP;
 use section_figures::section_length;
 use types::Ref;
 
-// The lowest section whose figure is `size` or more, or the number of sections.
+// The lowest section whose figure is `size` or more, or the number of sections. Groups in which none is are passed over at once.
 fn lowest_section(sections: &[Ref], size: usize) -> usize
     ensures { λ r.
         ⌜ r ≡ orElse (length (now (sections .entry))) (sufficesFrom (length (now (sections .entry))) (now (sections .entry)) size 0) ⌝ }
 {
     let mut s = 0;
+    while GROUP <= sections.len() - s {
+        if size <= section_figures::group_bound(sections, s) as usize {
+            break;
+        }
+        s += GROUP;
+    }
     while s < sections.len() {
         if size <= sections[s] as usize {
             return s;

@@ -2,43 +2,39 @@
 use mathlib.Core.Path.{_≡_, refl, sym, ap, subst, _∙_}
 use mathlib.Core.Logic.{inl, inr}
 use mathlib.Core.List.{List}
-use Prim.Native.Nat.{ℕ, _+_, _-_}
+use Prim.Native.Nat.{ℕ, _+_, _-_, _≤_}
 use native.Mathlib.Omega.{arith}
-use lib.ListN.{length, length-set}
-use Rattle.section_figures.proofs.Lists.{Renewed, renewed-start, renewed-kept, renewed-found, renewed-all}
+use lib.ListN.{length}
+use Rattle.section_figures.specs.Figures.{Renewed}
+use Rattle.section_figures.proofs.Lists.{renewed-start, renewed-kept, renewed-all}
 use Rattle.section_figures.proofs.renew.Statement.{statement}
 use Rattle.section_figures.proofs.renew.Tie as tie
 
 abbrev Inv-loop : tie.InvT-loop
-Inv-loop blocks a sections₀ s₀ sections s = Renewed blocks a sections s × (length sections ≡ length sections₀)
+Inv-loop blocks a sections₀ all s₀ sections s = Renewed blocks a sections s × (length sections ≡ length sections₀) × (s ≤ all)
 
 abbrev μ-loop : tie.MeasureT-loop
-μ-loop blocks a sections₀ s₀ sections s = length sections₀ - s
+μ-loop blocks a sections₀ all s₀ sections s = all - s
 
 loop-holds : tie.Need-loop-holds Inv-loop μ-loop
 loop-holds c =
-    let s = c .before .before in
-    (renewed-start (s .args .blocks) (s .args .a .now) (s .args .sections .now) (s .pre .0), refl)
-
-mul-if1 : tie.Need-mul-if1 Inv-loop μ-loop
-mul-if1 c = omega arith
-
-slice-read-if1 : tie.Need-slice-read-if1 Inv-loop μ-loop
-slice-read-if1 c = omega arith
-
-section-figure-requires : tie.Need-section-figure-requires Inv-loop μ-loop
-section-figure-requires c κs =
     let s : tie.Start Inv-loop μ-loop = search in
-    (s .pre .0 .blocks, s .pre .1, omega arith)
+    (renewed-start (s .args .blocks) (s .args .a .now) (s .args .sections .now) (s .pre .0), refl, omega arith)
 
-cast-sections : tie.Need-cast-sections Inv-loop μ-loop
-cast-sections c = omega (arith, c .section-figure .ensures .1)
+sub-loop : tie.Need-sub-loop Inv-loop μ-loop
+sub-loop c = omega arith
 
-mul-sections : tie.Need-mul-sections Inv-loop μ-loop
-mul-sections c = omega arith
+group-bound-requires : tie.Need-group-bound-requires Inv-loop μ-loop
+group-bound-requires c κs = omega arith
 
-slice-write-sections : tie.Need-slice-write-sections Inv-loop μ-loop
-slice-write-sections c = omega arith
+add-renew-part : tie.Need-add-renew-part Inv-loop μ-loop
+add-renew-part c = omega arith
+
+renew-part-requires : tie.Need-renew-part-requires Inv-loop μ-loop
+renew-part-requires c κs =
+    let l : tie.At-loop Inv-loop μ-loop = search in
+    let s : tie.Start Inv-loop μ-loop = search in
+    (l .loop .inv .0, s .pre .1, omega arith, omega arith)
 
 add-s : tie.Need-add-s Inv-loop μ-loop
 add-s c = omega arith
@@ -48,29 +44,42 @@ loop-less c = omega arith
 
 loop-again : tie.Need-loop-again Inv-loop μ-loop
 loop-again c =
-    let l = c .before .before .before in
-    let s = l .before .before .before in
+    let l : tie.At-loop Inv-loop μ-loop = search in
+    let s : tie.Start Inv-loop μ-loop = search in
+    let N : ℕ = s .args .blocks in
+    let a = s .args .a .now in
     elim (c .if1 .came) [
       | inl w ↦ (
-        subst (λ (x : List ℕ). Renewed (s .args .blocks) (s .args .a .now) x (l .loop .s + 1)) (sym (w .2))
-            (renewed-found (s .args .blocks) (s .args .a .now) (l .loop .sections) (l .loop .s) (w .1 .result) (l .loop .inv .0) (omega arith) (w .1 .ensures .0)),
-        ap length (w .2) ∙ length-set (l .loop .sections) (l .loop .s) (w .1 .result) ∙ l .loop .inv .1,
+        subst (λ (x : List ℕ). Renewed N a x (l .loop .s + 16)) (sym (w .5)) (w .2 .ensures),
+        ap length (w .5) ∙ w .2 .kept .1 .1 .0 ∙ l .loop .inv .1,
+        omega arith,
       )
       | inr w ↦ (
-        subst (λ (x : List ℕ). Renewed (s .args .blocks) (s .args .a .now) x (l .loop .s + 1)) (sym (w .1))
-            (renewed-kept (s .args .blocks) (s .args .a .now) (l .loop .sections) (l .loop .s) (l .loop .inv .0) (omega arith) (w .0 .left)),
+        subst (λ (x : List ℕ). Renewed N a x (l .loop .s + 16)) (sym (w .1))
+            (renewed-kept N a (l .loop .sections) (l .loop .s) (l .loop .s + 16) (l .loop .inv .0) (omega (arith, s .pre .0 .length-is))
+            (λ j p q e. absurd (omega (arith, c .before .group-bound .ensures j p q, w .0 .left)))),
         ap length (w .1) ∙ l .loop .inv .1,
+        omega arith,
       )
     ]
 
+renew-part-requires-2 : tie.Need-renew-part-requires-2 Inv-loop μ-loop
+renew-part-requires-2 c κs =
+    let l : tie.At-loop Inv-loop μ-loop = search in
+    let s : tie.Start Inv-loop μ-loop = search in
+    (l .loop .inv .0, s .pre .1, l .loop .inv .2, omega arith)
+
 same-length : tie.Need-same-length Inv-loop μ-loop
-same-length c = c .before .loop .inv .1
+same-length c =
+    let l : tie.At-loop Inv-loop μ-loop = search in
+    c .before .before .renew-part2 .kept .1 .1 .0 ∙ l .loop .inv .1
 
 returns : tie.Need-returns Inv-loop μ-loop
 returns c =
-    let l = c .before in
-    let s = l .before .before .before in
-    renewed-all (s .args .blocks) (s .args .a .now) (l .loop .sections) (l .loop .s) (l .loop .inv .0) (omega arith)
+    let l : tie.At-loop Inv-loop μ-loop = search in
+    let s : tie.Start Inv-loop μ-loop = search in
+    renewed-all (s .args .blocks) (s .args .a .now) (c .before .before .renew-part2 .last .1 .1 .0) (length (s .args .sections .now))
+    (c .before .before .renew-part2 .ensures) (omega (arith, s .pre .0 .length-is))
 
 pub renew-spec : {M : Type 1} → statement M
 renew-spec =
@@ -79,14 +88,13 @@ renew-spec =
     Inv-loop
     μ-loop
     loop-holds
-    mul-if1
-    slice-read-if1
-    section-figure-requires
-    cast-sections
-    mul-sections
-    slice-write-sections
+    sub-loop
+    group-bound-requires
+    add-renew-part
+    renew-part-requires
     add-s
     loop-less
     loop-again
+    renew-part-requires-2
     same-length
     returns)
