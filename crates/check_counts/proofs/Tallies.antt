@@ -6,16 +6,22 @@ use Prim.Native.Nat.{ℕ, zero, suc, _+_, _-_, _*_, _/_, _≤_, _<_, min}
 use native.Mathlib.Decide.{ℕ-discrete}
 use native.Mathlib.Omega.{arith}
 use lib.Dec.{eqb}
-use lib.ListN.{length, getD, set, length-set}
+use lib.ListN.{length, getD, set, replicate, length-set, length-replicate, getD-replicate}
 use lib.Seq.{getD-set-same, getD-set-other}
 use borrow.Author.Tests.{eq-eqb, ne-eqb}
 use Rattle.bitmap.specs.Bit.{countBelow}
 use Rattle.bitmap.proofs.Zeros.{count-same}
 use Rattle.rules.specs.Tools.{holding}
-use Rattle.rules.specs.Heap.{maxBlocks, inData, refAt}
+use Rattle.rules.specs.Heap.{inData, refAt}
 use Rattle.rules.proofs.Reading.{read-data, read-other}
-use Rattle.check_counts.specs.Tally.{Room, Tallied}
+use Rattle.check_counts.specs.Tally.{Room, Cleared, Tallied}
 use Rattle.check_counts.proofs.Counting.{count-passed, count-failed, count-on}
+
+-- an array of n places that was just made
+pub all-cleared : (n N : ℕ) → N ≤ n → Cleared N (replicate n 0)
+all-cleared n N l =
+    let long = length-replicate {A = ℕ} n 0 in
+    record { long = omega (arith, long); zero = λ b h. getD-replicate {A = ℕ} n b 0 0 (omega (arith, long)) }
 
 module _ (read : ℕ → ℕ) (at₀ : List ℕ) where
   -- how many of the first n numbers name block b
@@ -24,32 +30,32 @@ module _ (read : ℕ → ℕ) (at₀ : List ℕ) where
 
   pub tallied-start : Room at₀ → Tallied read 0 at₀ at₀
   unfolding countBelow
-  tallied-start room = record { long = room .long; named = λ b l. omega (arith, room .bytes b l) }
+  tallied-start room = record { same-length = refl; named = λ b l. omega (arith, room b l) }
 
   -- a number that names no block adds nothing ..
   pub tallied-none : (j : ℕ) (at : List ℕ) → read j ≡ 0 → Tallied read j at₀ at → Tallied read (j + 1) at₀ at
   tallied-none j at e t = record {
-    long = t .long;
+    same-length = t .same-length;
     named = λ b l.
         let other = ne-eqb (read j) (b + 1) (λ p. omega arith) in
         omega (arith, t .named b l, count-failed (λ i. eqb (read i) (b + 1)) j other);
   }
 
   -- .. and one that names block i adds 1 there
-  pub tallied-one : (j : ℕ) (at : List ℕ) (i v : ℕ) → read j ≡ i + 1 → i < maxBlocks → v ≡ min 255 (getD at i 0 + 1) → Tallied read j at₀ at
+  pub tallied-one : (j : ℕ) (at : List ℕ) (i v : ℕ) → read j ≡ i + 1 → i < length at₀ → v ≡ min 255 (getD at i 0 + 1) → Tallied read j at₀ at
       → Tallied read (j + 1) at₀ (set at i v)
   tallied-one j at i v e inside up t =
-      record { long = length-set at i v ∙ t .long; named = λ b l. go b l (ℕ-discrete b i) }
+      record { same-length = length-set at i v ∙ t .same-length; named = λ b l. go b l (ℕ-discrete b i) }
     where
       here : getD (set at i v) i 0 ≡ min 255 (getD at₀ i 0 + naming i (j + 1))
       here = omega (
         arith,
-        getD-set-same at i v 0 (omega (arith, t .long)),
+        getD-set-same at i v 0 (omega (arith, t .same-length)),
         t .named i inside,
         count-passed (λ k. eqb (read k) (i + 1)) j (eq-eqb (read j) (i + 1) e),
       )
 
-      go : (b : ℕ) → b < maxBlocks → Dec (b ≡ i) → getD (set at i v) b 0 ≡ min 255 (getD at₀ b 0 + naming b (j + 1))
+      go : (b : ℕ) → b < length at₀ → Dec (b ≡ i) → getD (set at i v) b 0 ≡ min 255 (getD at₀ b 0 + naming b (j + 1))
       go b l (yes p) = subst (λ (k : ℕ). getD (set at i v) k 0 ≡ min 255 (getD at₀ k 0 + naming k (j + 1))) (sym p) here
       go b l (no p) = omega (
         arith,
@@ -60,18 +66,18 @@ module _ (read : ℕ → ℕ) (at₀ : List ℕ) where
 
   -- what is tallied are bytes
   pub tallied-room : (n : ℕ) (at : List ℕ) → Tallied read n at₀ at → Room at
-  tallied-room n at t = record { long = t .long; bytes = λ b l. omega (arith, t .named b l) }
+  tallied-room n at t b l = omega (arith, t .named b (omega (arith, t .same-length)))
 
   -- n numbers more, tallied by themselves
   pub tallied-more : (more : ℕ → ℕ) (m n : ℕ) (at next : List ℕ) → ((k : ℕ) → k < n → read (m + k) ≡ more k) → Tallied read m at₀ at
       → Tallied more n at next → Tallied read (m + n) at₀ next
   tallied-more more m n at next same t u = record {
-    long = u .long;
+    same-length = u .same-length ∙ t .same-length;
     named = λ b l.
         omega (
           arith,
           t .named b l,
-          u .named b l,
+          u .named b (omega (arith, t .same-length)),
           count-on (λ j. eqb (read j) (b + 1)) m n,
           count-same (λ k. eqb (read (m + k)) (b + 1)) (λ k. eqb (more k) (b + 1)) n
               (λ k inside. ap (λ (x : ℕ). eqb x (b + 1)) (same k inside)),
@@ -105,7 +111,7 @@ whole-list refs b =
 pub all-tallied : (N : ℕ) (a b d cells at₀ at : List ℕ) → ((i : ℕ) → inData N a b d i ≡ false) → (n : ℕ)
     → Tallied (λ k. getD cells k 0) n at₀ at → Tallied (refAt N a b d cells) n at₀ at
 all-tallied N a b d cells at₀ at none n t = record {
-  long = t .long;
+  same-length = t .same-length;
   named = λ b′ l.
       omega (
         arith,

@@ -10,32 +10,31 @@ use Rattle.theory.proofs.Memories.Fit.{undamaged-fit}
 use Rattle.theory.proofs.Walks.Numbers.{none}
 use Rattle.theory.proofs.Walks.Steps.{nil}
 use Rattle.theory.proofs.Walks.Reached.{Named, intact-named}
-use Rattle.walk_objects.specs.Walking.{Walking, Tracing, walkedHeap, lastFirst}
+use Rattle.walk_objects.specs.Walking.{Walkable, Walking, Tracing, walkedHeap, lastFirst}
 
 zeros-at : (n i : ℕ) → _≡_ {A = ℕ} (getD (replicate n 0) i 0) 0
 zeros-at zero i = refl
 zeros-at (suc n) zero = refl
 zeros-at (suc n) (suc i) = zeros-at n i
 
-walk-begins : (N : ℕ) → N ≤ maxBlocks → Walking N (replicate maxBlocks 0) (replicate maxBlocks 0) 0
+walk-begins : (N n : ℕ) → N ≤ maxBlocks → N ≤ n → Walking N (replicate n 0) (replicate n 0) 0
 unfolding lastFirst numberIn
-walk-begins N small =
+walk-begins N n small room =
     record {
       small = small;
-      length-order = length-replicate {A = ℕ} maxBlocks 0;
-      length-numbers = length-replicate {A = ℕ} maxBlocks 0;
+      long-order = omega (arith, length-replicate {A = ℕ} n 0);
+      long-numbers = omega (arith, length-replicate {A = ℕ} n 0);
       distinct = none;
       below = nil;
-      numbers-are = λ b l. zeros-at maxBlocks b;
+      numbers-are = λ b l. zeros-at n b;
     }
 
-pub trace-begins : (N : ℕ) → N ≤ maxBlocks
-    → Tracing N (replicate maxBlocks 0) (replicate maxBlocks 0) (replicate maxBlocks 0) (replicate maxBlocks 0) 0
-trace-begins N small =
+pub trace-begins : (N n : ℕ) → N ≤ maxBlocks → N ≤ n → Tracing N (replicate n 0) (replicate n 0) (replicate n 0) (replicate n 0) 0
+trace-begins N n small room =
     record {
-      walking = walk-begins N small;
-      length-owners = length-replicate {A = ℕ} maxBlocks 0;
-      length-vias = length-replicate {A = ℕ} maxBlocks 0;
+      walking = walk-begins N n small room;
+      long-owners = omega (arith, length-replicate {A = ℕ} n 0);
+      long-vias = omega (arith, length-replicate {A = ℕ} n 0);
     }
 
 -- ---- a heap that the check accepts
@@ -54,17 +53,8 @@ module _ {N w : ℕ} {h : Memory} (u : Undamaged N w h) where
         };
       }
 
-  -- what the walk asks of the lengths
-  pub record Lengths : Type 0 where
-    pub small : N ≤ maxBlocks
-    pub long-a : N ≤ 8 * length (h .a)
-    pub long-b : N ≤ 8 * length (h .b)
-    pub long-d : N ≤ 8 * length (h .d)
-    pub long-cells : length (h .cells) ≡ 4 * N
-    pub few-roots : length (h .roots) ≤ 64
-
-  pub lengths : Lengths
-  lengths =
+  pub walkable : Walkable N (h .a) (h .b) (h .d) (h .cells) (h .roots)
+  walkable =
       let s = undamaged-fit N w h u .healthy .shape in
       record {
         small = s .blocks-max;
@@ -73,4 +63,5 @@ module _ {N w : ℕ} {h : Memory} (u : Undamaged N w h) where
         long-d = omega (arith, s .whole-bytes, s .length-d);
         long-cells = s .length-cells;
         few-roots = s .roots-max;
+        named = read-named;
       }

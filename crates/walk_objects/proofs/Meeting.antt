@@ -1,4 +1,4 @@
--- Meeting in the local arrays.
+-- Meeting in the arrays.
 use mathlib.Core.Path.{_≡_, refl, sym, ap, _∙_}
 use mathlib.Core.Logic.{_≢_}
 use mathlib.Core.List.{List, _∷_}
@@ -39,11 +39,11 @@ module _ (N : ℕ) (order numbers : List ℕ) (met v : ℕ) (w : Walking N order
 
     pub walks-on : Walking N (set order met v) (set numbers (v - 1) (met + 1)) (met + 1)
     walks-on =
-        let push : lastFirst (set order met v) (met + 1) ≡ v ∷ lastFirst order met = last-first-push order met v (omega (arith, room, w .small, w .length-order)) in
+        let push : lastFirst (set order met v) (met + 1) ≡ v ∷ lastFirst order met = last-first-push order met v (omega (arith, room, w .long-order)) in
         record {
           small = w .small;
-          length-order = length-set order met v ∙ w .length-order;
-          length-numbers = length-set numbers (v - 1) (met + 1) ∙ w .length-numbers;
+          long-order = omega (arith, length-set order met v, w .long-order);
+          long-numbers = omega (arith, length-set numbers (v - 1) (met + 1), w .long-numbers);
           distinct = rw push (more fresh s (w .distinct));
           below = rw push (cons l (w .below));
           numbers-are = λ b h. rw push (numbered b h);
@@ -53,7 +53,7 @@ module _ (N : ℕ) (order numbers : List ℕ) (met v : ℕ) (w : Walking N order
         numbered b h = elim (ℕ-discrete b (v - 1)) [
           | yes e ↦
               let whole : v ≡ suc b = omega arith in
-              let inside : v - 1 < length numbers = omega (arith, w .length-numbers, w .small) in
+              let inside : v - 1 < length numbers = omega (arith, w .long-numbers) in
               let one : met + 1 ≡ suc (length (lastFirst order met)) = omega (arith, top-length order met) in
               rw e (getD-set-same numbers (v - 1) (met + 1) 0 inside) ∙ one ∙ sym (number-same v (suc b) (lastFirst order met) whole)
           | no d ↦

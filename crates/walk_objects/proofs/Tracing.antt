@@ -1,4 +1,4 @@
--- Meeting in the local arrays, with the place of each first meeting.
+-- Meeting in the arrays, with the place of each first meeting.
 use mathlib.Core.Path.{_≡_, refl, sym, ap, _∙_}
 use mathlib.Core.Logic.{_≢_}
 use mathlib.Core.List.{List, [], _∷_, _++_}
@@ -14,6 +14,13 @@ use Rattle.walk_objects.specs.Walking.{lastFirst, part}
 use Rattle.walk_objects.specs.Walking.{entries, Tracing, Traced}
 use Rattle.walk_objects.proofs.Meeting.{room, walks-on}
 use Rattle.walk_objects.proofs.Numbering.{part-length}
+
+-- the arrays are as long as they were
+pub record AsLong (order₀ numbers₀ owners₀ vias₀ order numbers owners vias : List ℕ) : Type 0 where
+  pub of-order : length order ≡ length order₀
+  pub of-numbers : length numbers ≡ length numbers₀
+  pub of-owners : length owners ≡ length owners₀
+  pub of-vias : length vias ≡ length vias₀
 
 pub entries-met : (order owners vias : List ℕ) (n : ℕ) → metIn (entries order owners vias n) ≡ lastFirst order n
 unfolding entries metIn lastFirst
@@ -78,13 +85,13 @@ module _ (N : ℕ) (order numbers owners vias : List ℕ) (met v p j : ℕ) (t :
         let w = t .walking in
         record {
           is =
-              push order owners vias met v p j (omega (arith, space, w .small, w .length-order)) (omega (arith, space, w .small, t .length-owners))
-              (omega (arith, space, w .small, t .length-vias))
+              push order owners vias met v p j (omega (arith, space, w .long-order)) (omega (arith, space, t .long-owners))
+              (omega (arith, space, t .long-vias))
               ∙ same (met-at-cases so-far p j v);
           tracing = record {
             walking = walks-on N order numbers met v w s l unmet;
-            length-owners = length-set owners met p ∙ t .length-owners;
-            length-vias = length-set vias met j ∙ t .length-vias;
+            long-owners = omega (arith, length-set owners met p, t .long-owners);
+            long-vias = omega (arith, length-set vias met j, t .long-vias);
           };
         }
       where

@@ -1,5 +1,5 @@
--- The local arrays of the walk, and what they hold.
-use Prim.Native.Nat.{ℕ, zero, suc, _+_, _≤_, _<_}
+-- The arrays of the walk, and what they hold.
+use Prim.Native.Nat.{ℕ, zero, suc, _+_, _*_, _≤_, _<_}
 use mathlib.Core.Path.{_≡_}
 use mathlib.Core.List.{List, [], _∷_, _++_}
 use lib.ListN.{length, getD}
@@ -8,6 +8,7 @@ use Rattle.rules.specs.Walk.{numberIn}
 use Rattle.theory.specs.Trail.{Entry, entry}
 use Rattle.theory.proofs.Walks.Numbers.{Distinct}
 use Rattle.theory.proofs.Walks.Steps.{All}
+use Rattle.theory.proofs.Walks.Reached.{Named}
 
 -- the first n numbers of a list, the last first
 unfoldable pub lastFirst : List ℕ → ℕ → List ℕ
@@ -23,11 +24,21 @@ unfoldable pub part : List ℕ → (j n : ℕ) → List ℕ
 part l j zero = []
 part l j (suc n) = part l j n ++ (getD l (j + n) 0 ∷ [])
 
+-- what the walk asks of the lists that it reads
+pub record Walkable (N : ℕ) (a b d cells roots : List ℕ) : Type 0 where
+  pub small : N ≤ maxBlocks
+  pub long-a : N ≤ 8 * length a
+  pub long-b : N ≤ 8 * length b
+  pub long-d : N ≤ 8 * length d
+  pub long-cells : length cells ≡ 4 * N
+  pub few-roots : length roots ≤ 64
+  pub named : Named N (walkedHeap a b d cells roots)
+
 -- the objects met so far have their numbers, and no block is met twice
 pub record Walking (N : ℕ) (order numbers : List ℕ) (met : ℕ) : Type 0 where
   pub small : N ≤ maxBlocks
-  pub length-order : length order ≡ maxBlocks
-  pub length-numbers : length numbers ≡ maxBlocks
+  pub long-order : N ≤ length order
+  pub long-numbers : N ≤ length numbers
   pub distinct : Distinct (lastFirst order met)
   pub below : All (λ v. v ≤ N) (lastFirst order met)
   pub numbers-are : (b : ℕ) → b < N → getD numbers b 0 ≡ numberIn (lastFirst order met) (suc b)
@@ -45,8 +56,8 @@ entries order owners vias (suc n) = entry (getD order n 0) (getD owners n 0) (ge
 -- with the place of each first meeting
 pub record Tracing (N : ℕ) (order numbers owners vias : List ℕ) (met : ℕ) : Type 0 where
   pub walking : Walking N order numbers met
-  pub length-owners : length owners ≡ maxBlocks
-  pub length-vias : length vias ≡ maxBlocks
+  pub long-owners : N ≤ length owners
+  pub long-vias : N ≤ length vias
 
 -- .. and these are those of a list
 pub record Traced (N : ℕ) (list : List Entry) (order numbers owners vias : List ℕ) (met : ℕ) : Type 0 where

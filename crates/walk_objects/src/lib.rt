@@ -1,4 +1,4 @@
-// The walk of requests U11 and U13: objects as first met, breadth first, in local arrays. `order` has their
+// The walk of requests U11 and U13: objects as first met, breadth first, in lent arrays with a place for each block. `order` has their
 // references in the order of their numbers, `numbers` at place b the number of the object at block b, or 0;
 // `owners` has at place n - 1 the number of the object in whose cell object n was first met, 0 for a root, and
 // `vias` that cell or root.
@@ -9,18 +9,16 @@ ghost use lib.ListN.{length, getD, take};
 ghost use Rattle.rules.specs.Heap.{maxBlocks};
 ghost use Rattle.rules.specs.Walk.{followed};
 ghost use Rattle.theory.specs.Trail.{meetAt, meetEachAt, trail, linksTo};
-ghost use Rattle.theory.proofs.Walks.Reached.{Named};
-ghost use Rattle.walk_objects.specs.Walking.{part, walkedHeap, entries, Tracing, Traced};
-use types::MAX_BLOCKS;
+ghost use Rattle.walk_objects.specs.Walking.{part, walkedHeap, entries, Walkable, Tracing, Traced};
 use types::Ref;
 
 // Meets what v names, if anything, in that cell of that owner. How many are met then.
 fn meet_at(
     blocks: usize,
-    order: &mut [Ref; MAX_BLOCKS],
-    numbers: &mut [Ref; MAX_BLOCKS],
-    owners: &mut [Ref; MAX_BLOCKS],
-    vias: &mut [Ref; MAX_BLOCKS],
+    order: &mut [Ref],
+    numbers: &mut [Ref],
+    owners: &mut [Ref],
+    vias: &mut [Ref],
     owner: usize,
     cell: usize,
     v: Ref,
@@ -48,10 +46,10 @@ fn meet_at(
 // Meets what the n references from place j on name, in their order: the cells, or the roots, of an owner.
 fn meet_each_at(
     blocks: usize,
-    order: &mut [Ref; MAX_BLOCKS],
-    numbers: &mut [Ref; MAX_BLOCKS],
-    owners: &mut [Ref; MAX_BLOCKS],
-    vias: &mut [Ref; MAX_BLOCKS],
+    order: &mut [Ref],
+    numbers: &mut [Ref],
+    owners: &mut [Ref],
+    vias: &mut [Ref],
     refs: &[Ref],
     j: usize,
     n: usize,
@@ -91,14 +89,13 @@ pub fn trace_all(
     d: &[u8],
     cells: &[Ref],
     roots: &[Ref],
-    order: &mut [Ref; MAX_BLOCKS],
-    numbers: &mut [Ref; MAX_BLOCKS],
-    owners: &mut [Ref; MAX_BLOCKS],
-    vias: &mut [Ref; MAX_BLOCKS],
+    order: &mut [Ref],
+    numbers: &mut [Ref],
+    owners: &mut [Ref],
+    vias: &mut [Ref],
 ) -> usize
-    requires { ⌜ Tracing blocks (now order) (now numbers) (now owners) (now vias) 0 × (blocks ≤ 8 * length (now b)) × (blocks ≤ 8 * length (now d))
-        × (length (now cells) ≡ 4 * blocks) × (length (now roots) ≤ 64)
-        × Named blocks (walkedHeap (now a) (now b) (now d) (now cells) (now roots)) ⌝ }
+    requires { ⌜ Walkable blocks (now a) (now b) (now d) (now cells) (now roots)
+        × Tracing blocks (now order) (now numbers) (now owners) (now vias) 0 ⌝ }
     ensures { λ r.
         ⌜ Traced blocks (trail (now (roots .entry))
         (followed blocks (walkedHeap (now (a .entry)) (now (b .entry)) (now (d .entry)) (now (cells .entry)) (now (roots .entry)))) blocks)
@@ -139,16 +136,11 @@ pub fn trace_all(
 }
 
 // Writes the links by which object n was first met, the last one first and the root last. How many they are.
-pub fn links_to(
-    owners: &[Ref; MAX_BLOCKS],
-    vias: &[Ref; MAX_BLOCKS],
-    links: &mut [Ref; MAX_BLOCKS],
-    n: usize,
-) -> usize
-    requires { ⌜ (n ≤ maxBlocks) × (length (now links) ≡ maxBlocks) × ((i : ℕ) → i < n → getD (now owners) i 0 ≤ i) ⌝ }
+pub fn links_to(owners: &[Ref], vias: &[Ref], links: &mut [Ref], n: usize) -> usize
+    requires { ⌜ (n ≤ maxBlocks) × (n ≤ length (now owners)) × (n ≤ length (now vias)) × (n ≤ length (now links))
+        × ((i : ℕ) → i < n → getD (now owners) i 0 ≤ i) ⌝ }
     ensures { λ r.
-        ⌜ (take r (now (links .exit)) ≡ linksTo (entries [] (now (owners .entry)) (now (vias .entry)) n) n) × (r ≤ n)
-        × (length (now (links .exit)) ≡ maxBlocks) ⌝ }
+        ⌜ (take r (now (links .exit)) ≡ linksTo (entries [] (now (owners .entry)) (now (vias .entry)) n) n) × (r ≤ n) ⌝ }
 {
     let mut m = n;
     let mut t = 0;

@@ -33,7 +33,7 @@ use Rattle.theory.proofs.Walks.Reached.{Named, intact-named, led-met}
 use Rattle.walk_objects.specs.Walking.{walkedHeap, lastFirst, entries, Traced}
 use Rattle.walk_objects.proofs.Meeting.{top-length}
 use Rattle.walk_objects.proofs.TracedHeap.{all-walked, owners-before, links-found}
-use Rattle.walk_reason.specs.Telling.{reasonIn, walkedReason, Found}
+use Rattle.walk_reason.specs.Telling.{reasonIn, walkedReason, Found, Told}
 
 -- ---- links from their end
 
@@ -87,17 +87,18 @@ module _ (N : ℕ) (a b d cells roots : List ℕ) (named : Named N (walkedHeap a
       traced .tracing .walking .numbers-are at inside
       ∙ ap (λ (l : List ℕ). numberIn l (suc at)) (all-walked N a b d cells roots named order numbers owners vias met traced .is)
 
-  pub number-few : (getD numbers at 0 ≤ met) × (met ≤ maxBlocks)
+  pub number-few : (getD numbers at 0 ≤ met) × (met ≤ N) × (N ≤ maxBlocks)
   number-few =
       let w = traced .tracing .walking in (
         omega (arith, w .numbers-are at inside, number-le (lastFirst order met) (suc at), top-length order met),
-        omega (arith, distinct-length N (w .distinct) (w .below), top-length order met, w .small),
+        omega (arith, distinct-length N (w .distinct) (w .below), top-length order met),
+        w .small,
       )
 
   pub owners-below : (i : ℕ) → i < getD numbers at 0 → getD owners i 0 ≤ i
   owners-below i l = owners-before N a b d cells roots named order numbers owners vias met traced i (omega (arith, number-few))
 
-  pub found : (links : List ℕ) (t : ℕ) → (take t links ≡ linksTo (entries [] owners vias (getD numbers at 0)) (getD numbers at 0)) × (t ≤ getD numbers at 0) × (length links ≡ maxBlocks)
+  pub found : (links : List ℕ) (t : ℕ) → (take t links ≡ linksTo (entries [] owners vias (getD numbers at 0)) (getD numbers at 0)) × (t ≤ getD numbers at 0) × (t ≤ length links)
       → Found N heap at links t
   unfolding walkedReason
   found links t (is, few, long) =
@@ -120,8 +121,7 @@ links-few N h at links t f = omega (arith, take-few t links, f .few)
 
 pub links-whole : (N : ℕ) (h : Memory) (at : ℕ) (links : List ℕ) (t : ℕ) → Found N h at links t → (t ≤ length links) × (t ≡ length (take t links))
 links-whole N h at links t f =
-    let fits : t ≤ length links = omega (arith, f .few, f .long) in
-    (fits, sym (length-take-le t links fits))
+    (f .long, sym (length-take-le t links (f .long)))
 
 -- ---- the call
 
@@ -136,27 +136,27 @@ module _ {N w : ℕ} {h : Memory} (u : Undamaged N w h) (at : ℕ) where
       output-refused N w h u (writeReason at (length out)) (sentenceFor N h at) out r 6 (omega arith)
       (first-found 6 (not (isFirst N h at)) _ (ap not other)) reply
 
-  module _ (first : isFirst N h at ≡ true) {links : List ℕ} {t : ℕ}
-      (f : Found N (walkedHeap (h .a) (h .b) (h .d) (h .cells) (h .roots)) at links t) where
-    abbrev told : List ℕ
-    told = sentence (reasonIn (take t links)) at
-
-    made : told ≡ sentenceFor N h at
+  module _ (first : isFirst N h at ≡ true) {out left : List ℕ} {n : ℕ}
+      (told : Told N (walkedHeap (h .a) (h .b) (h .d) (h .cells) (h .roots)) at out left n) where
+    made : sentence (walkedReason N (walkedHeap (h .a) (h .b) (h .d) (h .cells) (h .roots)) at) at ≡ sentenceFor N h at
     unfolding sentenceFor
-    made = ap (λ (x : Reason). sentence x at) (f .is ∙ same-walk ∙ walked-is N w h (u .intact) at)
+    made = ap (λ (x : Reason). sentence x at) (same-walk ∙ walked-is N w h (u .intact) at)
 
-    pub refused-short : (out : List ℕ) (n : ℕ) (r : Reply) → n ≡ length told → length out < n → r ≡ reply 15 0 0
-        → ReasonPromise N w at h out r h out
+    number-is-length : n ≡ length (sentenceFor N h at)
+    number-is-length = told .number ∙ ap length made
+
+    pub refused-short : (r : Reply) → length out < n → r ≡ reply 15 0 0 → ReasonPromise N w at h out r h left
     unfolding ownRefusals
-    refused-short out n r is short reply =
-        let long : length out < length (sentenceFor N h at) = omega (arith, ap length made) in
-        output-refused N w h u (writeReason at (length out)) (sentenceFor N h at) out r 15 (omega arith)
+    refused-short r short reply =
+        let long : length out < length (sentenceFor N h at) = omega (arith, number-is-length) in
+        rw (told .short short)
+        (output-refused N w h u (writeReason at (length out)) (sentenceFor N h at) out r 15 (omega arith)
         (first-past 6 (not (isFirst N h at)) _ (ap not first)
-        ∙ first-found 15 (ltb (length out) (length (sentenceFor N h at))) [] (lt-ltb (length out) (length (sentenceFor N h at)) long)) reply
+        ∙ first-found 15 (ltb (length out) (length (sentenceFor N h at))) [] (lt-ltb (length out) (length (sentenceFor N h at)) long)) reply)
 
-    pub accepted-long : (out left : List ℕ) (n end : ℕ) (r : Reply) → n ≡ length told → n ≤ length out → Put out 0 told left end
-        → r ≡ reply 0 end 0 → ReasonPromise N w at h out r h left
+    pub accepted-long : (r : Reply) → n ≤ length out → r ≡ reply 0 n 0 → ReasonPromise N w at h out r h left
     unfolding outcome Passed
-    accepted-long out left n end r is long put reply =
-        let passed : length (sentenceFor N h at) ≤ length out = omega (arith, ap length made) in
-        output-accepted N w h u (writeReason at (length out)) (sentenceFor N h at) out r left end (first, passed) refl (put-as made refl put) reply
+    accepted-long r long reply =
+        let passed : length (sentenceFor N h at) ≤ length out = omega (arith, number-is-length) in
+        output-accepted N w h u (writeReason at (length out)) (sentenceFor N h at) out r left n (first, passed) refl (put-as made refl (told .long long))
+        reply

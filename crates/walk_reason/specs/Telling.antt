@@ -1,5 +1,5 @@
 -- The reason of request U11 as code has it: the links by which an object was first met, the last one first.
-use Prim.Native.Nat.{ℕ, suc, _-_, _≤_}
+use Prim.Native.Nat.{ℕ, suc, _-_, _≤_, _<_}
 use mathlib.Core.Path.{_≡_}
 use mathlib.Core.Bool.{true, false}
 use mathlib.Core.List.{List, reverse}
@@ -9,6 +9,8 @@ use lib.Dec.{eqb}
 use Rattle.rules.specs.Heap.{Memory, maxBlocks}
 use Rattle.rules.specs.Walk.{numberIn, followed, numbered}
 use Rattle.rules.specs.Reason.{Reason, keptBy, noChain, reasonFrom}
+use Rattle.rules.specs.Sentence.{sentence}
+use Rattle.text.specs.Text.{Put}
 use Rattle.theory.specs.Trail.{trail, linksTo}
 use Rattle.walk_objects.specs.Walking.{lastFirst}
 
@@ -23,5 +25,11 @@ walkedReason N h at = reasonFrom (some (reverse (linksTo (trail (h .roots) (foll
 -- the first t links are those of the reason
 pub record Found (N : ℕ) (h : Memory) (at : ℕ) (links : List ℕ) (t : ℕ) : Type 0 where
   pub few : t ≤ maxBlocks
-  pub long : length links ≡ maxBlocks
+  pub long : t ≤ length links
   pub is : reasonIn (take t links) ≡ walkedReason N h at
+
+-- the sentence written where it fits: `n` is its length
+pub record Told (N : ℕ) (h : Memory) (at : ℕ) (out left : List ℕ) (n : ℕ) : Type 0 where
+  pub number : n ≡ length (sentence (walkedReason N h at) at)
+  pub short : length out < n → left ≡ out
+  pub long : n ≤ length out → Put out 0 (sentence (walkedReason N h at) at) left n

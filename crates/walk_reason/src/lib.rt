@@ -1,7 +1,8 @@
-// The call of request U11: the sentence that gives the reason why an object is kept.
+// The call of request U11: the sentence that gives the reason why an object is kept. The arrays of the walk are the shortest of three that
+// have a place for each block, since they are cleared in every call.
 ghost use mathlib.Core.Path.{_≡_};
 ghost use mathlib.Core.List.{_++_};
-ghost use Prim.Native.Nat.{_+_, _*_, _≤_, _<_};
+ghost use Prim.Native.Nat.{_+_, _/_, _≤_, _<_};
 ghost use lib.ListN.{length};
 ghost use Rattle.rules.specs.Heap.{maxBlocks};
 ghost use Rattle.rules.specs.Lent.{before, after, lent};
@@ -9,13 +10,17 @@ ghost use Rattle.rules.specs.Promise.{ReasonPromise};
 ghost use Rattle.rules.specs.Sentence.{sentence};
 ghost use Rattle.text.specs.Text.{decimal, Put};
 ghost use Rattle.theory.specs.Statements.{Undamaged};
-ghost use Rattle.theory.proofs.Walks.Reached.{Named};
-ghost use Rattle.walk_objects.specs.Walking.{walkedHeap};
-ghost use Rattle.walk_reason.specs.Telling.{reasonIn, Found};
+ghost use Rattle.walk_objects.specs.Walking.{walkedHeap, Walkable, Tracing};
+ghost use Rattle.walk_reason.specs.Telling.{reasonIn, Found, Told};
 use types::MAX_BLOCKS;
 use types::Ref;
 use types::Reply;
 use types::replies;
+
+// The places of the short and of the longer arrays: enough for heaps of 1,024 and of 8,192 blocks.
+const SMALL_ROOM: usize = MAX_BLOCKS / 64;
+
+const MIDDLE_ROOM: usize = MAX_BLOCKS / 8;
 
 // How many digits n has.
 fn digits_of(n: u64) -> usize
@@ -71,7 +76,7 @@ fn write_sentence(links: &[Ref], at: usize, out: &mut [u8]) -> usize
     text::put_text(out, to, b"\n")
 }
 
-// Finds the links by which the object at block `at` was first met. How many they are.
+// Finds the links by which the object at block `at` was first met, and writes them over `order`, the last one first. How many they are.
 fn links_for(
     blocks: usize,
     a: &[u8],
@@ -80,31 +85,197 @@ fn links_for(
     cells: &[Ref],
     roots: &[Ref],
     at: usize,
-    links: &mut [Ref; MAX_BLOCKS],
+    order: &mut [Ref],
+    numbers: &mut [Ref],
+    owners: &mut [Ref],
+    vias: &mut [Ref],
 ) -> usize
-    requires { ⌜ (at < blocks) × (blocks ≤ maxBlocks) × (length (now links) ≡ maxBlocks) × (blocks ≤ 8 * length (now b)) × (blocks ≤ 8 * length (now d))
-        × (length (now cells) ≡ 4 * blocks) × (length (now roots) ≤ 64)
-        × Named blocks (walkedHeap (now a) (now b) (now d) (now cells) (now roots)) ⌝ }
+    requires { ⌜ Walkable blocks (now a) (now b) (now d) (now cells) (now roots)
+        × Tracing blocks (now order) (now numbers) (now owners) (now vias) 0 × (at < blocks) ⌝ }
     ensures { λ r.
-        ⌜ Found blocks (walkedHeap (now (a .entry)) (now (b .entry)) (now (d .entry)) (now (cells .entry)) (now (roots .entry))) at (now (links .exit)) r ⌝ }
+        ⌜ Found blocks (walkedHeap (now (a .entry)) (now (b .entry)) (now (d .entry)) (now (cells .entry)) (now (roots .entry))) at (now (order .exit)) r ⌝ }
 {
-    let mut order = [0 as Ref; MAX_BLOCKS];
-    let mut numbers = [0 as Ref; MAX_BLOCKS];
-    let mut owners = [0 as Ref; MAX_BLOCKS];
-    let mut vias = [0 as Ref; MAX_BLOCKS];
-    let met = walk_objects::trace_all(
+    let met = walk_objects::trace_all(blocks, a, b, d, cells, roots, order, numbers, owners, vias);
+    walk_objects::links_to(owners, vias, order, numbers[at] as usize)
+}
+
+// Writes the sentence into `out` where it fits, else nothing. How long it is.
+fn reason_in(
+    blocks: usize,
+    a: &[u8],
+    b: &[u8],
+    d: &[u8],
+    cells: &[Ref],
+    roots: &[Ref],
+    at: usize,
+    order: &mut [Ref],
+    numbers: &mut [Ref],
+    owners: &mut [Ref],
+    vias: &mut [Ref],
+    out: &mut [u8],
+) -> usize
+    requires { ⌜ Walkable blocks (now a) (now b) (now d) (now cells) (now roots)
+        × Tracing blocks (now order) (now numbers) (now owners) (now vias) 0 × (at < blocks) ⌝ }
+    ensures { λ n.
+        ⌜ Told blocks (walkedHeap (now (a .entry)) (now (b .entry)) (now (d .entry)) (now (cells .entry)) (now (roots .entry))) at (now (out .entry))
+        (now (out .exit)) n ⌝ }
+{
+    let t = links_for(
         blocks,
         a,
         b,
         d,
         cells,
         roots,
+        at,
+        order,
+        numbers,
+        owners,
+        vias,
+    );
+    let n = sentence_length(&order[..t], at);
+    if out.len() < n {
+        return n;
+    }
+    write_sentence(&order[..t], at, out)
+}
+
+// .. in short arrays.
+fn reason_in_small(
+    blocks: usize,
+    a: &[u8],
+    b: &[u8],
+    d: &[u8],
+    cells: &[Ref],
+    roots: &[Ref],
+    at: usize,
+    out: &mut [u8],
+) -> usize
+    requires { ⌜ Walkable blocks (now a) (now b) (now d) (now cells) (now roots) × (at < blocks) × (blocks ≤ maxBlocks / 64) ⌝ }
+    ensures { λ n.
+        ⌜ Told blocks (walkedHeap (now (a .entry)) (now (b .entry)) (now (d .entry)) (now (cells .entry)) (now (roots .entry))) at (now (out .entry))
+        (now (out .exit)) n ⌝ }
+{
+    let mut order = [0 as Ref; SMALL_ROOM];
+    let mut numbers = [0 as Ref; SMALL_ROOM];
+    let mut owners = [0 as Ref; SMALL_ROOM];
+    let mut vias = [0 as Ref; SMALL_ROOM];
+    reason_in(
+        blocks,
+        a,
+        b,
+        d,
+        cells,
+        roots,
+        at,
         &mut order,
         &mut numbers,
         &mut owners,
         &mut vias,
-    );
-    walk_objects::links_to(&owners, &vias, links, numbers[at] as usize)
+        out,
+    )
+}
+
+// .. in longer arrays.
+fn reason_in_middle(
+    blocks: usize,
+    a: &[u8],
+    b: &[u8],
+    d: &[u8],
+    cells: &[Ref],
+    roots: &[Ref],
+    at: usize,
+    out: &mut [u8],
+) -> usize
+    requires { ⌜ Walkable blocks (now a) (now b) (now d) (now cells) (now roots) × (at < blocks) × (blocks ≤ maxBlocks / 8) ⌝ }
+    ensures { λ n.
+        ⌜ Told blocks (walkedHeap (now (a .entry)) (now (b .entry)) (now (d .entry)) (now (cells .entry)) (now (roots .entry))) at (now (out .entry))
+        (now (out .exit)) n ⌝ }
+{
+    let mut order = [0 as Ref; MIDDLE_ROOM];
+    let mut numbers = [0 as Ref; MIDDLE_ROOM];
+    let mut owners = [0 as Ref; MIDDLE_ROOM];
+    let mut vias = [0 as Ref; MIDDLE_ROOM];
+    reason_in(
+        blocks,
+        a,
+        b,
+        d,
+        cells,
+        roots,
+        at,
+        &mut order,
+        &mut numbers,
+        &mut owners,
+        &mut vias,
+        out,
+    )
+}
+
+// .. in the longest arrays.
+fn reason_in_largest(
+    blocks: usize,
+    a: &[u8],
+    b: &[u8],
+    d: &[u8],
+    cells: &[Ref],
+    roots: &[Ref],
+    at: usize,
+    out: &mut [u8],
+) -> usize
+    requires { ⌜ Walkable blocks (now a) (now b) (now d) (now cells) (now roots) × (at < blocks) ⌝ }
+    ensures { λ n.
+        ⌜ Told blocks (walkedHeap (now (a .entry)) (now (b .entry)) (now (d .entry)) (now (cells .entry)) (now (roots .entry))) at (now (out .entry))
+        (now (out .exit)) n ⌝ }
+{
+    let mut order = [0 as Ref; MAX_BLOCKS];
+    let mut numbers = [0 as Ref; MAX_BLOCKS];
+    let mut owners = [0 as Ref; MAX_BLOCKS];
+    let mut vias = [0 as Ref; MAX_BLOCKS];
+    reason_in(
+        blocks,
+        a,
+        b,
+        d,
+        cells,
+        roots,
+        at,
+        &mut order,
+        &mut numbers,
+        &mut owners,
+        &mut vias,
+        out,
+    )
+}
+
+// .. in arrays of so many places, or in longer ones where the heap has more blocks. What calls itself is not built into its caller, nor
+// are large arrays into what calls itself: so a small heap does not take the stack of the largest.
+fn reason_in_room(
+    places: usize,
+    blocks: usize,
+    a: &[u8],
+    b: &[u8],
+    d: &[u8],
+    cells: &[Ref],
+    roots: &[Ref],
+    at: usize,
+    out: &mut [u8],
+) -> usize
+    requires { ⌜ Walkable blocks (now a) (now b) (now d) (now cells) (now roots) × (at < blocks) × (1 ≤ places) ⌝ }
+    ensures { λ n.
+        ⌜ Told blocks (walkedHeap (now (a .entry)) (now (b .entry)) (now (d .entry)) (now (cells .entry)) (now (roots .entry))) at (now (out .entry))
+        (now (out .exit)) n ⌝ }
+{
+    if places < blocks {
+        return reason_in_room(8 * places, blocks, a, b, d, cells, roots, at, out);
+    }
+    if places == SMALL_ROOM {
+        return reason_in_small(blocks, a, b, d, cells, roots, at, out);
+    }
+    if places == MIDDLE_ROOM {
+        return reason_in_middle(blocks, a, b, d, cells, roots, at, out);
+    }
+    reason_in_largest(blocks, a, b, d, cells, roots, at, out)
 }
 
 // The reason why the object at block `at` is kept, as a sentence, written into `out`.
@@ -132,11 +303,9 @@ pub fn reason(
     if !map_objects::objects::is_first(blocks, a, b, at) {
         return replies::refusal(6);
     }
-    let mut links = [0 as Ref; MAX_BLOCKS];
-    let t = links_for(blocks, a, b, d, cells, roots, at, &mut links);
-    let n = sentence_length(&links[..t], at);
-    if out.len() < n {
+    let length = reason_in_room(SMALL_ROOM, blocks, a, b, d, cells, roots, at, out);
+    if out.len() < length {
         return replies::refusal(15);
     }
-    replies::acceptance(write_sentence(&links[..t], at, out))
+    replies::acceptance(length)
 }

@@ -29,11 +29,10 @@ use Rattle.theory.proofs.Walks.Steps.{all-at, distinct-length}
 use Rattle.theory.proofs.Walks.Reached.{Named, led-first, met-led, roots-below, cells-below, followed-block}
 use Rattle.theory.proofs.Walks.Equal.{cells-length, cells-at, described-data, described-other}
 use Rattle.theory.proofs.Walks.Joined.{joined-same}
-use Rattle.walk_objects.specs.Walking.{Walked, walkedHeap, part}
-use Rattle.walk_objects.proofs.Beginning.{read-named, lengths}
+use Rattle.walk_objects.specs.Walking.{Walkable, Walked, walkedHeap, part}
 use Rattle.walk_objects.proofs.Meeting.{top-length}
 use Rattle.walk_objects.proofs.Numbering.{top-object, part-length, part-at, cells-list}
-use Rattle.walk_shape.specs.Listing.{numberOf, Known, cellsFrom, describedIn, shapeUpTo, Listed}
+use Rattle.walk_shape.specs.Listing.{numberOf, Known, cellsFrom, describedIn, shapeUpTo, Listed, Shaped}
 use Rattle.walk_shape.proofs.Laws.{number-nothing, number-some}
 
 map-same : (f g : ℕ → ℕ) (l : List ℕ) → ((i : ℕ) → i < length l → f (getD l i 0) ≡ g (getD l i 0)) → map f l ≡ map g l
@@ -75,8 +74,7 @@ module _ (N : ℕ) (a b d cells roots : List ℕ) (named : Named N (walkedHeap a
 
     known : (v : ℕ) → v ≤ N → Known numbers v
     known v l =
-        let small = w .walking .small in
-        (omega arith, omega (arith, number-is v l, number-le (numbered N heap) v, ap length (w .is), top-length order met, few))
+        (omega (arith, w .walking .long-numbers), omega (arith, w .walking .small, number-is v l, number-le (numbered N heap) v, ap length (w .is), top-length order met, few))
 
     -- the object at a place of the array
     module _ (k : ℕ) (h : k < met) where
@@ -155,6 +153,7 @@ module _ (N : ℕ) (a b d cells roots : List ℕ) (named : Named N (walkedHeap a
           long-cells = long-cells;
           few-roots = few-roots;
           few = few;
+          long-order = omega (arith, few, w .walking .long-order);
           of-roots = λ i l. known (getD roots i 0) (roots-below N heap named i);
           some = λ k h. led k h .0;
           below = below;
@@ -163,33 +162,33 @@ module _ (N : ℕ) (a b d cells roots : List ℕ) (named : Named N (walkedHeap a
 
 -- ---- the call
 
-module _ {N w : ℕ} {h : Memory} (u : Undamaged N w h) {order numbers : List ℕ} {met : ℕ}
-    (walked : Walked N (numbered N (walkedHeap (h .a) (h .b) (h .d) (h .cells) (h .roots))) order numbers met) where
-  abbrev list : List ℕ
-  list = shapeUpTo N (h .b) (h .d) (h .cells) (h .roots) order numbers met
+module _ {N : ℕ} {a b d cells roots : List ℕ} (fits : Walkable N a b d cells roots) {order numbers : List ℕ} {met : ℕ}
+    (walked : Walked N (numbered N (walkedHeap a b d cells roots)) order numbers met) where
+  pub list-ready : Listed N b d cells roots order numbers met
+  list-ready = listed N a b d cells roots (fits .named) order numbers met walked (fits .long-b) (fits .long-d) (fits .long-cells) (fits .few-roots)
 
+  pub shape-written : shapeUpTo N b d cells roots order numbers met ≡ shapeOf N (walkedHeap a b d cells roots)
+  shape-written = list-is N a b d cells roots (fits .named) order numbers met walked
+
+module _ {N w : ℕ} {h : Memory} (u : Undamaged N w h) where
   same-shape : shapeOf N (walkedHeap (h .a) (h .b) (h .d) (h .cells) (h .roots)) ≡ shapeOf N h
   unfolding shapeOf numbered followed referencesOf described cellsOf
   same-shape = refl
 
-  made : list ≡ shapeOf N h
-  made = list-is N (h .a) (h .b) (h .d) (h .cells) (h .roots) (read-named u) order numbers met walked ∙ same-shape
+  module _ {out left : List ℕ} {n : ℕ} (shaped : Shaped N (walkedHeap (h .a) (h .b) (h .d) (h .cells) (h .roots)) out left n) where
+    number-is-length : n ≡ length (shapeOf N h)
+    number-is-length = shaped .number ∙ ap length same-shape
 
-  pub list-ready : Listed N (h .b) (h .d) (h .cells) (h .roots) order numbers met
-  list-ready =
-      let l = lengths u in
-      listed N (h .a) (h .b) (h .d) (h .cells) (h .roots) (read-named u) order numbers met walked (l .long-b) (l .long-d) (l .long-cells) (l .few-roots)
+    pub refused-short : (r : Reply) → length out < n → r ≡ reply 16 0 0 → ShapePromise N w h out r h left
+    unfolding ownRefusals
+    refused-short r short reply =
+        let long : length out < length (shapeOf N h) = omega (arith, number-is-length) in
+        rw (shaped .short short)
+        (output-refused N w h u (writeShape (length out)) (shapeOf N h) out r 16 (omega arith)
+        (first-found 16 (ltb (length out) (length (shapeOf N h))) [] (lt-ltb (length out) (length (shapeOf N h)) long)) reply)
 
-  pub refused-short : (out : List ℕ) (n : ℕ) (r : Reply) → n ≡ length list → length out < n → r ≡ reply 16 0 0 → ShapePromise N w h out r h out
-  unfolding ownRefusals
-  refused-short out n r is short reply =
-      let long : length out < length (shapeOf N h) = omega (arith, ap length made) in
-      output-refused N w h u (writeShape (length out)) (shapeOf N h) out r 16 (omega arith)
-      (first-found 16 (ltb (length out) (length (shapeOf N h))) [] (lt-ltb (length out) (length (shapeOf N h)) long)) reply
-
-  pub accepted-long : (out left : List ℕ) (n end : ℕ) (r : Reply) → n ≡ length list → n ≤ length out → Put out 0 list left end → r ≡ reply 0 end 0
-      → ShapePromise N w h out r h left
-  unfolding outcome Passed
-  accepted-long out left n end r is long put reply =
-      let passed : length (shapeOf N h) ≤ length out = omega (arith, ap length made) in
-      output-accepted N w h u (writeShape (length out)) (shapeOf N h) out r left end passed refl (put-as made refl put) reply
+    pub accepted-long : (r : Reply) → n ≤ length out → r ≡ reply 0 n 0 → ShapePromise N w h out r h left
+    unfolding outcome Passed
+    accepted-long r long reply =
+        let passed : length (shapeOf N h) ≤ length out = omega (arith, number-is-length) in
+        output-accepted N w h u (writeShape (length out)) (shapeOf N h) out r left n passed refl (put-as same-shape refl (shaped .long long)) reply

@@ -1,35 +1,41 @@
-// The call of request U13: the heap as a list of numbers, from the local arrays of the walk.
+// The call of request U13: the heap as a list of numbers, from the arrays of the walk. These are the shortest of three that have a place for
+// each block, since they are cleared in every call.
 ghost use mathlib.Core.Path.{_≡_};
 ghost use mathlib.Core.Bool.{false};
 ghost use mathlib.Core.List.{map};
-ghost use Prim.Native.Nat.{ℕ, _+_, _-_, _*_, _≤_, _<_};
+ghost use Prim.Native.Nat.{ℕ, _+_, _-_, _*_, _/_, _≤_, _<_};
 ghost use lib.ListN.{length, getD};
 ghost use Rattle.rules.specs.Heap.{maxBlocks, sizeFrom, isData};
 ghost use Rattle.rules.specs.Lent.{before, after, lent};
 ghost use Rattle.rules.specs.Promise.{ShapePromise};
 ghost use Rattle.text.specs.Text.{Put};
 ghost use Rattle.theory.specs.Statements.{Undamaged};
-ghost use Rattle.walk_objects.specs.Walking.{part};
-ghost use Rattle.walk_shape.specs.Listing.{numberOf, Known, describedIn, shapeUpTo, Listed};
+ghost use Rattle.walk_objects.specs.Walking.{part, walkedHeap, Walkable, Tracing};
+ghost use Rattle.walk_shape.specs.Listing.{numberOf, Known, describedIn, shapeUpTo, Listed, Shaped};
 use types::MAX_BLOCKS;
 use types::Ref;
 use types::Reply;
 use types::replies;
 
+// The places of the short and of the longer arrays: enough for heaps of 1,024 and of 8,192 blocks.
+const SMALL_ROOM: usize = MAX_BLOCKS / 64;
+
+const MIDDLE_ROOM: usize = MAX_BLOCKS / 8;
+
 // The number of what v names, or 0.
-fn number_of(numbers: &[Ref; MAX_BLOCKS], v: Ref) -> u32
+fn number_of(numbers: &[Ref], v: Ref) -> u32
     requires { ⌜ Known (now numbers) v ⌝ }
     ensures { λ r. ⌜ r ≡ numberOf (now (numbers .entry)) v ⌝ }
 {
     if v == 0 {
         return 0;
     }
-    numbers[v as usize - 1] as u32
+    numbers[v as usize - 1]
 }
 
 // Writes the numbers of what the n references from place j on name to place `at`. The place behind them.
 fn put_numbers(
-    numbers: &[Ref; MAX_BLOCKS],
+    numbers: &[Ref],
     refs: &[Ref],
     j: usize,
     n: usize,
@@ -54,7 +60,7 @@ fn put_cells(cells: &[Ref], j: usize, n: usize, out: &mut [u32], at: usize) -> u
 {
     let mut i = 0;
     while i < n {
-        out[at + i] = cells[j + i] as u32;
+        out[at + i] = cells[j + i];
         i += 1;
     }
     at + n
@@ -66,7 +72,7 @@ fn write_object(
     b: &[u8],
     d: &[u8],
     cells: &[Ref],
-    numbers: &[Ref; MAX_BLOCKS],
+    numbers: &[Ref],
     at: usize,
     out: &mut [u32],
     to: usize,
@@ -94,8 +100,8 @@ fn shape_length(
     d: &[u8],
     cells: &[Ref],
     roots: &[Ref],
-    order: &[Ref; MAX_BLOCKS],
-    numbers: &[Ref; MAX_BLOCKS],
+    order: &[Ref],
+    numbers: &[Ref],
     met: usize,
 ) -> usize
     requires { ⌜ Listed blocks (now b) (now d) (now cells) (now roots) (now order) (now numbers) met ⌝ }
@@ -118,8 +124,8 @@ fn write_shape(
     d: &[u8],
     cells: &[Ref],
     roots: &[Ref],
-    order: &[Ref; MAX_BLOCKS],
-    numbers: &[Ref; MAX_BLOCKS],
+    order: &[Ref],
+    numbers: &[Ref],
     met: usize,
     out: &mut [u32],
 ) -> usize
@@ -138,6 +144,165 @@ fn write_shape(
         k += 1;
     }
     to
+}
+
+// Writes the heap's shape into `out` where it fits, else nothing. How many numbers it has.
+fn shape_in(
+    blocks: usize,
+    a: &[u8],
+    b: &[u8],
+    d: &[u8],
+    cells: &[Ref],
+    roots: &[Ref],
+    order: &mut [Ref],
+    numbers: &mut [Ref],
+    owners: &mut [Ref],
+    vias: &mut [Ref],
+    out: &mut [u32],
+) -> usize
+    requires { ⌜ Walkable blocks (now a) (now b) (now d) (now cells) (now roots)
+        × Tracing blocks (now order) (now numbers) (now owners) (now vias) 0 ⌝ }
+    ensures { λ n.
+        ⌜ Shaped blocks (walkedHeap (now (a .entry)) (now (b .entry)) (now (d .entry)) (now (cells .entry)) (now (roots .entry))) (now (out .entry))
+        (now (out .exit)) n ⌝ }
+{
+    let met = walk_objects::trace_all(blocks, a, b, d, cells, roots, order, numbers, owners, vias);
+    let n = shape_length(blocks, b, d, cells, roots, order, numbers, met);
+    if out.len() < n {
+        return n;
+    }
+    write_shape(blocks, b, d, cells, roots, order, numbers, met, out)
+}
+
+// .. in short arrays.
+fn shape_in_small(
+    blocks: usize,
+    a: &[u8],
+    b: &[u8],
+    d: &[u8],
+    cells: &[Ref],
+    roots: &[Ref],
+    out: &mut [u32],
+) -> usize
+    requires { ⌜ Walkable blocks (now a) (now b) (now d) (now cells) (now roots) × (blocks ≤ maxBlocks / 64) ⌝ }
+    ensures { λ n.
+        ⌜ Shaped blocks (walkedHeap (now (a .entry)) (now (b .entry)) (now (d .entry)) (now (cells .entry)) (now (roots .entry))) (now (out .entry))
+        (now (out .exit)) n ⌝ }
+{
+    let mut order = [0 as Ref; SMALL_ROOM];
+    let mut numbers = [0 as Ref; SMALL_ROOM];
+    let mut owners = [0 as Ref; SMALL_ROOM];
+    let mut vias = [0 as Ref; SMALL_ROOM];
+    shape_in(
+        blocks,
+        a,
+        b,
+        d,
+        cells,
+        roots,
+        &mut order,
+        &mut numbers,
+        &mut owners,
+        &mut vias,
+        out,
+    )
+}
+
+// .. in longer arrays.
+fn shape_in_middle(
+    blocks: usize,
+    a: &[u8],
+    b: &[u8],
+    d: &[u8],
+    cells: &[Ref],
+    roots: &[Ref],
+    out: &mut [u32],
+) -> usize
+    requires { ⌜ Walkable blocks (now a) (now b) (now d) (now cells) (now roots) × (blocks ≤ maxBlocks / 8) ⌝ }
+    ensures { λ n.
+        ⌜ Shaped blocks (walkedHeap (now (a .entry)) (now (b .entry)) (now (d .entry)) (now (cells .entry)) (now (roots .entry))) (now (out .entry))
+        (now (out .exit)) n ⌝ }
+{
+    let mut order = [0 as Ref; MIDDLE_ROOM];
+    let mut numbers = [0 as Ref; MIDDLE_ROOM];
+    let mut owners = [0 as Ref; MIDDLE_ROOM];
+    let mut vias = [0 as Ref; MIDDLE_ROOM];
+    shape_in(
+        blocks,
+        a,
+        b,
+        d,
+        cells,
+        roots,
+        &mut order,
+        &mut numbers,
+        &mut owners,
+        &mut vias,
+        out,
+    )
+}
+
+// .. in the longest arrays.
+fn shape_in_largest(
+    blocks: usize,
+    a: &[u8],
+    b: &[u8],
+    d: &[u8],
+    cells: &[Ref],
+    roots: &[Ref],
+    out: &mut [u32],
+) -> usize
+    requires { ⌜ Walkable blocks (now a) (now b) (now d) (now cells) (now roots) ⌝ }
+    ensures { λ n.
+        ⌜ Shaped blocks (walkedHeap (now (a .entry)) (now (b .entry)) (now (d .entry)) (now (cells .entry)) (now (roots .entry))) (now (out .entry))
+        (now (out .exit)) n ⌝ }
+{
+    let mut order = [0 as Ref; MAX_BLOCKS];
+    let mut numbers = [0 as Ref; MAX_BLOCKS];
+    let mut owners = [0 as Ref; MAX_BLOCKS];
+    let mut vias = [0 as Ref; MAX_BLOCKS];
+    shape_in(
+        blocks,
+        a,
+        b,
+        d,
+        cells,
+        roots,
+        &mut order,
+        &mut numbers,
+        &mut owners,
+        &mut vias,
+        out,
+    )
+}
+
+// .. in arrays of so many places, or in longer ones where the heap has more blocks. What calls itself is not built into its caller, nor
+// are large arrays into what calls itself: so a small heap does not take the stack of the largest.
+fn shape_in_room(
+    places: usize,
+    blocks: usize,
+    a: &[u8],
+    b: &[u8],
+    d: &[u8],
+    cells: &[Ref],
+    roots: &[Ref],
+    out: &mut [u32],
+) -> usize
+    requires { ⌜ Walkable blocks (now a) (now b) (now d) (now cells) (now roots) × (1 ≤ places) ⌝ }
+    ensures { λ n.
+        ⌜ Shaped blocks (walkedHeap (now (a .entry)) (now (b .entry)) (now (d .entry)) (now (cells .entry)) (now (roots .entry))) (now (out .entry))
+        (now (out .exit)) n ⌝ }
+{
+    if places < blocks {
+        return shape_in_room(8 * places, blocks, a, b, d, cells, roots, out);
+    }
+    if places == SMALL_ROOM {
+        return shape_in_small(blocks, a, b, d, cells, roots, out);
+    }
+    if places == MIDDLE_ROOM {
+        return shape_in_middle(blocks, a, b, d, cells, roots, out);
+    }
+    shape_in_largest(blocks, a, b, d, cells, roots, out)
 }
 
 // The heap's shape as a list of numbers, written into `out`.
@@ -161,25 +326,9 @@ pub fn shape(
         ⌜ ShapePromise blocks width (before a b counts cells roots waiting sections d marks list) (now (out .entry)) reply
         (after a b counts cells roots waiting sections d marks list) (now (out .exit)) ⌝ }
 {
-    let mut order = [0 as Ref; MAX_BLOCKS];
-    let mut numbers = [0 as Ref; MAX_BLOCKS];
-    let mut owners = [0 as Ref; MAX_BLOCKS];
-    let mut vias = [0 as Ref; MAX_BLOCKS];
-    let met = walk_objects::trace_all(
-        blocks,
-        a,
-        b,
-        d,
-        cells,
-        roots,
-        &mut order,
-        &mut numbers,
-        &mut owners,
-        &mut vias,
-    );
-    let n = shape_length(blocks, b, d, cells, roots, &order, &numbers, met);
-    if out.len() < n {
+    let length = shape_in_room(SMALL_ROOM, blocks, a, b, d, cells, roots, out);
+    if out.len() < length {
         return replies::refusal(16);
     }
-    replies::acceptance(write_shape(blocks, b, d, cells, roots, &order, &numbers, met, out))
+    replies::acceptance(length)
 }

@@ -33,7 +33,7 @@ inside c = let l = c .before in trailing-lowest 8 (l .loop .left) (l .loop .inv 
 
 loop-holds : tie.Need-loop-holds Inv-loop μ-loop
 loop-holds c =
-    let s = c .before in (
+    let s : tie.Start Inv-loop μ-loop = search in (
       omega arith,
       visit-start (test s) (s .args .these)
           (λ d l. off-is (s .args .these) (s .args .k) (s .args .bytes) (s .args .width) (s .args .counts .now) (s .args .at .now) d),
@@ -51,18 +51,18 @@ add-i c = omega (arith, inside c)
 get-count-requires : tie.Need-get-count-requires Inv-loop μ-loop
 get-count-requires c κs = omega (arith, inside c)
 
-element-copy-out-if1 : tie.Need-element-copy-out-if1 Inv-loop μ-loop
-element-copy-out-if1 c = omega (arith, inside (c .before))
+shared-slice-read-if1 : tie.Need-shared-slice-read-if1 Inv-loop μ-loop
+shared-slice-read-if1 c = omega (arith, inside (c .before .before))
 
 -- at that bit the test is whether what is read differs
 read : (c : tie.After-get-count Inv-loop μ-loop)
     → let l = c .before .before in
-    let s = l .before .before in
+    let s = l .before .before .before in
     let t = trailingZeros 8 (l .loop .left) in
     test s t ≡ not (eqb (c .get-count .result) (getD (s .args .at .now) (8 * s .args .k + t) 0))
 read c =
     let l = c .before .before in
-    let s = l .before .before in
+    let s = l .before .before .before in
     let t = trailingZeros 8 (l .loop .left) in
     off-read (s .args .these) (s .args .k) (s .args .bytes) (s .args .width) (s .args .counts .now) (s .args .at .now) t
     (visit-here (test s) (s .args .these) (l .loop .left) (l .loop .inv .0) (c .before .loop-test .taken) (l .loop .inv .1))
@@ -72,7 +72,7 @@ returns : tie.Need-returns Inv-loop μ-loop
 returns c =
     let get = c .before .before in
     let l = get .before .before in
-    let s = l .before .before in
+    let s = l .before .before .before in
     let t = trailingZeros 8 (l .loop .left) in
     visit-hit (test s) (s .args .these) (l .loop .left) (l .loop .inv .0) (get .before .loop-test .taken)
     (read get ∙ ap not (ne-eqb (get .get-count .result) (getD (s .args .at .now) (8 * s .args .k + t) 0) (c .if1 .taken)))
@@ -89,7 +89,7 @@ loop-again : tie.Need-loop-again Inv-loop μ-loop
 loop-again c =
     let get = c .before .before in
     let l = get .before .before in
-    let s = l .before .before in
+    let s = l .before .before .before in
     let t = trailingZeros 8 (l .loop .left) in (
       omega (arith, and-le-r (l .loop .left) (l .loop .left - 1)),
       visit-next (test s) (s .args .these) (l .loop .left) (l .loop .inv .0) (get .before .loop-test .taken)
@@ -100,7 +100,7 @@ loop-again c =
 returns-2 : tie.Need-returns-2 Inv-loop μ-loop
 returns-2 c =
     let l = c .before in
-    let s = l .before .before in
+    let s = l .before .before .before in
     visit-none (test s) (s .args .these) (l .loop .left) (c .loop-test .left) (l .loop .inv .1)
 
 pub is-off-tally-spec : {M : Type 1} → statement M
@@ -114,7 +114,7 @@ is-off-tally-spec =
     cast-i
     add-i
     get-count-requires
-    element-copy-out-if1
+    shared-slice-read-if1
     returns
     sub-left
     loop-less

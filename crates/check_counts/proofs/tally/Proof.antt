@@ -5,8 +5,7 @@ use mathlib.Core.Logic.{inl, inr}
 use mathlib.Core.List.{List}
 use Prim.Native.Nat.{ℕ, _≤_, _<_, _-_, _+_}
 use native.Mathlib.Omega.{arith}
-use lib.ListN.{getD}
-use Rattle.rules.specs.Heap.{maxBlocks}
+use lib.ListN.{length, getD}
 use Rattle.check_counts.specs.Tally.{Tallied}
 use Rattle.check_counts.proofs.Tallies.{tallied-start, tallied-none, tallied-one}
 use Rattle.check_counts.proofs.tally.Statement.{statement}
@@ -24,7 +23,7 @@ abbrev μ-loop : tie.MeasureT-loop
 
 loop-holds : tie.Need-loop-holds Inv-loop μ-loop
 loop-holds c =
-    let s = c .before in
+    let s : tie.Start Inv-loop μ-loop = search in
     (omega arith, tallied-start (number (s .args .refs .now) (s .args .from)) (s .args .at .now) (s .pre .2))
 
 add-v : tie.Need-add-v Inv-loop μ-loop
@@ -38,8 +37,9 @@ shared-slice-read-v c = omega arith
 
 cast-v : tie.Need-cast-v Inv-loop μ-loop
 cast-v c =
+    let s : tie.Start Inv-loop μ-loop = search in
     let l = c .before .before in
-    omega (arith, c .shared-slice-known2 .given (l .before .before .args .from + l .loop .k))
+    omega (arith, c .shared-slice-known2 .given (s .args .from + l .loop .k))
 
 sub-one-more : tie.Need-sub-one-more Inv-loop μ-loop
 sub-one-more c = omega arith
@@ -47,12 +47,14 @@ sub-one-more c = omega arith
 -- what a number that is not 0 names is a block
 named : (c : tie.Then1 Inv-loop μ-loop)
     → let l = c .before .before .before in
-    let s = l .before .before in
-    number (s .args .refs .now) (s .args .from) (l .loop .k) - 1 < maxBlocks
-named c = let l = c .before .before .before in omega (arith, l .before .before .pre .1 (l .loop .k) (omega arith))
+    let s = l .before .before .before in
+    number (s .args .refs .now) (s .args .from) (l .loop .k) - 1 < length (l .loop .at)
+named c =
+    let l = c .before .before .before in
+    omega (arith, l .before .before .before .pre .1 (l .loop .k) (omega arith), l .loop .inv .1 .same-length)
 
-element-copy-out-one-more : tie.Need-element-copy-out-one-more Inv-loop μ-loop
-element-copy-out-one-more c = named c
+slice-read-one-more : tie.Need-slice-read-one-more Inv-loop μ-loop
+slice-read-one-more c = named (c .before)
 
 one-more-requires : tie.Need-one-more-requires Inv-loop μ-loop
 one-more-requires c κs = tt
@@ -60,8 +62,8 @@ one-more-requires c κs = tt
 sub-at : tie.Need-sub-at Inv-loop μ-loop
 sub-at c = omega arith
 
-element-write-at : tie.Need-element-write-at Inv-loop μ-loop
-element-write-at c = named (c .before .before)
+slice-write-at : tie.Need-slice-write-at Inv-loop μ-loop
+slice-write-at c = named (c .before .before)
 
 add-k : tie.Need-add-k Inv-loop μ-loop
 add-k c = omega arith
@@ -72,23 +74,26 @@ loop-less c = omega arith
 loop-again : tie.Need-loop-again Inv-loop μ-loop
 loop-again c =
     let l = c .before .before .before in
-    let s = l .before .before in
+    let s = l .before .before .before in
     let reads = number (s .args .refs .now) (s .args .from) in
     let k = l .loop .k in
     let inv = l .loop .inv in
     elim (c .if1 .came) [
       | inl w ↦
           let i = reads k - 1 in
-          let inside : i < maxBlocks = omega (arith, s .pre .1 k (omega arith)) in
+          let inside : i < length (s .args .at .now) = omega (arith, s .pre .1 k (omega arith)) in
           let named : reads k ≡ i + 1 = omega (arith, w .0 .taken) in
           (omega arith, rw (w .3) (tallied-one reads (s .args .at .now) k (l .loop .at) i (w .2 .result) named inside (w .2 .ensures) (inv .1)))
       | inr w ↦ (omega arith, rw (w .1) (tallied-none reads (s .args .at .now) k (l .loop .at) (w .0 .left) (inv .1)))
     ]
 
+same-length : tie.Need-same-length Inv-loop μ-loop
+same-length c = c .before .loop .inv .1 .same-length
+
 returns : tie.Need-returns Inv-loop μ-loop
 returns c =
     let l = c .before in
-    let s = l .before .before in
+    let s = l .before .before .before in
     let done : l .loop .k ≡ s .args .n = omega arith in
     subst (λ (k : ℕ). Tallied (number (s .args .refs .now) (s .args .from)) k (s .args .at .now) (l .loop .at)) done (l .loop .inv .1)
 
@@ -104,11 +109,12 @@ tally-spec =
     shared-slice-read-v
     cast-v
     sub-one-more
-    element-copy-out-one-more
+    slice-read-one-more
     one-more-requires
     sub-at
-    element-write-at
+    slice-write-at
     add-k
     loop-less
     loop-again
+    same-length
     returns)

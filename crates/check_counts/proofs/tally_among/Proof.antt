@@ -45,7 +45,7 @@ tally-requires c κs =
     let l = c .before .before in
     let v = l .loop .inv .1 in (
       omega (arith, inside (c .before)),
-      λ i u. s .pre .2 (32 * s .args .k + 4 * trailingZeros 8 (l .loop .left) + i),
+      λ i u. omega (arith, s .pre .2 (32 * s .args .k + 4 * trailingZeros 8 (l .loop .left) + i), v .tallied .same-length),
       tallied-room (cell (s .args .cells .now) (s .args .k) (s .args .these) (s .args .at .now)) (s .args .at .now) (4 * v .p) (l .loop .at)
           (v .tallied),
     )
@@ -55,17 +55,20 @@ sub-left c = omega arith
 
 loop-less : tie.Need-loop-less Inv-loop μ-loop
 loop-less c =
-    let l = c .before .before .before in
+    let l = c .before .before .before .before .before in
     omega (arith, and-le-r (l .loop .left) (l .loop .left - 1))
 
 loop-again : tie.Need-loop-again Inv-loop μ-loop
 loop-again c =
     let s : tie.Start Inv-loop μ-loop = search in
-    let l = c .before .before .before in (
+    let l = c .before .before .before .before .before in (
       omega (arith, and-le-r (l .loop .left) (l .loop .left - 1)),
       visited-next (s .args .cells .now) (s .args .k) (s .args .these) (s .args .at .now) (s .pre .3) (l .loop .left) (l .loop .at) _
-          (l .loop .inv .0) (c .before .before .loop-test .taken) (l .loop .inv .1) (c .tally .ensures),
+          (l .loop .inv .0) (c .before .before .before .before .loop-test .taken) (l .loop .inv .1) (c .before .before .tally .ensures),
     )
+
+same-length : tie.Need-same-length Inv-loop μ-loop
+same-length c = c .before .loop .inv .1 .tallied .same-length
 
 returns : tie.Need-returns Inv-loop μ-loop
 returns c =
@@ -89,4 +92,5 @@ tally-among-spec =
     sub-left
     loop-less
     loop-again
+    same-length
     returns)

@@ -55,22 +55,26 @@ tally-references-requires c κs =
         read-other (s .args .blocks) (s .args .a .now) (s .args .b .now) (s .args .d .now) (s .args .cells .now) j
             (none (c .before) (j / 4)),
         s .pre .0 .cells-within j,
+        s .pre .1,
       ),
-      s .pre .1,
+      s .pre .2,
     )
+
+same-length : tie.Need-same-length Inv-loop μ-loop
+same-length c = c .before .before .tally-references .ensures .same-length
 
 returns : tie.Need-returns Inv-loop μ-loop
 returns c =
-    let s = start-none (c .before .before) in
+    let s = start-none (c .before .before .before .before) in
     all-tallied (s .args .blocks) (s .args .a .now) (s .args .b .now) (s .args .d .now) (s .args .cells .now) (s .args .at .now) _
-    (none (c .before .before)) (4 * s .args .blocks) (c .tally-references .ensures)
+    (none (c .before .before .before .before)) (4 * s .args .blocks) (c .before .before .tally-references .ensures)
 
 loop-holds : tie.Need-loop-holds Inv-loop μ-loop
 loop-holds c =
-    let s = c .before .before .before .before .before .before in (
+    let s : tie.Start Inv-loop μ-loop = search in (
       omega arith,
       walk-start (s .args .blocks) (s .args .a .now) (s .args .b .now) (s .args .d .now),
-      tallied-start (reads s) (s .args .at .now) (s .pre .1),
+      tallied-start (reads s) (s .args .at .now) (s .pre .2),
     )
 
 is-in-data-requires : tie.Need-is-in-data-requires Inv-loop μ-loop
@@ -91,6 +95,8 @@ tally-requires c κs =
         arith,
         other-cells (s .args .blocks) (s .args .a .now) (s .args .b .now) (s .args .d .now) (s .args .cells .now) i other k u,
         s .pre .0 .cells-within (4 * i + k),
+        s .pre .1,
+        l .loop .inv .2 .same-length,
       ),
       tallied-room (reads s) (s .args .at .now) (4 * i) (l .loop .at) (l .loop .inv .2),
     )
@@ -112,7 +118,7 @@ loop-again c =
       walk-next (s .args .blocks) (s .args .a .now) (s .args .b .now) (s .args .d .now) i _ (walk .is-in-data .ensures),
       elim (c .if2 .came) [
         | inl w ↦
-            rw (w .3)
+            rw (w .5)
             (other-tallied (s .args .blocks) (s .args .a .now) (s .args .b .now) (s .args .d .now) (s .args .cells .now) i
             (s .args .at .now) (l .loop .at) _ (inv .2) (sym (walk .is-in-data .ensures) ∙ not-true _ (w .0 .taken)) (w .2 .ensures))
         | inr w ↦
@@ -122,10 +128,13 @@ loop-again c =
       ],
     )
 
+same-length-2 : tie.Need-same-length-2 Inv-loop μ-loop
+same-length-2 c = c .before .loop .inv .2 .same-length
+
 returns-2 : tie.Need-returns-2 Inv-loop μ-loop
 returns-2 c =
     let l = c .before in
-    let s = l .before .before .before .before .before .before .before in
+    let s : tie.Start Inv-loop μ-loop = search in
     let done : 4 * l .loop .i ≡ 4 * s .args .blocks = omega arith in
     subst (λ (n : ℕ). Tallied (reads s) n (s .args .at .now) (l .loop .at)) done (l .loop .inv .2)
 
@@ -137,6 +146,7 @@ tally-cells-spec =
     μ-loop
     has-data-requires
     tally-references-requires
+    same-length
     returns
     loop-holds
     is-in-data-requires
@@ -145,4 +155,5 @@ tally-cells-spec =
     add-i
     loop-less
     loop-again
+    same-length-2
     returns-2)

@@ -41,7 +41,7 @@ tally-among-requires c κs =
     let l = c .before .before .before in (
       omega arith,
       omega arith,
-      s .pre .3,
+      λ j. omega (arith, s .pre .3 j, l .loop .inv .1 .same-length),
       c .before .filled-byte .ensures,
       tallied-room (reads s) (s .args .at .now) (32 * l .loop .k) (l .loop .at) (l .loop .inv .1),
     )
@@ -55,8 +55,11 @@ loop-less c = omega arith
 loop-again : tie.Need-loop-again Inv-loop μ-loop
 loop-again c =
     let s : tie.Start Inv-loop μ-loop = search in
-    let l = c .before .before .before .before in
-    (omega arith, byte-more (reads s) (s .args .at .now) (l .loop .at) _ (l .loop .k) (l .loop .inv .1) (c .tally-among .ensures))
+    let l = c .before .before .before .before .before .before in
+    (omega arith, byte-more (reads s) (s .args .at .now) (l .loop .at) _ (l .loop .k) (l .loop .inv .1) (c .before .before .tally-among .ensures))
+
+same-length : tie.Need-same-length Inv-loop μ-loop
+same-length c = c .before .loop .inv .1 .same-length
 
 returns : tie.Need-returns Inv-loop μ-loop
 returns c =
@@ -77,4 +80,5 @@ tally-references-spec =
     add-k
     loop-less
     loop-again
+    same-length
     returns)

@@ -2,7 +2,8 @@
 use Prim.Native.Nat.{_+_, _-_, _*_, _≤_, _<_}
 use native.Mathlib.Omega.{arith}
 use lib.ListN.{length, getD}
-use Rattle.walk_reader.proofs.Laws.{found, not-found, Counted, small-empty, small-zero, small-low, small-high, small-start, count-more, count-large, count-low, count-high, count-end}
+use Rattle.walk_reader.proofs.Laws.{found, not-found, Counted, small-empty, small-zero, small-low, small-high, small-start}
+use Rattle.walk_reader.proofs.Laws.{count-more, count-large, count-low, count-high, count-end}
 use Rattle.walk_reader.proofs.number_at.Statement.{statement}
 use Rattle.walk_reader.proofs.number_at.Tie as tie
 
@@ -57,14 +58,16 @@ returns-5 c =
     let s : tie.Start Inv-loop μ-loop = search in
     let l : tie.At-loop Inv-loop μ-loop = search in
     let t : tie.Then5 Inv-loop μ-loop = search in
-    (found (count-low (s .args .text .now) (s .args .at) (l .loop .i) (l .loop .value) (omega arith) (t .if5 .taken) (l .loop .inv .2) (l .loop .inv .3)), l .loop .inv .0, omega arith, l .loop .inv .2)
+    let is = count-low (s .args .text .now) (s .args .at) (l .loop .i) (l .loop .value) (omega arith) (t .if5 .taken) (l .loop .inv .2) (l .loop .inv .3) in
+    (found is, l .loop .inv .0, omega arith, l .loop .inv .2)
 
 returns-6 : tie.Need-returns-6 Inv-loop μ-loop
 returns-6 c =
     let s : tie.Start Inv-loop μ-loop = search in
     let l : tie.At-loop Inv-loop μ-loop = search in
     let t : tie.Then6 Inv-loop μ-loop = search in
-    (found (count-high (s .args .text .now) (s .args .at) (l .loop .i) (l .loop .value) (omega arith) (t .if6 .taken) (l .loop .inv .2) (l .loop .inv .3)), l .loop .inv .0, omega arith, l .loop .inv .2)
+    let is = count-high (s .args .text .now) (s .args .at) (l .loop .i) (l .loop .value) (omega arith) (t .if6 .taken) (l .loop .inv .2) (l .loop .inv .3) in
+    (found is, l .loop .inv .0, omega arith, l .loop .inv .2)
 
 mul-value : tie.Need-mul-value Inv-loop μ-loop
 mul-value c =
@@ -89,7 +92,11 @@ returns-7 c =
     let a : tie.Else5 Inv-loop μ-loop = search in
     let b : tie.Else6 Inv-loop μ-loop = search in
     let t : tie.Then7 Inv-loop μ-loop = search in
-    (not-found (count-large (s .args .text .now) (s .args .at) (l .loop .i + 1) (l .loop .value * 10 + (getD (s .args .text .now) (l .loop .i) 0 - 48)) (t .if7 .taken) (count-more (s .args .text .now) (s .args .at) (l .loop .i) (l .loop .value) (omega arith) (omega (arith, a .if5 .left)) (omega (arith, b .if6 .left)) (l .loop .inv .3))), omega arith, omega arith, omega arith)
+    let more = count-more (s .args .text .now) (s .args .at) (l .loop .i) (l .loop .value) (omega arith) (omega (arith, a .if5 .left))
+    (omega (arith, b .if6 .left)) (l .loop .inv .3) in
+    let large = count-large (s .args .text .now) (s .args .at) (l .loop .i + 1) (l .loop .value * 10 + (getD (s .args .text .now) (l .loop .i) 0 - 48))
+    (t .if7 .taken) more in
+    (not-found large, omega arith, omega arith, omega arith)
 
 add-i : tie.Need-add-i Inv-loop μ-loop
 add-i c = omega arith
@@ -104,13 +111,16 @@ loop-again c =
     let a : tie.Else5 Inv-loop μ-loop = search in
     let b : tie.Else6 Inv-loop μ-loop = search in
     let d : tie.Else7 Inv-loop μ-loop = search in
-    (omega arith, omega arith, omega (arith, d .if7 .left), count-more (s .args .text .now) (s .args .at) (l .loop .i) (l .loop .value) (omega arith) (omega (arith, a .if5 .left)) (omega (arith, b .if6 .left)) (l .loop .inv .3))
+    let more = count-more (s .args .text .now) (s .args .at) (l .loop .i) (l .loop .value) (omega arith) (omega (arith, a .if5 .left))
+    (omega (arith, b .if6 .left)) (l .loop .inv .3) in
+    (omega arith, omega arith, omega (arith, d .if7 .left), more)
 
 returns-8 : tie.Need-returns-8 Inv-loop μ-loop
 returns-8 c =
     let s : tie.Start Inv-loop μ-loop = search in
     let l : tie.At-loop Inv-loop μ-loop = search in
-    (found (count-end (s .args .text .now) (s .args .at) (l .loop .i) (l .loop .value) (omega arith) (l .loop .inv .2) (l .loop .inv .3)), l .loop .inv .0, omega arith, l .loop .inv .2)
+    let is = count-end (s .args .text .now) (s .args .at) (l .loop .i) (l .loop .value) (omega arith) (l .loop .inv .2) (l .loop .inv .3) in
+    (found is, l .loop .inv .0, omega arith, l .loop .inv .2)
 
 pub number-at-spec : {M : Type 1} → statement M
 number-at-spec =

@@ -47,7 +47,9 @@ add-n : tie.Need-add-n Inv-loop μ-loop
 add-n c = omega (arith, c .digits-of2 .ensures .1)
 
 loop-holds : tie.Need-loop-holds Inv-loop μ-loop
-loop-holds c = (omega (arith, c .before .before .if1 .left), chain-long _ _ _ (c .before .before .if1 .left) (c .digits-of2 .ensures .0), omega (arith, c .digits-of2 .ensures .1, c .before .before .if1 .left))
+loop-holds c =
+    let some = c .before .before .if1 .left in
+    (omega (arith, some), chain-long _ _ _ some (c .digits-of2 .ensures .0), omega (arith, c .digits-of2 .ensures .1, some))
 
 sub-i-2 : tie.Need-sub-i-2 Inv-loop μ-loop
 sub-i-2 c = omega arith
@@ -74,7 +76,10 @@ loop-less : tie.Need-loop-less Inv-loop μ-loop
 loop-less c = omega arith
 
 loop-again : tie.Need-loop-again Inv-loop μ-loop
-loop-again c = (omega (arith, c .before .before .before .loop .inv .0), next-long _ _ _ _ _ _ (c .before .before .loop-test .taken) (c .digits-of3 .ensures .0) (c .before .before .before .loop .inv .1), omega (arith, c .digits-of3 .ensures .1, c .before .before .before .loop .inv .2, c .before .before .loop-test .taken))
+loop-again c =
+    let inv = c .before .before .before .loop .inv in
+    let left = c .before .before .loop-test .taken in
+    (omega (arith, inv .0), next-long _ _ _ _ _ _ left (c .digits-of3 .ensures .0) (inv .1), omega (arith, c .digits-of3 .ensures .1, inv .2, left))
 
 digits-of-requires-4 : tie.Need-digits-of-requires-4 Inv-loop μ-loop
 digits-of-requires-4 c κs = search needs

@@ -14,11 +14,8 @@ sub-result c = search needs
 mul-result : tie.Need-mul-result
 mul-result c = search needs
 
-element-copy-out-result : tie.Need-element-copy-out-result
-element-copy-out-result c = search needs
-
-cast-result : tie.Need-cast-result
-cast-result c = omega (arith, number-some (c .before .before .args .numbers .now) (c .before .before .args .v) (c .before .if1 .left), c .before .before .pre .1)
+shared-slice-read-result : tie.Need-shared-slice-read-result
+shared-slice-read-result c = search needs
 
 returns-2 : tie.Need-returns-2
 returns-2 c = search number-some
@@ -26,4 +23,4 @@ returns-2 c = search number-some
 pub number-of-spec : {M : Type 1} → statement M
 number-of-spec =
     tie.close
-    (tie.spec returns sub-result mul-result element-copy-out-result cast-result returns-2)
+    (tie.spec returns sub-result mul-result shared-slice-read-result returns-2)

@@ -30,9 +30,6 @@ mul-out c = omega arith
 shared-slice-read-out : tie.Need-shared-slice-read-out Inv-loop μ-loop
 shared-slice-read-out c = omega arith
 
-cast-out : tie.Need-cast-out Inv-loop μ-loop
-cast-out c = omega (arith, c .shared-slice-known .given (c .before .before .before .args .j + c .before .before .loop .i))
-
 add-out-2 : tie.Need-add-out-2 Inv-loop μ-loop
 add-out-2 c = omega arith
 
@@ -70,7 +67,6 @@ put-cells-spec =
     add-out
     mul-out
     shared-slice-read-out
-    cast-out
     add-out-2
     mul-out-2
     slice-write-out

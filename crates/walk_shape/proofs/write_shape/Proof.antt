@@ -1,4 +1,5 @@
 -- `walk_shape::write_shape` meets its contract.
+use Rattle.rules.specs.Heap.{maxBlocks}
 use mathlib.Core.Path.{_≡_, refl}
 use Prim.Native.Nat.{_+_, _-_, _≤_, _<_}
 use native.Mathlib.Omega.{arith}
@@ -43,7 +44,7 @@ inside c = omega arith
 
 block : (c : tie.In-loop Inv-loop μ-loop) → (1 ≤ getD (start (c .before) .args .order .now) (c .before .loop .k) 0)
     × (getD (start (c .before) .args .order .now) (c .before .loop .k) 0 ≤ start (c .before) .args .blocks)
-    × (start (c .before) .args .blocks ≤ 8192) × (c .before .loop .k < 8192)
+    × (start (c .before) .args .blocks ≤ maxBlocks) × (c .before .loop .k < maxBlocks)
 block c =
     let s = start (c .before) in
     let some = s .pre .0 .some _ (inside c) in
@@ -64,16 +65,18 @@ loop-holds : tie.Need-loop-holds Inv-loop μ-loop
 loop-holds c = (omega arith, put-none-objects _ _ _)
 
 mul-write-object : tie.Need-mul-write-object Inv-loop μ-loop
-mul-write-object c = omega (arith, block c)
+mul-write-object c = let i : tie.In-loop Inv-loop μ-loop = search in omega (arith, block i)
 
-element-copy-out-write-object : tie.Need-element-copy-out-write-object Inv-loop μ-loop
-element-copy-out-write-object c = omega (arith, block c)
+shared-slice-read-write-object : tie.Need-shared-slice-read-write-object Inv-loop μ-loop
+shared-slice-read-write-object c =
+    let i : tie.In-loop Inv-loop μ-loop = search in
+    omega (arith, inside i, start (i .before) .pre .0 .long-order)
 
 cast-write-object : tie.Need-cast-write-object Inv-loop μ-loop
-cast-write-object c = omega (arith, block (c .before))
+cast-write-object c = let i : tie.In-loop Inv-loop μ-loop = search in omega (arith, block i)
 
 sub-write-object : tie.Need-sub-write-object Inv-loop μ-loop
-sub-write-object c = omega (arith, block (c .before))
+sub-write-object c = let i : tie.In-loop Inv-loop μ-loop = search in omega (arith, block i)
 
 write-object-requires : tie.Need-write-object-requires Inv-loop μ-loop
 write-object-requires c κs =
@@ -126,7 +129,7 @@ write-shape-spec =
     put-numbers-requires
     loop-holds
     mul-write-object
-    element-copy-out-write-object
+    shared-slice-read-write-object
     cast-write-object
     sub-write-object
     write-object-requires

@@ -1,0 +1,19 @@
+-- `check_counts::has_bad_in_largest` meets its contract.
+use Rattle.rules.specs.Heap.{maxBlocks}
+use Rattle.check_counts.proofs.Tallies.{all-cleared}
+use Rattle.check_counts.proofs.has_bad_in_largest.Statement.{statement}
+use Rattle.check_counts.proofs.has_bad_in_largest.Tie as tie
+
+slice-aggregate-has-bad-in : tie.Need-slice-aggregate-has-bad-in
+slice-aggregate-has-bad-in c = search
+
+has-bad-in-requires : tie.Need-has-bad-in-requires
+has-bad-in-requires c κs =
+    let s : tie.Start = search in
+    (s .pre, all-cleared (maxBlocks) (s .args .blocks) (s .pre .maps .blocks-max))
+
+returns : tie.Need-returns
+returns c = search
+
+pub has-bad-in-largest-spec : {M : Type 1} → statement M
+has-bad-in-largest-spec = tie.close (tie.spec slice-aggregate-has-bad-in has-bad-in-requires returns)
