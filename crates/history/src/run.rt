@@ -5,12 +5,14 @@ ghost use Prim.Native.Nat.{_+_, _*_, _/_, _-_, _≤_, min};
 ghost use lib.ListN.{length};
 ghost use Rattle.rules.specs.Lent.{before, after, lent};
 ghost use Rattle.theory.specs.Usable.{Usable};
+ghost use Rattle.history_records.specs.Records.{recordLength, wide};
 ghost use Rattle.history_figures.specs.Figures.{mostRecords, inRange};
 ghost use Rattle.history_turns.specs.Steps.{Going};
 ghost use Rattle.history_runs.specs.Runs.{ranFrom, ended, ran};
 ghost use Rattle.history_runs.specs.RunBy.{RunBy};
 use history_figures::tally::MAX_RECORDS;
 use history_figures::tally::Run;
+use history_records::RECORD;
 use history_turns::noting::Running;
 use types::Ref;
 
@@ -34,16 +36,16 @@ fn run_whole(
 ) -> Run
     requires { ⌜ Usable blocks width (lent a b counts cells roots waiting sections d marks list)
         × Going blocks (lent a b counts cells roots waiting sections d marks list) n start
-        × (8 * n ≤ length (now bytes)) ⌝ }
+        × (recordLength wide * n ≤ length (now bytes)) ⌝ }
     ensures { λ r.
         ⌜ RunBy blocks width
-        (ranFrom n blocks width (now (bytes .entry)) 0 (before a b counts cells roots waiting sections d marks list) (start .run)) r
+        (ranFrom wide n blocks width (now (bytes .entry)) 0 (before a b counts cells roots waiting sections d marks list) (start .run)) r
         (after a b counts cells roots waiting sections d marks list) ⌝ }
 {
     let mut state = start;
     let mut i = 0;
     while i < n {
-        let f = history_records::fields_at(bytes, 8 * i);
+        let f = history_records::fields_at(bytes, i);
         state = history_execution::step(
             blocks,
             width,
@@ -72,9 +74,9 @@ fn run_whole(
 // The whole records of so many bytes, but no more than a run may still take.
 fn whole_records(length: usize, records: usize) -> usize
     requires { ⌜ records ≤ mostRecords ⌝ }
-    ensures { λ n. ⌜ n ≡ min (length / 8) (mostRecords - records) ⌝ }
+    ensures { λ n. ⌜ n ≡ min (length / recordLength wide) (mostRecords - records) ⌝ }
 {
-    let n = length / 8;
+    let n = length / RECORD;
     let most = MAX_RECORDS - records;
     if most < n {
         return most;
@@ -84,14 +86,14 @@ fn whole_records(length: usize, records: usize) -> usize
 
 // The run at the end of a piece of so many bytes with n whole records: stopped with 10 where the bytes go on behind them.
 fn end_piece(run: Run, length: usize, n: usize) -> Run
-    requires { ⌜ 8 * n ≤ length ⌝ }
-    ensures { λ r. ⌜ r ≡ ended length n run ⌝ }
+    requires { ⌜ recordLength wide * n ≤ length ⌝ }
+    ensures { λ r. ⌜ r ≡ ended wide length n run ⌝ }
 {
     let number = run.number;
     if number != 0 {
         return run;
     }
-    if length == 8 * n {
+    if length == RECORD * n {
         return run;
     }
     let t = run.tally;
@@ -122,7 +124,7 @@ pub(crate) fn run_piece(
     requires { ⌜ Usable blocks width (lent a b counts cells roots waiting sections d marks list)
         × (inRange run ≡ true) ⌝ }
     ensures { λ r.
-        ⌜ RunBy blocks width (ran blocks width (now (bytes .entry)) (before a b counts cells roots waiting sections d marks list) run) r
+        ⌜ RunBy blocks width (ran wide blocks width (now (bytes .entry)) (before a b counts cells roots waiting sections d marks list) run) r
         (after a b counts cells roots waiting sections d marks list) ⌝ }
 {
     let number = run.number;

@@ -1,5 +1,6 @@
 // One record of a history, on an undamaged heap with a cleared waiting list: the calls it asks for, and what they add to the run.
-ghost use Prim.Native.Nat.{_<_};
+ghost use Prim.Native.Nat.{_≤_};
+ghost use Rattle.rules.specs.Heap.{maxNumber};
 ghost use Rattle.rules.specs.Lent.{before, after, lent};
 ghost use Rattle.theory.specs.Usable.{Usable};
 ghost use Rattle.history_plans.specs.Asked.{asked};
@@ -31,7 +32,7 @@ pub fn step(
 ) -> Running
     requires { ⌜ Usable blocks width (lent a b counts cells roots waiting sections d marks list)
         × Going blocks (lent a b counts cells roots waiting sections d marks list) 1 state
-        × (f .size < 65536) ⌝ }
+        × (f .size ≤ maxNumber) ⌝ }
     ensures { λ next.
         ⌜ Stepped blocks
         (turnOf blocks width (before a b counts cells roots waiting sections d marks list)

@@ -1,8 +1,8 @@
 // What each record of a history asks for, as a plan.
 ghost use mathlib.Core.Path.{_≡_};
 ghost use mathlib.Core.List.{[]};
-ghost use Prim.Native.Nat.{_<_};
-ghost use Rattle.rules.specs.Heap.{memory, lentMemory};
+ghost use Prim.Native.Nat.{_≤_};
+ghost use Rattle.rules.specs.Heap.{memory, lentMemory, maxNumber};
 ghost use Rattle.history_plans.specs.Asked.{copying, writing, reading, clearing, writingNumber, asked};
 ghost use Rattle.history_plans.specs.Meaning.{meaning};
 ghost use Rattle.history_plans.specs.Readable.{Readable, areRoots};
@@ -118,7 +118,7 @@ fn plan_clear(roots: &[Ref], f: Fields) -> Plan
 
 // The size field's number written into cell c of the data in root d.
 fn plan_number(roots: &[Ref], f: Fields) -> Plan
-    requires { ⌜ f .size < 65536 ⌝ }
+    requires { ⌜ f .size ≤ maxNumber ⌝ }
     ensures { λ r. ⌜ meaning r ≡ writingNumber (memory [] [] [] [] (now (roots .entry)) []) f ⌝ }
 {
     let d = f.d;
@@ -140,7 +140,7 @@ fn plan_number(roots: &[Ref], f: Fields) -> Plan
 
 // What a record asks for. Here `d` is the D-map.
 pub fn plan_of(blocks: usize, b: &[u8], cells: &[Ref], roots: &[Ref], d: &[u8], f: Fields) -> Plan
-    requires { ⌜ Readable blocks (now b) (now cells) (now roots) (now d) × (f .size < 65536) ⌝ }
+    requires { ⌜ Readable blocks (now b) (now cells) (now roots) (now d) × (f .size ≤ maxNumber) ⌝ }
     ensures { λ r.
         ⌜ meaning r
         ≡ asked blocks

@@ -1,9 +1,10 @@
 // Records of a history: their fields, and whether those that the operation doesn't name are 0.
 ghost use mathlib.Core.Path.{_≡_};
 ghost use mathlib.Core.List.{[], _∷_};
-ghost use Prim.Native.Nat.{_+_, _≤_, _<_};
+ghost use Prim.Native.Nat.{_+_, _*_, _≤_, _<_};
 ghost use lib.ListN.{length};
-ghost use Rattle.history_records.specs.Records.{pair, fieldsAt, areZero, unnamed};
+ghost use Rattle.rules.specs.Heap.{maxNumber};
+ghost use Rattle.history_records.specs.Records.{wide, recordLength, number, fieldsAt, areZero, unnamed};
 
 // The fields of a record, by document 01's names: the operation, the roots d and s, byte 3, the cell number c and the size.
 pub struct Fields {
@@ -15,32 +16,37 @@ pub struct Fields {
     pub size: usize,
 }
 
-fn wide(byte: u8) -> usize
+// The bytes of a record.
+pub const RECORD: usize = 12;
+
+fn word(byte: u8) -> usize
     ensures { λ r. ⌜ (r ≡ byte) × (r < 256) ⌝ }
 {
     byte as usize
 }
 
-// The number that the bytes at two places make.
-fn pair_at(bytes: &[u8], low: usize, high: usize) -> usize
-    requires { ⌜ (low < length (now bytes)) × (high < length (now bytes)) ⌝ }
-    ensures { λ r. ⌜ (r ≡ pair (now (bytes .entry)) low high) × (r < 65536) ⌝ }
+// The number that four bytes make, from place `at` on.
+fn number_at(bytes: &[u8], at: usize) -> usize
+    requires { ⌜ at + wide .numberBytes ≤ length (now bytes) ⌝ }
+    ensures { λ r. ⌜ (r ≡ number (wide .numberBytes) (now (bytes .entry)) at) × (r ≤ maxNumber) ⌝ }
 {
-    wide(bytes[low]) + 256 * wide(bytes[high])
+    word(bytes[at])
+        + 256 * (word(bytes[at + 1]) + 256 * (word(bytes[at + 2]) + 256 * word(bytes[at + 3])))
 }
 
-// The record that begins at place `at`. Its size is a number that a cell holds.
-pub fn fields_at(bytes: &[u8], at: usize) -> Fields
-    requires { ⌜ at + 8 ≤ length (now bytes) ⌝ }
-    ensures { λ r. ⌜ (r ≡ fieldsAt (now (bytes .entry)) at) × (r .size < 65536) ⌝ }
+// Record number i. Its size is a number that a cell holds.
+pub fn fields_at(bytes: &[u8], i: usize) -> Fields
+    requires { ⌜ recordLength wide * (i + 1) ≤ length (now bytes) ⌝ }
+    ensures { λ r. ⌜ (r ≡ fieldsAt wide (now (bytes .entry)) (recordLength wide * i)) × (r .size ≤ maxNumber) ⌝ }
 {
+    let at = RECORD * i;
     Fields {
-        operation: wide(bytes[at]),
-        d: wide(bytes[at + 1]),
-        s: wide(bytes[at + 2]),
-        unused: wide(bytes[at + 3]),
-        c: pair_at(bytes, at + 4, at + 5),
-        size: pair_at(bytes, at + 6, at + 7),
+        operation: word(bytes[at]),
+        d: word(bytes[at + 1]),
+        s: word(bytes[at + 2]),
+        unused: word(bytes[at + 3]),
+        c: number_at(bytes, at + 4),
+        size: number_at(bytes, at + 8),
     }
 }
 

@@ -35,7 +35,7 @@ use Rattle.theory.specs.Demand.{Chain}
 use Rattle.theory.specs.Statements.{Undamaged}
 use Rattle.theory.specs.Balance.{allocates, allocatedBy, blocksAllocated}
 use Rattle.theory.proofs.Theorems.{theory}
-use Rattle.history_records.specs.Records.{fieldsAt, recordLength}
+use Rattle.history_records.specs.Records.{fieldsAt, recordLength, wide}
 use Rattle.history_plans.specs.Asked.{Asked, makes, stops, asked}
 use Rattle.history_figures.specs.declared.tally.Tally.{Tally}
 use Rattle.history_figures.specs.declared.tally.Run.{Run}
@@ -223,25 +223,25 @@ module _ (N w : ℕ) where
             ∙ ap (withPeak (afterTurn N x r .tally .peak)) (sym (noted-append (x .made) (rest .made) (r .tally))));
       }
 
-  records-make : (n : ℕ) (bytes : List ℕ) (i : ℕ) (h : Memory) → Undamaged N w h → (r : Run) → Makes N w h r (ranFrom n N w bytes i h r)
+  records-make : (n : ℕ) (bytes : List ℕ) (i : ℕ) (h : Memory) → Undamaged N w h → (r : Run) → Makes N w h r (ranFrom wide n N w bytes i h r)
   unfolding ranFrom notedAll
   records-make zero bytes i h u r = record { chained = no-calls N w h u; figures-are = refl }
   records-make (suc n) bytes i h u r =
-      let x : Turn = recordAt N w bytes i h in
-      let first = turn-chained N w h u (asked N h (fieldsAt bytes (recordLength * i))) in
+      let x : Turn = recordAt wide N w bytes i h in
+      let first = turn-chained N w h u (asked N h (fieldsAt wide bytes (recordLength wide * i))) in
       let rest = records-make n bytes (i + 1) (x .after) (first .undamaged) (afterTurn N x r) in
       elim (ℕ-discrete (x .number) 0) [
         | yes e ↦
             rw (eq-eqb (x .number) 0 e, ranFrom)
-            (turn-then h r x (ranFrom n N w bytes (i + 1) (x .after) (afterTurn N x r)) first rest)
+            (turn-then h r x (ranFrom wide n N w bytes (i + 1) (x .after) (afterTurn N x r)) first rest)
         | no e ↦ rw (ne-eqb (x .number) 0 e, ranFrom) record { chained = first; figures-are = after-figures N x r }
       ]
 
-  run-makes : (bytes : List ℕ) (h : Memory) → Undamaged N w h → (r : Run) → Makes N w h r (ran N w bytes h r)
+  run-makes : (bytes : List ℕ) (h : Memory) → Undamaged N w h → (r : Run) → Makes N w h r (ran wide N w bytes h r)
   unfolding ran notedAll
   run-makes bytes h u r =
-      let n : ℕ = wholeRecords bytes r in
-      let x : Came = ranFrom n N w bytes 0 h r in
+      let n : ℕ = wholeRecords wide bytes r in
+      let x : Came = ranFrom wide n N w bytes 0 h r in
       let all = records-make n bytes 0 h u r in
       elim (ℕ-discrete (r .number) 0) [
         | yes e ↦
@@ -257,13 +257,13 @@ module _ (N w : ℕ) where
       ]
 
 -- a run keeps a heap undamaged
-pub run-undamaged : (N w : ℕ) (bytes : List ℕ) (h : Memory) → Undamaged N w h → (r : Run) → Undamaged N w (ran N w bytes h r .memory)
+pub run-undamaged : (N w : ℕ) (bytes : List ℕ) (h : Memory) → Undamaged N w h → (r : Run) → Undamaged N w (ran wide N w bytes h r .memory)
 run-undamaged N w bytes h u r = run-makes N w bytes h u r .chained .undamaged
 
 pub runs-are-calls : RunsAreCalls
 runs-are-calls N w bytes h r u =
     let all = run-makes N w bytes h u r in
-    let x : Came = ran N w bytes h r in
+    let x : Came = ran wide N w bytes h r in
     let chain = all .chained .chain in
     record {
       chain = chain;

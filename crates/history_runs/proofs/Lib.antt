@@ -2,6 +2,7 @@ pub mod Progress
 pub mod Ends
 pub mod CallsMade
 pub mod Pieces
+pub mod Alike
 pub mod WholeRecords
 pub mod TwoCalls
 pub mod Theorems

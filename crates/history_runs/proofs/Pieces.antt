@@ -21,6 +21,7 @@ use Rattle.theory.specs.Usable.{Usable}
 use Rattle.theory.proofs.Memories.Fit.{undamaged-fit}
 use Rattle.theory.proofs.EachCall.Accepted.{fit-accepted}
 use Rattle.theory.proofs.Usable.UsableHeap.{cleared-usable as UsableHeap·cleared-usable, usable-fit}
+use Rattle.history_records.specs.Records.{recordLength, wide}
 use Rattle.history_figures.specs.declared.tally.Run.{Run}
 use Rattle.history_figures.specs.Figures.{inRange}
 use Rattle.history_figures.proofs.Ranges.{in-range-within}
@@ -36,12 +37,12 @@ use Rattle.history_runs.proofs.CallsMade.{runs-are-calls}
 -- ---- a piece
 
 -- the whole records of a piece lie in it
-pub whole-room : (bytes : List ℕ) (r : Run) (n : ℕ) → n ≡ wholeRecords bytes r → 8 * n ≤ length bytes
+pub whole-room : (bytes : List ℕ) (r : Run) (n : ℕ) → n ≡ wholeRecords wide bytes r → recordLength wide * n ≤ length bytes
 whole-room bytes r n whole = omega (arith, whole)
 
 -- a run in range that goes on can take them
 pub whole-going :
-    (N : ℕ) (h : Memory) (bytes : List ℕ) (r : Run) (n : ℕ) → n ≡ wholeRecords bytes r → r .number ≡ 0 → inRange r ≡ true
+    (N : ℕ) (h : Memory) (bytes : List ℕ) (r : Run) (n : ℕ) → n ≡ wholeRecords wide bytes r → r .number ≡ 0 → inRange r ≡ true
     → (used : ℕ) → used ≡ inUse N h → Going N h n (running r used)
 whole-going N h bytes r n whole goes-on range used counted =
     record {
@@ -53,20 +54,20 @@ whole-going N h bytes r n whole goes-on range used counted =
 
 -- a run that was stopped
 pub piece-stopped :
-    (bytes : List ℕ) {N w : ℕ} {h : Memory} {r : Run} → Usable N w h → inRange r ≡ true → (r .number ≡ 0 → ⊥) → RunBy N w (ran N w bytes h r) r h
+    (bytes : List ℕ) {N w : ℕ} {h : Memory} {r : Run} → Usable N w h → inRange r ≡ true → (r .number ≡ 0 → ⊥) → RunBy N w (ran wide N w bytes h r) r h
 unfolding ran
 piece-stopped bytes {N} {w} {h} {r} usable range stopped =
     rw (ne-eqb (r .number) 0 stopped, ran) record { run-is = refl; memory-is = refl; in-range = range; usable = usable }
 
 -- one that goes on
 pub piece-ran :
-    (bytes : List ℕ) (h : Memory) (r : Run) {N w n : ℕ} → r .number ≡ 0 → n ≡ wholeRecords bytes r → {last is : Run} {g : Memory}
-    → RunBy N w (ranFrom n N w bytes 0 h r) last g → is ≡ ended (length bytes) n last → RunBy N w (ran N w bytes h r) is g
+    (bytes : List ℕ) (h : Memory) (r : Run) {N w n : ℕ} → r .number ≡ 0 → n ≡ wholeRecords wide bytes r → {last is : Run} {g : Memory}
+    → RunBy N w (ranFrom wide n N w bytes 0 h r) last g → is ≡ ended wide (length bytes) n last → RunBy N w (ran wide N w bytes h r) is g
 unfolding ran
 piece-ran bytes h r {n = n} goes-on whole {last} {is} {g} by e =
     rw (eq-eqb (r .number) 0 goes-on, ran, ← whole)
     record {
-      run-is = e ∙ ap (ended (length bytes) n) (by .run-is);
+      run-is = e ∙ ap (ended wide (length bytes) n) (by .run-is);
       memory-is = by .memory-is;
       in-range = subst (λ (x : Run). inRange x ≡ true) (sym e) (ended-range (length bytes) n last (by .in-range));
       usable = by .usable;
@@ -169,11 +170,11 @@ module _ {N w : ℕ} {bytes : List ℕ} {h : Memory} {r : Run} {x : Reply} (is :
   -- the run went on
   pub run-promised :
       x .number ≡ 0 → {waiting : List ℕ} → waiting ≡ replicate (length (h .waiting)) 0 → {after : Run} {g : Memory}
-      → RunBy N w (ran N w bytes (withWaiting waiting h) r) after g → Promised N w bytes h r (record { reply = x; run = after }) g
+      → RunBy N w (ran wide N w bytes (withWaiting waiting h) r) after g → Promised N w bytes h r (record { reply = x; run = after }) g
   run-promised accepts clear {after} {g} by =
       let from = accepted is accepts in
       let zero : runReply N w h r ≡ reply 0 0 0 = from .reply-is in
-      let ran-by = subst (λ (k : Memory). RunBy N w (ran N w bytes k r) after g) (sym (is-cleared from clear)) by in
+      let ran-by = subst (λ (k : Memory). RunBy N w (ran wide N w bytes k r) after g) (sym (is-cleared from clear)) by in
       record {
         reply-is = is;
         run-is = ran-by .run-is ∙ sym (rw zero);

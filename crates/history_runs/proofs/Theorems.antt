@@ -14,6 +14,7 @@ use Rattle.theory.specs.Words.{heapOf, Made, leftBy}
 use Rattle.theory.specs.Demand.{Chain}
 use Rattle.theory.specs.Statements.{Undamaged}
 use Rattle.theory.proofs.Theorems.{theory}
+use Rattle.history_records.specs.Records.{wide}
 use Rattle.history_figures.specs.Figures.{newRun}
 use Rattle.history_turns.proofs.Stopped.{stands-as-before, stops-while-open}
 use Rattle.history_runs.specs.Runs.{ran}
@@ -31,7 +32,7 @@ unfolding formatted
 new-heap-unused N w roots fits =
     omega (arith, zeros-all-zero (N / 8), shape-facts N w (formatted N w roots) fits .whole-bytes)
 
-new-heap-undamaged : (N w roots : ℕ) → shaped N w (formatted N w roots) ≡ true → Undamaged N w (formatted N w roots)
+pub new-heap-undamaged : (N w roots : ℕ) → shaped N w (formatted N w roots) ≡ true → Undamaged N w (formatted N w roots)
 unfolding formatted
 new-heap-undamaged N w roots fits =
     subst (λ (n : ℕ). Undamaged N w (formatted N w n)) (length-replicate roots 0)
@@ -59,7 +60,7 @@ module _ (N w : ℕ) (k left : Memory) (same : heapOf k ≡ heapOf left) where
 
 run-is-calls : RunIsCalls
 run-is-calls N w left h bytes r x after finds promised accepts =
-    let made : List Made = ran N w bytes (cleared N h) r .made in
+    let made : List Made = ran wide N w bytes (cleared N h) r .made in
     let all = promised .calls accepts in
     let heap : heapOf after ≡ heapOf (leftBy left made) =
     ap (λ (g : Memory). heapOf g) (run-left N w bytes h r x after promised accepts ∙ all .memory-is)

@@ -15,7 +15,7 @@ use Rattle.theory.proofs.Memories.ViewRelease.{reshaped}
 use Rattle.theory.proofs.Memories.TidyHeap.{waiting-untidy}
 use Rattle.theory.specs.Usable.{Usable}
 use Rattle.theory.proofs.Usable.UsableHeap.{cleared-usable, cleared-same}
-use Rattle.history_records.specs.Records.{recordLength}
+use Rattle.history_records.specs.Records.{recordLength, wide}
 use Rattle.history_figures.specs.declared.tally.Run.{Run}
 use Rattle.history_figures.specs.Figures.{inRange}
 use Rattle.history_runs.specs.declared.Ran.{Ran}
@@ -36,10 +36,10 @@ module _ (N w : ℕ) (bytes : List ℕ) (h : Memory) (r : Run) (x : Ran) (g : Me
   start : Undamaged N w (cleared N h)
   start = cleared-usable (from .undamaged) .undamaged
 
-  answered : x .run ≡ ran N w bytes (cleared N h) r .run
+  answered : x .run ≡ ran wide N w bytes (cleared N h) r .run
   answered = rw (from .reply-is) at (promised .run-is)
 
-  pub left : g ≡ ran N w bytes (cleared N h) r .memory
+  pub left : g ≡ ran wide N w bytes (cleared N h) r .memory
   left = rw (from .reply-is) at (promised .after-is)
 
   -- what it leaves is usable
@@ -79,7 +79,7 @@ module _ (N w : ℕ) (g found : Memory) (usable : Usable N w g) (finds : Finds N
 -- ---- both
 
 module _ (N w : ℕ) (first rest : List ℕ) (h found : Memory) (r : Run) (x y : Ran) (g k : Memory)
-    (even : length first % recordLength ≡ 0) (one : Promised N w first h r x g) (accepts : x .reply .number ≡ 0) (finds : Finds N g found)
+    (even : length first % recordLength wide ≡ 0) (one : Promised N w first h r x g) (accepts : x .reply .number ≡ 0) (finds : Finds N g found)
     (two : Promised N w rest found (x .run) y k) where
   usable : Usable N w g
   usable = usable-left N w first h r x g one accepts
@@ -89,25 +89,25 @@ module _ (N w : ℕ) (first rest : List ℕ) (h found : Memory) (r : Run) (x y :
 
   -- what came of the first piece, and then of the second
   abbrev came-first : Came
-  came-first = ran N w first (cleared N h) r
+  came-first = ran wide N w first (cleared N h) r
 
   abbrev came-second : Came
-  came-second = ran N w rest (came-first .memory) (came-first .run)
+  came-second = ran wide N w rest (came-first .memory) (came-first .run)
 
-  same-start : ran N w rest (cleared N found) (x .run) ≡ came-second
+  same-start : ran wide N w rest (cleared N found) (x .run) ≡ came-second
   same-start =
-      ap (λ (m : Memory). ran N w rest m (x .run)) (cleared-found N w g found usable finds ∙ left N w first h r x g one accepts)
-      ∙ ap (ran N w rest (came-first .memory)) (answered N w first h r x g one accepts)
+      ap (λ (m : Memory). ran wide N w rest m (x .run)) (cleared-found N w g found usable finds ∙ left N w first h r x g one accepts)
+      ∙ ap (ran wide N w rest (came-first .memory)) (answered N w first h r x g one accepts)
 
-  whole : ran N w (first ++ rest) (cleared N h) r ≡ came (came-second .run) (came-second .memory) (came-first .made ++ came-second .made)
+  whole : ran wide N w (first ++ rest) (cleared N h) r ≡ came (came-second .run) (came-second .memory) (came-first .made ++ came-second .made)
   whole = pieces-are-whole N w first rest (cleared N h) r even
 
   both-promised : Promised N w (first ++ rest) h r y k
   both-promised =
       let start-accepted : runReply N w h r ≡ reply 0 0 0 = from N w first h r x g one accepts .reply-is in
       let number : y .reply .number ≡ 0 = ap (λ (v : Reply). v .number) (two .reply-is ∙ second-accepted) in
-      let run-is : y .run ≡ ran N w rest (cleared N found) (x .run) .run = rw second-accepted at (two .run-is) in
-      let after-is : k ≡ ran N w rest (cleared N found) (x .run) .memory = rw second-accepted at (two .after-is) in
+      let run-is : y .run ≡ ran wide N w rest (cleared N found) (x .run) .run = rw second-accepted at (two .run-is) in
+      let after-is : k ≡ ran wide N w rest (cleared N found) (x .run) .memory = rw second-accepted at (two .after-is) in
       record {
         reply-is = two .reply-is ∙ second-accepted ∙ sym start-accepted;
         run-is = run-is ∙ ap (λ (z : Came). z .run) same-start ∙ ap (λ (z : Came). z .run) (sym whole) ∙ sym (rw start-accepted);

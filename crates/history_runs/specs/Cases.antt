@@ -8,44 +8,56 @@ use mathlib.Core.List.{List, [], _∷_, _++_}
 use lib.ListN.{getD}
 use Rattle.rules.specs.Store.{formatted}
 use Rattle.rules.specs.Calls.{Call, openCollection, run, lastMemory}
+use Rattle.history_records.specs.Records.{wide}
 use Rattle.history_figures.specs.Figures.{noFigures, run as runSoFar}
 use Rattle.history_line.specs.Line.{line}
 use Rattle.history_runs.specs.Runs.{ran}
 
 -- ---- records
 
--- "Byte 0 is the operation, byte 1 the root d, byte 2 the root s, byte 3 unused, bytes 4 and 5 a cell number c, bytes 6 and 7 a size, low
--- byte first." The high bytes are 0 here.
+-- "Byte 0 is the operation, byte 1 the root d, byte 2 the root s, byte 3 unused"; request U12: "then cell and size in four bytes each, low
+-- byte first."
+abbrev pub laid : (operation d s : ℕ) → (c size : List ℕ) → List ℕ
+laid operation d s c size = operation ∷ d ∷ s ∷ 0 ∷ c ++ size
+
+-- four bytes, of which the high ones are 0
+abbrev pub four : ℕ → List ℕ
+four n = n ∷ 0 ∷ 0 ∷ 0 ∷ []
+
+abbrev pub twelve : (operation d s c size : ℕ) → List ℕ
+twelve operation d s c size = laid operation d s (four c) (four size)
+
+-- a record of the old form: "bytes 4 and 5 a cell number c, bytes 6 and 7 a size"
 abbrev pub eight : (operation d s c size : ℕ) → List ℕ
-eight operation d s c size = operation ∷ d ∷ s ∷ 0 ∷ c ∷ 0 ∷ size ∷ 0 ∷ []
+eight operation d s c size = laid operation d s (c ∷ 0 ∷ []) (size ∷ 0 ∷ [])
 
 -- "Operation 1 allocates the size into d; 2 copies root s to d; 3 writes root s into cell c of the object in d; 4 reads cell c of the
 -- object in s into d; 5 clears d; 6 collects."
 abbrev pub allocate : (size d : ℕ) → List ℕ
-allocate size d = eight 1 d 0 0 size
+allocate size d = twelve 1 d 0 0 size
 
 abbrev pub copy : (s d : ℕ) → List ℕ
-copy s d = eight 2 d s 0 0
+copy s d = twelve 2 d s 0 0
 
 abbrev pub write : (s c d : ℕ) → List ℕ
-write s c d = eight 3 d s c 0
+write s c d = twelve 3 d s c 0
 
 abbrev pub read : (c s d : ℕ) → List ℕ
-read c s d = eight 4 d s c 0
+read c s d = twelve 4 d s c 0
 
 abbrev pub clear : (d : ℕ) → List ℕ
-clear d = eight 5 d 0 0 0
+clear d = twelve 5 d 0 0 0
 
 abbrev pub collect : List ℕ
-collect = eight 6 0 0 0 0
+collect = twelve 6 0 0 0 0
 
 -- request U6: "History operations 7 and 8 allocate data into d as 1 does, and write the size field's number into
 -- cell c of the data in d"
 abbrev pub allocateData : (size d : ℕ) → List ℕ
-allocateData size d = eight 7 d 0 0 size
+allocateData size d = twelve 7 d 0 0 size
 
 abbrev pub writeNumber : (number c d : ℕ) → List ℕ
-writeNumber number c d = eight 8 d 0 c number
+writeNumber number c d = twelve 8 d 0 c number
 
 -- ---- cases
 
@@ -102,8 +114,8 @@ cases =
     -- operation 4: root 2 holds what was read when the object it was read from is let go
     ∷ prints (allocate 2 0 ++ allocate 1 1 ++ write 1 7 0 ++ clear 1 ++ read 7 0 2 ++ clear 0) "2 3 2 0 3 0\n" 4
     -- "9 for an unknown operation or a nonzero unused field, before all others of that record but 10": before 4, there being no root 4
-    ∷ prints (allocate 1 0 ++ eight 9 4 0 0 0) "refused 9 at record 1\n" 1
-    ∷ prints (eight 5 4 0 0 1) "refused 9 at record 0\n" 0
+    ∷ prints (allocate 1 0 ++ twelve 9 4 0 0 0) "refused 9 at record 1\n" 1
+    ∷ prints (twelve 5 4 0 0 1) "refused 9 at record 0\n" 0
     -- "A root out of range gives 4, in operation 1 only after 3."
     ∷ prints (allocate 0 4) "refused 3 at record 0\n" 0
     ∷ prints (allocate 9 4) "refused 3 at record 0\n" 0
@@ -125,7 +137,7 @@ cases =
     ∷ prints (allocateData 0 4) "refused 3 at record 0\n" 0
     ∷ prints (allocateData 8 4) "refused 4 at record 0\n" 0
     -- operation 8 counts in nothing, and its number is never 3: it may be 0, and the largest that the field holds
-    ∷ prints (allocateData 1 0 ++ writeNumber 0 3 0 ++ (8 ∷ 0 ∷ 0 ∷ 0 ∷ 0 ∷ 0 ∷ 255 ∷ 255 ∷ [])) "1 1 1 0 1 0\n" 1
+    ∷ prints (allocateData 1 0 ++ writeNumber 0 3 0 ++ laid 8 0 0 (four 0) (255 ∷ 255 ∷ 255 ∷ 255 ∷ [])) "1 1 1 0 1 0\n" 1
     -- "never followed, counted or checked as references": 2 would name the object in root 1, which is let go; a
     -- collection frees it where it is stuck
     ∷ prints (allocateData 1 0 ++ allocate 1 1 ++ writeNumber 2 0 0 ++ clear 1) "2 2 1 0 2 0\n" 1
@@ -145,21 +157,35 @@ cases =
     -- its D bit is "cleared when it is freed": the object made there next is an ordinary one
     ∷ prints (allocateData 1 0 ++ clear 0 ++ allocate 1 0 ++ writeNumber 1 0 0) "refused 12 at record 3\n" 1
     -- the fields that 7 and 8 don't name are 0: s and c; s
-    ∷ prints (eight 7 4 1 0 1) "refused 9 at record 0\n" 0
-    ∷ prints (eight 7 4 0 1 1) "refused 9 at record 0\n" 0
-    ∷ prints (eight 8 4 1 0 0) "refused 9 at record 0\n" 0
+    ∷ prints (twelve 7 4 1 0 1) "refused 9 at record 0\n" 0
+    ∷ prints (twelve 7 4 0 1 1) "refused 9 at record 0\n" 0
+    ∷ prints (twelve 8 4 1 0 0) "refused 9 at record 0\n" 0
     -- "the refused operation changes nothing, and what earlier records did remains"; later ones do nothing
     ∷ prints (allocate 1 0 ++ allocate 0 1 ++ allocate 2 1) "refused 3 at record 1\n" 1
     -- "10 for a file ending inside a record .. met after the whole records": 10, and not 9 for what may be an unknown operation; 9 for one
     -- in a whole record before it
     ∷ prints (allocate 1 0 ++ (200 ∷ 1 ∷ 2 ∷ [])) "refused 10 at record 1\n" 1
-    ∷ prints (eight 200 0 0 0 0 ++ (1 ∷ [])) "refused 9 at record 0\n" 0
+    ∷ prints (twelve 200 0 0 0 0 ++ (1 ∷ [])) "refused 9 at record 0\n" 0
+    -- request U12: 10 too with all bytes of a record but one
+    ∷ prints (allocate 1 0 ++ laid 6 0 0 (four 0) (0 ∷ 0 ∷ 0 ∷ [])) "refused 10 at record 1\n" 1
+    -- "cell and size in four bytes each, low byte first": sizes of 257, 65,537 and 16,777,217 blocks, cells 256, 65,536 and 16,777,216, and
+    -- a size of 16,777,216 where the operation names none
+    ∷ prints (laid 1 0 0 (four 0) (1 ∷ 1 ∷ 0 ∷ 0 ∷ [])) "refused 3 at record 0\n" 0
+    ∷ prints (laid 7 0 0 (four 0) (1 ∷ 0 ∷ 1 ∷ 0 ∷ [])) "refused 3 at record 0\n" 0
+    ∷ prints (laid 1 0 0 (four 0) (1 ∷ 0 ∷ 0 ∷ 1 ∷ [])) "refused 3 at record 0\n" 0
+    ∷ prints (allocate 1 0 ++ laid 3 0 0 (0 ∷ 1 ∷ 0 ∷ 0 ∷ []) (four 0)) "refused 7 at record 1\n" 1
+    ∷ prints (allocate 1 0 ++ laid 4 0 0 (0 ∷ 0 ∷ 1 ∷ 0 ∷ []) (four 0)) "refused 7 at record 1\n" 1
+    ∷ prints (allocateData 1 0 ++ laid 8 0 0 (0 ∷ 0 ∷ 0 ∷ 1 ∷ []) (four 0)) "refused 7 at record 1\n" 1
+    ∷ prints (laid 5 0 0 (four 0) (0 ∷ 0 ∷ 0 ∷ 1 ∷ [])) "refused 9 at record 0\n" 0
+    -- records of the old form are none of the new: three of them, and one alone
+    ∷ prints (eight 1 0 0 0 2 ++ eight 1 1 0 0 1 ++ eight 1 2 0 0 3) "refused 9 at record 0\n" 0
+    ∷ prints (eight 1 0 0 0 2) "refused 10 at record 0\n" 0
     -- "or going on past 4,294,967,295 records": up to that number there is no error
     ∷ printsAfter 4294967294 (allocate 1 0) "1 1 1 0 1 0\n" 1
     ∷ printsAfter 4294967294 (allocate 1 0 ++ allocate 1 1) "refused 10 at record 4294967295\n" 1
     -- request U8, a collection open: "14, .. full collection with one open", after 9
     ∷ printsOpen (allocate 1 0 ++ collect) "refused 14 at record 1\n" 1
-    ∷ printsOpen (eight 6 1 0 0 0) "refused 9 at record 0\n" 0
+    ∷ printsOpen (twelve 6 1 0 0 0) "refused 9 at record 0\n" 0
     -- .. a forced collection too: the stuck object stays, and the second try gives 5
     ∷ printsOpen (allocate 1 0 ++ copy 0 1 ++ copy 0 2 ++ clear 0 ++ clear 1 ++ clear 2 ++ allocate 8 3) "refused 5 at record 6\n" 1
     -- all else is as it is with none open
@@ -171,7 +197,7 @@ unfoldable pub given : Case → List ℕ × ℕ
 given c =
     let empty = formatted 8 (c .width) 4 in
     let h = lastMemory empty (run 8 (c .width) empty (c .made)) in
-    let x = ran 8 (c .width) (c .bytes) h (runSoFar 0 (c .records) noFigures) in
+    let x = ran wide 8 (c .width) (c .bytes) h (runSoFar 0 (c .records) noFigures) in
     (line (x .run), getD (x .memory .a) 0 0)
 
 -- the bytes of a text of ASCII characters

@@ -10,7 +10,7 @@ use Rattle.theory.specs.Words.{leftBy}
 use Rattle.theory.specs.Demand.{Chain, Claim}
 use Rattle.theory.specs.Statements.{Undamaged}
 use Rattle.theory.specs.Balance.{inUse, blocksAllocated, blocksFreed}
-use Rattle.history_records.specs.Records.{recordLength}
+use Rattle.history_records.specs.Records.{recordLength, wide}
 use Rattle.history_figures.specs.declared.tally.Tally.{Tally}
 use Rattle.history_figures.specs.declared.tally.Run.{Run}
 use Rattle.history_figures.specs.Figures.{tally, notedAll}
@@ -32,15 +32,15 @@ pub record AsCalls (N w : ℕ) (h : Memory) (r : Run) (x : Came) : Type 0 where
   pub balance : inUse N h + blocksAllocated (x .made) ≡ blocksFreed N (x .made) + inUse N (x .memory)
 
 abbrev pub RunsAreCalls : Type 0
-RunsAreCalls = (N w : ℕ) (bytes : List ℕ) (h : Memory) (r : Run) → Undamaged N w h → AsCalls N w h r (ran N w bytes h r)
+RunsAreCalls = (N w : ℕ) (bytes : List ℕ) (h : Memory) (r : Run) → Undamaged N w h → AsCalls N w h r (ran wide N w bytes h r)
 
 -- A history in pieces of whole records comes to what the whole comes to.
 abbrev pub PiecesAreWhole : Type 0
 PiecesAreWhole =
-    (N w : ℕ) (first rest : List ℕ) (h : Memory) (r : Run) → length first % recordLength ≡ 0
-    → let x = ran N w first h r in
-    let y = ran N w rest (x .memory) (x .run) in
-    ran N w (first ++ rest) h r ≡ came (y .run) (y .memory) (x .made ++ y .made)
+    (N w : ℕ) (first rest : List ℕ) (h : Memory) (r : Run) → length first % recordLength wide ≡ 0
+    → let x = ran wide N w first h r in
+    let y = ran wide N w rest (x .memory) (x .run) in
+    ran wide N w (first ++ rest) h r ≡ came (y .run) (y .memory) (x .made ++ y .made)
 
 -- A new heap has no block in use.
 abbrev pub NewHeapUnused : Type 0
@@ -51,5 +51,5 @@ NewHeapUnused = (N w roots : ℕ) → shaped N w (formatted N w roots) ≡ true 
 -- freed by the calls that the records made.
 abbrev pub HistoryBalances : Type 0
 HistoryBalances =
-    (N w roots : ℕ) → shaped N w (formatted N w roots) ≡ true → (bytes : List ℕ) → let x = history N w roots bytes in
+    (N w roots : ℕ) → shaped N w (formatted N w roots) ≡ true → (bytes : List ℕ) → let x = history wide N w roots bytes in
     x .run .tally .blocks ≡ blocksFreed N (x .made) + inUse N (x .memory)

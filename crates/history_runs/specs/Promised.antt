@@ -11,7 +11,7 @@ use Rattle.rules.specs.Calls.{check, reply, answer}
 use Rattle.types.specs.declared.Reply.{Reply}
 use Rattle.theory.specs.Words.{leftBy}
 use Rattle.theory.specs.Demand.{Finds, Chain}
-use Rattle.history_records.specs.Records.{recordLength}
+use Rattle.history_records.specs.Records.{recordLength, wide}
 use Rattle.history_figures.specs.declared.tally.Run.{Run}
 use Rattle.history_figures.specs.Figures.{newRun, inRange}
 use Rattle.history_runs.specs.declared.Ran.{Ran}
@@ -39,18 +39,18 @@ cleared N h = withWaiting (replicate N 0) h
 -- it can be handed in again. Demand 3 holds of the calls that the run made.
 pub record Promised (N w : ℕ) (bytes : List ℕ) (h : Memory) (r : Run) (x : Ran) (g : Memory) : Type 0 where
   pub reply-is : x .reply ≡ runReply N w h r
-  pub run-is : x .run ≡ elim (eqb (runReply N w h r .number) 0) [ true ↦ ran N w bytes (cleared N h) r .run | false ↦ newRun ]
-  pub after-is : g ≡ elim (eqb (runReply N w h r .number) 0) [ true ↦ ran N w bytes (cleared N h) r .memory | false ↦ h ]
+  pub run-is : x .run ≡ elim (eqb (runReply N w h r .number) 0) [ true ↦ ran wide N w bytes (cleared N h) r .run | false ↦ newRun ]
+  pub after-is : g ≡ elim (eqb (runReply N w h r .number) 0) [ true ↦ ran wide N w bytes (cleared N h) r .memory | false ↦ h ]
   pub idle : x .reply .number ≡ 0 → g .waiting ≡ replicate N 0
   pub listed : x .reply .number ≡ 0 → g .sections ≡ figures N (g .a)
   pub again : x .reply .number ≡ 0 → inRange (x .run) ≡ true
-  pub calls : x .reply .number ≡ 0 → AsCalls N w (cleared N h) r (ran N w bytes (cleared N h) r)
+  pub calls : x .reply .number ≡ 0 → AsCalls N w (cleared N h) r (ran wide N w bytes (cleared N h) r)
 
 -- A history in pieces, over calls. A first call is accepted, on a piece of whole records; a second finds the heap that the first left, and
 -- is handed the run that the first answered. Then it is accepted too, and keeps the promise of one call on both pieces.
 abbrev pub CallsAreOne : Type 0
 CallsAreOne =
-    (N w : ℕ) (first rest : List ℕ) (h found : Memory) (r : Run) (x y : Ran) (g k : Memory) → length first % recordLength ≡ 0
+    (N w : ℕ) (first rest : List ℕ) (h found : Memory) (r : Run) (x y : Ran) (g k : Memory) → length first % recordLength wide ≡ 0
     → Promised N w first h r x g → x .reply .number ≡ 0 → Finds N g found → Promised N w rest found (x .run) y k
     → Promised N w (first ++ rest) h r y k
 
@@ -62,5 +62,5 @@ abbrev pub RunIsCalls : Type 0
 RunIsCalls =
     (N w : ℕ) (left h : Memory) (bytes : List ℕ) (r : Run) (x : Ran) (after : Memory) → Finds N left h
     → Promised N w bytes h r x after → x .reply .number ≡ 0
-    → let made = ran N w bytes (cleared N h) r .made in
+    → let made = ran wide N w bytes (cleared N h) r .made in
     Chain N w left made × (after ≡ cleared N (leftBy left made))

@@ -24,6 +24,7 @@ use Rattle.replay.proofs.Theorems.{replay-theory}
 use Rattle.history_figures.specs.declared.tally.Run.{Run}
 use Rattle.history_figures.specs.Figures.{newRun, mostCollections, inRange}
 use Rattle.history_runs.specs.declared.Ran.{Ran}
+use Rattle.history_records.specs.Records.{wide}
 use Rattle.history_runs.specs.Runs.{ran}
 use Rattle.history_runs.specs.Promised.{cleared, Promised}
 use Rattle.history_runs.proofs.CallsMade.{left-append}
@@ -108,7 +109,7 @@ mixed
     let of-run =
     history-theory .run-is-calls N w one one bytes newRun z two
     (record { same-heap = refl; space = shape-facts N w one (next .intact .right-shape) .length-waiting }) running accepts in
-    let run-made : List Made = ran N w bytes (cleared N one) newRun .made in
+    let run-made : List Made = ran wide N w bytes (cleared N one) newRun .made in
     let left : Memory = leftBy one run-made in
     let finds : Finds N left two =
     record {

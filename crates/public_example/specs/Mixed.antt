@@ -15,12 +15,13 @@ use Rattle.replay_words.specs.Encoding.{callsIn}
 use Rattle.replay.specs.Replay.{Replayed}
 use Rattle.history_figures.specs.Figures.{newRun}
 use Rattle.history_runs.specs.declared.Ran.{Ran}
+use Rattle.history_records.specs.Records.{wide}
 use Rattle.history_runs.specs.Runs.{ran}
 use Rattle.history_runs.specs.Promised.{cleared, Promised}
 
 -- the calls that a run of all records of the bytes, found on memory h, counts as
 abbrev pub runCalls : ℕ → ℕ → List ℕ → Memory → List Call
-runCalls N w bytes h = callsOf (ran N w bytes (cleared N h) newRun .made)
+runCalls N w bytes h = callsOf (ran wide N w bytes (cleared N h) newRun .made)
 
 -- the calls that a replay with reply x counts as: a format and the calls of the list; a refused one counts as none
 unfoldable pub replayCalls : Reply → List ℕ → List Call

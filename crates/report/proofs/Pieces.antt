@@ -16,7 +16,7 @@ use Rattle.rules.specs.Calls.{reply}
 use Rattle.types.specs.declared.Reply.{Reply}
 use Rattle.theory.specs.Statements.{Undamaged}
 use Rattle.public_read.proofs.CheckReply.{check-passed}
-use Rattle.history_records.specs.Records.{recordLength}
+use Rattle.history_records.specs.Records.{recordLength, wide}
 use Rattle.history_figures.specs.declared.tally.Run.{Run}
 use Rattle.history_figures.specs.Figures.{newRun, inRange, mostRecords, mostCollections}
 use Rattle.history_figures.proofs.Ranges.{in-range-within}
@@ -31,7 +31,8 @@ use Rattle.report.specs.declared.run.Outcome.the-variants.{Ran as ran-to
 use Rattle.report.specs.declared.run.PieceOutcome.{PieceOutcome}
 use Rattle.report.specs.declared.run.PieceOutcome.the-variants.{GoesOn, Ends}
 use Rattle.report.specs.Meaning.{accepting, meaning, Reported, lastMeaning, pieceMeaning}
-use Rattle.report.proofs.NewHeap.{new-undamaged}
+use Rattle.report_heap.specs.Heap.{reportBlocks, reportWidth, reportRoots, newHeap}
+use Rattle.report_heap.proofs.NewHeap.{new-undamaged}
 use Rattle.report.proofs.Progress.{whole, further}
 
 -- ---- what a piece came to
@@ -67,8 +68,8 @@ more-bytes first rest one two i = elim (decLt i (length first)) [
 -- the heap and the run stand as one call on a new heap, on these bytes, would have left them
 pub record Kept (bytes : List ℕ) (h : Memory) (r : Run) : Type 0 where
   pub of-bytes : Bytes bytes
-  pub whole-records : length bytes % recordLength ≡ 0
-  pub promised : Promised 8192 3 bytes (formatted 8192 3 64) newRun (accepting r) h
+  pub whole-records : length bytes % recordLength wide ≡ 0
+  pub promised : Promised reportBlocks reportWidth bytes newHeap newRun (accepting r) h
 
 -- a run before its first record is in range
 new-range : inRange newRun ≡ true
@@ -85,11 +86,11 @@ module _ (N w roots : ℕ) where
   unfolding formatted
   listed-new = refl
 
-  none-run : (h : Memory) → ran N w [] h newRun .run ≡ newRun
+  none-run : (h : Memory) → ran wide N w [] h newRun .run ≡ newRun
   unfolding ran ranFrom ended
   none-run h = refl
 
-  none-memory : (h : Memory) → ran N w [] h newRun .memory ≡ h
+  none-memory : (h : Memory) → ran wide N w [] h newRun .memory ≡ h
   unfolding ran ranFrom ended
   none-memory h = refl
 
@@ -108,22 +109,27 @@ module _ (N w roots : ℕ) where
         calls = λ _. runs-are-calls N w [] (cleared N new) newRun (subst (λ (h : Memory). Undamaged N w h) (sym cleared-new) fine);
       }
 
-pub kept-start : {g : Memory} {r : Run} → g ≡ formatted 8192 3 64 → r ≡ newRun → Kept [] g r
-kept-start new start = record { of-bytes = no-bytes; whole-records = refl; promised = rw (new, start) (none-promised 8192 3 64 new-undamaged) }
+pub kept-start : {g : Memory} {r : Run} → g ≡ newHeap → r ≡ newRun → Kept [] g r
+kept-start new start =
+    record {
+      of-bytes = no-bytes;
+      whole-records = refl;
+      promised = rw (new, start) (none-promised reportBlocks reportWidth reportRoots new-undamaged);
+    }
 
 module _ {bytes : List ℕ} {h : Memory} {r : Run} (kept : Kept bytes h r) where
-  accepts : runReply 8192 3 (formatted 8192 3 64) newRun ≡ reply 0 0 0
+  accepts : runReply reportBlocks reportWidth newHeap newRun ≡ reply 0 0 0
   accepts = sym (kept .promised .reply-is)
 
   pub kept-few : r .records ≤ mostRecords
   kept-few = in-range-within r (kept .promised .again refl) .few
 
   -- a further call on the heap, with the run
-  module _ (piece : List ℕ) {x : Ran} {g : Memory} (call : Promised 8192 3 piece h r x g) where
-    both : Promised 8192 3 (bytes ++ piece) (formatted 8192 3 64) newRun x g
+  module _ (piece : List ℕ) {x : Ran} {g : Memory} (call : Promised reportBlocks reportWidth piece h r x g) where
+    both : Promised reportBlocks reportWidth (bytes ++ piece) newHeap newRun x g
     both =
-        calls-are-one 8192 3 bytes piece (formatted 8192 3 64) h newRun (accepting r) x h g (kept .whole-records) (kept .promised) refl
-        record { same-heap = refl; space = ap length (kept .promised .idle refl) ∙ length-replicate {A = ℕ} 8192 0 } call
+        calls-are-one reportBlocks reportWidth bytes piece newHeap h newRun (accepting r) x h g (kept .whole-records) (kept .promised) refl
+        record { same-heap = refl; space = ap length (kept .promised .idle refl) ∙ length-replicate {A = ℕ} reportBlocks 0 } call
 
   -- a piece that leaves the run going
   pub kept-next :
@@ -144,11 +150,11 @@ module _ {bytes : List ℕ} {h : Memory} {r : Run} (kept : Kept bytes h r) where
   -- the last piece
   last-meaning : (outcome : Outcome) (piece : List ℕ) (g : Memory) → lastMeaning piece h r outcome g → Bytes piece → Reported outcome
   last-meaning (ran-to next) piece g met read =
-      let is : next ≡ ran 8192 3 (bytes ++ piece) (cleared 8192 (formatted 8192 3 64)) newRun .run =
+      let is : next ≡ ran wide reportBlocks reportWidth (bytes ++ piece) (cleared reportBlocks newHeap) newRun .run =
       rw accepts at (both piece (met .0) .run-is) in (
         bytes ++ piece,
         more-bytes bytes piece (kept .of-bytes) read,
-        is ∙ ap (λ (m : Memory). ran 8192 3 (bytes ++ piece) m newRun .run) (cleared-new 8192 3 64),
+        is ∙ ap (λ (m : Memory). ran wide reportBlocks reportWidth (bytes ++ piece) m newRun .run) (cleared-new reportBlocks reportWidth reportRoots),
       )
   last-meaning ReadFailed piece g met read = absurd met
   last-meaning HeapRefused piece g met read =

@@ -2,20 +2,21 @@
 ghost use Rattle.bitmap.specs.Bit.{Bytes};
 ghost use Rattle.rules.specs.Lent.{before, after};
 ghost use Rattle.report.specs.Meaning.{Reported, pieceMeaning};
-use crate::heap;
-use crate::heap::BLOCKS;
-use crate::heap::CELLS;
-use crate::heap::COUNT_BYTES;
-use crate::heap::LIST;
-use crate::heap::MAP_BYTES;
-use crate::heap::ROOTS;
-use crate::heap::SECTIONS;
-use crate::heap::WIDTH;
-use crate::input;
-use crate::input::PIECE;
 use history_figures::tally;
 use history_figures::tally::Run;
+use history_records::RECORD;
+use report_heap::BLOCKS;
+use report_heap::CELLS;
+use report_heap::COUNT_BYTES;
+use report_heap::LIST;
+use report_heap::MAP_BYTES;
+use report_heap::ROOTS;
+use report_heap::SECTIONS;
+use report_heap::WIDTH;
 use types::Ref;
+
+// The bytes of a full piece, of whole records: the heap is checked once a piece.
+const PIECE: usize = 87381 * RECORD;
 
 // What came of the input: the run at its end; a read that failed; a heap that was refused, which a formatted one never is.
 pub enum Outcome {
@@ -93,7 +94,7 @@ pub fn run_input() -> Outcome
     let mut d = [0u8; MAP_BYTES];
     let mut marks = [0u8; MAP_BYTES];
     let mut list = [0 as Ref; LIST];
-    heap::format(
+    report_heap::format(
         &mut a,
         &mut b,
         &mut counts,
@@ -108,7 +109,7 @@ pub fn run_input() -> Outcome
     let mut run = tally::new_run();
     let mut buffer = [0u8; PIECE];
     loop {
-        let piece = input::read_piece(&mut buffer);
+        let piece = history_input::read_piece(&mut buffer);
         if piece.failed {
             return Outcome::ReadFailed;
         }

@@ -65,9 +65,6 @@ loop-holds c =
     let s : tie.Start Inv-loop μ-loop = search in
     progress-start refl (s .pre .0) (s .pre .1)
 
-mul-fields-at : tie.Need-mul-fields-at Inv-loop μ-loop
-mul-fields-at c = omega (arith, start (c .before) .pre .2)
-
 fields-at-requires : tie.Need-fields-at-requires Inv-loop μ-loop
 fields-at-requires c κs = omega (arith, start (c .before) .pre .2)
 
@@ -111,7 +108,6 @@ run-whole-spec =
     Inv-loop
     μ-loop
     loop-holds
-    mul-fields-at
     fields-at-requires
     step-requires
     (λ c. shaped-stop (stopped c) .length-a ∙ sym (shaped-at (record-read (stopped c .before) .before .before) .length-a))

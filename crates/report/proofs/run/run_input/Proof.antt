@@ -4,17 +4,18 @@ use mathlib.Core.Path.{_≡_, _∙_}
 use mathlib.Core.List.{List, []}
 use Prim.Native.Nat.{ℕ, _-_}
 use native.Mathlib.Omega.{arith}
-use lib.ListN.{length}
+use lib.ListN.{length, length-replicate}
 use borrow.Author.Needs.{needs}
 use Rattle.rules.specs.Heap.{lentMemory}
 use Rattle.history_figures.specs.Figures.{mostRecords}
+use Rattle.report.specs.Meaning.{fullPiece}
 use Rattle.report.proofs.Pieces.{Kept, kept-start, kept-few, kept-next, kept-ends, no-bytes}
 use Rattle.report.proofs.run.run_input.Statement.{statement}
 use Rattle.report.proofs.run.run_input.Tie as tie
 
 abbrev Inv-loop : tie.InvT-loop
 Inv-loop a₀ b₀ counts₀ cells₀ roots₀ waiting₀ sections₀ d₀ marks₀ list₀ run₀ buffer₀ a b counts cells roots waiting sections d marks list run buffer =
-    (length buffer ≡ 65536) × (bytes : List ℕ) × Kept bytes (lentMemory a b counts cells roots waiting sections d marks list) run
+    (length buffer ≡ fullPiece) × (bytes : List ℕ) × Kept bytes (lentMemory a b counts cells roots waiting sections d marks list) run
 
 abbrev μ-loop : tie.MeasureT-loop
 μ-loop a₀ b₀ counts₀ cells₀ roots₀ waiting₀ sections₀ d₀ marks₀ list₀ run₀ buffer₀ a b counts cells roots waiting sections d marks list run buffer =
@@ -28,7 +29,7 @@ abbrev looped : tie.After-read-piece Inv-loop μ-loop → tie.At-loop Inv-loop �
 looped c = search
 
 loop-holds : tie.Need-loop-holds Inv-loop μ-loop
-loop-holds c = (search needs, [], kept-start (c .before .format .ensures) (c .new-run .ensures))
+loop-holds c = (length-replicate {A = ℕ} fullPiece 0, [], kept-start (c .before .format .ensures) (c .new-run .ensures))
 
 returns : tie.Need-returns Inv-loop μ-loop
 returns c = ([], no-bytes, tt)

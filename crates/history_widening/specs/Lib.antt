@@ -1,0 +1,3 @@
+pub mod Widening
+pub mod Claims
+pub mod Theory
