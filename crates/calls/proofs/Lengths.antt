@@ -5,15 +5,16 @@ use Prim.Native.Nat.{ℕ, zero, suc, _+_, _≤_, _*_, _/_}
 use native.Mathlib.Nat.{mul-le-mul}
 use native.Mathlib.Omega.{arith}
 use lib.ListN.{length, getD, set, replicate}
+use Rattle.rules.specs.Heap.{maxBlocks}
 use Rattle.calls.specs.Within.{Within}
 
 -- the one product is at most that of the largest numbers
-pub product : (width blocks : ℕ) → width ≤ 5 → blocks ≤ 8192 → width * blocks ≤ 40960
+pub product : (width blocks : ℕ) → width ≤ 5 → blocks ≤ maxBlocks → width * blocks ≤ 5 * maxBlocks
 product width blocks w b = mul-le-mul w b
 
 -- the lengths that belong to a heap's numbers
 pub within-heap :
-    (n w r s : ℕ) → n ≤ 8192 → w ≤ 5 → r ≤ 65 → s ≤ 32
+    (n w r s : ℕ) → n ≤ maxBlocks → w ≤ 5 → r ≤ 65 → s ≤ maxBlocks / 256
     → Within (n / 8 ∷ n / 8 ∷ w * n / 8 ∷ 4 * n ∷ r ∷ n ∷ s ∷ n / 8 ∷ n / 8 ∷ (n + 1) ∷ [])
 within-heap n w r s n-max w-max r-max s-max zero = omega arith
 within-heap n w r s n-max w-max r-max s-max (suc zero) = omega arith
@@ -49,14 +50,14 @@ within-set (x ∷ xs) (y ∷ ys) (suc k) v b l (suc i) = within-set xs ys k v (�
 
 -- the buffers are of the largest lengths, and the lent lengths within them
 pub record Held (a b counts cells roots waiting sections d marks list lengths : List ℕ) : Type 0 where
-  pub length-a : length a ≡ 1024
-  pub length-b : length b ≡ 1024
-  pub length-counts : length counts ≡ 5120
-  pub length-cells : length cells ≡ 32768
+  pub length-a : length a ≡ maxBlocks / 8
+  pub length-b : length b ≡ maxBlocks / 8
+  pub length-counts : length counts ≡ 5 * (maxBlocks / 8)
+  pub length-cells : length cells ≡ 4 * maxBlocks
   pub length-roots : length roots ≡ 65
-  pub length-waiting : length waiting ≡ 8192
-  pub length-sections : length sections ≡ 32
-  pub length-d : length d ≡ 1024
-  pub length-marks : length marks ≡ 1024
-  pub length-list : length list ≡ 8193
+  pub length-waiting : length waiting ≡ maxBlocks
+  pub length-sections : length sections ≡ maxBlocks / 256
+  pub length-d : length d ≡ maxBlocks / 8
+  pub length-marks : length marks ≡ maxBlocks / 8
+  pub length-list : length list ≡ maxBlocks + 1
   pub within : Within lengths

@@ -1,7 +1,8 @@
 // How much of each buffer is lent. Wrong lengths are allowed, within the largest, so that each refusal can be met.
 ghost use mathlib.Core.Path.{_≡_};
 ghost use mathlib.Core.Bool.{false};
-ghost use Prim.Native.Nat.{_≤_};
+ghost use Prim.Native.Nat.{_/_, _≤_};
+ghost use Rattle.rules.specs.Heap.{maxBlocks};
 ghost use Rattle.calls.specs.Within.{Within};
 use calls_entries::Entry;
 use types::MAX_BLOCKS;
@@ -40,7 +41,7 @@ const LARGEST: [usize; BUFFERS] = [
 
 // Whether a heap asks for more than the largest.
 pub fn is_too_large(heap: Entry) -> bool
-    ensures { λ r. ⌜ (r ≡ false → (heap .x ≤ 8192) × (heap .y ≤ 5) × (heap .z ≤ 65)) ⌝ }
+    ensures { λ r. ⌜ (r ≡ false → (heap .x ≤ maxBlocks) × (heap .y ≤ 5) × (heap .z ≤ 65)) ⌝ }
 {
     if MAX_BLOCKS < heap.x {
         return true;
@@ -53,8 +54,8 @@ pub fn is_too_large(heap: Entry) -> bool
 
 // The number of sections: one where there are fewer blocks than in the longest.
 fn section_count(blocks: usize) -> usize
-    requires { ⌜ blocks ≤ 8192 ⌝ }
-    ensures { λ r. ⌜ r ≤ 32 ⌝ }
+    requires { ⌜ blocks ≤ maxBlocks ⌝ }
+    ensures { λ r. ⌜ r ≤ maxBlocks / 256 ⌝ }
 {
     if blocks < MAX_SECTION {
         return 1;

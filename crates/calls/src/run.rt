@@ -4,6 +4,7 @@ use crate::lent;
 use crate::reading;
 use calls_entries::Entry;
 use types::MAX_BLOCKS;
+use types::MAX_NUMBER;
 use types::Ref;
 use types::Reply;
 
@@ -37,11 +38,11 @@ fn next_entry(lengths: &mut [usize; lent::BUFFERS], k: usize) -> Entry
     } else if kind == calls_entries::NEW && lent::is_too_large(e) {
         say_wrong(k, b"too large\n");
         e.kind = calls_entries::LENGTH;
-    } else if kind == calls_entries::WRITE_NUMBER && e.z > calls_entries::MAX_NUMBER {
+    } else if kind == calls_entries::WRITE_NUMBER && e.z > MAX_NUMBER {
         say_wrong(k, b"number out of range\n");
         e.kind = calls_entries::LENGTH;
-    } else if kind == calls_entries::REASON && e.y > calls_entries::MAX_OUTPUT
-        || kind == calls_entries::SHAPE && e.x > calls_entries::MAX_OUTPUT
+    } else if kind == calls_entries::REASON && e.y > calls_entries::MAX_SENTENCE
+        || kind == calls_entries::SHAPE && e.x > calls_entries::MAX_SHAPE
     {
         say_wrong(k, b"length out of range\n");
         e.kind = calls_entries::LENGTH;

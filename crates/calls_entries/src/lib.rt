@@ -1,4 +1,7 @@
 // The entries of a list of calls, performed: for the program `calls`.
+use types::MAX_BLOCKS;
+use types::MAX_ROOTS;
+
 mod outputs;
 pub mod perform;
 
@@ -6,17 +9,18 @@ pub mod perform;
 // the way of calls to come, what is none.
 pub const LAST_CALL: usize = 13;
 
-// The call that writes a number, and the largest number that a cell holds.
+// The call that writes a number.
 pub const WRITE_NUMBER: usize = 10;
 
-pub const MAX_NUMBER: usize = 65535;
-
-// The calls that write an output, and the largest length of one, in bytes or in numbers, which is enough for every heap.
+// The calls that write an output, and the largest length of each, which is enough for every heap: of a sentence in bytes
+// (`SentenceBounded`), and of a shape in numbers, which are at most one, one for each root, and six for each block.
 pub const REASON: usize = 240;
 
 pub const SHAPE: usize = 241;
 
-pub const MAX_OUTPUT: usize = 65536;
+pub const MAX_SENTENCE: usize = 12 * MAX_BLOCKS + 8;
+
+pub const MAX_SHAPE: usize = 1 + MAX_ROOTS + 6 * MAX_BLOCKS;
 
 pub const LOAD: usize = 253;
 

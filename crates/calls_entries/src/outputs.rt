@@ -2,22 +2,24 @@
 ghost use Prim.Native.Nat.{_≤_};
 use types::Ref;
 
-// What stands in each place of an output before the call: no sentence has such a byte, and no shape such a number.
+// What stands in each place of an output before the call. No sentence has such a byte; a shape has such a number only where a cell of
+// data holds it.
 const UNWRITTEN_BYTE: u8 = 255;
 
 const UNWRITTEN_NUMBER: u32 = 4294967295;
 
 // The length that an entry names. One above the largest comes no further than to the reading of its entry.
-fn within(length: usize) -> usize
-    ensures { λ r. ⌜ r ≤ 65536 ⌝ }
+fn within(length: usize, largest: usize) -> usize
+    ensures { λ r. ⌜ r ≤ largest ⌝ }
 {
-    if length < crate::MAX_OUTPUT {
+    if length < largest {
         return length;
     }
-    crate::MAX_OUTPUT
+    largest
 }
 
-// The reason why the object at block `at` is kept. The reply is said, and then the output, on a line of its own. Whether the last write was made.
+// The reason why the object at block `at` is kept. The reply is said, and then the output, of the length that an entry names, on a line
+// of its own. Whether the last write was made.
 fn say_reason(
     n: usize,
     w: usize,
@@ -33,7 +35,9 @@ fn say_reason(
     list: &[Ref],
     at: usize,
     out: &mut [u8],
+    length: usize,
 ) -> bool {
+    let lent = within(length, out.len());
     let reply = public_output::reason(
         n,
         w,
@@ -48,13 +52,13 @@ fn say_reason(
         marks,
         list,
         at,
-        out,
+        &mut out[..lent],
     );
     calls_output::say_reply(reply);
-    calls_output::say_bytes(out)
+    calls_output::say_bytes(&out[..lent])
 }
 
-// The same, with an output of the length that an entry names.
+// The same, with an output in which nothing is written yet.
 pub fn reason(
     n: usize,
     w: usize,
@@ -71,8 +75,7 @@ pub fn reason(
     at: usize,
     length: usize,
 ) -> bool {
-    let mut out = [UNWRITTEN_BYTE; crate::MAX_OUTPUT];
-    let lent = within(length);
+    let mut out = [UNWRITTEN_BYTE; crate::MAX_SENTENCE];
     say_reason(
         n,
         w,
@@ -87,11 +90,13 @@ pub fn reason(
         marks,
         list,
         at,
-        &mut out[..lent],
+        &mut out,
+        length,
     )
 }
 
-// The shape of what the roots reach. The reply is said, and then the output, on a line of its own. Whether the last write was made.
+// The shape of what the roots reach. The reply is said, and then the output, of the length that an entry names, on a line
+// of its own. Whether the last write was made.
 fn say_shape(
     n: usize,
     w: usize,
@@ -106,7 +111,9 @@ fn say_shape(
     marks: &[u8],
     list: &[Ref],
     out: &mut [u32],
+    length: usize,
 ) -> bool {
+    let lent = within(length, out.len());
     let reply = public_output::shape(
         n,
         w,
@@ -120,13 +127,13 @@ fn say_shape(
         d,
         marks,
         list,
-        out,
+        &mut out[..lent],
     );
     calls_output::say_reply(reply);
-    calls_output::say_words(out)
+    calls_output::say_words(&out[..lent])
 }
 
-// The same, with an output of the length that an entry names.
+// The same, with an output in which nothing is written yet.
 pub fn shape(
     n: usize,
     w: usize,
@@ -142,8 +149,7 @@ pub fn shape(
     list: &[Ref],
     length: usize,
 ) -> bool {
-    let mut out = [UNWRITTEN_NUMBER; crate::MAX_OUTPUT];
-    let lent = within(length);
+    let mut out = [UNWRITTEN_NUMBER; crate::MAX_SHAPE];
     say_shape(
         n,
         w,
@@ -157,6 +163,7 @@ pub fn shape(
         d,
         marks,
         list,
-        &mut out[..lent],
+        &mut out,
+        length,
     )
 }

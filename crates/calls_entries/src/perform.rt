@@ -1,6 +1,7 @@
 // What is done with the lent buffers. Here alone they are all lent on.
 use crate::Entry;
 use crate::outputs;
+use types::MAX_NUMBER;
 use types::Ref;
 use types::Reply;
 use types::replies;
@@ -140,7 +141,7 @@ fn read(
 
 // The number that an entry writes. One that no cell holds comes no further than to the reading of its entry.
 fn narrow(number: usize) -> Ref {
-    (number % 65536) as Ref
+    (number % (MAX_NUMBER + 1)) as Ref
 }
 
 // A load into a buffer of bytes.
@@ -154,8 +155,8 @@ fn load_byte(list: &mut [u8], i: usize, value: usize) -> Reply {
 
 // A load into a buffer of references.
 fn load_ref(list: &mut [Ref], i: usize, value: usize) -> Reply {
-    if i < list.len() && value < 65536 {
-        list[i] = (value % 65536) as Ref;
+    if i < list.len() && value <= MAX_NUMBER {
+        list[i] = (value % (MAX_NUMBER + 1)) as Ref;
         return outcome(true);
     }
     outcome(false)
