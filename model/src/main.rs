@@ -1,11 +1,15 @@
 //! The commands. See README.md.
 
-use model::history::vectors::{histories, mixed, History};
-use model::history::{driver, garbage, report, text};
+use model::history::driver::{self, Checked};
+use model::history::old::{report_old, widened};
+use model::history::vectors::{histories, mixed, old_histories, History};
+use model::history::{garbage, report, text};
 use model::lists::every_list::every_list_behind_all;
 use model::lists::families::{generate, FAMILIES};
+use model::lists::file::{MOST_BLOCKS, MOST_WIDTH};
 use model::lists::vectors;
 use model::product::{history_bench, port};
+use model::rules::heap::MAX_BLOCKS;
 use model::texts::expect::expect;
 use model::texts::{assembly, show, trace};
 use std::io::{Read, Write};
@@ -32,8 +36,12 @@ const USAGE: &str = "usage:
   model history garbage N W R < FILE the same on a heap of N blocks, count width W and R roots; and below it what no root
                                      reaches then, held by stuck counts alone | by cycles alone | by both, each
                                      `objects blocks`
-  model history vectors FOLDER       some 460 histories, NAME.history and NAME.line each
+  model history widen < OLD          an old history of eight-byte records, widened (U12)
+  model history old < OLD            the line that the old form gives on the heap of the program `report`
+  model history vectors FOLDER       some 580 histories, NAME.history and NAME.line each
   model history check PROGRAM ..     runs a program on all of these, by file and through a pipe
+  model history check-widening WIDEN REPORT
+                                     runs a program that widens on some 830 old histories, and `report` on what it widened
   model history mixed SEED COUNT     a mixed history of COUNT records, each accepted
   model history port < FILE          the line once more, by the product's algorithms in plain Rust
   model history bench FILE PROGRAM ..  times of a program on a history against these; its memory
@@ -41,8 +49,9 @@ with the product's library, `--features library`:
   model fuzz SECONDS SEED            all pairs of maps of 8 blocks, random lists, damaged memories, replays and runs
                                      of records, model against library
   model bench                        times of the library against plain Rust, of the searches for a chunk, of the check by
-                                     bytes, with data, and in small steps
-                                     (build it with --release)
+                                     bytes, with data, in small steps, and by sizes of heaps (build it with --release)
+  model bench sizes                  the last of these alone: single calls of the library by the number of blocks, and how they
+                                     grow to 65,536
 ";
 
 fn main() {
@@ -65,8 +74,10 @@ fn main() {
         ["count"] => print(format!("{:?}\n", expect(&input()).1).as_bytes()),
         ["trace", seed, count, blocks, width] => {
             let (blocks, width) = (number(blocks), number(width));
-            if blocks > 8192 || width > 5 {
-                stop("trace: N is at most 8192, W at most 5\n");
+            if blocks > MOST_BLOCKS || width > MOST_WIDTH {
+                stop(&format!(
+                    "trace: N is at most {MOST_BLOCKS}, W at most {MOST_WIDTH}\n"
+                ));
             }
             let count = number(count) as usize;
             print(trace::trace(number(seed), count, blocks as usize, width as usize).as_bytes());
@@ -90,7 +101,8 @@ fn main() {
         }
         ["history", ref words @ ..] => history(words),
         ["fuzz", seconds, seed] => fuzz(number(seconds), number(seed)),
-        ["bench"] => bench(),
+        ["bench"] => bench(false),
+        ["bench", "sizes"] => bench(true),
         _ => stop(USAGE),
     }
 }
@@ -120,7 +132,9 @@ fn history(words: &[&str]) {
             let shape = [blocks, width, roots].map(|word| number(word) as usize);
             match garbage::left(shape, &input()) {
                 Some(text) => print(text.as_bytes()),
-                None => stop("N is a power of two from 8 to 8192, W 1 to 4, R 1 to 64\n"),
+                None => stop(&format!(
+                    "N is a power of two from 8 to {MAX_BLOCKS}, W 1 to 4, R 1 to 64\n"
+                )),
             }
         }
         ["vectors", folder] => {
@@ -130,7 +144,15 @@ fn history(words: &[&str]) {
                 write_file(&place("line"), report(&bytes).as_bytes());
             }
         }
-        ["check", program @ ..] if !program.is_empty() => check_program(program),
+        ["widen"] => print(&widened(&input())),
+        ["old"] => print(report_old(&input()).as_bytes()),
+        ["check", program @ ..] if !program.is_empty() => {
+            tell_checked(program[0], driver::check(program, &histories()));
+        }
+        ["check-widening", widen, report] => {
+            let checked = driver::check_widening(&[widen], &[report], &old_histories());
+            tell_checked(widen, checked);
+        }
         ["mixed", seed, count] => print(&mixed(number(seed), number(count) as usize)),
         ["port"] => match port::report(std::io::stdin().lock()) {
             Ok(line) => print(line.as_bytes()),
@@ -153,13 +175,13 @@ fn print_assembled(assembled: Result<Vec<u8>, String>) {
     }
 }
 
-fn check_program(program: &[&str]) {
-    match driver::check(program, &histories()) {
+fn tell_checked(program: &str, checked: std::io::Result<Checked>) {
+    match checked {
         Ok(checked) => {
             print(checked.lines().as_bytes());
             exit(if checked.differences.is_empty() { 0 } else { 1 });
         }
-        Err(error) => stop(&format!("{}: {error}\n", program[0])),
+        Err(error) => stop(&format!("{program}: {error}\n")),
     }
 }
 
@@ -181,8 +203,9 @@ fn fuzz(seconds: u64, seed: u64) {
 }
 
 #[cfg(feature = "library")]
-fn bench() {
-    print(model::product::bench::bench().as_bytes());
+fn bench(only_sizes: bool) {
+    use model::product::bench::{bench, sizes};
+    print(if only_sizes { sizes() } else { bench() }.as_bytes());
 }
 
 #[cfg(not(feature = "library"))]
@@ -191,7 +214,7 @@ fn fuzz(_seconds: u64, _seed: u64) {
 }
 
 #[cfg(not(feature = "library"))]
-fn bench() {
+fn bench(_only_sizes: bool) {
     stop("built without the library: use --features library\n");
 }
 

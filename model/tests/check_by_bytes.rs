@@ -5,7 +5,7 @@ mod common;
 use common::say;
 use model::product::busy::{busy, known_bytes};
 use model::product::port::{self, lend, Answer};
-use model::rules::heap::{first_blocks, free_count};
+use model::rules::heap::{first_blocks, free_count, Ref};
 use model::{apply, Call, Memory, Reply};
 
 /// A check by another than the model.
@@ -68,9 +68,9 @@ fn changed(blocks: usize, width: usize, memory: &Memory, byte: usize, bit: usize
     }
     // Nothing, the object itself or none, the first one, none, one past the end, and the largest number.
     for v in [0, 1 + block, 1, 2, blocks + 1, 65_535] {
-        change(&|m| m.cells[4 * block + bit % 4] = v as u16);
+        change(&|m| m.cells[4 * block + bit % 4] = v as Ref);
     }
-    change(&|m| m.roots[63] = (1 + block) as u16);
+    change(&|m| m.roots[63] = (1 + block) as Ref);
     all
 }
 

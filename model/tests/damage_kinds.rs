@@ -58,7 +58,7 @@ fn each_part_of_each_kind() {
     );
     // 4: a cell of a free block, even with a good name; a cell or root that names no first block.
     assert_eq!(kind(|m| m.cells[4 * 3] = 1), 4);
-    assert_eq!(kind(|m| m.cells[31] = 65_535), 4);
+    assert_eq!(kind(|m| m.cells[31] = MAX_NUMBER), 4);
     assert_eq!(kind(|m| m.cells[0] = 2), 4);
     assert_eq!(kind(|m| m.cells[0] = 9), 4);
     assert_eq!(kind(|m| m.roots[3] = 4), 4);
@@ -94,7 +94,7 @@ fn each_part_of_each_kind() {
         }),
         0
     );
-    assert_eq!(kind(|m| m.waiting.fill(65_535)), 0);
+    assert_eq!(kind(|m| m.waiting.fill(MAX_NUMBER)), 0);
     // "Each is tested over the whole heap before the next": the lower kind at the higher block.
     assert_eq!(
         kind(|m| {
@@ -125,9 +125,10 @@ fn each_part_of_each_kind() {
 
 /// All 65,536 pairs of maps of eight blocks, in a heap of count width 1 that is otherwise fresh.
 fn all_pairs_of_maps() -> impl Iterator<Item = Memory> {
-    (0..=u16::MAX).map(|pair| {
+    let bytes = |one: u8| (0..=255).map(move |other| [one, other]);
+    (0..=255).flat_map(bytes).map(|pair| {
         let mut memory = fresh(8, 1, 1);
-        [memory.a[0], memory.b[0]] = pair.to_be_bytes();
+        [memory.a[0], memory.b[0]] = pair;
         memory
     })
 }
@@ -174,7 +175,7 @@ fn objects_are_the_ends_without_kinds_1_and_2() {
 fn random_damage() {
     let (mut met, mut untrue, mut ill) = ([0; 8], [0; 2], [0; 2]);
     for line in trace::damaged(3, 4000).lines() {
-        let fields: Vec<Vec<u16>> = line
+        let fields: Vec<Vec<Ref>> = line
             .split('|')
             .map(|field| {
                 field

@@ -60,7 +60,10 @@ const BESIDE: [Call; 15] = [
     Call::Allocate { n: 9, r: 0 },
     Call::StoreRoot { r: 2, v: 0 },
     Call::StoreCell { a: 0, j: 32, v: 0 },
-    Call::StoreRoot { r: 0, v: 65_537 },
+    Call::StoreRoot {
+        r: 0,
+        v: (1 << 32) + 1,
+    },
     Call::StoreCell {
         a: 0,
         j: 0,

@@ -12,6 +12,9 @@ use model::Call;
 
 const EMPTY_8_2_4: &str = "0\n0\n0 0\n0 0 0 0 0 0 0 0 0 0 0 0 0 0 0 0 0 0 0 0 0 0 0 0 0 0 0 0 0 0 0 0\n0 0 0 0\n0 0 0 0 0 0 0 0\n0\n0\n0\n0 0 0 0 0 0 0 0 0\n";
 
+/// The largest number that a cell holds.
+const MOST: u64 = 4_294_967_295;
+
 fn printed(header: [u64; 3], entries: &[[u64; 4]]) -> String {
     expect(&bytes(header, entries)).0
 }
@@ -25,7 +28,13 @@ fn headers() {
         );
     }
     assert_eq!(printed([8, 2, 4], &[]), EMPTY_8_2_4);
-    for header in [[8193, 2, 4], [8, 6, 4], [8, 2, 66], [u64::MAX, 0, 0]] {
+    for header in [
+        [65_537, 2, 4],
+        [131_072, 2, 4],
+        [8, 6, 4],
+        [8, 2, 66],
+        [u64::MAX, 0, 0],
+    ] {
         assert_eq!(printed(header, &[[0; 4]]), "header: too large\n");
     }
     // Too large is said of a header alone; a bad one is a heap that refuses.
@@ -50,9 +59,9 @@ fn entries() {
     assert_eq!(first([8, 0, 0, 0]).unwrap(), "2 1 0\n");
     // Calls 9 to 11 (U6). A number that no cell can hold is no call.
     for code in [9, 10, 11] {
-        assert_eq!(first([code, 0, 0, 65_535]).unwrap(), "2 1 0\n");
+        assert_eq!(first([code, 0, 0, MOST]).unwrap(), "2 1 0\n");
     }
-    for v in [65_536, 65_537, 1 << 32, u64::MAX] {
+    for v in [MOST + 1, MOST + 2, 1 << 48, u64::MAX] {
         let line = "call 0: number out of range\n";
         assert_eq!(first([10, 0, 0, v]).unwrap(), line);
     }
@@ -70,7 +79,7 @@ fn entries() {
     // The value of a store is a whole word: the call is made.
     assert_eq!(first([3, 0, most, 0]).unwrap(), "2 1 0\n");
     assert_eq!(first([4, 0, 0, most]).unwrap(), "2 1 0\n");
-    let formatted = [Call::Format.words(), [3, 0, 65_536, 0], [3, 4, most, 0]];
+    let formatted = [Call::Format.words(), [3, 0, MOST + 1, 0], [3, 4, most, 0]];
     let out = printed([8, 2, 4], &formatted);
     assert!(out.starts_with("0 0 0\n8 0 0\n4 0 0\n0\n255\n"), "{out}");
     for load in [
@@ -78,36 +87,37 @@ fn entries() {
         [1, 0, 256],
         [2, 2, 0],
         [3, 32, 0],
-        [3, 0, 65_536],
+        [3, 0, MOST + 1],
         [6, 1, 0],
-        [6, 0, 65_536],
+        [6, 0, MOST + 1],
         [7, 1, 0],
         [7, 0, 256],
         [8, 1, 0],
         [8, 0, 256],
         [9, 9, 0],
-        [9, 0, 65_536],
+        [9, 0, MOST + 1],
         [10, 0, 0],
     ] {
         let words = [LOAD, load[0], load[1], load[2]];
         assert_eq!(first(words).unwrap(), "call 0: load out of range\n");
     }
     for [buffer, length] in [
-        [0, 1025],
-        [2, 5121],
-        [3, 32_769],
+        [0, 8193],
+        [1, 8193],
+        [2, 40_961],
+        [3, 262_145],
         [4, 66],
-        [5, 8193],
-        [6, 33],
-        [7, 1025],
-        [8, 1025],
-        [9, 8194],
+        [5, 65_537],
+        [6, 257],
+        [7, 8193],
+        [8, 8193],
+        [9, 65_538],
         [10, 0],
     ] {
         let words = [LENGTH, buffer, length, 0];
         assert_eq!(first(words).unwrap(), "call 0: length out of range\n");
     }
-    assert_eq!(first([NEW, 8193, 1, 1]).unwrap(), "call 0: too large\n");
+    assert_eq!(first([NEW, 65_537, 1, 1]).unwrap(), "call 0: too large\n");
     // A new heap: the old buffers are printed first.
     let out = printed([0, 0, 0], &[[NEW, 8, 2, 4], [1, 0, 0, 0]]);
     assert_eq!(out, format!("\n\n\n\n\n\n0\n\n\n0\n2 1 0\n{EMPTY_8_2_4}"));
@@ -115,7 +125,7 @@ fn entries() {
     let out = printed(
         [0, 0, 2],
         &[
-            [LOAD, 4, 0, 65_535],
+            [LOAD, 4, 0, MOST],
             [LOAD, 4, 1, 7],
             [LENGTH, 4, 1, 0],
             [LOAD, 4, 1, 9],
@@ -126,7 +136,7 @@ fn entries() {
     );
     assert_eq!(
         out,
-        "call 3: load out of range\n0 0\n\n\n\n65535 7 0 5\n\n0\n\n\n0\n"
+        "call 3: load out of range\n0 0\n\n\n\n4294967295 7 0 5\n\n0\n\n\n0\n"
     );
 }
 
@@ -141,6 +151,7 @@ fn the_list_of_sections() {
         (512, 2),
         (1000, 3),
         (8192, 32),
+        (65_536, 256),
     ] {
         let out = printed([blocks, 1, 1], &[]);
         assert_eq!(out.lines().count(), BUFFERS);
@@ -148,7 +159,7 @@ fn the_list_of_sections() {
     }
     let entries = [
         [0; 4],
-        [LOAD, 6, 1, 65_535],
+        [LOAD, 6, 1, MOST],
         [1, 0, 0, 0],
         [LENGTH, 6, 1, 0],
         [1, 0, 0, 0],
@@ -157,13 +168,13 @@ fn the_list_of_sections() {
     ];
     let out = printed([512, 1, 1], &entries);
     assert!(out.starts_with("0 0 0\n11 0 0\n1 0 0\n"), "{out}");
-    assert_eq!(out.lines().nth(3 + 6), Some("256 65535 9"));
+    assert_eq!(out.lines().nth(3 + 6), Some("256 4294967295 9"));
 }
 
 /// The D-map is buffer 7: a byte for each eight blocks.
 #[test]
 fn the_d_map() {
-    for (blocks, length) in [(0, 0), (8, 1), (15, 1), (512, 64), (8192, 1024)] {
+    for (blocks, length) in [(0, 0), (8, 1), (15, 1), (512, 64), (65_536, 8192)] {
         let out = printed([blocks, 1, 1], &[]);
         assert_eq!(out.lines().count(), BUFFERS);
         assert_eq!(out.lines().nth(7), Some(&*vec!["0"; length].join(" ")));
@@ -171,7 +182,7 @@ fn the_d_map() {
     let entries = [
         [0; 4],
         [9, 2, 0, 0],
-        [10, 0, 7, 65_535],
+        [10, 0, 7, MOST],
         [11, 0, 7, 0],
         [4, 0, 0, 0],
         [LOAD, 7, 1, 128],
@@ -182,7 +193,7 @@ fn the_d_map() {
         [LOAD, 7, 2, 9],
     ];
     let out = printed([16, 2, 1], &entries);
-    let due = "0 0 0\n0 0 0\n0 0 0\n0 65535 0\n12 0 0\n2 7 0\n1 0 0\n";
+    let due = "0 0 0\n0 0 0\n0 0 0\n0 4294967295 0\n12 0 0\n2 7 0\n1 0 0\n";
     assert!(out.starts_with(due), "{out}");
     assert_eq!(out.lines().nth(7 + 7), Some("1 128 9"));
 }
@@ -190,7 +201,7 @@ fn the_d_map() {
 /// The mark map is buffer 8, a byte for each eight blocks; the list is buffer 9, the last one, a number for each block and one more.
 #[test]
 fn the_mark_map_and_the_list() {
-    for (blocks, length) in [(0, 0), (8, 1), (15, 1), (512, 64), (8192, 1024)] {
+    for (blocks, length) in [(0, 0), (8, 1), (15, 1), (512, 64), (65_536, 8192)] {
         let out = printed([blocks, 1, 1], &[]);
         assert_eq!(out.lines().nth(8), Some(&*vec!["0"; length].join(" ")));
         let places = vec!["0"; blocks as usize + 1].join(" ");
@@ -212,7 +223,7 @@ fn the_mark_map_and_the_list() {
         [LENGTH, 9, 8, 0],
         [1, 0, 0, 0],
         [LENGTH, 9, 11, 0],
-        [LOAD, 9, 10, 65_535],
+        [LOAD, 9, 10, MOST],
         [LENGTH, 8, 0, 0],
         [1, 0, 0, 0],
     ];
@@ -220,7 +231,7 @@ fn the_mark_map_and_the_list() {
     let due = "0 0 0\n14 0 0\n0 0 0\n0 0 0\n14 0 0\n0 0 0\n13 0 0\n13 0 0\n1 0 0\n1 0 0\n";
     assert!(out.starts_with(due), "{out}");
     assert_eq!(out.lines().nth(10 + 8), Some(""));
-    assert_eq!(out.lines().last(), Some("1 0 0 0 0 0 0 0 1 0 65535"));
+    assert_eq!(out.lines().last(), Some("1 0 0 0 0 0 0 0 1 0 4294967295"));
 }
 
 #[test]
@@ -269,7 +280,7 @@ fn the_large_file() {
     ] {
         assert!(out.contains(line), "{line}");
     }
-    assert!(file.len() < 1_500_000 && out.len() < 2_600_000);
+    assert!(file.len() < 4_800_000 && out.len() < 5_700_000);
     say(&format!(
         "the large file, {} bytes, printing {} bytes: {tally:?}",
         file.len(),

@@ -6,18 +6,24 @@ use model::history::run::run_records;
 use model::history::Run;
 use model::product::compare::Library;
 use model::product::fuzz::fuzz;
-use model::product::met::{Met, AROUND, CALLS, KINDS, NUMBERS, READINGS, STOPS};
+use model::product::met::{
+    sizes, Met, AROUND, BY_SIZE, CALLS, KINDS, NUMBERS, READINGS, STOPS, TOO_MANY_BLOCKS,
+};
 use model::rules::mark_claims::ILL;
 use model::rules::outputs::{reason, shape};
 use model::rules::reasons::{read_reason, Reading};
 use model::rules::replay::replay;
 use model::{apply, Call, Memory, Reply};
+use std::sync::OnceLock;
 
 /// A run of no seconds: the pairs of maps and the lists that are always the same.
-fn met_always() -> Met {
-    let (met, difference) = fuzz(0, 1, MODEL);
-    assert_eq!(difference, None);
-    met
+fn met_always() -> &'static Met {
+    static MET: OnceLock<Met> = OnceLock::new();
+    MET.get_or_init(|| {
+        let (met, difference) = fuzz(0, 1, MODEL);
+        assert_eq!(difference, None);
+        met
+    })
 }
 
 /// The model in the library's place.
@@ -69,7 +75,7 @@ fn what_was_not_met_is_named() {
                 without(&|met| met.kinds[code][kind] = 0, what);
             }
         }
-        let what = format!("{name}, 16384 blocks");
+        let what = format!("{name}, 131072 blocks");
         without(&|met| met.too_many_blocks[code] = 0, what);
     }
     for number in [0, 1, 10, 9, 18] {
@@ -83,6 +89,12 @@ fn what_was_not_met_is_named() {
     for number in STOPS {
         let what = format!("run, stopped by {number}");
         without(&|met| met.stops[number] = 0, what);
+    }
+    for (size, blocks) in sizes().enumerate() {
+        for (k, what) in BY_SIZE.into_iter().enumerate() {
+            let what = format!("{what} on {blocks} blocks");
+            without(&|met| met.by_size[size][k] = 0, what);
+        }
     }
     without(
         &|met| met.pairs_of_maps -= 1,
@@ -112,7 +124,10 @@ fn what_was_not_met_is_named() {
             without(&|met| met.around[which][k] = 0, what);
         }
     }
-    without(&|met| met.most_links = 3, "reason, four links".to_string());
+    without(
+        &|met| met.most_links -= 1,
+        "reason, the most links".to_string(),
+    );
     without(&|met| met.no_root = 0, "reason, no root".to_string());
     for (kind, what) in READINGS.into_iter().enumerate() {
         let what = format!("reading, {what}");
@@ -131,7 +146,7 @@ fn what_was_not_met_is_named() {
 
 fn wrong_apply(blocks: usize, width: usize, memory: &mut Memory, call: Call) -> Reply {
     let mut reply = apply(blocks, width, memory, call);
-    if (reply.number, blocks) == (1, 16_384) && call == Call::Collect {
+    if (reply.number, blocks) == (1, TOO_MANY_BLOCKS) && call == Call::Collect {
         reply.value = 1;
     }
     reply
@@ -173,8 +188,8 @@ fn a_difference_is_found_and_cut_down() {
         ..MODEL
     };
     let (_, found) = fuzz(0, 1, apply_only);
-    let text = found.expect("a wrong value in a refusal on 16,384 blocks");
-    assert!(text.starts_with("a difference: 16384 blocks"), "{text}");
+    let text = found.expect("a wrong value in a refusal on 131,072 blocks");
+    assert!(text.starts_with("a difference: 131072 blocks"), "{text}");
     assert_eq!(text.matches("collect").count(), 1, "{text}");
     let replay_only = Library {
         replay: wrong_replay,

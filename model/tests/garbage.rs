@@ -4,12 +4,13 @@ mod common;
 use common::fresh;
 use common::say;
 use model::history::garbage::{garbage, left as left_by_history};
-use model::history::run::run;
+use model::history::record::{bytes, short as record, RECORD};
+use model::history::run::{run, BLOCKS, ROOTS, WIDTH};
 use model::history::vectors::histories;
 use model::history::Run;
 use model::lists::random::Random;
 use model::rules::collection::reached;
-use model::rules::heap::first_blocks;
+use model::rules::heap::{first_blocks, Ref, MAX_BLOCKS};
 use model::texts::trace;
 use model::{apply, Call, Memory, Reply};
 use std::collections::{BTreeMap, BTreeSet};
@@ -230,23 +231,23 @@ impl Unlimited {
 
 /// Records that mostly can be run, on few roots, so that objects are shared, cycles are closed and much is let go.
 fn tangled_history(random: &mut Random, records: usize, roots: usize) -> Vec<u8> {
-    let mut bytes = Vec::new();
+    let mut operations = Vec::new();
     for _ in 0..records {
         let d = random.below(roots) as u8;
         let s = random.below(roots) as u8;
-        let c = random.below(8) as u8;
-        bytes.extend(match random.below(100) {
-            0..=25 => [1, d, 0, 0, 0, 0, 1 + random.below(2) as u8, 0],
-            26..=29 => [7, d, 0, 0, 0, 0, 1 + random.below(2) as u8, 0],
-            30..=44 => [2, d, s, 0, 0, 0, 0, 0],
-            45..=70 => [3, d, s, 0, c % 4, 0, 0, 0],
-            71..=74 => [8, d, 0, 0, c % 4, 0, 1 + random.below(8) as u8, 0],
-            75..=84 => [4, d, s, 0, c % 4, 0, 0, 0],
-            85..=98 => [5, d, 0, 0, 0, 0, 0, 0],
-            _ => [6, 0, 0, 0, 0, 0, 0, 0],
+        let c = random.below(4) as Ref;
+        operations.push(match random.below(100) {
+            0..=25 => record::allocate(1 + random.below(2) as Ref, d),
+            26..=29 => record::data(1 + random.below(2) as Ref, d),
+            30..=44 => record::copy(s, d),
+            45..=70 => record::write(s, c, d),
+            71..=74 => record::write_number(1 + random.below(8) as Ref, c, d),
+            75..=84 => record::read(c, s, d),
+            85..=98 => record::clear(d),
+            _ => record::COLLECT,
         });
     }
-    bytes
+    bytes(&operations)
 }
 
 /// Runs a history on a heap with unlimited counts beside it, record by record, and passes over the records that are refused.
@@ -258,7 +259,7 @@ fn held_against_unlimited(blocks: usize, width: usize, roots: usize, history: &[
         ..Unlimited::default()
     };
     let mut met = [0; 3];
-    for record in history.chunks(8) {
+    for record in history.chunks(RECORD) {
         run(
             blocks,
             &mut memory,
@@ -318,7 +319,7 @@ fn what_unlimited_counts_would_have_freed() {
 fn garbage_of_a_history() {
     let line = |shape, bytes: &[u8]| left_by_history(shape, bytes);
     // P6, P7: allocate 1 into 0, clear 0.
-    let p6 = [1, 0, 0, 0, 0, 0, 1, 0, 5, 0, 0, 0, 0, 0, 0, 0];
+    let p6 = bytes(&[record::allocate(1, 0), record::clear(0)]);
     assert_eq!(
         line([8, 1, 4], &p6).unwrap(),
         "1 1 1 0 1 1\n1 1 | 0 0 | 0 0\n"
@@ -329,7 +330,7 @@ fn garbage_of_a_history() {
     );
     for shape in [
         [12, 1, 4],
-        [16384, 1, 4],
+        [2 * MAX_BLOCKS, 1, 4],
         [8, 5, 4],
         [8, 0, 4],
         [8, 1, 0],
@@ -339,7 +340,7 @@ fn garbage_of_a_history() {
     }
     // The lines are those of the program, at its shape.
     for history in histories().iter().step_by(40) {
-        let text = left_by_history([8192, 3, 64], &history.bytes).unwrap();
+        let text = left_by_history([BLOCKS, WIDTH, ROOTS], &history.bytes).unwrap();
         assert_eq!(
             text.lines().next().unwrap(),
             model::history::report(&history.bytes).trim_end()
@@ -361,7 +362,7 @@ fn every_unreached_object_is_in_one_part() {
             .collect();
         let (blocks, width) = (fields[0][0], fields[0][1]);
         let bytes = |k: usize| fields[k].iter().map(|number| *number as u8).collect();
-        let words = |k: usize| fields[k].iter().map(|number| *number as u16).collect();
+        let words = |k: usize| fields[k].iter().map(|number| *number as Ref).collect();
         let memory = Memory {
             a: bytes(1),
             b: bytes(2),

@@ -7,7 +7,8 @@ use model::history::record::bytes;
 use model::history::record::short::{
     allocate, clear, copy, data, read, write, write_number, COLLECT,
 };
-use model::history::run::{new_heap, run_as_report, run_records, MOST_RECORDS};
+use model::history::record::RECORD;
+use model::history::run::{new_heap, run_as_report, run_records, BLOCKS, MOST_RECORDS, WIDTH};
 use model::history::vectors::all_but_the_longest;
 use model::history::{report, Record, Run};
 use model::lists::random::Random;
@@ -21,7 +22,7 @@ fn the_lines_of_document_02() {
     assert_eq!(report(&three), "3 6 3 0 6 0\n");
     // "`refused 5 at record 7`, say"
     let mut full = vec![COLLECT; 6];
-    full.extend([allocate(8192, 0), allocate(1, 1)]);
+    full.extend([allocate(4096, 0), allocate(1, 1)]);
     assert_eq!(report(&bytes(&full)), "refused 5 at record 7\n");
 }
 
@@ -37,7 +38,7 @@ fn what_a_stop_leaves() {
     for (number, record) in [
         (3, allocate(0, 0).record()),
         (4, allocate(1, 64).record()),
-        (5, allocate(8192, 2).record()),
+        (5, allocate(4096, 2).record()),
         (4, copy(0, 64).record()),
         (4, copy(64, 0).record()),
         (6, write(0, 0, 9).record()),
@@ -47,15 +48,27 @@ fn what_a_stop_leaves() {
         (4, clear(64).record()),
         (3, data(0, 0).record()),
         (4, data(1, 64).record()),
-        (5, data(8192, 2).record()),
+        (5, data(4096, 2).record()),
         (4, write_number(1, 0, 64).record()),
         (6, write_number(1, 0, 9).record()),
         (7, write_number(1, 8, 3).record()),
         (12, write_number(1, 0, 0).record()),
         (12, write(0, 0, 3).record()),
         (12, read(7, 3, 0).record()),
-        (9, Record::from_bytes([9, 0, 0, 0, 0, 0, 0, 0])),
-        (9, Record::from_bytes([6, 0, 0, 1, 0, 0, 0, 0])),
+        (
+            9,
+            Record {
+                operation: 9,
+                ..Record::default()
+            },
+        ),
+        (
+            9,
+            Record {
+                unused: 1,
+                ..COLLECT.record()
+            },
+        ),
     ] {
         let mut memory = new_heap();
         let so_far = run_as_report(&mut memory, Run::default(), &bytes(&before));
@@ -64,7 +77,7 @@ fn what_a_stop_leaves() {
         let mut figures = so_far.figures;
         if number == 5 {
             // It frees the 9 blocks, and counts, though the second try is refused too.
-            let reply = apply(8192, 3, &mut due, Call::Collect);
+            let reply = apply(BLOCKS, WIDTH, &mut due, Call::Collect);
             assert_eq!((reply.number, reply.value), (0, 9));
             figures.collections += 1;
         }
@@ -72,7 +85,7 @@ fn what_a_stop_leaves() {
         assert_eq!((stopped.number, stopped.records), (number, so_far.records));
         assert_eq!(stopped.figures, figures, "{record:?}");
         assert!(memory.same_but_for_waiting(&due), "{record:?}");
-        assert_eq!(memory.waiting, [0; 8192]);
+        assert_eq!(memory.waiting, [0; BLOCKS]);
         // Handed in again, it stays stopped.
         let again = run_as_report(&mut memory, stopped, &bytes(&[clear(0), COLLECT]));
         assert_eq!(again, stopped);
@@ -88,7 +101,7 @@ fn pieces_and_the_whole() {
     let mut random = Random::new(3);
     let mut cuts = 0;
     for history in all_but_the_longest() {
-        let records = history.bytes.len() / 8;
+        let records = history.bytes.len() / RECORD;
         if records > 2000 {
             continue;
         }
@@ -100,8 +113,8 @@ fn pieces_and_the_whole() {
             let mut rest = &history.bytes[..];
             while !rest.is_empty() {
                 // The last piece has the tail, if there is one.
-                let piece = 8 * random.below(rest.len() / 8 + 1);
-                let piece = if rest.len() - piece < 8 {
+                let piece = RECORD * random.below(rest.len() / RECORD + 1);
+                let piece = if rest.len() - piece < RECORD {
                     rest.len()
                 } else {
                     piece
@@ -135,12 +148,12 @@ fn the_limit() {
     let two = [one, one].concat();
     assert_eq!(ends(&two), (10, 4_294_967_295, 1));
     // A tail, or an unknown operation, past the limit: 10 too.
-    assert_eq!(ends(&two[..9]), (10, 4_294_967_295, 1));
-    let unknown = [one, [9; 8]].concat();
+    assert_eq!(ends(&two[..RECORD + 1]), (10, 4_294_967_295, 1));
+    let unknown = [one, [9; RECORD]].concat();
     assert_eq!(ends(&unknown), (10, 4_294_967_295, 1));
     // The last record that is allowed is refused for itself.
-    assert_eq!(ends(&[9; 8]), (9, 4_294_967_294, 0));
-    assert_eq!(ends(&[9; 7]), (10, 4_294_967_294, 0));
+    assert_eq!(ends(&[9; RECORD]), (9, 4_294_967_294, 0));
+    assert_eq!(ends(&[9; RECORD - 1]), (10, 4_294_967_294, 0));
     let line = run_as_report(&mut new_heap(), far, &two).line();
     assert_eq!(line, "refused 10 at record 4294967295\n");
 }

@@ -8,7 +8,7 @@ use model::history::{Record, Run};
 use model::lists::random::Random;
 use model::lists::runs::some_record;
 use model::rules::claims::{broken_claim, objects};
-use model::rules::heap::{bit, capacity, count, is_allocated, is_first_block, Memory};
+use model::rules::heap::{bit, capacity, count, is_allocated, is_first_block, Memory, Ref};
 use model::rules::list_claims::{before_letting_go, unduly_stuck, Step};
 use model::{apply, Call};
 
@@ -161,7 +161,7 @@ fn conditions(blocks: usize, memory: &Memory, record: Record) -> Vec<(usize, boo
         c as usize >= object.map_or(0, |object| 4 * object.1)
     };
     let is_data = |root: u8| holds(root) != 0 && bit(&memory.data, holds(root) - 1) == 1;
-    let nine = |fields: &[u16]| (9, unused != 0 || fields.iter().any(|field| *field != 0));
+    let nine = |fields: &[Ref]| (9, unused != 0 || fields.iter().any(|field| *field != 0));
     let roots = (4, out(d) || out(s));
     match operation {
         1 => vec![

@@ -2,8 +2,10 @@
 //! reading of the documents prints another line for one of them.
 
 mod common;
-use common::say;
-use model::history::run::{new_heap, BLOCKS, WIDTH};
+use common::{fresh, say};
+use model::history::old::{read_old, OLD_RECORD};
+use model::history::record::RECORD;
+use model::history::run::{BLOCKS, ROOTS, WIDTH};
 use model::history::vectors::{all_but_the_longest, histories, History};
 use model::history::{report, Record};
 use model::rules::calls::{apply_undamaged, Call};
@@ -25,7 +27,7 @@ fn names_say_what_is_printed() {
             "gives" => {
                 let number: usize = words[1].parse().unwrap();
                 // The last record, whole or cut off.
-                let record = (bytes.len() - 1) / 8;
+                let record = (bytes.len() - 1) / RECORD;
                 let due = format!("refused {number} at record {record}\n");
                 assert_eq!(line, due, "{name}");
                 given[number] += 1;
@@ -42,7 +44,7 @@ fn names_say_what_is_printed() {
     for number in [3, 4, 5, 6, 7, 9, 10, 12] {
         assert!(given[number] >= 4, "{number}: {}", given[number]);
     }
-    let records: usize = all.iter().map(|history| history.bytes.len() / 8).sum();
+    let records: usize = all.iter().map(|history| history.bytes.len() / RECORD).sum();
     say(&format!(
         "{} histories of {records} records, {printed} with their line in their name",
         all.len()
@@ -56,8 +58,8 @@ fn the_longest() {
     let [.., whole, refused] = &all[..] else {
         panic!("no histories");
     };
-    assert_eq!(whole.bytes.len(), 8 * 200_000);
-    assert_eq!(refused.bytes[..8 * 200_000], whole.bytes);
+    assert_eq!(whole.bytes.len(), RECORD * 200_000);
+    assert_eq!(refused.bytes[..RECORD * 200_000], whole.bytes);
     let line = report(&whole.bytes);
     let figures: Vec<usize> = line
         .split_whitespace()
@@ -65,7 +67,7 @@ fn the_longest() {
         .collect();
     let recorded = whole
         .bytes
-        .chunks(8)
+        .chunks(RECORD)
         .filter(|record| record[0] == 6)
         .count();
     assert!(recorded > 100 && figures[3] > recorded + 100, "{line}");
@@ -78,6 +80,11 @@ fn the_longest() {
 enum Wrong {
     Nothing,
     HighByteFirst,
+    RecordsOfEightBytes,
+    NumbersOfTwoBytes,
+    SizeFromByteSix,
+    SizeBeforeCell,
+    HeapOf8192Blocks,
     UnusedFieldNotLookedAt,
     Byte3NotLookedAt,
     UnknownOperationPassedOver,
@@ -120,8 +127,13 @@ enum Wrong {
     EmptyRootOfEight,
 }
 
-const WRONG: [Wrong; 41] = [
+const WRONG: [Wrong; 46] = [
     Wrong::HighByteFirst,
+    Wrong::RecordsOfEightBytes,
+    Wrong::NumbersOfTwoBytes,
+    Wrong::SizeFromByteSix,
+    Wrong::SizeBeforeCell,
+    Wrong::HeapOf8192Blocks,
     Wrong::UnusedFieldNotLookedAt,
     Wrong::Byte3NotLookedAt,
     Wrong::UnknownOperationPassedOver,
@@ -164,28 +176,57 @@ const WRONG: [Wrong; 41] = [
     Wrong::EmptyRootOfEight,
 ];
 
+/// A record of twelve bytes.
+fn read(wrong: Wrong, mut bytes: [u8; RECORD]) -> Record {
+    match wrong {
+        Wrong::HighByteFirst => {
+            bytes[4..8].reverse();
+            bytes[8..].reverse();
+        }
+        // Cell and size in two bytes each.
+        Wrong::NumbersOfTwoBytes => {
+            bytes[6..8].fill(0);
+            bytes[10..].fill(0);
+        }
+        Wrong::SizeFromByteSix => bytes.copy_within(6..10, 8),
+        Wrong::SizeBeforeCell => bytes[4..].rotate_left(4),
+        _ => {}
+    }
+    Record::from_bytes(bytes)
+}
+
 /// A run written once more, by the numbers of bytes and fields alone, with one thing wrong.
 struct Reading {
     wrong: Wrong,
     memory: Memory,
+    blocks: usize,
     /// Allocations, blocks, largest, collections, most in use, moments at which an object became stuck.
     figures: [usize; 6],
 }
 
 impl Reading {
     fn report(wrong: Wrong, history: &[u8]) -> String {
+        let blocks = match wrong {
+            Wrong::HeapOf8192Blocks => 8192,
+            _ => BLOCKS,
+        };
         let mut reading = Reading {
             wrong,
-            memory: new_heap(),
+            memory: fresh(blocks, WIDTH, ROOTS),
+            blocks,
             figures: [0; 6],
         };
         let from = usize::from(wrong == Wrong::CountedFromOne);
-        if wrong == Wrong::TenBeforeAllRecords && !history.len().is_multiple_of(8) {
-            return format!("refused 10 at record {}\n", history.len() / 8);
+        let length = match wrong {
+            Wrong::RecordsOfEightBytes => OLD_RECORD,
+            _ => RECORD,
+        };
+        if wrong == Wrong::TenBeforeAllRecords && !history.len().is_multiple_of(length) {
+            return format!("refused 10 at record {}\n", history.len() / length);
         }
-        for (k, bytes) in history.chunks(8).enumerate() {
+        for (k, bytes) in history.chunks(length).enumerate() {
             let number = match bytes.len() {
-                8 => reading.record(bytes),
+                whole if whole == length => reading.record(bytes),
                 _ if wrong == Wrong::TailPassedOver => 0,
                 _ if wrong == Wrong::NineInTheTail && !(1..=8).contains(&bytes[0]) => 9,
                 _ => 10,
@@ -200,12 +241,10 @@ impl Reading {
 
     fn record(&mut self, bytes: &[u8]) -> usize {
         let wrong = self.wrong;
-        let mut bytes: [u8; 8] = bytes.try_into().unwrap();
-        if wrong == Wrong::HighByteFirst {
-            bytes[4..6].reverse();
-            bytes[6..8].reverse();
-        }
-        let record = Record::from_bytes(bytes);
+        let record = match wrong {
+            Wrong::RecordsOfEightBytes => read_old(bytes.try_into().unwrap()),
+            _ => read(wrong, bytes.try_into().unwrap()),
+        };
         let known = (1..=8).contains(&record.operation);
         if wrong == Wrong::UnknownOperationPassedOver && !known {
             return 0;
@@ -235,11 +274,12 @@ impl Reading {
     }
 
     fn sample(&mut self) {
-        let in_use = BLOCKS - free_count(BLOCKS, &self.memory);
+        let in_use = self.blocks - free_count(self.blocks, &self.memory);
         let in_use = match self.wrong {
             Wrong::MostByTheChunk => {
-                let firsts = model::rules::heap::first_blocks(BLOCKS, &self.memory).into_iter();
-                let sizes = firsts.map(|first| size(BLOCKS, &self.memory, first));
+                let firsts =
+                    model::rules::heap::first_blocks(self.blocks, &self.memory).into_iter();
+                let sizes = firsts.map(|first| size(self.blocks, &self.memory, first));
                 sizes.map(least_power_of_two).sum()
             }
             _ => in_use,
@@ -268,7 +308,7 @@ impl Reading {
             }
             return Ok(Call::Allocate { n, r: d });
         }
-        if operation == 8 && self.wrong == Wrong::NumberIsASize && (n == 0 || n > BLOCKS) {
+        if operation == 8 && self.wrong == Wrong::NumberIsASize && (n == 0 || n > self.blocks) {
             return Err(3);
         }
         if operation == 6 {
@@ -287,7 +327,7 @@ impl Reading {
         let owner = if operation == 4 { holds(s) } else { holds(d) };
         let cells = match owner {
             0 => 0,
-            v => 4 * size(BLOCKS, &self.memory, v - 1),
+            v => 4 * size(self.blocks, &self.memory, v - 1),
         };
         let is_past = needed.is_some() && c as usize >= cells;
         let is_past = is_past && (self.wrong != Wrong::SevenNotInFour || operation != 4);
@@ -368,21 +408,22 @@ impl Reading {
             _ => (0, 0),
         };
         let was = named != 0
-            && is_stuck(before, named - 1)
+            && is_stuck(self.blocks, before, named - 1)
             && self.wrong != Wrong::StuckByEveryReferenceMore;
-        named != 0 && named != present && !was && is_stuck(&self.memory, named - 1)
+        named != 0 && named != present && !was && is_stuck(self.blocks, &self.memory, named - 1)
     }
 
     fn call(&mut self, call: Call, forced: bool) -> usize {
-        let free = free_count(BLOCKS, &self.memory);
+        let free = free_count(self.blocks, &self.memory);
         let before = self.memory.clone();
-        let reply = apply_undamaged(BLOCKS, WIDTH, &mut self.memory, call);
+        let reply = apply_undamaged(self.blocks, WIDTH, &mut self.memory, call);
         let accepted = reply.number == 0;
         self.figures[5] = match self.wrong {
             Wrong::StuckObjectsAtTheEnd => {
-                let firsts = model::rules::heap::first_blocks(BLOCKS, &self.memory).into_iter();
+                let firsts =
+                    model::rules::heap::first_blocks(self.blocks, &self.memory).into_iter();
                 firsts
-                    .filter(|first| is_stuck(&self.memory, *first))
+                    .filter(|first| is_stuck(self.blocks, &self.memory, *first))
                     .count()
             }
             Wrong::CollectionsForStuck => self.figures[3],
@@ -406,7 +447,7 @@ impl Reading {
                     _ => self.figures[2].max(n),
                 };
                 if self.wrong == Wrong::MostInsideARecord {
-                    self.figures[4] = self.figures[4].max(BLOCKS - free + n);
+                    self.figures[4] = self.figures[4].max(self.blocks - free + n);
                 }
             }
             Call::Collect => {
@@ -423,15 +464,15 @@ impl Reading {
     }
 }
 
-fn is_stuck(memory: &Memory, first: usize) -> bool {
+fn is_stuck(blocks: usize, memory: &Memory, first: usize) -> bool {
     use model::rules::heap::{capacity, count, is_first_block};
-    is_first_block(BLOCKS, memory, first) && count(BLOCKS, WIDTH, memory, first) == capacity(WIDTH)
+    is_first_block(blocks, memory, first) && count(blocks, WIDTH, memory, first) == capacity(WIDTH)
 }
 
 /// The histories that a wrong reading is tried on.
 fn tried() -> Vec<History> {
     let mut all = all_but_the_longest();
-    all.retain(|history| history.bytes.len() < 8 * 1000);
+    all.retain(|history| history.bytes.len() < RECORD * 1000);
     all
 }
 

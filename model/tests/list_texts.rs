@@ -37,7 +37,7 @@ fn each_line() {
         ("allocate data 2 into root 3", [9, 2, 3, 0]),
         ("write number 7 in cell 6 of the data at 5", [10, 5, 6, 7]),
         ("read number in cell 6 of the data at 5", [11, 5, 6, 0]),
-        ("words 10 5 6 65536", [10, 5, 6, 65_536]),
+        ("words 10 5 6 4294967296", [10, 5, 6, 1 << 32]),
         ("load 9 at 8 of data", [253, 7, 8, 9]),
         ("open collection", [12, 0, 0, 0]),
         ("step collection 5", [13, 5, 0, 0]),

@@ -14,7 +14,7 @@ use model::rules::calls::short::{
     allocate, cell, chosen, data, look, read_number, root, write_number,
 };
 use model::rules::damage::damage;
-use model::rules::heap::set_bit;
+use model::rules::heap::{set_bit, Ref, MAX_NUMBER};
 use model::rules::list_claims::{numbers_lost, Step};
 use model::{Call, Memory};
 use std::collections::BTreeSet;
@@ -66,12 +66,12 @@ fn a_birth_at_width_1() {
     assert_eq!(replies(1, &mut memory, &births), due);
 }
 
-/// "Its cells hold any 16-bit number": written, read, and nothing else changes.
+/// "Its cells hold any .. number", of 32 bits with U12: written, read, and nothing else changes.
 #[test]
 fn numbers_written_are_read() {
     let mut memory = both_kinds(2);
     memory.waiting.fill(9);
-    for v in [0, 1, 3, 9, 32_768, 65_535] {
+    for v in [0, 1, 3, 9, 65_535, 65_536, 1 << 31, MAX_NUMBER] {
         for j in 0..8 {
             let mut due = memory.clone();
             due.cells[8 + j] = v;
@@ -125,7 +125,15 @@ fn refusals_in_order() {
                 cell(2, 0, 1),
             ],
         ),
-        (8, &[cell(0, 7, 9), cell(0, 0, 2), cell(0, 0, 65_537)]),
+        (
+            8,
+            &[
+                cell(0, 7, 9),
+                cell(0, 0, 2),
+                cell(0, 0, 65_537),
+                cell(0, 0, (1 << 32) + 1),
+            ],
+        ),
     ] {
         for call in calls {
             let said = replies(2, &mut memory, &[*call]);
@@ -189,7 +197,7 @@ fn a_collection_goes_by_references() {
 fn data_is_kept_alive_by_cells() {
     let mut memory = both_kinds(2);
     let calls = [
-        write_number(2, 7, 65_535),
+        write_number(2, 7, MAX_NUMBER),
         cell(0, 3, 3),
         look(2),
         root(1, 0),
@@ -204,7 +212,7 @@ fn data_is_kept_alive_by_cells() {
         [0, 2, 2],
         [0, 0, 0],
         [0, 0, 0],
-        [0, 65_535, 0],
+        [0, MAX_NUMBER as usize, 0],
         [0, 2, 1],
         [0, 4, 0],
     ];
@@ -224,7 +232,7 @@ fn freed_data_leaves_nothing() {
     ] {
         let mut memory = both_kinds(width);
         for j in 0..8 {
-            replies(width, &mut memory, &[write_number(2, j, 1 + j as u16)]);
+            replies(width, &mut memory, &[write_number(2, j, 1 + j as Ref)]);
         }
         for [number, ..] in replies(width, &mut memory, end) {
             assert_eq!(number, 0);
@@ -241,7 +249,7 @@ fn damage_beside_data() {
         change(&mut memory);
         damage(N, 2, &memory)
     };
-    for v in [1, 2, 3, 9, 65_535] {
+    for v in [1, 2, 3, 9, MAX_NUMBER] {
         for place in 8..16 {
             assert_eq!(kind(&|m| m.cells[place] = v), 0);
         }
@@ -304,7 +312,7 @@ fn records() {
     let before = [record::allocate(2, 0), record::data(2, 1)];
     let line = |more: &[_]| report(&bytes(&[&before[..], more].concat()));
     for (more, due) in [
-        (record::write_number(65_535, 7, 1), "2 4 2 0 4 0\n"),
+        (record::write_number(MAX_NUMBER, 7, 1), "2 4 2 0 4 0\n"),
         (record::write_number(0, 0, 1), "2 4 2 0 4 0\n"),
         (record::write_number(1, 0, 64), "refused 4 at record 2\n"),
         (record::write_number(1, 8, 2), "refused 6 at record 2\n"),
@@ -315,26 +323,26 @@ fn records() {
         (record::read(8, 1, 0), "refused 7 at record 2\n"),
         (record::read(7, 1, 0), "refused 12 at record 2\n"),
         (record::data(0, 64), "refused 3 at record 2\n"),
-        (record::data(8193, 64), "refused 3 at record 2\n"),
-        (record::data(8192, 64), "refused 4 at record 2\n"),
-        (record::data(8192, 2), "refused 5 at record 2\n"),
-        (record::data(4096, 2), "3 4100 4096 0 4100 0\n"),
+        (record::data(4097, 64), "refused 3 at record 2\n"),
+        (record::data(4096, 64), "refused 4 at record 2\n"),
+        (record::data(4096, 2), "refused 5 at record 2\n"),
+        (record::data(2048, 2), "3 2052 2048 0 2052 0\n"),
         // Over what it holds itself: both stand for a moment inside the record, which no figure shows.
         (record::data(3, 1), "3 7 3 0 5 0\n"),
         (record::write(1, 7, 0), "2 4 2 0 4 0\n"),
     ] {
         assert_eq!(line(&[more]), due, "{more:?}");
     }
-    // Garbage of 4,096 blocks: a forced collection, and the second try.
+    // Garbage of 2,048 blocks: a forced collection, and the second try.
     let cycle = [
-        record::allocate(4096, 2),
+        record::allocate(2048, 2),
         record::write(2, 0, 2),
         record::clear(2),
-        record::data(4096, 3),
+        record::data(2048, 3),
     ];
-    assert_eq!(report(&bytes(&cycle)), "2 8192 4096 0 8192 0\n");
-    let forced = [&cycle[..], &[record::data(4096, 4)]].concat();
-    assert_eq!(report(&bytes(&forced)), "3 12288 4096 1 8192 0\n");
+    assert_eq!(report(&bytes(&cycle)), "2 4096 2048 0 4096 0\n");
+    let forced = [&cycle[..], &[record::data(2048, 4)]].concat();
+    assert_eq!(report(&bytes(&forced)), "3 6144 2048 1 4096 0\n");
 }
 
 /// At w = 1 an allocation of data is a moment of the sixth figure; a number write is none.

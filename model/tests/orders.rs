@@ -139,7 +139,7 @@ fn faulty(fault: Fault, memory: &mut Memory, shape: [usize; 2], call: Call, orde
             return reply;
         }
     };
-    let (place, v) = (written.0, written.1 as u16);
+    let (place, v) = (written.0, written.1 as Ref);
     let old = std::mem::replace(place, v);
     count_up(blocks, width, memory, v);
     let mut waiting = Vec::new();
@@ -173,7 +173,7 @@ fn count_down(
     times: usize,
     memory: &mut Memory,
     [blocks, width]: [usize; 2],
-    v: u16,
+    v: Ref,
     waiting: &mut Vec<usize>,
 ) {
     for _ in 0..times {

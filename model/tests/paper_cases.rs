@@ -3,6 +3,7 @@
 mod common;
 use common::{call_and_claims, say};
 use model::lists::paper::{cases, Step, BLOCKS, ROOTS};
+use model::rules::heap::{Ref, MAX_BLOCKS};
 use model::rules::replay::replay;
 use model::{apply, Call, Memory};
 
@@ -44,7 +45,8 @@ fn p1_to_p11() {
     ));
 }
 
-/// "N = 8,192 accepted by format; 4, 12 and 16,384 refused 1. w = 0 and 5 refused 1." And the roots beside.
+/// "N = 8,192 accepted by format; 4, 12 .. refused 1. w = 0 and 5 refused 1." Document 02, U12: "16,384 to 65,536 blocks are now
+/// accepted and 131,072 is refused 1." And the roots beside.
 #[test]
 fn formats_accepted_and_refused() {
     let mut formats = 0;
@@ -60,12 +62,12 @@ fn formats_accepted_and_refused() {
         formats += 1;
         reply.number
     };
-    for blocks in [8, 16, 32, 64, 128, 256, 512, 1024, 2048, 4096, 8192] {
+    for blocks in (3..=16).map(|power| 1 << power) {
         for width in 1..=4 {
             assert_eq!(number(blocks, width, 4), 0, "{blocks} {width}");
         }
     }
-    for blocks in [4, 12, 16_384, 0, 1, 2, 7, 9, 24, 8191, 8193] {
+    for blocks in [4, 12, 131_072, 0, 1, 2, 7, 9, 24, 65_535, 65_537, 98_304] {
         assert_eq!(number(blocks, 2, 4), 1, "{blocks}");
     }
     for width in [0, 5, 8] {
@@ -90,7 +92,7 @@ const EVERY_CALL: [Call; 9] = [
     Call::ReturnRoots { chosen: 16 },
 ];
 
-/// "16,384 refused 1": by every call and by a replay, with buffers that fit. 8,192 is not.
+/// "131,072 is refused 1": by every call and by a replay, with buffers that fit. 65,536 is not.
 #[test]
 fn too_many_blocks_in_every_call() {
     let heap = |blocks, width| {
@@ -100,8 +102,8 @@ fn too_many_blocks_in_every_call() {
         memory
     };
     let mut refused = 0;
-    for (blocks, width) in (1..=4).flat_map(|width| [(8192, width), (16_384, width)]) {
-        let due = blocks > 8192;
+    for (blocks, width) in (1..=4).flat_map(|width| [(65_536, width), (131_072, width)]) {
+        let due = blocks > 65_536;
         for call in EVERY_CALL {
             let mut memory = heap(blocks, width);
             let reply = apply(blocks, width, &mut memory, call);
@@ -123,7 +125,7 @@ fn too_many_blocks_in_every_call() {
         assert_eq!(reply.number == 1, due, "{blocks} {width}, a replay");
         assert_eq!(memory == heap(blocks, width), due);
     }
-    say(&format!("{refused} calls on 16,384 blocks, all refused 1"));
+    say(&format!("{refused} calls on 131,072 blocks, all refused 1"));
 }
 
 /// A wrong length of any buffer is refused 1 by each of the calls, and so are N and w themselves.
@@ -195,14 +197,14 @@ fn an_owner_freed_by_its_own_store() {
 /// A chain over the whole of the largest heap is let go by one store.
 #[test]
 fn the_longest_chain() {
-    let blocks = 8192;
+    let blocks = MAX_BLOCKS;
     let mut memory = Memory::zeros(blocks, 2, 1);
     memory.a.fill(255);
     memory.counts[..blocks / 8].fill(255);
     for block in 1..blocks {
-        memory.cells[4 * block] = block as u16;
+        memory.cells[4 * block] = block as Ref;
     }
-    memory.roots[0] = blocks as u16;
+    memory.roots[0] = blocks as Ref;
     assert_eq!(apply(blocks, 2, &mut memory, Call::Check).number, 0);
     let reply = apply(blocks, 2, &mut memory, Call::StoreRoot { r: 0, v: 0 });
     assert_eq!((reply.number, reply.value), (0, blocks));

@@ -13,6 +13,7 @@ use model::lists::random::Random;
 use model::lists::runs::{some_records, some_run};
 use model::lists::section_lists::sections;
 use model::product::port::{self, lend, Searched, SoFar, Tally};
+use model::rules::heap::Ref;
 use model::rules::replay::replay;
 use model::rules::sections::leave_list_true;
 use model::{apply, Call, Memory};
@@ -237,7 +238,7 @@ fn search_by_sections(a: &[u8], size: usize) -> Searched {
 }
 
 /// The list of sections of a map, by the port.
-fn true_list(a: &[u8]) -> Vec<u16> {
+fn true_list(a: &[u8]) -> Vec<Ref> {
     let mut list = vec![port::UNKNOWN; BLOCKS / 256];
     port::renew(BLOCKS, a, &mut list);
     list

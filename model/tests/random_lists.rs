@@ -6,6 +6,7 @@ use model::lists::families::{generate, FAMILIES};
 use model::lists::file::{Bench, Entry};
 use model::lists::generate::Desk;
 use model::lists::random::Random;
+use model::rules::heap::Ref;
 use model::{apply, Call};
 
 #[test]
@@ -105,7 +106,7 @@ fn nothing_depends_on_the_waiting_list() {
         desk.bench.memory = fresh(16, width, 3);
         for _ in 0..100 {
             let mut rubbish = desk.bench.memory.clone();
-            rubbish.waiting.fill_with(|| desk.random.word() as u16);
+            rubbish.waiting.fill_with(|| desk.random.word() as Ref);
             let waiting = rubbish.waiting.clone();
             let call = desk.some_call();
             let reply = apply(16, width, &mut rubbish, call);

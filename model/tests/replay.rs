@@ -43,7 +43,7 @@ fn refusals_in_order() {
     let numbers = [1, 10, 9, 18];
     for faults in 0..16 {
         let has = |k: usize| faults >> k & 1 == 1;
-        let blocks = if has(0) { 16_384 } else { 8 };
+        let blocks = if has(0) { 131_072 } else { 8 };
         let mut list = words(&[Call::Check, Call::Collect]);
         if has(1) {
             list.push(0);
@@ -74,9 +74,9 @@ fn what_is_no_call() {
         ([12, most, most, most], 0),
         ([13, most, most, most], 0),
         // A number write whose number no cell can hold; and the words that the others don't name.
-        ([10, 0, 0, 65_536], 9),
+        ([10, 0, 0, 4_294_967_296], 9),
         ([10, 0, 0, most], 9),
-        ([10, most, most, 65_535], 0),
+        ([10, most, most, 4_294_967_295], 0),
         ([9, most, most, most], 0),
         ([11, most, most, most], 0),
         ([253, 0, 0, 0], 9),
@@ -100,7 +100,10 @@ fn a_value_that_no_cell_can_hold() {
     let list = words(&[
         Call::Allocate { n: 1, r: 0 },
         Call::StoreRoot { r: 1, v: 1 << 40 },
-        Call::StoreRoot { r: 1, v: 65_537 },
+        Call::StoreRoot {
+            r: 1,
+            v: (1 << 32) + 1,
+        },
         Call::StoreCell {
             a: 0,
             j: 0,

@@ -4,7 +4,7 @@ mod common;
 use common::{call_and_claims, fresh, say};
 use model::lists::random::Random;
 use model::rules::calls::short::{allocate, cell, chosen, look, root};
-use model::rules::heap::{section_count, set_bit, set_count};
+use model::rules::heap::{section_count, set_bit, set_count, Ref, MAX_NUMBER};
 use model::rules::section_claims::{other_address, untrue_list};
 use model::rules::sections::leave_list_true;
 use model::{Call, Memory};
@@ -21,7 +21,7 @@ fn made(blocks: usize, calls: &[Call]) -> (Vec<(usize, usize)>, Memory) {
 }
 
 /// The list that accepted calls leave.
-fn list(blocks: usize, calls: &[Call]) -> Vec<u16> {
+fn list(blocks: usize, calls: &[Call]) -> Vec<Ref> {
     let (replies, memory) = made(blocks, calls);
     assert!(replies.iter().all(|reply| reply.0 == 0), "{replies:?}");
     memory.sections
@@ -37,10 +37,11 @@ fn formats() {
         (512, vec![256; 2]),
         (1024, vec![256; 4]),
         (8192, vec![256; 32]),
+        (65_536, vec![256; 256]),
     ] {
         let mut memory = Memory::zeros(blocks, 2, 8);
         assert_eq!(memory.sections.len(), due.len());
-        for rubbish in [0, 7, 65_535] {
+        for rubbish in [0, 7, MAX_NUMBER] {
             memory.sections.fill(rubbish);
             let reply = call_and_claims(blocks, 2, &mut memory, Call::Format);
             assert_eq!((reply.number, reply.value), (0, 0));
@@ -83,8 +84,10 @@ fn figures_by_hand() {
 fn all_maps_of_sixteen_blocks() {
     let mut memory = fresh(16, 1, 1);
     let mut met = [0; 17];
-    for map in 0..=u16::MAX {
-        memory.a.copy_from_slice(&map.to_le_bytes());
+    for map in 0..256 * 256 {
+        memory
+            .a
+            .copy_from_slice(&[(map % 256) as u8, (map / 256) as u8]);
         leave_list_true(16, &mut memory);
         assert_eq!(untrue_list(16, &memory), None);
         assert_eq!(other_address(16, &memory), None);
@@ -204,7 +207,7 @@ fn put_object(blocks: usize, memory: &mut Memory, first: usize, n: usize, r: usi
     (first..first + n).for_each(|i| set_bit(&mut memory.a, i, 1));
     set_bit(&mut memory.b, first + n - 1, 0);
     set_count(blocks, 2, memory, first, 1);
-    memory.roots[r] = 1 + first as u16;
+    memory.roots[r] = 1 + first as Ref;
     leave_list_true(blocks, memory);
 }
 
@@ -279,7 +282,7 @@ fn untrue_by_one_in_every_call() {
     for (blocks, n) in [(8, 2), (128, 100), (256, 7), (512, 300), (8192, 5000)] {
         let sound = made(blocks, &[allocate(n, 0)]).1;
         for k in 0..section_count(blocks) {
-            for by in [1, u16::MAX] {
+            for by in [1, Ref::MAX] {
                 let mut untrue = sound.clone();
                 untrue.sections[k] = sound.sections[k].wrapping_add(by);
                 untrue.waiting.fill(9);

@@ -6,6 +6,7 @@ use model::lists::generate::Desk;
 use model::lists::output_vectors::heaps;
 use model::lists::random::Random;
 use model::rules::calls::short::{allocate, cell, chosen, data, root, step, write_number, OPEN};
+use model::rules::heap::{MAX_BLOCKS, MAX_NUMBER};
 use model::rules::outputs;
 use model::rules::shapes::{can_be_paired, shape};
 use model::{apply, Call, Memory};
@@ -26,7 +27,7 @@ fn heap(blocks: usize, width: usize, roots: usize, calls: &[Call]) -> Memory {
 #[test]
 fn a_formatted_heap_is_its_roots() {
     assert_eq!(shape(8, &fresh(8, 2, 4)), [4, 0, 0, 0, 0]);
-    assert_eq!(shape(8192, &fresh(8192, 4, 1)), [1, 0]);
+    assert_eq!(shape(MAX_BLOCKS, &fresh(MAX_BLOCKS, 4, 1)), [1, 0]);
 }
 
 /// Number of roots, roots, then size, D bit and cells of each object.
@@ -40,13 +41,13 @@ fn the_layout_of_the_list() {
             data(1, 1),
             allocate(2, 3),
             write_number(0, 0, 3),
-            write_number(0, 3, 65_535),
+            write_number(0, 3, MAX_NUMBER),
             cell(2, 7, 1),
             cell(2, 0, 3),
         ],
     );
     let roots = [4, 0, 1, 0, 2];
-    let first = [1, 1, 3, 0, 0, 65_535];
+    let first = [1, 1, 3, 0, 0, MAX_NUMBER];
     let second = [2, 0, 2, 0, 0, 0, 0, 0, 0, 1];
     assert_eq!(shape(8, &memory), [&roots[..], &first, &second].concat());
 }
@@ -276,16 +277,16 @@ fn equal_lists_and_pairings_agree() {
 
 /// The same objects on 32 blocks, in another order, each at a multiple of two or four blocks. (Counts and sections aren't made.)
 fn elsewhere(memory: &Memory, random: &mut Random) -> Memory {
-    use model::rules::heap::{first_blocks, is_data, set_bit, size};
+    use model::rules::heap::{first_blocks, is_data, set_bit, size, Ref};
     let mut moved = fresh(32, 2, memory.roots.len());
     let mut objects = first_blocks(8, memory);
     for k in (1..objects.len()).rev() {
         objects.swap(k, random.below(k + 1));
     }
-    let mut new = [0u16; 9];
+    let mut new: [Ref; 9] = [0; 9];
     let mut next = 0;
     for first in &objects {
-        new[1 + first] = 1 + next as u16;
+        new[1 + first] = 1 + next as Ref;
         next += size(8, memory, *first).next_power_of_two().max(2);
     }
     for first in &objects {

@@ -17,6 +17,7 @@ use model::rules::calls::short::{
     allocate, cell, chosen, data, look, read_number, root, step, write_number, OPEN,
 };
 use model::rules::claims::broken_claim;
+use model::rules::heap::Ref;
 use model::rules::step_claims::{follow, Opened};
 use model::{apply, Call, Memory};
 use std::collections::{BTreeMap, BTreeSet};
@@ -44,7 +45,7 @@ fn after(width: usize, calls: &[Call]) -> Memory {
 }
 
 /// The mark map, and the list without the 0s that are behind, its last place apart.
-fn marks_and_list(memory: &Memory) -> (u8, Vec<u16>, u16) {
+fn marks_and_list(memory: &Memory) -> (u8, Vec<Ref>, Ref) {
     let mut list = memory.list[..N].to_vec();
     while list.last() == Some(&0) {
         list.pop();
@@ -74,7 +75,7 @@ fn garbage() -> Vec<Call> {
 }
 
 /// A heap, then one call: its reply, and what it leaves of marks and list.
-fn tried(width: usize, before: &[Call], call: Call) -> ([usize; 3], (u8, Vec<u16>, u16)) {
+fn tried(width: usize, before: &[Call], call: Call) -> ([usize; 3], (u8, Vec<Ref>, Ref)) {
     let mut memory = after(width, before);
     let reply = replies(width, &mut memory, &[call])[0];
     (reply, marks_and_list(&memory))
@@ -153,7 +154,7 @@ fn budgets() {
     ] {
         let (reply, marks) = tried(2, &open, step(budget));
         assert_eq!(reply, [0, steps, 0]);
-        assert_eq!(marks.2, u16::from(!is_closed));
+        assert_eq!(marks.2, Ref::from(!is_closed));
     }
     assert_eq!(tried(2, &[OPEN], step(0)), ([0, 0, 0], (0, vec![], 1)));
     assert_eq!(tried(2, &[OPEN], step(1)), ([0, 0, 0], (0, vec![], 0)));

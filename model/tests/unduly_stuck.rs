@@ -42,7 +42,7 @@ const WRONG: [Heap; 7] = [
 
 impl Heap {
     /// Whether it tests for the value present in this store.
-    fn tests(self, in_root: bool, v: u16) -> bool {
+    fn tests(self, in_root: bool, v: Ref) -> bool {
         match self {
             Heap::NoTest | Heap::CountedUpOnly => false,
             Heap::TestInRootsOnly => in_root,
@@ -62,11 +62,11 @@ impl Heap {
         match call {
             Call::StoreRoot { r, v } => {
                 *memory = before;
-                self.store(blocks, width, memory, (true, r), v as u16)
+                self.store(blocks, width, memory, (true, r), v as Ref)
             }
             Call::StoreCell { a, j, v } => {
                 *memory = before;
-                self.store(blocks, width, memory, (false, 4 * a + j), v as u16)
+                self.store(blocks, width, memory, (false, 4 * a + j), v as Ref)
             }
             Call::Collect if self == Heap::CollectionGivesOneMore => {
                 for (first, _) in objects(blocks, memory) {
@@ -86,7 +86,7 @@ impl Heap {
         width: usize,
         memory: &mut Memory,
         (in_root, index): (bool, usize),
-        v: u16,
+        v: Ref,
     ) -> Reply {
         let free = free_count(blocks, memory);
         let list = if in_root {
@@ -215,7 +215,7 @@ fn the_claim_is_false_counted_after_the_call() {
     assert_eq!((last.reply.number, last.reply.value), (0, 1));
     assert_eq!(count(8, 2, &last.after, 1), 3);
     assert_eq!(
-        model::rules::counting::references(&last.after.cells, &last.after, 1),
+        model::rules::counting::references(8, &last.after.cells, &last.after)[1],
         2
     );
     assert_eq!(unduly_stuck(8, 2, &steps, before_letting_go), None);

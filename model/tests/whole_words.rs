@@ -1,4 +1,4 @@
-//! v is a whole word: 8 where it is neither 0 nor 1 + a first block, and never what is left of it in 16 bits.
+//! v is a whole word: 8 where it is neither 0 nor 1 + a first block, and never what is left of it in 32 bits, or in 16.
 
 mod common;
 use common::{call_and_claims, fresh, say};
@@ -7,13 +7,18 @@ use model::{apply, Call, Memory, Reply};
 
 /// 0, good names and bad ones, and the same with higher bits set.
 fn values() -> Vec<usize> {
-    let low = [0, 1, 2, 3, 5, 8, 9, 65_535];
+    let low = [0, 1, 2, 3, 5, 8, 9, 65_535, 4_294_967_295];
     let above = [0, 1 << 16, 1 << 17, 1 << 31, 1 << 32, 1 << 40, 1 << 63];
     let mut values: Vec<usize> = above
         .iter()
         .flat_map(|above| low.map(|low| above + low))
         .collect();
-    values.extend([usize::MAX, usize::MAX - 1, usize::MAX - 65_535]);
+    values.extend([
+        usize::MAX,
+        usize::MAX - 1,
+        usize::MAX - 65_535,
+        usize::MAX - 4_294_967_295,
+    ]);
     values
 }
 
@@ -58,11 +63,12 @@ fn every_value_is_taken_whole() {
     ));
 }
 
-/// A store that cuts v down before it tests it.
-fn narrowing(memory: &mut Memory, call: Call) -> Reply {
+/// A store that cuts v down to so many bits before it tests it.
+fn narrowing(bits: u32, memory: &mut Memory, call: Call) -> Reply {
+    let narrow = |v: usize| v % (1 << bits);
     let narrow = match call {
-        Call::StoreRoot { r, v } => root(r, v as u16 as usize),
-        Call::StoreCell { a, j, v } => cell(a, j, v as u16 as usize),
+        Call::StoreRoot { r, v } => root(r, narrow(v)),
+        Call::StoreCell { a, j, v } => cell(a, j, narrow(v)),
         other => other,
     };
     apply(8, 2, memory, narrow)
@@ -70,12 +76,19 @@ fn narrowing(memory: &mut Memory, call: Call) -> Reply {
 
 #[test]
 fn cutting_v_down_is_told_apart() {
-    for call in [root(1, 65_537), cell(0, 0, (1 << 32) + 1), root(0, 65_536)] {
+    for (bits, call) in [
+        (16, root(1, 65_537)),
+        (16, cell(0, 0, (1 << 32) + 1)),
+        (16, root(0, 65_536)),
+        (32, root(1, (1 << 32) + 1)),
+        (32, cell(0, 0, (1 << 40) + 1)),
+        (32, root(0, 1 << 32)),
+    ] {
         let (mut right, mut wrong) = (two_objects(), two_objects());
         assert_eq!(apply(8, 2, &mut right, call).number, 8);
         assert_eq!(right, two_objects());
-        assert_eq!(narrowing(&mut wrong, call).number, 0);
+        assert_eq!(narrowing(bits, &mut wrong, call).number, 0);
         assert_ne!(wrong, right);
     }
-    say("wrong reading: v cut down to 16 bits before it is tested");
+    say("wrong reading: v cut down to 16 bits, and to 32, before it is tested");
 }

@@ -135,7 +135,7 @@ impl Heap<'_> {
     }
 
     /// The first block that a number names, if it names one.
-    fn named(&self, v: u16) -> Option<usize> {
+    fn named(&self, v: Ref) -> Option<usize> {
         named(self.blocks, self.memory, v)
     }
 
@@ -276,7 +276,7 @@ impl Heap<'_> {
     }
 
     fn count_up(&mut self, v: usize) -> bool {
-        let Some(first) = u16::try_from(v).ok().and_then(|v| self.named(v)) else {
+        let Some(first) = Ref::try_from(v).ok().and_then(|v| self.named(v)) else {
             return false;
         };
         let (blocks, width) = (self.blocks, self.width);
@@ -287,7 +287,7 @@ impl Heap<'_> {
         now + 1 == capacity(width)
     }
 
-    fn let_go(&mut self, v: u16) {
+    fn let_go(&mut self, v: Ref) {
         let (blocks, width) = (self.blocks, self.width);
         let Some(first) = self.named(v) else {
             return;
@@ -383,7 +383,7 @@ impl Heap<'_> {
         for i in first..first + marked {
             set_bit(&mut self.memory.data, i, u8::from(as_data));
         }
-        let old = std::mem::replace(&mut self.memory.roots[r], 1 + first as u16);
+        let old = std::mem::replace(&mut self.memory.roots[r], 1 + first as Ref);
         self.let_go(old);
         let born_stuck = width == 1 && !(as_data && self.is(Wrong::NoBirthOfData));
         reply(0, first, usize::from(born_stuck))
@@ -401,8 +401,8 @@ impl Heap<'_> {
         let before = self.free();
         let stuck = self.count_up(v);
         match in_root {
-            true => self.memory.roots[place] = v as u16,
-            false => self.memory.cells[place] = v as u16,
+            true => self.memory.roots[place] = v as Ref,
+            false => self.memory.cells[place] = v as Ref,
         }
         self.let_go(old);
         reply(0, self.free() - before, usize::from(stuck))

@@ -197,7 +197,7 @@ fn counting_from_unreached_objects() {
             2,
             &mut wrong,
             first,
-            references(&before.cells, &before, first).min(3),
+            references(N, &before.cells, &before)[first].min(3),
         );
     }
     erase(N, 2, &mut wrong, 1);
@@ -247,7 +247,7 @@ fn letting_go_once_for_two_equal_cells() {
     run(3, &mut right, &[root(1, 0)]);
     let mut wrong = right.clone();
     assert_eq!(run(3, &mut right, &[root(0, 0)]), [2]);
-    let names: std::collections::BTreeSet<u16> = wrong.cells[0..4].iter().copied().collect();
+    let names: std::collections::BTreeSet<Ref> = wrong.cells[0..4].iter().copied().collect();
     wrong.roots[0] = 0;
     erase(N, 3, &mut wrong, 0);
     for v in names.into_iter().filter(|v| *v != 0) {

@@ -80,7 +80,7 @@ fn refused(number: usize) -> Reply {
 
 impl Wrong {
     /// What this heap takes for the figure of section k.
-    fn figure(self, blocks: usize, memory: &Memory, k: usize) -> u16 {
+    fn figure(self, blocks: usize, memory: &Memory, k: usize) -> Ref {
         let right = figures(blocks, memory)[k];
         let length = section_length(blocks);
         let free = |i: usize| !is_allocated(memory, i);
@@ -89,7 +89,7 @@ impl Wrong {
             Wrong::StretchFromTheStart => {
                 let blocks = k * length..(k + 1) * length;
                 let stretch = blocks.take_while(|i| free(*i)).count();
-                (1 << stretch.max(1).ilog2()) * u16::from(stretch > 0)
+                (1 << stretch.max(1).ilog2()) * Ref::from(stretch > 0)
             }
             Wrong::FigureOneTooLarge => right + 1,
             Wrong::FigureOneTooSmall => right.saturating_sub(1),
@@ -97,7 +97,7 @@ impl Wrong {
         }
     }
 
-    fn figures(self, blocks: usize, memory: &Memory) -> Vec<u16> {
+    fn figures(self, blocks: usize, memory: &Memory) -> Vec<Ref> {
         let sections = 0..section_count(blocks);
         sections.map(|k| self.figure(blocks, memory, k)).collect()
     }
@@ -117,7 +117,7 @@ impl Wrong {
         if s > length && self != Wrong::LongSizesInASection {
             return lowest_free_chunk_between(memory, 0, blocks, s);
         }
-        let suffices = |figure: &u16| match self {
+        let suffices = |figure: &Ref| match self {
             Wrong::FigureMustExceed => *figure as usize > s,
             _ => *figure as usize >= s,
         };
@@ -211,7 +211,7 @@ impl Wrong {
         call: Call,
         reply: Reply,
         after: &Memory,
-    ) -> Vec<u16> {
+    ) -> Vec<Ref> {
         let mut due = self.figures(blocks, after);
         match (self, call) {
             (
@@ -241,7 +241,7 @@ impl Wrong {
 }
 
 /// The length of the longest stretch of free blocks.
-fn longest(blocks: std::ops::Range<usize>, free: impl Fn(usize) -> bool) -> u16 {
+fn longest(blocks: std::ops::Range<usize>, free: impl Fn(usize) -> bool) -> Ref {
     let (mut longest, mut now) = (0, 0);
     for i in blocks {
         now = if free(i) { now + 1 } else { 0 };
@@ -267,7 +267,7 @@ fn place(
     // What a root held is marked already.
     let born_marked = memory.list[blocks] == 1;
     set_bit(&mut memory.marks, first, u8::from(born_marked));
-    let old = std::mem::replace(&mut memory.roots[r], 1 + first as u16);
+    let old = std::mem::replace(&mut memory.roots[r], 1 + first as Ref);
     release(blocks, width, memory, old, &mut longest_waiting);
     memory.waiting.fill(0);
     Reply {

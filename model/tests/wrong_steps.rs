@@ -154,14 +154,14 @@ impl Heap<'_> {
     }
 
     /// Writes the map, the list in this order, and its last place.
-    fn write(&mut self, marked: &Firsts, listed: &[usize], last: u16) {
+    fn write(&mut self, marked: &Firsts, listed: &[usize], last: Ref) {
         self.memory.marks.fill(0);
         for first in marked {
             set_bit(&mut self.memory.marks, *first, 1);
         }
         self.memory.list.fill(0);
         for (place, first) in self.memory.list.iter_mut().zip(listed) {
-            *place = (1 + first) as u16;
+            *place = (1 + first) as Ref;
         }
         self.memory.list[self.blocks] = last;
     }
@@ -175,7 +175,7 @@ impl Heap<'_> {
         cells.iter().filter_map(|v| self.named(*v)).collect()
     }
 
-    fn named(&self, v: u16) -> Option<usize> {
+    fn named(&self, v: Ref) -> Option<usize> {
         named(self.blocks, self.memory, v)
     }
 
@@ -291,7 +291,7 @@ impl Heap<'_> {
         if self.is(Wrong::OpeningClearsTheWaitingList) {
             self.memory.waiting.fill(0);
         }
-        let last = u16::from(!self.is(Wrong::OpensNone));
+        let last = Ref::from(!self.is(Wrong::OpensNone));
         self.write(&marked, &listed, last);
         reply(0, 0, 0)
     }
@@ -486,7 +486,7 @@ impl Heap<'_> {
     /// Owner, old and new object, where the store marks them. What is born is not among them.
     fn met(&self, before: &Memory, call: Call, written: &Memory) -> Firsts {
         let all = touched(before, call, written);
-        let object = |v: u16| named(self.blocks, before, v);
+        let object = |v: Ref| named(self.blocks, before, v);
         let (owner, old, new) = match call {
             Call::StoreCell { a, j, .. } => {
                 let place = 4 * a + j;

@@ -1,6 +1,8 @@
-//! Runs a program on all histories, by file and through a pipe in pieces, and holds what it prints against the model's
-//! lines.
+//! Runs a program on all histories, by file and through a pipe in pieces, and holds what it prints against the model: the line of the
+//! program `report`, or the bytes of the program `widen` and then the line of what it widened.
 
+use super::old::{report_old, widened};
+use super::record::RECORD;
 use super::run::report;
 use super::vectors::History;
 use std::fmt;
@@ -19,13 +21,19 @@ pub enum Way {
     Pieces(usize),
 }
 
-pub const WAYS: [Way; 5] = [
-    Way::File,
-    Way::Pieces(1),
-    Way::Pieces(7),
-    Way::Pieces(8),
-    Way::Pieces(65_535),
-];
+/// All ways for a history that isn't long; a long one takes too long in pieces of few bytes.
+pub fn ways(history: &[u8]) -> Vec<Way> {
+    let mut ways = vec![Way::File, Way::Pieces(65_535)];
+    if history.len() <= LONG {
+        ways.extend([1, 7, 8, RECORD].map(Way::Pieces));
+    } else {
+        ways.push(Way::Pieces(1_048_577));
+    }
+    ways
+}
+
+/// The length above which a history is long, in bytes.
+const LONG: usize = 200_000;
 
 impl fmt::Display for Way {
     fn fmt(&self, to: &mut fmt::Formatter) -> fmt::Result {
@@ -57,24 +65,54 @@ impl Checked {
         );
         lines
     }
+
+    /// Runs a program on a history in each of the ways.
+    fn run(&mut self, program: &[&str], name: &str, bytes: &[u8], due: &[u8]) -> io::Result<()> {
+        let file = Scratch::new()?;
+        fs::write(&file.0, bytes)?;
+        for way in ways(bytes) {
+            let output = run(program, &file.0, bytes, way)?;
+            self.runs += 1;
+            if let Some(difference) = difference(due, &output) {
+                self.differences
+                    .push(format!("{name}, {way}: {difference}"));
+            }
+        }
+        Ok(())
+    }
 }
 
 /// Runs a program, with its arguments, on each of the histories in each of the ways. An error is one of starting it.
 pub fn check(program: &[&str], histories: &[History]) -> io::Result<Checked> {
     let mut checked = Checked::default();
-    let file = Scratch::new()?;
-    for history in histories {
-        let due = report(&history.bytes);
-        fs::write(&file.0, &history.bytes)?;
+    for History { name, bytes } in histories {
         checked.histories += 1;
-        for way in WAYS {
-            let output = run(program, &file.0, &history.bytes, way)?;
+        checked.run(program, name, bytes, report(bytes).as_bytes())?;
+    }
+    Ok(checked)
+}
+
+/// Runs a program that widens on each of the old histories in each of the ways. Then the program `report`, once on what was widened:
+/// "the widened one must print the line the old form gives on a heap of that size"; and once on the old history as it is.
+pub fn check_widening(
+    widen: &[&str],
+    report_program: &[&str],
+    old: &[History],
+) -> io::Result<Checked> {
+    let mut checked = Checked::default();
+    let file = Scratch::new()?;
+    for History { name, bytes } in old {
+        checked.histories += 1;
+        let wide = widened(bytes);
+        checked.run(widen, name, bytes, &wide)?;
+        for (bytes, line) in [(&wide, report_old(bytes)), (bytes, report(bytes))] {
+            fs::write(&file.0, bytes)?;
+            let output = run(report_program, &file.0, bytes, Way::File)?;
             checked.runs += 1;
-            if let Some(difference) = difference(&due, &output) {
-                let name = &history.name;
+            if let Some(difference) = difference(line.as_bytes(), &output) {
                 checked
                     .differences
-                    .push(format!("{name}, {way}: {difference}"));
+                    .push(format!("{name}, its line: {difference}"));
             }
         }
     }
@@ -131,12 +169,22 @@ fn write_pieces(mut stdin: ChildStdin, bytes: &[u8], length: usize) -> io::Resul
     Ok(())
 }
 
-/// What is wrong with what was printed. The exit status is not looked at, but that there is one.
-fn difference(due: &str, output: &Output) -> Option<String> {
+/// What is wrong with what was printed: all of a line, of more bytes those from the first difference on. The exit status is not looked
+/// at, but that there is one.
+fn difference(due: &[u8], output: &Output) -> Option<String> {
     if output.status.code().is_none() {
         return Some(format!("ended by {}", output.status));
     }
-    let printed = String::from_utf8_lossy(&output.stdout);
-    let begin: String = printed.chars().take(100).collect();
-    (printed != due).then(|| format!("printed {begin:?}, due {due:?}"))
+    let printed = &output.stdout;
+    let both = printed.iter().zip(due);
+    let place = both.take_while(|(one, other)| one == other).count();
+    let from = if place < 100 { 0 } else { place };
+    let some = |bytes: &[u8]| {
+        let bytes = &bytes[from..bytes.len().min(from + 100)];
+        String::from_utf8_lossy(bytes).to_string()
+    };
+    (printed != due).then(|| {
+        let (found, due) = (some(printed), some(due));
+        format!("printed {found:?}, due {due:?}, from byte {from} on")
+    })
 }

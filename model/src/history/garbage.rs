@@ -3,7 +3,9 @@
 use super::run::{run_records, Run};
 use crate::rules::calls::{apply, Call};
 use crate::rules::collection::reached;
-use crate::rules::heap::{capacity, count, first_blocks, named, reference_places, size, Memory};
+use crate::rules::heap::{
+    capacity, count, first_blocks, named, reference_places, size, Memory, MAX_BLOCKS,
+};
 use std::collections::{BTreeMap, BTreeSet};
 
 /// The first blocks of the objects that no root reaches. README.md, "How many count bits are enough", has the words quoted.
@@ -84,7 +86,7 @@ impl Garbage {
 /// The line of a history on a new heap of so many blocks, with counts of so many bits and so many roots, and its garbage at the
 /// end on a second line. None where there is no such heap.
 pub fn left([blocks, width, roots]: [usize; 3], history: &[u8]) -> Option<String> {
-    if blocks > 8192 || width > 4 || roots > 64 {
+    if blocks > MAX_BLOCKS || width > 4 || roots > 64 {
         return None;
     }
     let mut memory = Memory::zeros(blocks, width, roots);

@@ -1,63 +1,64 @@
-//! Records: eight bytes, their fields, and the operation that they stand for.
+//! Records: their bytes, their fields, and the operation that they stand for. Those before request U12 are in old.rs.
 
-/// "Byte 0 is the operation, byte 1 the root d, byte 2 the root s, byte 3 unused, bytes 4 and 5 a cell number c, bytes 6
-/// and 7 a size, low byte first."
+use crate::rules::heap::Ref;
+
+/// Document 02, U12: "History records become 12 bytes".
+pub const RECORD: usize = 12;
+
+/// "Byte 0 is the operation, byte 1 the root d, byte 2 the root s, byte 3 unused", then a cell number c and a size. U12: "the first
+/// four as they were, then cell and size in four bytes each, low byte first."
 #[derive(Clone, Copy, Debug, Default, PartialEq, Eq)]
 pub struct Record {
     pub operation: u8,
     pub d: u8,
     pub s: u8,
     pub unused: u8,
-    pub c: u16,
-    pub size: u16,
+    pub c: Ref,
+    pub size: Ref,
 }
 
 /// What a record asks for, with the fields that it names.
 #[derive(Clone, Copy, Debug, PartialEq, Eq)]
 pub enum Operation {
     /// "Operation 1 allocates the size into d"
-    Allocate { size: u16, d: u8 },
+    Allocate { size: Ref, d: u8 },
     /// "2 copies root s to d"
     Copy { s: u8, d: u8 },
     /// "3 writes root s into cell c of the object in d"
-    Write { s: u8, c: u16, d: u8 },
+    Write { s: u8, c: Ref, d: u8 },
     /// "4 reads cell c of the object in s into d"
-    Read { c: u16, s: u8, d: u8 },
+    Read { c: Ref, s: u8, d: u8 },
     /// "5 clears d"
     Clear { d: u8 },
     /// "6 collects."
     Collect,
     /// Document 02, U6: "History operations 7 and 8 allocate data into d as 1 does"
-    AllocateData { size: u16, d: u8 },
+    AllocateData { size: Ref, d: u8 },
     /// "and write the size field's number into cell c of the data in d"
-    WriteNumber { number: u16, c: u16, d: u8 },
+    WriteNumber { number: Ref, c: Ref, d: u8 },
 }
 
 impl Record {
-    pub fn from_bytes(bytes: [u8; 8]) -> Record {
+    pub fn from_bytes(bytes: [u8; RECORD]) -> Record {
+        let [operation, d, s, unused, ..] = bytes;
         Record {
-            operation: bytes[0],
-            d: bytes[1],
-            s: bytes[2],
-            unused: bytes[3],
-            c: bytes[4] as u16 + 256 * bytes[5] as u16,
-            size: bytes[6] as u16 + 256 * bytes[7] as u16,
+            operation,
+            d,
+            s,
+            unused,
+            c: low_byte_first(&bytes[4..8]),
+            size: low_byte_first(&bytes[8..]),
         }
     }
 
-    pub fn bytes(self) -> [u8; 8] {
-        let [c_low, c_high] = self.c.to_le_bytes();
-        let [size_low, size_high] = self.size.to_le_bytes();
-        [
-            self.operation,
-            self.d,
-            self.s,
-            self.unused,
-            c_low,
-            c_high,
-            size_low,
-            size_high,
-        ]
+    pub fn bytes(self) -> [u8; RECORD] {
+        let mut bytes = [0; RECORD];
+        bytes[..4].copy_from_slice(&[self.operation, self.d, self.s, self.unused]);
+        for k in 0..4 {
+            bytes[4 + k] = (self.c >> (8 * k)) as u8;
+            bytes[8 + k] = (self.size >> (8 * k)) as u8;
+        }
+        bytes
     }
 
     /// The operation; none where document 02 has "9 for an unknown operation or a nonzero unused field".
@@ -76,6 +77,14 @@ impl Record {
         };
         (operation.record() == self).then_some(operation)
     }
+}
+
+/// The number that some bytes make, "low byte first".
+pub fn low_byte_first(bytes: &[u8]) -> Ref {
+    bytes
+        .iter()
+        .rev()
+        .fold(0, |number, byte| 256 * number + Ref::from(*byte))
 }
 
 impl Operation {
@@ -143,9 +152,9 @@ pub fn bytes(operations: &[Operation]) -> Vec<u8> {
 
 /// Operations under short names, for histories written by hand.
 pub mod short {
-    use super::Operation;
+    use super::{Operation, Ref};
 
-    pub fn allocate(size: u16, d: u8) -> Operation {
+    pub fn allocate(size: Ref, d: u8) -> Operation {
         Operation::Allocate { size, d }
     }
 
@@ -153,11 +162,11 @@ pub mod short {
         Operation::Copy { s, d }
     }
 
-    pub fn write(s: u8, c: u16, d: u8) -> Operation {
+    pub fn write(s: u8, c: Ref, d: u8) -> Operation {
         Operation::Write { s, c, d }
     }
 
-    pub fn read(c: u16, s: u8, d: u8) -> Operation {
+    pub fn read(c: Ref, s: u8, d: u8) -> Operation {
         Operation::Read { c, s, d }
     }
 
@@ -167,11 +176,11 @@ pub mod short {
 
     pub const COLLECT: Operation = Operation::Collect;
 
-    pub fn data(size: u16, d: u8) -> Operation {
+    pub fn data(size: Ref, d: u8) -> Operation {
         Operation::AllocateData { size, d }
     }
 
-    pub fn write_number(number: u16, c: u16, d: u8) -> Operation {
+    pub fn write_number(number: Ref, c: Ref, d: u8) -> Operation {
         Operation::WriteNumber { number, c, d }
     }
 }

@@ -3,7 +3,7 @@
 use super::record::Operation;
 use crate::rules::answers::{no_such_cell, Kind};
 use crate::rules::calls::Call;
-use crate::rules::heap::{named, Memory};
+use crate::rules::heap::{named, Memory, Ref};
 
 /// "A root out of range gives 4, in operation 1 only after 3. Then an empty root gives 6 where an object is needed, which
 /// is d in 3 and s in 4; elsewhere an empty root is copied or written as 0. Then comes 7, in 4 as in 3." Document 02, U6: "an
@@ -51,7 +51,7 @@ pub fn request(blocks: usize, memory: &Memory, operation: Operation) -> Result<C
     }
 }
 
-fn store_root(r: usize, v: u16) -> Result<Call, usize> {
+fn store_root(r: usize, v: Ref) -> Result<Call, usize> {
     let v = v as usize;
     Ok(Call::StoreRoot { r, v })
 }
@@ -74,7 +74,7 @@ fn object_in(blocks: usize, memory: &Memory, root: usize) -> Result<usize, usize
 }
 
 /// "Then comes 7", and 12 behind it, as in the calls: the number of the cell.
-fn cell_of(blocks: usize, memory: &Memory, kind: Kind, a: usize, c: u16) -> Result<usize, usize> {
+fn cell_of(blocks: usize, memory: &Memory, kind: Kind, a: usize, c: Ref) -> Result<usize, usize> {
     let j = c as usize;
     match no_such_cell(blocks, memory, kind, a, j) {
         Some(number) => Err(number),

@@ -1,15 +1,15 @@
 //! The run of a history, whole or in pieces, and its line.
 
 use super::figures::Figures;
-use super::record::Record;
+use super::record::{Record, RECORD};
 use super::request::request;
 use crate::rules::answers::{accepted, refused, refused_first, Reply};
 use crate::rules::calls::{apply, apply_undamaged, Call};
-use crate::rules::heap::{free_count, Memory};
+use crate::rules::heap::{free_count, Memory, MAX_BLOCKS};
 use crate::texts::expect::numbers;
 
-/// The program's heap: "a new heap of 8,192 blocks, w = 3, 64 roots."
-pub const BLOCKS: usize = 8192;
+/// The program's heap: "a new heap of .. blocks, w = 3, 64 roots." Document 02, U12: "The report program's heap becomes 4,096 blocks."
+pub const BLOCKS: usize = 4096;
 pub const WIDTH: usize = 3;
 pub const ROOTS: usize = 64;
 
@@ -32,11 +32,11 @@ pub type Act<'a> = &'a mut dyn FnMut(&mut Memory, Call) -> Reply;
 /// Runs a piece of a history on an undamaged heap, by calls that `act` carries out. Pieces but the last one are whole
 /// records. A run that was stopped stays so.
 pub fn run(blocks: usize, memory: &mut Memory, mut run: Run, piece: &[u8], act: Act) -> Run {
-    for bytes in piece.chunks(8) {
+    for bytes in piece.chunks(RECORD) {
         if run.number != 0 {
             break;
         }
-        let stopped = match <[u8; 8]>::try_from(bytes) {
+        let stopped = match <[u8; RECORD]>::try_from(bytes) {
             // "met after the whole records up to that number"
             _ if run.records == MOST_RECORDS => 10,
             Err(_) => 10,
@@ -55,7 +55,7 @@ pub fn run(blocks: usize, memory: &mut Memory, mut run: Run, piece: &[u8], act: 
 
 /// Runs one record: 0, or the number that stops the run. "the refused operation changes nothing, and what earlier records
 /// did remains."
-fn run_record(
+pub fn run_record(
     blocks: usize,
     memory: &mut Memory,
     figures: &mut Figures,
@@ -113,7 +113,7 @@ pub fn run_records(
     (accepted(0), after)
 }
 
-/// "19 is for a run out of range: more than 4,294,967,295 records, more allocations than records, more than 8,192 blocks
+/// "19 is for a run out of range: more than 4,294,967,295 records, more allocations than records, more than 65,536 blocks
 /// for each record, more objects that became stuck than records (U5), or more collections than records (one more where the run
 /// was stopped, ...)."
 fn is_out_of_range(run: Run) -> bool {
@@ -121,7 +121,7 @@ fn is_out_of_range(run: Run) -> bool {
     let stopped = u64::from(run.number != 0);
     run.records > MOST_RECORDS
         || figures.allocations > run.records
-        || figures.blocks > 8192 * run.records
+        || figures.blocks > MAX_BLOCKS as u64 * run.records
         || figures.became_stuck > run.records
         || figures.collections > run.records + stopped
 }

@@ -1,6 +1,6 @@
 //! Histories as text, one record a line. docs/FILES.md states the form.
 
-use super::record::{Operation, Record};
+use super::record::{Operation, Record, RECORD};
 use std::str::FromStr;
 
 /// The bytes of a text, or what is wrong with which line.
@@ -12,7 +12,7 @@ pub fn assemble(text: &str) -> Result<Vec<u8>, String> {
         if words.is_empty() {
             continue;
         }
-        if !bytes.len().is_multiple_of(8) {
+        if !bytes.len().is_multiple_of(RECORD) {
             return Err(format!("line {}: behind a record that is cut off", k + 1));
         }
         match record(&words) {
@@ -55,7 +55,7 @@ fn record(words: &[&str]) -> Option<Vec<u8>> {
             c: number(c)?,
             d: number(d)?,
         },
-        ["bytes", bytes @ ..] if (1..=8).contains(&bytes.len()) => {
+        ["bytes", bytes @ ..] if (1..=RECORD).contains(&bytes.len()) => {
             return bytes.iter().map(|byte| number(byte)).collect();
         }
         _ => return None,
@@ -69,13 +69,13 @@ fn number<T: FromStr>(word: &str) -> Option<T> {
 
 /// The text of a history, one record a line.
 pub fn words(history: &[u8]) -> String {
-    let lines = history.chunks(8).map(|bytes| line(bytes) + "\n");
+    let lines = history.chunks(RECORD).map(|bytes| line(bytes) + "\n");
     lines.collect()
 }
 
 /// A record in words; what is no operation, or cut off, in bytes.
 fn line(bytes: &[u8]) -> String {
-    let record = <[u8; 8]>::try_from(bytes).map(Record::from_bytes);
+    let record = <[u8; RECORD]>::try_from(bytes).map(Record::from_bytes);
     match record.ok().and_then(Record::operation) {
         Some(Operation::Allocate { size, d }) => format!("allocate {size} into {d}"),
         Some(Operation::Copy { s, d }) => format!("copy {s} to {d}"),

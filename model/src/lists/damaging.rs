@@ -4,9 +4,11 @@
 use crate::lists::file::Bench;
 use crate::lists::random::Random;
 use crate::rules::heap::{
-    capacity, count, first_blocks, is_allocated, named, reference_places, set_bit, size, Memory,
+    capacity, count, first_blocks, is_allocated, is_first_block, named, reference_places, set_bit,
+    size, Memory, Ref, MAX_NUMBER,
 };
 use crate::rules::marks::{self, is_marked, is_open, listed, mark_and_list, take_off};
+use std::ops::Range;
 
 /// A load: buffer (by its number in file.rs), index, value.
 pub type Load = (u64, usize, u64);
@@ -32,7 +34,7 @@ pub fn some_damage(random: &mut Random, bench: &Bench, aim: usize) -> Vec<Load> 
         4 => bad_reference(random, blocks, memory, &free, &objects),
         5 => bad_count(random, bench, &free, &objects),
         UNTRUE_LIST => untrue_list(random, bench),
-        7 => stray_data(random, bench, &objects),
+        7 => stray_data(random, bench),
         WRONG_MARKS => wrong_marks(random, bench, &objects),
         _ => anything(random, bench),
     };
@@ -42,7 +44,7 @@ pub fn some_damage(random: &mut Random, bench: &Bench, aim: usize) -> Vec<Load> 
     } else if aim > 0 && random.percent(15) {
         more = untrue_list(random, bench);
     } else if aim > 0 && random.percent(15) {
-        more = stray_data(random, bench, &objects);
+        more = stray_data(random, bench);
     } else if aim > 0 && random.percent(15) {
         more = wrong_marks(random, bench, &objects);
     }
@@ -50,6 +52,13 @@ pub fn some_damage(random: &mut Random, bench: &Bench, aim: usize) -> Vec<Load> 
     more.retain(|new| loads.iter().all(|old| (old.0, old.1) != (new.0, new.1)));
     more.extend(loads);
     more
+}
+
+/// The blocks among these at which no object starts.
+fn no_first_blocks(blocks: usize, memory: &Memory, among: Range<usize>) -> Vec<usize> {
+    among
+        .filter(|i| !is_first_block(blocks, memory, *i))
+        .collect()
 }
 
 /// The load that turns one bit of a map of bytes. The map starts at this byte of its buffer.
@@ -64,7 +73,7 @@ fn harmless(random: &mut Random, bench: &Bench, objects: &[usize]) -> Vec<Load> 
     let mut loads: Vec<Load> = Vec::new();
     for i in 0..bench.blocks {
         if random.percent(40) {
-            loads.push((5, i, random.word() % 65_536));
+            loads.push((5, i, (random.word() as Ref).into()));
         }
     }
     loads.truncate(6);
@@ -151,13 +160,15 @@ fn bad_reference(
     free: &[usize],
     objects: &[usize],
 ) -> Vec<Load> {
-    let no_object: Vec<usize> = (0..blocks).filter(|i| !objects.contains(i)).collect();
+    let no_object = no_first_blocks(blocks, memory, 0..blocks);
     let mut bad = vec![
         blocks as u64 + 1,
         blocks as u64 + 2,
-        65_535,
-        32_768 + blocks as u64,
+        MAX_NUMBER.into(),
+        // Cut down to 16 bits it is 0, or names what block 0 does.
+        (1 + random.below(2) as u64) << 16 | random.below(2) as u64,
     ];
+    bad.retain(|v| *v > blocks as u64);
     if !no_object.is_empty() {
         bad.push(1 + random.pick(&no_object) as u64);
         bad.push(1 + random.pick(&no_object) as u64);
@@ -232,22 +243,23 @@ fn bad_count(random: &mut Random, bench: &Bench, free: &[usize], objects: &[usiz
 fn untrue_list(random: &mut Random, bench: &Bench) -> Vec<Load> {
     let k = random.below(bench.memory.sections.len());
     let now = bench.number_at(6, k);
-    // One below 0 is the largest number of 16 bits.
-    let (more, less) = (now + 1, (now + 65_535) % 65_536);
-    let value = random.pick(&[more, more, less, less, 2 * now + 1, 65_535]);
+    // One below 0 is the largest number.
+    let (more, less) = (now + 1, (now as Ref).wrapping_sub(1).into());
+    let most = MAX_NUMBER.into();
+    let value = random.pick(&[more, more, less, less, 2 * now + 1, (1 << 16) + now, most]);
     vec![(6, k, value)]
 }
 
 /// Kind 7: a D bit where no object starts, of free blocks and of second blocks of objects; often in the first or the last
 /// byte.
-fn stray_data(random: &mut Random, bench: &Bench, objects: &[usize]) -> Vec<Load> {
+fn stray_data(random: &mut Random, bench: &Bench) -> Vec<Load> {
     let (blocks, map) = (bench.blocks, &bench.memory.data);
     let places = match random.below(4) {
         0 => 0..8,
         1 => blocks - 8..blocks,
         _ => 0..blocks,
     };
-    let strays: Vec<usize> = places.filter(|i| !objects.contains(i)).collect();
+    let strays = no_first_blocks(blocks, &bench.memory, places);
     let inside: Vec<usize> = strays
         .iter()
         .copied()
@@ -269,7 +281,7 @@ fn wrong_marks(random: &mut Random, bench: &Bench, objects: &[usize]) -> Vec<Loa
         match random.below(8) {
             0..=1 => list_of_another_form(random, bench.blocks, &mut memory),
             2 => list_with_an_unmarked_object(random, bench.blocks, &mut memory, objects),
-            3 => stray_mark(random, bench.blocks, &mut memory, objects),
+            3 => stray_mark(random, bench.blocks, &mut memory),
             4..=5 => unmarked_object_named(random, bench.blocks, &mut memory, objects),
             _ => opened_or_closed(random, bench.blocks, &mut memory, objects),
         }
@@ -285,8 +297,8 @@ fn wrong_marks(random: &mut Random, bench: &Bench, objects: &[usize]) -> Vec<Loa
 fn list_of_another_form(random: &mut Random, blocks: usize, memory: &mut Memory) {
     let held = listed(blocks, memory).len();
     let no_first = |random: &mut Random| {
-        let any = [random.below(blocks), blocks, blocks + 1, 65_534];
-        (1 + random.pick(&any)) as u16
+        let any = [random.below(blocks), blocks, blocks + 1, 1 << 16, 1 << 31];
+        (1 + random.pick(&any)) as Ref
     };
     let mut ways = vec![6];
     if held > 1 {
@@ -323,7 +335,7 @@ fn list_of_another_form(random: &mut Random, blocks: usize, memory: &mut Memory)
             let place = random.below(held);
             memory.list[place] = no_first(random);
         }
-        _ => memory.list[blocks] = random.pick(&[2, 2, 3, 256, 65_535]),
+        _ => memory.list[blocks] = random.pick(&[2, 2, 3, 256, (1 << 16) + 1, MAX_NUMBER]),
     }
 }
 
@@ -350,8 +362,8 @@ fn list_with_an_unmarked_object(
 }
 
 /// "a mark isn't on a first block": on a free one, or on a second block of an object.
-fn stray_mark(random: &mut Random, blocks: usize, memory: &mut Memory, objects: &[usize]) {
-    let strays: Vec<usize> = (0..blocks).filter(|i| !objects.contains(i)).collect();
+fn stray_mark(random: &mut Random, blocks: usize, memory: &mut Memory) {
+    let strays = no_first_blocks(blocks, memory, 0..blocks);
     let inside: Vec<usize> = strays
         .iter()
         .copied()
@@ -386,7 +398,7 @@ fn unmarked_object_named(
         }
         _ => {
             let names_unmarked = |first: &&usize| {
-                let named = |v: u16| named(blocks, memory, v).filter(|object| object != *first);
+                let named = |v: Ref| named(blocks, memory, v).filter(|object| object != *first);
                 let mut objects = names(first).into_iter().filter_map(named);
                 objects.any(|object| !is_marked(memory, object))
             };
@@ -421,7 +433,7 @@ fn opened_or_closed(random: &mut Random, blocks: usize, memory: &mut Memory, obj
     match random.below(3) {
         0 => set_bit(&mut memory.marks, first, 1),
         1 => mark_and_list(blocks, memory, first),
-        _ => memory.list[random.below(blocks)] = (1 + first) as u16,
+        _ => memory.list[random.below(blocks)] = (1 + first) as Ref,
     }
 }
 

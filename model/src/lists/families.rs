@@ -8,7 +8,7 @@ use crate::lists::step_lists::steps;
 use crate::lists::wrong_families::{damage, huge_arguments, wrong_lengths};
 use crate::rules::calls::Call;
 use crate::rules::chunks::least_power_of_two;
-use crate::rules::heap::free_count;
+use crate::rules::heap::{free_count, Ref};
 
 /// Writes at least so many entries of one family at a desk.
 pub type Writer = fn(&mut Desk, usize);
@@ -236,7 +236,7 @@ pub fn self_references(desk: &mut Desk, count: usize) {
         let j = desk.random.below(desk.cells_of(a));
         desk.some_steps();
         // Data holds its own name as a number, which keeps nothing.
-        desk.call(Call::WriteNumber { a, j, v: v as u16 });
+        desk.call(Call::WriteNumber { a, j, v: v as Ref });
         desk.call(Call::StoreCell { a, j, v });
         if desk.random.percent(50) {
             desk.call(Call::StoreCell { a, j, v });

@@ -2,12 +2,12 @@
 
 use crate::rules::answers::Reply;
 use crate::rules::calls::{apply, Call};
-use crate::rules::heap::Memory;
+use crate::rules::heap::{section_count, Memory, Ref, MAX_BLOCKS};
 use crate::rules::outputs::{reason, shape};
 
 /// The largest numbers that a header (or an entry "new") may ask for: one more than is good where that
 /// makes refusal 1 reachable.
-pub const MOST_BLOCKS: u64 = 8192;
+pub const MOST_BLOCKS: u64 = MAX_BLOCKS as u64;
 pub const MOST_WIDTH: u64 = 5;
 pub const MOST_ROOTS: u64 = 65;
 
@@ -15,13 +15,29 @@ pub const MOST_ROOTS: u64 = 65;
 pub const BUFFERS: usize = 10;
 
 /// The largest length of each of them.
-pub const MOST_LENGTHS: [u64; BUFFERS] =
-    [1024, 1024, 5 * 1024, 32_768, 65, 8192, 32, 1024, 1024, 8193];
+pub const MOST_LENGTHS: [u64; BUFFERS] = {
+    let map = MOST_BLOCKS / 8;
+    [
+        map,
+        map,
+        MOST_WIDTH * map,
+        4 * MOST_BLOCKS,
+        MOST_ROOTS,
+        MOST_BLOCKS,
+        section_count(MAX_BLOCKS) as u64,
+        map,
+        map,
+        MOST_BLOCKS + 1,
+    ]
+};
 
-/// Word 0 of the calls that write an output, and the largest length of one, in bytes or in numbers. They have no code in a replay.
+/// Word 0 of the calls that write an output. They have no code in a replay.
 pub const REASON: u64 = 240;
 pub const SHAPE: u64 = 241;
-pub const MOST_OUTPUT: u64 = 65_536;
+
+/// The largest length of an output, which is enough for every heap: of a reason in bytes, of a shape in numbers.
+pub const MOST_REASON: u64 = 12 * MOST_BLOCKS + 8;
+pub const MOST_SHAPE: u64 = 65 + 6 * MOST_BLOCKS;
 
 /// What stands in each place of an output before the call: no sentence has such a byte, and no shape such a number.
 pub const UNWRITTEN_BYTE: u8 = 255;
@@ -87,7 +103,7 @@ impl Entry {
             7 => Entry::Call(Call::FreeBlocks),
             8 => Entry::Call(Call::ReturnRoots { chosen: x }),
             9 => Entry::Call(Call::AllocateData { n: p, r: q }),
-            10 => match u16::try_from(z) {
+            10 => match Ref::try_from(z) {
                 Ok(v) => Entry::Call(Call::WriteNumber { a: p, j: q, v }),
                 Err(_) => Entry::NumberOutOfRange,
             },
@@ -144,10 +160,15 @@ impl Bench {
     /// Zeroed buffers, not formatted.
     pub fn of_any_size(shape: [u64; 3]) -> Bench {
         let [blocks, width, roots] = shape.map(|number| number as usize);
+        Bench::of(blocks, width, Memory::zeros(blocks, width, roots))
+    }
+
+    /// These buffers.
+    pub fn of(blocks: usize, width: usize, memory: Memory) -> Bench {
         Bench {
             blocks,
             width,
-            memory: Memory::zeros(blocks, width, roots),
+            memory,
             beyond: Memory::default(),
         }
     }
@@ -191,7 +212,7 @@ impl Bench {
 
     /// The reason of an entry by the model, with the output as it is then; none where the length is out of range.
     pub fn reason(&self, a: u64, length: u64) -> Option<(Reply, Vec<u8>)> {
-        if length > MOST_OUTPUT {
+        if length > MOST_REASON {
             return None;
         }
         let mut output = vec![UNWRITTEN_BYTE; length as usize];
@@ -207,7 +228,7 @@ impl Bench {
 
     /// The shape of an entry by the model, likewise.
     pub fn shape(&self, length: u64) -> Option<(Reply, Vec<u32>)> {
-        if length > MOST_OUTPUT {
+        if length > MOST_SHAPE {
             return None;
         }
         let mut output = vec![UNWRITTEN_NUMBER; length as usize];
@@ -304,11 +325,11 @@ fn load_byte(list: &mut [u8], index: u64, value: u64) -> bool {
     true
 }
 
-fn load_number(list: &mut [u16], index: u64, value: u64) -> bool {
-    if index >= list.len() as u64 || value > 65_535 {
-        return false;
+fn load_number(list: &mut [Ref], index: u64, value: u64) -> bool {
+    match Ref::try_from(value) {
+        Ok(value) if index < list.len() as u64 => list[index as usize] = value,
+        _ => return false,
     }
-    list[index as usize] = value as u16;
     true
 }
 

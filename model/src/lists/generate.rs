@@ -1,17 +1,19 @@
 //! The desk at which lists are written: it carries out each entry on the model as it writes it, so that the
 //! next one can be chosen to fit the heap. Most calls are chosen to be accepted; some are chosen not to be.
 
-use crate::lists::file::{bytes, Bench, Entry, LENGTH, LOAD, NEW, REASON, SHAPE};
+use crate::lists::file::{bytes, Bench, Entry, BUFFERS, LENGTH, LOAD, NEW, REASON, SHAPE};
 use crate::lists::random::Random;
 use crate::rules::answers::Reply;
 use crate::rules::calls::{apply, Call};
-use crate::rules::heap::{first_blocks, is_data, misshapen, size};
+use crate::rules::heap::{first_blocks, is_data, misshapen, size, Ref, MAX_BLOCKS, MAX_NUMBER};
 
 pub struct Desk {
     pub random: Random,
     pub header: [u64; 3],
     pub entries: Vec<[u64; 4]>,
     pub bench: Bench,
+    /// The heap that the list begins with, where its buffers aren't zeros. Such a list has no file.
+    given: Option<Bench>,
 }
 
 impl Desk {
@@ -22,11 +24,33 @@ impl Desk {
             header,
             entries: Vec::new(),
             bench: Bench::of_any_size(header),
+            given: None,
+        }
+    }
+
+    /// A desk whose list begins with a given heap.
+    pub fn given(random: Random, bench: Bench) -> Desk {
+        let roots = bench.memory.roots.len();
+        Desk {
+            random,
+            header: [bench.blocks, bench.width, roots].map(|number| number as u64),
+            entries: Vec::new(),
+            given: Some(bench.clone()),
+            bench,
+        }
+    }
+
+    /// The heap that the list begins with.
+    pub fn start(&self) -> Bench {
+        match &self.given {
+            Some(bench) => bench.clone(),
+            None => Bench::of_any_size(self.header),
         }
     }
 
     /// The file as far as it is written.
     pub fn file(&self) -> Vec<u8> {
+        assert!(self.given.is_none(), "a list that begins with zeros");
         bytes(self.header, &self.entries)
     }
 
@@ -56,12 +80,43 @@ impl Desk {
         self.words([LOAD, buffer, index as u64, value]);
     }
 
+    /// Anything in a place of the waiting list.
+    pub fn load_rubbish(&mut self, place: usize) {
+        let rubbish = self.random.word() as Ref;
+        self.load(5, place, rubbish.into());
+    }
+
     pub fn length(&mut self, buffer: u64, length: usize) {
         self.words([LENGTH, buffer, length as u64, 0]);
     }
 
     pub fn new_heap(&mut self, shape: [u64; 3]) {
         self.words([NEW, shape[0], shape[1], shape[2]]);
+    }
+
+    /// Lends only the beginning of each long buffer: the new heap after it prints so much and no more.
+    pub fn lend_little(&mut self) {
+        const LITTLE: usize = 300;
+        for buffer in 0..BUFFERS as u64 {
+            if self.bench.length(buffer) > LITTLE {
+                self.length(buffer, LITTLE);
+            }
+        }
+    }
+
+    /// Objects of half of the heap, of a quarter, and so on to the last block, one after another into root 0, each kept by its cell 3.
+    pub fn halves(&mut self) {
+        let mut n = self.blocks() / 2;
+        while n > 0 {
+            self.kept_by_itself(n);
+            n /= 2;
+        }
+        self.kept_by_itself(1);
+    }
+
+    fn kept_by_itself(&mut self, n: usize) {
+        let a = self.call(Call::Allocate { n, r: 0 }).value;
+        self.call(Call::StoreCell { a, j: 3, v: 1 + a });
     }
 
     pub fn blocks(&self) -> usize {
@@ -120,10 +175,19 @@ impl Desk {
         self.random.below(roots)
     }
 
-    /// A value that no cell can hold, and that names an object once it is cut down to 16 bits.
+    /// A value that no cell can hold, and that names an object once it is cut down to the bits of a cell.
     pub fn some_wide_value(&mut self) -> usize {
-        let above = self.random.pick(&[1 << 16, 1 << 17, 1 << 32, 1 << 63]);
+        let above = self.random.pick(&[1 << 32, 1 << 33, 1 << 48, 1 << 63]);
         above + 1 + self.some_object()
+    }
+
+    /// Any number that a cell holds: many of 16 bits, and many that name an object once they are cut down to these.
+    pub fn some_cell_number(&mut self) -> usize {
+        match self.random.below(3) {
+            0 => self.random.below(1 << 16),
+            1 => (self.random.below(1 << 16) << 16) + 1 + self.some_object(),
+            _ => self.random.word() as Ref as usize,
+        }
     }
 
     /// A value to store: mostly an object's name or 0, seldom one that names nothing.
@@ -133,7 +197,7 @@ impl Desk {
         }
         if self.random.percent(2) {
             return match self.random.below(2) {
-                0 => self.random.below(65_536),
+                0 => self.some_cell_number(),
                 _ => self.some_wide_value(),
             };
         }
@@ -170,18 +234,18 @@ impl Desk {
     }
 
     /// A number to write into data (U6): one that names an object, or no object, or that is no name at all.
-    pub fn some_number(&mut self) -> u16 {
+    pub fn some_number(&mut self) -> Ref {
         let blocks = self.blocks();
         let number = match self.random.below(10) {
             0..=3 => 1 + self.some_object(),
             // Free, or the second block of an object, most of the time.
             4..=5 => 1 + self.random.below(blocks.max(1)),
             6 => blocks + 1 + self.random.below(4),
-            7 => 65_535,
+            7 => return MAX_NUMBER,
             8 => 0,
-            _ => self.random.below(65_536),
+            _ => self.some_cell_number(),
         };
-        number.min(65_535) as u16
+        number as Ref
     }
 
     /// An object, mostly data or mostly not, and one of its cells; seldom there is no such object or cell.
@@ -225,8 +289,8 @@ impl Desk {
         {
             for _ in 0..self.random.below(4) {
                 if self.random.percent(15) {
-                    let (place, rubbish) = (self.random.below(self.blocks()), self.random.word());
-                    self.load(5, place, rubbish % 65_536);
+                    let place = self.random.below(self.blocks());
+                    self.load_rubbish(place);
                 }
                 let call = self.some_number_write();
                 self.call(call);
@@ -235,7 +299,7 @@ impl Desk {
     }
 
     /// A value to store where this one is present: seldom the same again.
-    fn some_value_over(&mut self, present: Option<u16>, percent_zero: usize) -> usize {
+    fn some_value_over(&mut self, present: Option<Ref>, percent_zero: usize) -> usize {
         match present {
             Some(v) if self.random.percent(8) => v as usize,
             _ => self.some_value(percent_zero),
@@ -286,7 +350,7 @@ impl Desk {
             17..=18 => 1 + self.random.below(self.bench.blocks + 1),
             _ => self
                 .random
-                .pick(&[self.bench.blocks, 65_536, 1 << 32, usize::MAX]),
+                .pick(&[self.bench.blocks, MAX_BLOCKS, 1 << 32, usize::MAX]),
         }
     }
 

@@ -1,4 +1,4 @@
-//! Lists of calls, written: by hand (paper, request_vectors, section_vectors, number_vectors, step_vectors, output_vectors) and at random. `file` has the form in which
+//! Lists of calls, written: by hand (paper, request_vectors, section_vectors, number_vectors, step_vectors, output_vectors, large_vectors) and at random. `file` has the form in which
 //! they are kept, `generate` the desk at which they are written, `families` what is written there, with `wrong_families`,
 //! `section_lists` and `step_lists`; `damaging` and `spoiling` make something wrong; `every_list` tries every short list with U8's claims; `runs` has runs of records on what a list left;
 //! `vectors` is the one large file.
@@ -8,6 +8,7 @@ pub mod every_list;
 pub mod families;
 pub mod file;
 pub mod generate;
+pub mod large_vectors;
 pub mod number_vectors;
 pub mod output_vectors;
 pub mod paper;

@@ -7,6 +7,7 @@ use crate::rules::calls::short::{
     allocate, cell, chosen, data, look, read_number, root, write_number,
 };
 use crate::rules::calls::Call;
+use crate::rules::heap::{Ref, MAX_BLOCKS, MAX_NUMBER};
 
 const FORMAT: Call = Call::Format;
 const CHECK: Call = Call::Check;
@@ -117,7 +118,7 @@ fn making(desk: &mut Desk) {
 /// "There are calls to allocate data and to write and read one of its cells", and 6, 7, 12 in this order.
 fn writing_and_reading(desk: &mut Desk) {
     both_kinds(desk, SMALL);
-    for (j, v) in [0, 1, 3, 4, 9, 32_768, 65_534, 65_535]
+    for (j, v) in [0, 1, 3, 9, 65_535, 65_537, 1 << 31, MAX_NUMBER]
         .into_iter()
         .enumerate()
     {
@@ -125,7 +126,7 @@ fn writing_and_reading(desk: &mut Desk) {
         calls(desk, &[read_number(2, j), CHECK]);
     }
     // The number that is there, another, and none.
-    for v in [65_535, 65_535, 1, 0, 0] {
+    for v in [MAX_NUMBER, MAX_NUMBER, 1, 0, 0] {
         calls(desk, &[write_number(2, 7, v), read_number(2, 7)]);
     }
     both_kinds(desk, SMALL);
@@ -159,22 +160,24 @@ fn writing_and_reading(desk: &mut Desk) {
 fn references_in_data(desk: &mut Desk) {
     both_kinds(desk, SMALL);
     calls(desk, &[write_number(2, 1, 1)]);
+    // Cut down to the bits of a cell it would be 1.
+    let wide = MAX_NUMBER as usize + 2;
     let most = usize::MAX;
     for (a, j, v) in [
         (3, 0, 9),
         (2, 8, 9),
-        (2, most, 65_537),
+        (2, most, wide),
         // 12: a value that is good, present as a number, of no object, too wide.
         (2, 0, 0),
         (2, 1, 1),
         (2, 0, 3),
         (2, 7, 2),
         (2, 7, 9),
-        (2, 7, 65_537),
+        (2, 7, wide),
         (2, 0, most),
         // The same in the ordinary object: accepted, or 8.
         (0, 7, 2),
-        (0, 7, 65_537),
+        (0, 7, wide),
         (0, 7, 3),
         (0, 7, 3),
         (0, 7, 0),
@@ -188,7 +191,7 @@ fn references_in_data(desk: &mut Desk) {
 fn kept_alive(desk: &mut Desk) {
     let hold = [
         cell(0, 0, 3),
-        write_number(2, 7, 65_535),
+        write_number(2, 7, MAX_NUMBER),
         root(1, 0),
         look(2),
     ];
@@ -213,10 +216,10 @@ fn kept_alive(desk: &mut Desk) {
 
 /// Numbers are never counted, and what they look like is not let go: neither where they are written nor where the data goes.
 fn never_counted(desk: &mut Desk) {
-    let all = |v: u16| (0..8).map(move |j| write_number(2, j, v));
+    let all = |v: Ref| (0..8).map(move |j| write_number(2, j, v));
     for width in 1..=3 {
         // The name of a living object, of the data itself, of a free block, of a second block, of no block.
-        for v in [1, 3, 6, 4, 9, 65_535] {
+        for v in [1, 3, 6, 4, 9, MAX_NUMBER] {
             both_kinds(desk, [8, width, 4]);
             let fill: Vec<Call> = all(v).collect();
             calls(desk, &fill);
@@ -231,7 +234,7 @@ fn never_counted(desk: &mut Desk) {
     calls(desk, &[read_number(2, 3), allocate(1, 0), look(0), CHECK]);
     // Numbers written over numbers let nothing go.
     both_kinds(desk, SMALL);
-    let over = [1, 0, 3, 1, 1, 65_535, 0];
+    let over = [1, 0, 3, 1, 1, MAX_NUMBER, 0];
     calls(desk, &over.map(|v| write_number(2, 0, v)));
     calls(desk, &[look(0), look(2), CHECK]);
     // What goes by a chain: an ordinary object that names data, whose numbers name the one behind it.
@@ -262,7 +265,7 @@ fn never_followed(desk: &mut Desk) {
     calls(desk, &[root(1, 0), look(2), COLLECT, look(0), look(2)]);
     // Numbers far out of range, of data that is reached.
     both_kinds(desk, SMALL);
-    for (j, v) in [8, 9, 10, 255, 32_767, 65_534, 65_535]
+    for (j, v) in [8, 9, 10, 255, 65_537, 1 << 31, MAX_NUMBER]
         .into_iter()
         .enumerate()
     {
@@ -302,7 +305,7 @@ fn freed(desk: &mut Desk) {
     ] {
         for and_then in [&[][..], &again] {
             both_kinds(desk, [8, width, 4]);
-            let fill = [1, 3, 65_535].map(|v| write_number(2, v as usize % 8, v));
+            let fill = [1, 3, MAX_NUMBER].map(|v| write_number(2, v as usize % 8, v));
             calls(desk, &fill);
             calls(desk, end);
             calls(desk, and_then);
@@ -318,7 +321,7 @@ fn every_byte(desk: &mut Desk) {
         for width in [1, 3] {
             on_new_heap(desk, [32, width, 8], &single);
             calls(desk, &fill);
-            calls(desk, &[data(1, 7), write_number(24, 31, 65_535), CHECK]);
+            calls(desk, &[data(1, 7), write_number(24, 31, MAX_NUMBER), CHECK]);
             calls(desk, &[chosen(let_go), CHECK, COLLECT, CHECK]);
         }
     }
@@ -347,14 +350,14 @@ fn check_with(desk: &mut Desk, loads: &[(u64, usize, u64)]) {
 fn read_as_references(desk: &mut Desk) {
     // Any number in a cell of data, wherever it is in the object.
     for place in 8..16 {
-        for v in [1, 2, 3, 5, 9, 65_535] {
+        for v in [1, 2, 3, 5, 9, MAX_NUMBER.into()] {
             both_kinds(desk, SMALL);
             check_with(desk, &[(CELLS, place, v)]);
         }
     }
     // The same in the ordinary object before it, in free blocks behind it, and in an ordinary object behind it.
     for place in [0, 7, 16, 19, 31] {
-        for v in [1, 2, 3, 9, 65_535] {
+        for v in [1, 2, 3, 9, MAX_NUMBER.into()] {
             both_kinds(desk, SMALL);
             check_with(desk, &[(CELLS, place, v)]);
         }
@@ -514,7 +517,7 @@ fn waiting_list(desk: &mut Desk) {
         both_kinds(desk, SMALL);
         calls(desk, &[write_number(2, 0, 1)]);
         for i in 0..8 {
-            desk.load(WAITING, i, 65_535 - i as u64);
+            desk.load(WAITING, i, u64::from(MAX_NUMBER) - i as u64);
         }
         desk.call(call);
     }
@@ -522,15 +525,20 @@ fn waiting_list(desk: &mut Desk) {
 
 /// The largest heap as one array, and two arrays in halves.
 fn largest(desk: &mut Desk) {
-    on_new_heap(desk, [8192, 2, 4], &[FORMAT, data(8192, 0), look(0)]);
-    for (j, v) in [(0, 1), (32_767, 65_535), (32_768, 2)] {
+    let (all, half) = (MAX_BLOCKS, MAX_BLOCKS / 2);
+    on_new_heap(desk, [all as u64, 2, 4], &[FORMAT, data(all, 0), look(0)]);
+    for (j, v) in [(0, 1), (4 * all - 1, MAX_NUMBER), (4 * all, 2)] {
         calls(desk, &[write_number(0, j, v), read_number(0, j)]);
     }
-    calls(desk, &[CHECK, COLLECT, root(0, 0), data(4096, 0)]);
-    calls(desk, &[data(4096, 1), write_number(4096, 5, 8192), CHECK]);
-    calls(desk, &[read_number(4096, 5), root(0, 0), COLLECT]);
+    calls(desk, &[CHECK, COLLECT, root(0, 0), data(half, 0)]);
+    calls(
+        desk,
+        &[data(half, 1), write_number(half, 5, all as Ref), CHECK],
+    );
+    calls(desk, &[read_number(half, 5), root(0, 0), COLLECT]);
     // The last byte of its map.
     let last = desk.bench.length(DATA) - 1;
     check_with(desk, &[(DATA, last, 128)]);
     check_with(desk, &[(DATA, last, 0)]);
+    desk.lend_little();
 }

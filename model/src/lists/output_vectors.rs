@@ -6,6 +6,7 @@ use crate::lists::random::Random;
 use crate::lists::request_vectors::on_new_heap;
 use crate::rules::calls::short::{allocate, cell, chosen, data, root, step, write_number, OPEN};
 use crate::rules::calls::Call;
+use crate::rules::heap::MAX_NUMBER;
 use crate::rules::outputs::{due_reason, due_shape};
 
 const FORMAT: Call = Call::Format;
@@ -227,7 +228,7 @@ pub fn heaps() -> Vec<([u64; 3], Vec<Call>)> {
                 allocate(1, 2),
                 cell(2, 3, 4),
                 write_number(0, 0, 4),
-                write_number(0, 7, 65_535),
+                write_number(0, 7, MAX_NUMBER),
                 root(2, 0),
             ],
         ),
@@ -312,7 +313,7 @@ fn fan() -> Vec<Call> {
 }
 
 /// The length of a sentence, and of the shape; 20 where the heap is refused.
-fn right_length(desk: &Desk, block: Option<usize>) -> usize {
+pub fn right_length(desk: &Desk, block: Option<usize>) -> usize {
     let bench = &desk.bench;
     let (blocks, width, memory) = (bench.blocks, bench.width, &bench.memory);
     let right = match block {
@@ -417,7 +418,7 @@ fn waiting_list(desk: &mut Desk) {
     for k in 0..5 {
         on_new_heap(desk, SMALL, &[FORMAT, allocate(2, 0), allocate(1, 1)]);
         for i in 0..8 {
-            desk.load(5, i, 65_535 - i as u64);
+            desk.load(5, i, u64::from(MAX_NUMBER) - i as u64);
         }
         match k {
             0 => desk.reason(2, 40),

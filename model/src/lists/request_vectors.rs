@@ -3,6 +3,7 @@
 use crate::lists::generate::Desk;
 use crate::rules::calls::short::{allocate, cell, chosen, look, root};
 use crate::rules::calls::Call;
+use crate::rules::heap::MAX_NUMBER;
 
 /// Values stored over themselves (U2), each case on a new heap.
 pub fn present_values(desk: &mut Desk) {
@@ -305,7 +306,7 @@ pub fn on_new_heap(desk: &mut Desk, shape: [u64; 3], calls: &[Call]) {
 fn on_rubbish(desk: &mut Desk, call: Call) {
     on_new_heap(desk, [8, 2, 4], &[Call::Format, allocate(1, 0)]);
     for i in 0..8 {
-        desk.load(5, i, 65_535 - i as u64);
+        desk.load(5, i, u64::from(MAX_NUMBER) - i as u64);
     }
     desk.call(call);
 }

@@ -1,13 +1,14 @@
 //! Runs of records to be made on a heap as a list of calls left it, and ways to spoil them.
 
 use crate::history::figures::Figures;
+use crate::history::record::RECORD;
 use crate::history::{Operation, Record, Run};
 use crate::lists::damaging::{some_damage, AIMS};
 use crate::lists::file::{Bench, BUFFERS};
 use crate::lists::random::Random;
 use crate::lists::wrong_families::wrong_length;
 use crate::rules::answers::Reply;
-use crate::rules::heap::{misshapen, Memory};
+use crate::rules::heap::{misshapen, Memory, Ref, MAX_BLOCKS};
 
 /// What a run is handed: a heap, where the run stands, and the bytes of a piece.
 #[derive(Clone, Debug)]
@@ -34,7 +35,7 @@ impl Handed {
 }
 
 /// A run of these records on a heap. The same seed spoils fewer records in the same ways.
-pub fn some_run(seed: u64, bench: &Bench, records: &[[u8; 8]]) -> Handed {
+pub fn some_run(seed: u64, bench: &Bench, records: &[[u8; RECORD]]) -> Handed {
     let mut random = Random::new(seed);
     let mut handed = Handed {
         bench: bench.clone(),
@@ -48,7 +49,7 @@ pub fn some_run(seed: u64, bench: &Bench, records: &[[u8; 8]]) -> Handed {
         spoil_heap(&mut random, &mut handed.bench);
     }
     if random.percent(10) {
-        let tail = 1 + random.below(7);
+        let tail = 1 + random.below(RECORD - 1);
         handed.bytes.extend(vec![6; tail]);
     }
     handed
@@ -82,7 +83,7 @@ fn some_stand(random: &mut Random) -> Run {
     let more = random.below(2) as u64;
     match random.below(6) {
         0 => run.figures.allocations = run.records + more,
-        1 => run.figures.blocks = 8192 * run.records + more,
+        1 => run.figures.blocks = MAX_BLOCKS as u64 * run.records + more,
         2 => run.figures.became_stuck = run.records + more,
         3 => run.figures.collections = run.records + more + random.below(2) as u64,
         _ => {}
@@ -91,7 +92,7 @@ fn some_stand(random: &mut Random) -> Run {
 }
 
 /// Some records, most of which a heap of so many blocks and roots accepts.
-pub fn some_records(random: &mut Random, blocks: usize, roots: usize) -> Vec<[u8; 8]> {
+pub fn some_records(random: &mut Random, blocks: usize, roots: usize) -> Vec<[u8; RECORD]> {
     let count = random.below(16);
     (0..count)
         .map(|_| some_record(random, blocks, roots).bytes())
@@ -105,9 +106,10 @@ pub fn some_record(random: &mut Random, blocks: usize, roots: usize) -> Record {
         random.below(bound)
     };
     let (d, s) = (up_to(roots, roots + 1) as u8, up_to(roots, roots + 1) as u8);
-    let c = up_to(4, 20) as u16;
-    let size = up_to(4, blocks + 2) as u16;
-    let number = up_to(blocks + 3, 65_536) as u16;
+    // Cut down to 16 bits, many of the last ones would be right.
+    let c = (up_to(4, 20) + (up_to(1, 2) << 16)) as Ref;
+    let size = (up_to(4, blocks + 2) + (up_to(1, 2) << 16)) as Ref;
+    let number = up_to(blocks + 3, 1 << 32) as Ref;
     let operation = match random.below(100) {
         0..=21 => Operation::Allocate { size, d },
         22..=31 => Operation::AllocateData { size, d },
@@ -120,7 +122,7 @@ pub fn some_record(random: &mut Random, blocks: usize, roots: usize) -> Record {
     };
     let mut bytes = operation.record().bytes();
     if random.percent(4) {
-        bytes[random.below(8)] = random.below(11) as u8;
+        bytes[random.below(RECORD)] = random.below(11) as u8;
     }
     Record::from_bytes(bytes)
 }

@@ -5,6 +5,7 @@ use crate::lists::generate::Desk;
 use crate::lists::request_vectors::on_new_heap;
 use crate::rules::calls::short::{allocate, cell, chosen, look, root};
 use crate::rules::calls::Call;
+use crate::rules::heap::{Ref, MAX_BLOCKS, MAX_NUMBER};
 use crate::rules::sections::figures;
 
 const FORMAT: Call = Call::Format;
@@ -46,7 +47,7 @@ fn calls(desk: &mut Desk, calls: &[Call]) {
 
 /// A number of the list, whatever stood there.
 fn load(desk: &mut Desk, k: usize, figure: usize) {
-    desk.load(SECTIONS, k, figure as u64 % 65_536);
+    desk.load(SECTIONS, k, (figure as Ref).into());
 }
 
 /// "every accepted call, format too, leaves the list true": 8; 128; 256; 256 256. Before it, 2 for a heap that isn't
@@ -55,7 +56,7 @@ fn formats(desk: &mut Desk) {
     for blocks in [8, 128, 256, 512] {
         desk.new_heap([blocks, 2, 4]);
         for k in 0..desk.bench.memory.sections.len() {
-            load(desk, k, 65_535 - k);
+            load(desk, k, MAX_NUMBER as usize - k);
         }
         calls(desk, &[Call::Check, FORMAT, Call::Check, Call::FreeBlocks]);
     }
@@ -171,7 +172,7 @@ fn across_borders(desk: &mut Desk) {
 fn untrue_by_one(desk: &mut Desk) {
     for (blocks, n, places) in [(8, 2, 1), (512, 300, 2), (8, 8, 1)] {
         for k in 0..places {
-            for by in [1, 65_535] {
+            for by in [1, MAX_NUMBER as usize, 1 << 16] {
                 on_new_heap(desk, [blocks, 2, 4], &[FORMAT, allocate(n, 0)]);
                 let due = desk.bench.memory.sections[k] as usize;
                 load(desk, k, due + by);
@@ -325,17 +326,27 @@ fn letting_go(desk: &mut Desk) {
     calls(desk, &[Call::Collect, Call::Check]);
 }
 
-/// 8,192 blocks have 32 sections.
+/// 65,536 blocks have 256 sections.
 fn largest_heap(desk: &mut Desk) {
-    on_new_heap(desk, [8192, 2, 4], &[FORMAT, allocate(8192, 0), look(0)]);
+    let (all, half) = (MAX_BLOCKS, MAX_BLOCKS / 2);
+    on_new_heap(
+        desk,
+        [all as u64, 2, 4],
+        &[FORMAT, allocate(all, 0), look(0)],
+    );
     // Block 0 anew, then the upper half; the second section, and what is left of the first.
-    calls(desk, &[root(0, 0), allocate(1, 0), allocate(4097, 1)]);
-    calls(desk, &[allocate(4096, 1), allocate(200, 2)]);
+    calls(desk, &[root(0, 0), allocate(1, 0), allocate(half + 1, 1)]);
+    calls(desk, &[allocate(half, 1), allocate(200, 2)]);
     calls(desk, &[allocate(128, 3), allocate(300, 3), Call::Check]);
-    let last = desk.bench.memory.sections[31] as usize;
-    load(desk, 31, last + 1);
+    let end = desk.bench.length(SECTIONS) - 1;
+    let last = desk.bench.memory.sections[end] as usize;
+    load(desk, end, last + 1);
     calls(desk, &[Call::Check, root(1, 0)]);
-    load(desk, 31, last);
-    calls(desk, &[root(1, 0), allocate(4096, 1), allocate(2048, 2)]);
+    load(desk, end, last);
+    calls(
+        desk,
+        &[root(1, 0), allocate(half, 1), allocate(half / 2, 2)],
+    );
     calls(desk, &[Call::Collect, Call::FreeBlocks]);
+    desk.lend_little();
 }

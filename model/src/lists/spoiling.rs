@@ -4,7 +4,7 @@ use crate::lists::file::{Bench, Entry, BUFFERS};
 use crate::lists::random::Random;
 use crate::lists::wrong_families::{wrong_length, BAD_SHAPES};
 use crate::rules::answers::Reply;
-use crate::rules::heap::Memory;
+use crate::rules::heap::{Memory, Ref, MAX_BLOCKS, MAX_NUMBER};
 
 /// What a replay is lent: a heap, the words of the list, and a list for the replies.
 #[derive(Clone, Debug)]
@@ -81,7 +81,7 @@ fn fill(random: &mut Random, memory: &mut Memory) {
         &mut memory.sections,
         &mut memory.list,
     ] {
-        list.fill_with(|| random.word() as u16);
+        list.fill_with(|| random.word() as Ref);
     }
 }
 
@@ -107,7 +107,7 @@ fn wrong_shape(random: &mut Random, lent: &mut Lent) {
             bench.set_length(buffer, length as u64);
         }
         1 => *bench = Bench::of_any_size(random.pick(&BAD_SHAPES)),
-        2 => bench.blocks = random.pick(&[0, 4, 12, 16_384, usize::MAX]),
+        2 => bench.blocks = random.pick(&[0, 4, 12, 2 * MAX_BLOCKS, usize::MAX]),
         _ => bench.width = random.pick(&[0, 5, 64, usize::MAX]),
     }
 }
@@ -128,7 +128,8 @@ fn no_call(random: &mut Random, lent: &mut Lent) {
         1 << 32,
         u64::MAX,
     ];
-    let wide = [65_536, 65_537, 1 << 32, u64::MAX];
+    let most = u64::from(MAX_NUMBER);
+    let wide = [most + 1, most + 2, 1 << 48, u64::MAX];
     let words = match random.below(3) {
         0 => [10, 0, 0, random.pick(&wide)],
         _ => [random.pick(&unknown), 0, 0, 0],

@@ -34,8 +34,8 @@ pub fn steps(desk: &mut Desk, count: usize) {
                 damage_and_mend(desk, WRONG_MARKS);
             }
             if desk.random.percent(15) {
-                let (place, rubbish) = (desk.random.below(desk.blocks()), desk.random.word());
-                desk.load(5, place, rubbish % 65_536);
+                let place = desk.random.below(desk.blocks());
+                desk.load_rubbish(place);
             }
             let call = desk.some_collecting();
             desk.call(call);

@@ -7,6 +7,7 @@ use crate::rules::calls::short::{
     allocate, cell, chosen, data, look, read_number, root, step, write_number, OPEN,
 };
 use crate::rules::calls::Call;
+use crate::rules::heap::{MAX_BLOCKS, MAX_NUMBER};
 
 const FORMAT: Call = Call::Format;
 const CHECK: Call = Call::Check;
@@ -20,6 +21,9 @@ const MARKS: u64 = 8;
 const LIST: u64 = 9;
 
 const SMALL: [u64; 3] = [8, 2, 4];
+
+/// The largest number that a place holds.
+const MOST: u64 = MAX_NUMBER as u64;
 
 /// A budget for all that there can be.
 const ALL: usize = 99;
@@ -107,7 +111,7 @@ fn chain(length: usize) -> Vec<Call> {
 fn formats(desk: &mut Desk) {
     for blocks in [8, 32] {
         desk.new_heap([blocks, 2, 4]);
-        for (buffer, most) in [(MARKS, 255), (LIST, 65_535)] {
+        for (buffer, most) in [(MARKS, 255), (LIST, MOST)] {
             for k in 0..desk.bench.length(buffer) {
                 desk.load(buffer, k, most - k as u64);
             }
@@ -466,7 +470,7 @@ fn other_calls(desk: &mut Desk) {
         look(5),
         FREE_BLOCKS,
         write_number(2, 0, 1),
-        write_number(2, 0, 65_535),
+        write_number(2, 0, MAX_NUMBER),
         write_number(0, 0, 1),
         read_number(2, 0),
         read_number(2, 8),
@@ -539,15 +543,17 @@ fn number_13(desk: &mut Desk) {
         &[(LIST, 1, 4)],
         &[(LIST, 1, 6)],
         &[(LIST, 1, 9)],
-        &[(LIST, 1, 65_535)],
+        &[(LIST, 1, MOST)],
+        &[(LIST, 1, 65_539)],
         &[(LIST, 2, 2)],
         &[(LIST, 2, 9)],
         &[(LIST, 7, 5)],
-        &[(LIST, 7, 65_535)],
+        &[(LIST, 7, MOST)],
         // The last place.
         &[(LIST, 8, 2)],
         &[(LIST, 8, 3)],
-        &[(LIST, 8, 65_535)],
+        &[(LIST, 8, MOST)],
+        &[(LIST, 8, 65_537)],
         &[(LIST, 8, 0)],
         // An unmarked object on the list.
         &[(MARKS, 0, 4)],
@@ -592,7 +598,7 @@ fn number_13(desk: &mut Desk) {
         &[(MARKS, 0, 128)],
         &[(LIST, 0, 1)],
         &[(LIST, 7, 5)],
-        &[(LIST, 3, 65_535)],
+        &[(LIST, 3, MOST)],
         &[(MARKS, 0, 1), (LIST, 0, 1)],
         &[(LIST, 8, 1)],
         &[(LIST, 8, 2)],
@@ -669,7 +675,7 @@ fn wrong_lengths(desk: &mut Desk) {
         (32, MARKS, [3, 5, 32]),
         (32, LIST, [32, 34, 64]),
         (512, MARKS, [63, 65, 1024]),
-        (512, LIST, [512, 514, 8193]),
+        (512, LIST, [512, 514, 1024]),
     ] {
         for length in lengths {
             for open in [&[][..], &[OPEN]] {
@@ -706,7 +712,7 @@ fn waiting_list(desk: &mut Desk) {
     ] {
         on_new_heap(desk, SMALL, &[&[FORMAT], &garbage()[..], before].concat());
         for i in 0..8 {
-            desk.load(WAITING, i, 65_535 - i as u64);
+            desk.load(WAITING, i, MOST - i as u64);
         }
         desk.call(call);
     }
@@ -737,22 +743,24 @@ fn every_byte(desk: &mut Desk) {
     }
 }
 
-/// 8,192 blocks: the last block is marked and listed, the list's last place is far behind.
+/// 65,536 blocks: the last block is marked and listed, the list's last place is far behind.
 fn largest(desk: &mut Desk) {
-    on_new_heap(desk, [8192, 2, 4], &[FORMAT]);
-    for n in [4096, 2048, 1024, 512, 256, 128, 64, 32, 16, 8, 4, 2, 1, 1] {
-        desk.call(allocate(n, 0));
-        let last = desk.bench.memory.roots[0] as usize;
-        desk.call(cell(last - 1, 3, last));
-    }
-    calls(desk, &[cell(8191, 0, 1), CHECK, OPEN, step(1), CHECK]);
+    let (all, half) = (MAX_BLOCKS, MAX_BLOCKS / 2);
+    on_new_heap(desk, [all as u64, 2, 4], &[FORMAT]);
+    desk.halves();
+    calls(desk, &[cell(all - 1, 0, 1), CHECK, OPEN, step(1), CHECK]);
     calls(
         desk,
-        &[allocate(1, 1), step(2), cell(0, 16_383, 4097), step(1)],
+        &[
+            allocate(1, 1),
+            step(2),
+            cell(0, 4 * half - 1, half + 1),
+            step(1),
+        ],
     );
     calls(desk, &[step(1), CHECK, step(ALL), FREE_BLOCKS, OPEN]);
     // Its last byte and its last places.
-    for (buffer, index, wrong) in [(MARKS, 1023, 64), (LIST, 8191, 1), (LIST, 8192, 2)] {
+    for (buffer, index, wrong) in [(MARKS, all / 8 - 1, 64), (LIST, all - 1, 1), (LIST, all, 2)] {
         let right = desk.bench.number_at(buffer, index);
         desk.load(buffer, index, wrong);
         calls(desk, &[CHECK, step(1)]);
@@ -760,4 +768,5 @@ fn largest(desk: &mut Desk) {
         calls(desk, &[CHECK]);
     }
     calls(desk, &[step(ALL), COLLECT]);
+    desk.lend_little();
 }

@@ -2,8 +2,12 @@
 //! many small heaps, a few large heaps, and every complaint that a file can meet.
 
 use crate::lists::families::{some_shape, FAMILIES};
-use crate::lists::file::{LENGTH, LOAD, MOST_OUTPUT, NEW, REASON, SHAPE};
+use crate::lists::file::{
+    LENGTH, LOAD, MOST_BLOCKS, MOST_LENGTHS, MOST_REASON, MOST_ROOTS, MOST_SHAPE, MOST_WIDTH, NEW,
+    REASON, SHAPE,
+};
 use crate::lists::generate::Desk;
+use crate::lists::large_vectors::large;
 use crate::lists::number_vectors::numbers;
 use crate::lists::output_vectors::outputs;
 use crate::lists::paper::{self, Step};
@@ -13,6 +17,7 @@ use crate::lists::section_vectors::sections;
 use crate::lists::step_vectors::steps;
 use crate::rules::calls::short::{allocate, cell, root};
 use crate::rules::calls::Call;
+use crate::rules::heap::MAX_NUMBER;
 
 /// The paper cases as a list, each part of a case on a new heap.
 pub fn paper_cases(desk: &mut Desk) {
@@ -69,6 +74,7 @@ pub fn vectors(seed: u64) -> Vec<u8> {
         }
     }
     large_heaps(&mut desk);
+    large(&mut desk);
     let mut file = desk.file();
     file.extend(Call::FreeBlocks.words()[0].to_le_bytes());
     file.extend([0; 5]);
@@ -83,9 +89,11 @@ fn with_outputs(desk: &mut Desk) {
         desk.words(words);
     }
     let m = u64::MAX;
-    for length in [MOST_OUTPUT + 1, 1 << 32, m] {
-        desk.words([REASON, 0, length, 0]);
-        desk.words([SHAPE, length, 0, 0]);
+    for more in [MOST_REASON + 1, 1 << 32, m] {
+        desk.words([REASON, 0, more, 0]);
+    }
+    for more in [MOST_SHAPE + 1, 1 << 32, m] {
+        desk.words([SHAPE, more, 0, 0]);
     }
     // Words that they don't use aren't looked at.
     desk.words([REASON, 0, 60, m]);
@@ -102,23 +110,24 @@ fn complaints(desk: &mut Desk) {
         desk.words([unknown, 1, 2, 3]);
     }
     // A number write whose number no cell can hold is no call, wherever it would go.
-    for [a, j, v] in [[0, 0, 65_536], [0, 0, 65_537], [m, m, 1 << 32], [1, 8, m]] {
+    let wide = u64::from(MAX_NUMBER) + 1;
+    for [a, j, v] in [[0, 0, wide], [0, 0, wide + 1], [m, m, 1 << 48], [1, 8, m]] {
         desk.words([10, a, j, v]);
     }
-    for load in [[0, 1, 0], [0, 0, 256], [3, 32, 0], [3, 0, 65_536]] {
+    for load in [[0, 1, 0], [0, 0, 256], [3, 32, 0], [3, 0, wide]] {
         desk.words([LOAD, load[0], load[1], load[2]]);
     }
     for load in [
         [4, 4, 0],
         [5, 8, 1],
         [6, 1, 0],
-        [6, 0, 65_536],
+        [6, 0, wide],
         [7, 1, 0],
         [7, 0, 256],
         [8, 1, 0],
         [8, 0, 256],
         [9, 9, 0],
-        [9, 0, 65_536],
+        [9, 0, wide],
         [10, 0, 0],
         [m, 0, 0],
         [0, m, 0],
@@ -126,20 +135,17 @@ fn complaints(desk: &mut Desk) {
     ] {
         desk.words([LOAD, load[0], load[1], load[2]]);
     }
-    for [buffer, length] in [[0, 1025], [1, 1025], [2, 5121], [3, 32_769], [4, 66]] {
-        desk.words([LENGTH, buffer, length, 0]);
+    for (buffer, most) in (0..).zip(MOST_LENGTHS) {
+        desk.words([LENGTH, buffer, most + 1, 0]);
     }
-    for [buffer, length] in [[5, 8193], [6, 33], [7, 1025], [m, 1], [0, m]] {
-        desk.words([LENGTH, buffer, length, 0]);
-    }
-    for [buffer, length] in [[8, 1025], [9, 8194], [10, 0]] {
+    for [buffer, length] in [[10, 0], [m, 1], [0, m]] {
         desk.words([LENGTH, buffer, length, 0]);
     }
     for shape in [
-        [8193, 2, 4],
-        [16_384, 2, 4],
-        [8, 6, 4],
-        [8, 2, 66],
+        [MOST_BLOCKS + 1, 2, 4],
+        [2 * MOST_BLOCKS, 2, 4],
+        [8, MOST_WIDTH + 1, 4],
+        [8, 2, MOST_ROOTS + 1],
         [m, 2, 4],
     ] {
         desk.words([NEW, shape[0], shape[1], shape[2]]);
@@ -232,9 +238,10 @@ fn shapes(desk: &mut Desk) {
 }
 
 /// Values up to the largest word: "8 if v is neither 0 nor 1 + a first block", and the numbers that come before 8. Cut
-/// down to 16 bits, four of these would be 0 or name the object at 0.
+/// down to 32 bits, or to 16, four of these would be 0 or name the object at 0.
 fn whole_words(desk: &mut Desk) {
-    let values = [65_535, 65_536, 65_537, 1 << 32, (1 << 32) + 1, usize::MAX];
+    let most = MAX_NUMBER as usize;
+    let values = [65_535, 65_536, 65_537, most, most + 1, most + 2, usize::MAX];
     let stores = |v| [root(0, v), root(3, v), cell(0, 0, v), cell(0, 7, v)];
     // Before 8: a root, a block or a cell out of range.
     let refused_before = |v| {
@@ -267,18 +274,6 @@ fn whole_words(desk: &mut Desk) {
     for v in values {
         desk.call(root(4, v));
         desk.call(cell(8, 0, v));
-    }
-    // The largest heap: the largest value that is good, and the next.
-    desk.new_heap([8192, 2, 1]);
-    desk.call(Call::Format);
-    for n in [4096, 2048, 1024, 512, 256, 128, 64, 32, 16, 8, 4, 2, 1, 1] {
-        desk.call(allocate(n, 0));
-        let last = desk.bench.memory.roots[0] as usize;
-        desk.call(cell(last - 1, 3, last));
-    }
-    for v in [8192, 8193, 8192 + 65_536, 8192] {
-        desk.call(root(0, v));
-        desk.call(cell(8191, 0, v));
     }
 }
 
@@ -315,8 +310,7 @@ fn waiting_list(desk: &mut Desk) {
             desk.call(Call::StoreCell { a: 0, j: 7, v: 3 });
             desk.call(Call::StoreRoot { r: 1, v: 0 });
             for i in 0..8 {
-                let rubbish = desk.random.word() % 65_536;
-                desk.load(5, i, rubbish);
+                desk.load_rubbish(i);
             }
             desk.call(call);
         }

@@ -1,10 +1,11 @@
 //! The families in which something is wrong: damage, lengths, arguments far out of range.
 
 use crate::lists::damaging::{some_damage, AIMS};
-use crate::lists::file::BUFFERS;
+use crate::lists::file::{BUFFERS, MOST_BLOCKS};
 use crate::lists::generate::Desk;
 use crate::lists::random::Random;
 use crate::rules::calls::Call;
+use crate::rules::heap::MAX_NUMBER;
 
 /// Used heaps that are damaged by loads, in each kind, or whose list of sections is made untrue, or whose marks are made wrong;
 /// called, and mended again.
@@ -138,12 +139,11 @@ pub fn huge_arguments(desk: &mut Desk, count: usize) {
             1 << 32,
             (1 << 32) - 1,
             (1 << 32) + 1,
-            65_535,
-            65_536,
-            65_537,
-            16_384,
-            8_193,
-            8_192,
+            (1 << 16) - 1,
+            1 << 16,
+            (1 << 16) + 1,
+            MOST_BLOCKS / 2,
+            2 * MOST_BLOCKS,
             4 * blocks,
             4 * blocks - 1,
             blocks + 1,
@@ -155,7 +155,18 @@ pub fn huge_arguments(desk: &mut Desk, count: usize) {
         let a = desk.some_object() as u64;
         let v = desk.some_value(50) as u64;
         let wide = desk.some_wide_value() as u64;
-        let bad_v = [blocks, blocks + 1, 32_768, 65_534, x, x, wide, wide, wide];
+        let cell_number = desk.some_cell_number() as u64;
+        let bad_v = [
+            blocks,
+            blocks + 1,
+            cell_number,
+            cell_number,
+            x,
+            x,
+            wide,
+            wide,
+            wide,
+        ];
         let bad_v = desk.random.pick(&bad_v);
         let data = desk.some_object_as(true) as u64;
         let number = desk.some_number() as u64;
@@ -180,7 +191,7 @@ pub fn huge_arguments(desk: &mut Desk, count: usize) {
             17 => [10, data, x, number],
             // A number that no cell can hold is no call.
             18 => [10, data, 0, wide],
-            19 => [10, data, 0, 65_535],
+            19 => [10, data, 0, MAX_NUMBER.into()],
             20 => [11, x, y, wide],
             21 => [12, x, y, 0],
             22 => [13, x, y, 0],

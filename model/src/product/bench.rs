@@ -7,8 +7,8 @@ use crate::product::data_bench::half_data;
 use crate::product::library::unique;
 use crate::product::pause_bench::{pauses, SETUP};
 use crate::product::port::{self, lend};
-use crate::product::search_bench;
 use crate::product::timing::{by_turns, compared};
+use crate::product::{growth_bench, search_bench, size_bench};
 use crate::rules::heap::{first_blocks, free_count, size, Memory};
 use huwekapo::lent;
 use std::fmt::Write;
@@ -36,6 +36,14 @@ pub fn bench() -> String {
     half_data(&mut out);
     pauses(&mut out, &mixed_calls(BLOCKS, SETUP, 1));
     growth(&mut out);
+    out + &sizes()
+}
+
+/// What depends on the number of blocks: single calls, and how they grow.
+pub fn sizes() -> String {
+    let mut out = String::new();
+    size_bench::single_calls(&mut out);
+    growth_bench::growth(&mut out);
     out
 }
 

@@ -3,7 +3,7 @@
 
 use crate::lists::random::Random;
 use crate::product::port::{self, lend, Answer};
-use crate::rules::heap::Memory;
+use crate::rules::heap::{Memory, Ref};
 
 /// A heap of 64 roots, and the port's calls on it.
 struct Made {
@@ -85,6 +85,18 @@ pub fn busy(blocks: usize, width: usize) -> Memory {
     heap.store_root(NEW, 0);
     heap.store_root(GOES, 0);
     heap.memory
+}
+
+/// Every block an object of its own, each of which names the one before it in the cell of its number mod 4; root 1 names the last.
+pub fn chain(blocks: usize, width: usize) -> Memory {
+    let mut memory = Memory::zeros(blocks, width, 2);
+    memory.a.fill(255);
+    memory.counts[..blocks / 8].fill(255);
+    for block in 1..blocks {
+        memory.cells[4 * block + block % 4] = block as Ref;
+    }
+    memory.roots[1] = blocks as Ref;
+    memory
 }
 
 /// A cell that is 0, of an object that stays.

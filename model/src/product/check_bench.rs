@@ -5,7 +5,7 @@ use crate::product::busy::busy;
 use crate::product::library::{shared, unique};
 use crate::product::port::{self, lend, Answer, Lent};
 use crate::product::timing::{compared, in_turn};
-use crate::rules::heap::{first_blocks, free_count, Memory};
+use crate::rules::heap::{first_blocks, free_count, Memory, Ref};
 use huwekapo::lent::{self, Reply};
 use std::fmt::Write;
 use std::hint::black_box;
@@ -54,7 +54,7 @@ impl Times {
 
 /// So many calls in a turn that small heaps take as long as large ones.
 fn rounds(blocks: usize) -> u32 {
-    (50 * 8192 / blocks) as u32
+    (50 * 8192 / blocks).max(10) as u32
 }
 
 fn numbers(reply: Reply) -> Answer {
@@ -66,7 +66,7 @@ fn numbers(reply: Reply) -> Answer {
 }
 
 /// One read of a heap's memory: the or of all its bytes.
-fn read(memory: &Memory) -> u16 {
+fn read(memory: &Memory) -> Ref {
     let maps = [
         &memory.a,
         &memory.b,
@@ -82,12 +82,12 @@ fn read(memory: &Memory) -> u16 {
         &memory.list,
     ];
     let of_map = |map: &Vec<u8>| map.iter().fold(0, |any, byte| any | byte);
-    let of_list = |list: &Vec<u16>| list.iter().fold(0, |any, number| any | number);
+    let of_list = |list: &Vec<Ref>| list.iter().fold(0, |any, number| any | number);
     let bytes = maps.map(of_map).iter().fold(0, |any, byte| any | byte);
     lists
         .map(of_list)
         .iter()
-        .fold(bytes as u16, |any, v| any | v)
+        .fold(bytes as Ref, |any, v| any | v)
 }
 
 /// One check of a sound heap.

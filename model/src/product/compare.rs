@@ -3,7 +3,7 @@
 use crate::history::run::run_records;
 use crate::history::{text, Run};
 use crate::lists::file::{
-    Apply, Bench, Entry, BUFFERS, MOST_OUTPUT, UNWRITTEN_BYTE, UNWRITTEN_NUMBER,
+    Apply, Bench, Entry, BUFFERS, MOST_REASON, MOST_SHAPE, UNWRITTEN_BYTE, UNWRITTEN_NUMBER,
 };
 use crate::lists::random::Random;
 use crate::lists::runs::{Handed, RunRecords};
@@ -55,11 +55,12 @@ struct Outcome<'a> {
 /// Runs a list on both, comparing the reply and every buffer after every entry.
 pub fn call_by_call(
     other: Library,
-    header: [u64; 3],
+    start: Bench,
     entries: &[[u64; 4]],
     met: &mut Met,
 ) -> Option<String> {
-    let mut model = Bench::of_any_size(header);
+    let title = title(&start);
+    let mut model = start;
     let mut library = model.clone();
     for (k, words) in entries.iter().enumerate() {
         let entry = Entry::from_words(*words);
@@ -88,13 +89,20 @@ pub fn call_by_call(
             output,
         });
         if sides[0] != sides[1] {
-            let [blocks, width, roots] = header;
-            let title = format!("{blocks} blocks, width {width}, {roots} roots");
             let list = entry_lines(&entries[..=k].concat());
             return Some(difference(&title, &list, sides));
         }
     }
     None
+}
+
+/// The heap that a list begins with, in words.
+fn title(start: &Bench) -> String {
+    let (blocks, width, memory) = (start.blocks, start.width, &start.memory);
+    let roots = memory.roots.len();
+    let zeros = memory.b.iter().all(|byte| *byte == 0) && memory.cells.iter().all(|v| *v == 0);
+    let given = if zeros { "" } else { ", a heap in use" };
+    format!("{blocks} blocks, width {width}, {roots} roots{given}")
 }
 
 /// Carries out an entry on one side. A reason and a shape have an output, and some places behind it that aren't lent.
@@ -106,14 +114,14 @@ fn carried_out(
 ) -> (Option<Reply>, Vec<u32>) {
     let (blocks, width) = (bench.blocks, bench.width);
     match entry {
-        Entry::Reason { a, length } if length <= MOST_OUTPUT => {
+        Entry::Reason { a, length } if length <= MOST_REASON => {
             let length = length as usize;
             let mut output = vec![UNWRITTEN_BYTE; length + BEHIND];
             let lent = &mut output[..length];
             let reply = reason(blocks, width, &bench.memory, a as usize, lent);
             (Some(reply), output.into_iter().map(u32::from).collect())
         }
-        Entry::Shape { length } if length <= MOST_OUTPUT => {
+        Entry::Shape { length } if length <= MOST_SHAPE => {
             let length = length as usize;
             let mut output = vec![UNWRITTEN_NUMBER; length + BEHIND];
             let reply = shape(blocks, width, &bench.memory, &mut output[..length]);
@@ -140,7 +148,7 @@ pub fn differing_output(
                 met.said(&said);
             }
             let right = due.as_ref().ok().map(Vec::len);
-            lengths_around(right).into_iter().find(|length| {
+            lengths_around(blocks, right).into_iter().find(|length| {
                 met.output(0, *length, right);
                 let behind = length + BEHIND;
                 let before: Vec<u8> = (0..behind).map(|_| random.word() as u8).collect();
@@ -154,7 +162,7 @@ pub fn differing_output(
         None => {
             let due = due_shape(blocks, width, memory);
             let right = due.as_ref().ok().map(Vec::len);
-            lengths_around(right).into_iter().find(|length| {
+            lengths_around(blocks, right).into_iter().find(|length| {
                 met.output(1, *length, right);
                 let behind = length + BEHIND;
                 let before: Vec<u32> = (0..behind).map(|_| random.word() as u32).collect();
@@ -167,11 +175,12 @@ pub fn differing_output(
     }
 }
 
-/// Every length from 0 to the right one and two more; of a long output the first and the last of them, and some between. Where there
-/// is no right one, two lengths.
-fn lengths_around(right: Option<usize>) -> Vec<usize> {
+/// Every length from 0 to the right one and two more; of a long output the first and the last of them, and some between; on a large
+/// heap, where a call takes long, few. Where there is no right one, two lengths.
+fn lengths_around(blocks: usize, right: Option<usize>) -> Vec<usize> {
     match right {
         None => vec![0, 64],
+        Some(right) if blocks > 2048 => vec![0, right / 2, right - 1, right, right + 2],
         Some(right) if right <= EVERY_LENGTH => (0..=right + 2).collect(),
         Some(right) => {
             let between = (3..right - 3).step_by(right / 16);

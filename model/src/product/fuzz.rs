@@ -6,19 +6,20 @@
 
 use crate::lists::damaging::{some_damage, AIMS, WRONG_MARKS};
 use crate::lists::families::{random as random_calls, some_shape, FAMILIES};
-use crate::lists::file::{Entry, REASON, SHAPE};
+use crate::lists::file::{Bench, Entry, REASON, SHAPE};
 use crate::lists::generate::Desk;
 use crate::lists::output_vectors;
 use crate::lists::random::Random;
 use crate::lists::runs::{some_records, some_run};
 use crate::lists::section_lists::sections;
 use crate::lists::spoiling::{some_replay, spoilt_sentence};
+use crate::product::busy::{busy, chain};
 use crate::product::compare::{call_by_call, differing_output, ran, read_back, replayed, Library};
-use crate::product::met::{Met, PAIRS_OF_MAPS, TOO_MANY_BLOCKS};
+use crate::product::met::{sizes, Met, PAIRS_OF_MAPS, TOO_MANY_BLOCKS};
 use crate::product::shrink::shrink;
-use crate::rules::calls::short::{allocate, cell, data, root, OPEN};
+use crate::rules::calls::short::{allocate, cell, chosen, data, root, step, OPEN};
 use crate::rules::damage::damage;
-use crate::rules::heap::{first_blocks, Memory};
+use crate::rules::heap::{first_blocks, Memory, MAX_BLOCKS};
 use crate::rules::outputs::due_reason;
 use crate::rules::reasons::read;
 use crate::rules::sections::figures;
@@ -57,9 +58,12 @@ pub fn fuzz(seconds: u64, seed: u64, library: Library) -> (Met, Option<String>) 
     let mut end = Instant::now() + Duration::from_secs(seconds);
     let mut random = Random::new(seed);
     let mut always = always().into_iter();
+    let mut every_size = every_size();
     let mut shortest: Option<Found> = None;
     loop {
-        let desk = match always.next() {
+        // Once there is a difference, large heaps would take too long.
+        let large = || every_size.next().filter(|_| shortest.is_none());
+        let desk = match always.next().or_else(large) {
             Some(desk) => desk,
             None if Instant::now() < end => some_list(&mut random),
             None => break,
@@ -88,7 +92,7 @@ fn pairs_of_maps(library: Library, met: &mut Met) -> Option<String> {
         desk.load(1, 0, pair % 256);
         desk.call(Call::Check);
         met.pairs_of_maps += 1;
-        call_by_call(library, shape, &desk.entries, &mut Met::default())
+        call_by_call(library, desk.start(), &desk.entries, &mut Met::default())
     })
 }
 
@@ -107,7 +111,7 @@ fn maps_with_figures(library: Library, met: &mut Met) -> Option<String> {
             desk.call(Call::Check);
             met.maps_with_figures += 1;
         }
-        call_by_call(library, shape, &desk.entries, &mut Met::default())
+        call_by_call(library, desk.start(), &desk.entries, &mut Met::default())
     })
 }
 
@@ -140,7 +144,7 @@ fn maps_with_data(library: Library, met: &mut Met) -> Option<String> {
             met.maps_with_data += 1;
         }
         pairs += 1;
-        call_by_call(library, shape, &desk.entries, &mut Met::default())
+        call_by_call(library, desk.start(), &desk.entries, &mut Met::default())
     })
 }
 
@@ -172,7 +176,7 @@ fn marks_with_lists(library: Library, met: &mut Met) -> Option<String> {
                 desk.call(Call::Check);
                 met.marks_with_lists += 1;
             }
-            call_by_call(library, shape, &desk.entries, &mut Met::default())
+            call_by_call(library, desk.start(), &desk.entries, &mut Met::default())
         })
     })
 }
@@ -180,7 +184,7 @@ fn marks_with_lists(library: Library, met: &mut Met) -> Option<String> {
 /// The lists of reasons and shapes of the large file.
 fn reasons_and_shapes(library: Library) -> Option<String> {
     let desk = output_vectors::outputs();
-    call_by_call(library, desk.header, &desk.entries, &mut Met::default())
+    call_by_call(library, desk.start(), &desk.entries, &mut Met::default())
 }
 
 /// The lists that are always the same, at each width: every family, every aim of damage on several heaps, wrong marks, sections, and
@@ -221,10 +225,65 @@ fn always() -> Vec<Desk> {
     lists
 }
 
+/// A list on a heap with much in it (busy.rs), of every size, for each aim of damage and for none; and chains over all blocks.
+fn every_size() -> impl Iterator<Item = Desk> {
+    let busy = sizes().flat_map(|blocks| {
+        let width = 1 + blocks.ilog2() as usize % 4;
+        let bench = Bench::of(blocks, width, busy(blocks, width));
+        (0..=AIMS).map(move |aim| {
+            let mut desk = Desk::given(Random::new(aim as u64), bench.clone());
+            calls_on_given(&mut desk, (aim < AIMS).then_some(aim));
+            desk
+        })
+    });
+    busy.chain(chains())
+}
+
+/// Calls on a heap that is in use, then damage of an aim, if any, and every call.
+fn calls_on_given(desk: &mut Desk, aim: Option<usize>) {
+    for _ in 0..4 {
+        let call = desk.some_call();
+        desk.call(call);
+    }
+    if let Some(aim) = aim {
+        for (buffer, index, value) in some_damage(&mut desk.random, &desk.bench, aim) {
+            desk.load(buffer, index, value);
+        }
+    }
+    every_call(desk);
+}
+
+/// Objects of one block each over all of a heap, each naming the one before it, the last one in root 1: looked at, collected, let go as
+/// a whole, by steps, and as garbage.
+fn chains() -> impl Iterator<Item = Desk> {
+    let lists = |blocks: usize| {
+        let own_end = cell(blocks - 1, 0, blocks);
+        let half = step(blocks / 2);
+        [
+            vec![Call::Check],
+            vec![Call::Collect, root(1, 0), Call::FreeBlocks],
+            vec![own_end, root(1, 0), Call::Collect],
+            vec![OPEN, half, Call::Check, step(blocks), chosen(2)],
+            vec![own_end, root(1, 0), OPEN, step(1)],
+            vec![OPEN, step(10), root(1, 0), step(blocks)],
+        ]
+    };
+    [256, 8192, MAX_BLOCKS].into_iter().flat_map(move |blocks| {
+        lists(blocks).into_iter().map(move |calls| {
+            let bench = Bench::of(blocks, 2, chain(blocks, 2));
+            let mut desk = Desk::given(Random::new(blocks as u64), bench);
+            for call in calls {
+                desk.call(call);
+            }
+            desk
+        })
+    })
+}
+
 /// A list call by call, its calls replayed, as they are and spoilt, and runs of records on what it left.
 fn try_list(library: Library, desk: &Desk, met: &mut Met) -> Option<Found> {
     let found = cut_down(&desk.entries, met, |entries, met| {
-        call_by_call(library, desk.header, entries, met)
+        call_by_call(library, desk.start(), entries, met)
     });
     if found.is_some() {
         return found;
@@ -261,7 +320,13 @@ fn outputs(library: Library, desk: &Desk, mut random: Random, met: &mut Met) -> 
     let bench = &desk.bench;
     let objects = desk.objects();
     let mut blocks = vec![None, Some(random.below(bench.blocks + 3)), Some(usize::MAX)];
-    // All objects of a small heap.
+    // All objects of a small heap; else the first one, to which a chain over all blocks is the longest, and some.
+    blocks.extend(
+        objects
+            .first()
+            .filter(|_| objects.len() > REASONS)
+            .map(|first| Some(*first)),
+    );
     for k in 0..objects.len().min(REASONS) {
         let any = random.below(objects.len());
         let which = if objects.len() <= REASONS { k } else { any };
@@ -275,7 +340,7 @@ fn outputs(library: Library, desk: &Desk, mut random: Random, met: &mut Met) -> 
             };
             let entries = [&desk.entries[..], &[entry]].concat();
             let shown = cut_down(&entries, met, |entries, met| {
-                call_by_call(library, desk.header, entries, met)
+                call_by_call(library, desk.start(), entries, met)
             });
             // What differs only over other bytes than those that an entry lends is shown as it is.
             return Some(shown.unwrap_or_else(|| Found {
@@ -360,11 +425,22 @@ fn some_list(random: &mut Random) -> Desk {
     }
     let kind = own.below(100);
     shape[0] = match kind {
-        0..=1 => own.pick(&[256, 512, 1024, 2048, 4096, 8192]),
+        0..=1 => {
+            // The largest are the slowest.
+            let large = MAX_BLOCKS as u64 >> own.below(3);
+            own.pick(&[256, 512, 1024, 2048, 4096, 8192, large])
+        }
         2 => TOO_MANY_BLOCKS as u64,
         3..=5 => own.pick(&[256, 512, 1024]),
         _ => shape[0],
     };
+    if kind < 2 && own.percent(60) {
+        let [blocks, width, _] = shape.map(|number| number as usize);
+        let mut desk = Desk::given(own, Bench::of(blocks, width, busy(blocks, width)));
+        let aim = desk.random.below(AIMS);
+        calls_on_given(&mut desk, (kind == 0).then_some(aim));
+        return desk;
+    }
     let mut desk = Desk::new(own, shape);
     let count = 20 + desk.random.below(150);
     let aim = desk.random.below(AIMS);
@@ -410,20 +486,34 @@ fn wrong_marks_calls(desk: &mut Desk, rounds: usize) {
         for (buffer, index, value) in some_damage(&mut desk.random, &desk.bench, WRONG_MARKS) {
             desk.load(buffer, index, value);
         }
-        let figure = desk.bench.number_at(6, 0);
-        desk.load(6, 0, figure + 1);
-        let calls = desk.one_of_each();
-        let some = desk.random.pick(&calls[..calls.len() - 1]);
-        for call in [Call::Check, some] {
-            desk.call(call);
-        }
-        reason_and_shape(desk);
-        desk.load(6, 0, figure);
-        for call in &calls[..calls.len() - 1] {
-            desk.call(*call);
-        }
-        reason_and_shape(desk);
+        every_call_but_format(desk);
     }
+    // What is met seldom: a marked object that names an unmarked one is taken off the list.
+    for call in [Call::Format, allocate(1, 0), allocate(1, 1), cell(0, 0, 2)] {
+        desk.call(call);
+    }
+    for call in [root(1, 0), OPEN] {
+        desk.call(call);
+    }
+    desk.load(9, 0, 0);
+    every_call_but_format(desk);
+}
+
+/// Some calls with an untrue list of sections, and all of them with a true one.
+fn every_call_but_format(desk: &mut Desk) {
+    let figure = desk.bench.number_at(6, 0);
+    desk.load(6, 0, figure + 1);
+    let calls = desk.one_of_each();
+    let some = desk.random.pick(&calls[..calls.len() - 1]);
+    for call in [Call::Check, some] {
+        desk.call(call);
+    }
+    reason_and_shape(desk);
+    desk.load(6, 0, figure);
+    for call in &calls[..calls.len() - 1] {
+        desk.call(*call);
+    }
+    reason_and_shape(desk);
 }
 
 /// The two calls that write an output first, and format last.

@@ -1,6 +1,7 @@
 //! Times of a program that runs a recorded history against the port in plain safe Rust, each a process of its own that
 //! reads the same file; and the memory that the program takes. Linux only: both are read from /proc.
 
+use crate::history::record::RECORD;
 use std::fs::{self, File};
 use std::io::{self, Read, Write};
 use std::process::{Child, Command, Stdio};
@@ -28,17 +29,17 @@ pub fn bench(file: &str, program: &[&str]) -> io::Result<String> {
             by_port = by_port.min(port_time);
         }
     }
-    let records = history.len() / 8;
+    let records = history.len() / RECORD;
     let rate = records as f64 / by_program.as_secs_f64();
     let ratio = by_program.as_secs_f64() / by_port.as_secs_f64();
-    let few = history.len().min(8 * 1000);
+    let few = history.len().min(RECORD * 1000);
     let (little, all) = (peak(program, &history[..few])?, peak(program, &history)?);
     Ok(format!(
         "{records} records: {line}\
          program {by_program:.3?}   plain Rust {by_port:.3?}   ratio {ratio:.3}\n\
          {rate:.0} records a second by the program\n\
          most memory: {little} with {} records, {all} with {records}\n",
-        few / 8,
+        few / RECORD,
     ))
 }
 

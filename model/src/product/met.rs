@@ -2,12 +2,19 @@
 
 use crate::lists::file::Entry;
 use crate::rules::answers::Reply;
-use crate::rules::heap::Memory;
+use crate::rules::heap::{Memory, MAX_BLOCKS};
 use crate::rules::mark_claims::{ill_marked, ILL};
 use crate::rules::reasons::Said;
 
-/// More blocks than a heap can have: "16,384 refused 1".
-pub const TOO_MANY_BLOCKS: usize = 16_384;
+/// More blocks than a heap can have: "131,072 is refused 1".
+pub const TOO_MANY_BLOCKS: usize = 2 * MAX_BLOCKS;
+
+/// The numbers of blocks that a heap can have: 8 doubled so often.
+pub const SIZES: usize = (MAX_BLOCKS / 8).ilog2() as usize + 1;
+
+pub fn sizes() -> impl Iterator<Item = usize> {
+    (0..SIZES).map(|doubled| 8 << doubled)
+}
 
 /// Each call, by its place here, with the numbers that it can answer, in the documents' order. The place is the code, but for the
 /// last two, which have no code in a replay.
@@ -54,7 +61,7 @@ pub const RUN: [usize; 6] = [0, 1, 2, 11, 13, 19];
 pub const STOPS: [usize; 10] = [0, 10, 9, 3, 4, 5, 6, 7, 12, 14];
 
 /// The pairs of an A-map and a B-map of eight blocks.
-pub const PAIRS_OF_MAPS: usize = 65_536;
+pub const PAIRS_OF_MAPS: usize = 256 * 256;
 
 /// The A-maps of eight blocks, each with the figures 0 to 9.
 pub const MAPS_WITH_FIGURES: usize = 2_560;
@@ -64,6 +71,9 @@ pub const MAPS_WITH_DATA: usize = 802 * 256;
 
 /// The mark maps of eight blocks with each of the lists of up to two numbers 0 to 9, and with each last place 0 to 2, on two heaps.
 pub const MARKS_WITH_LISTS: usize = 2 * 256 * 100 * 3;
+
+/// What is counted by the size of the heap.
+pub const BY_SIZE: [&str; 2] = ["an accepted call", "a damaged heap"];
 
 /// The lengths of an output beside the right one.
 pub const AROUND: [&str; 3] = ["one too short", "of the right length", "that is longer"];
@@ -81,6 +91,8 @@ pub struct Met {
     pub kinds: [[usize; 8]; CALLS.len()],
     /// Calls on too many blocks, by call.
     pub too_many_blocks: [usize; CALLS.len()],
+    /// Calls that were accepted and calls on damaged heaps, by the size of the heap.
+    pub by_size: [[usize; 2]; SIZES],
     /// Pairs of an A-map and a B-map that were checked.
     pub pairs_of_maps: usize,
     pub replays: usize,
@@ -126,6 +138,13 @@ impl Met {
         }
         if blocks == TOO_MANY_BLOCKS {
             self.too_many_blocks[code] += 1;
+        }
+        if let Some(size) = sizes().position(|size| size == blocks) {
+            match reply.number {
+                0 => self.by_size[size][0] += 1,
+                2 => self.by_size[size][1] += 1,
+                _ => {}
+            }
         }
     }
 
@@ -214,6 +233,11 @@ impl Met {
         for number in STOPS {
             expect(self.stops[number], format!("run, stopped by {number}"));
         }
+        for (blocks, counts) in sizes().zip(self.by_size) {
+            for (what, count) in BY_SIZE.into_iter().zip(counts) {
+                expect(count, format!("{what} on {blocks} blocks"));
+            }
+        }
         let all_pairs = self.pairs_of_maps == PAIRS_OF_MAPS;
         expect(all_pairs as usize, "every pair of maps".to_string());
         let all_figures = self.maps_with_figures == MAPS_WITH_FIGURES;
@@ -232,8 +256,8 @@ impl Met {
                 expect(count, format!("{name}, an output {what}"));
             }
         }
-        let links = self.most_links >= 4;
-        expect(links as usize, "reason, four links".to_string());
+        let links = self.most_links == MAX_BLOCKS - 1;
+        expect(links as usize, "reason, the most links".to_string());
         expect(self.no_root, "reason, no root".to_string());
         for (kind, count) in READINGS.into_iter().zip(self.readings) {
             expect(count, format!("reading, {kind}"));
@@ -260,7 +284,7 @@ impl Met {
              damage by kind      {}\n\
              pairs of maps checked   {}, maps with figures {}, with data {}, mark maps with lists {}\n\
              calls with a collection open {} of {}; on wrong marks, by clause, 11 and 13 {:?}\n\
-             calls on 16,384 blocks  {}\n\
+             calls on {TOO_MANY_BLOCKS} blocks  {}; accepted and damaged, by size {:?}\n\
              replays {}, accepted {}, calls in those {}\n\
              refusals of replays {}\n\
              runs of records {}, refusals {}, stopped by {}; with a collection open {}, of these stopped by 5 {}\n\
@@ -279,6 +303,7 @@ impl Met {
             self.with_either,
             self.ill_marked,
             self.too_many_blocks.iter().sum::<usize>(),
+            self.by_size,
             self.replays,
             self.replay_numbers[0],
             self.replayed_calls,

@@ -153,7 +153,7 @@ pub fn pauses(out: &mut String, list: &[u64]) {
     )
     .unwrap();
     for (name, budget, rounds) in [
-        ("one call", 65_536, 200),
+        ("one call", BLOCKS, 200),
         ("calls of 100", 100, 100),
         ("calls of 10", 10, 20),
         ("calls of 1", 1, 2),
@@ -189,7 +189,7 @@ pub fn pauses(out: &mut String, list: &[u64]) {
         "  the full collection with its check: {collect:.1?}, the check alone {check:.1?}, with a collection open {check_open:.1?}"
     )
     .unwrap();
-    for budget in [1, 10, 100, 65_536] {
+    for budget in [1, 10, 100, BLOCKS] {
         let longest = longest_call(&memory, budget);
         writeln!(
             out,

@@ -4,7 +4,7 @@
 use crate::lists::random::Random;
 use crate::product::port::{self, lend, Searched};
 use crate::product::timing::{by_turns, compared};
-use crate::rules::heap::Memory;
+use crate::rules::heap::{Memory, Ref};
 use std::fmt::Write;
 use std::hint::black_box;
 use std::time::Duration;
@@ -102,7 +102,7 @@ fn searched(name: &str, map: &[u8], size: usize) -> Searched {
 }
 
 /// The list of sections of a map.
-fn true_list(map: &[u8]) -> Vec<u16> {
+fn true_list(map: &[u8]) -> Vec<Ref> {
     let blocks = 8 * map.len();
     let mut list = vec![port::UNKNOWN; blocks / port::section_length(blocks)];
     port::renew(blocks, map, &mut list);

@@ -13,7 +13,7 @@ use crate::rules::counting::{count_up, release, Order};
 use crate::rules::damage::damage;
 use crate::rules::heap::{
     capacity, count, free_count, is_data, is_first_block, misshapen, set_bit, set_count, size,
-    Memory,
+    Memory, Ref,
 };
 use crate::rules::marks::{self, clear_map_and_list, is_open, mark_and_list_named};
 use crate::rules::sections::{figures, leave_list_true};
@@ -113,7 +113,7 @@ pub enum Kind {
 
 /// Document 02, U8: "While open, ... each reference store that changes a value, an allocation's included, marks and lists what is
 /// unmarked among its owner, old and new objects".
-fn mark_and_list_of_store(blocks: usize, memory: &mut Memory, objects: &[u16]) {
+fn mark_and_list_of_store(blocks: usize, memory: &mut Memory, objects: &[Ref]) {
     if is_open(blocks, memory) {
         mark_and_list_named(blocks, memory, objects);
     }
@@ -160,7 +160,7 @@ pub fn allocate(
     set_bit(&mut memory.marks, first, marked);
     // "Then the reference is stored in root r as below, except that the new object isn't counted up again."
     let old = memory.roots[r];
-    memory.roots[r] = (1 + first) as u16;
+    memory.roots[r] = (1 + first) as Ref;
     // U5: "a birth at width 1 included".
     let stuck = count(blocks, width, memory, first) == capacity(width);
     mark_and_list_of_store(blocks, memory, &[old]);
@@ -171,8 +171,8 @@ pub fn allocate(
 }
 
 /// "8 if v is neither 0 nor 1 + a first block." What is left, as a cell holds it.
-fn reference(blocks: usize, memory: &Memory, v: usize) -> Option<u16> {
-    (v == 0 || is_first_block(blocks, memory, v - 1)).then_some(v as u16)
+fn reference(blocks: usize, memory: &Memory, v: usize) -> Option<Ref> {
+    (v == 0 || is_first_block(blocks, memory, v - 1)).then_some(v as Ref)
 }
 
 /// "6 if a is not a first block (or not below N); 7 if j is not below 4 × size", and then 12 where the object is of the other
@@ -261,7 +261,7 @@ pub fn store_cell(
     let stuck = count_up(blocks, width, memory, v);
     let old = memory.cells[4 * a + j];
     memory.cells[4 * a + j] = v;
-    let owner = (1 + a) as u16;
+    let owner = (1 + a) as Ref;
     mark_and_list_of_store(blocks, memory, &[owner, old, v]);
     release(blocks, width, memory, old, order);
     leave_waiting_list_zero(memory);
@@ -271,7 +271,7 @@ pub fn store_cell(
 
 /// Document 02, U6: "There are calls ... to write and read one of its cells." It stores no reference, so nothing but the cell
 /// is written: the waiting list keeps its content.
-pub fn write_number(blocks: usize, memory: &mut Memory, a: usize, j: usize, v: u16) -> Reply {
+pub fn write_number(blocks: usize, memory: &mut Memory, a: usize, j: usize, v: Ref) -> Reply {
     if let Some(number) = no_such_cell(blocks, memory, Kind::Data, a, j) {
         return refused(number);
     }

@@ -2,7 +2,7 @@
 
 use crate::rules::answers::{self, Kind, Reply};
 use crate::rules::counting::{longest_waiting, Order};
-use crate::rules::heap::Memory;
+use crate::rules::heap::{Memory, Ref};
 use crate::rules::sections::keep_list_true;
 
 /// One call with its own arguments.
@@ -37,11 +37,11 @@ pub enum Call {
         n: usize,
         r: usize,
     },
-    /// "Its cells hold any 16-bit number": every v is right.
+    /// "Its cells hold any .. number", of 32 bits with U12: every v is right.
     WriteNumber {
         a: usize,
         j: usize,
-        v: u16,
+        v: Ref,
     },
     ReadNumber {
         a: usize,
@@ -100,7 +100,7 @@ impl Call {
 
 /// Calls under short names, for lists written by hand.
 pub mod short {
-    use super::Call;
+    use super::{Call, Ref};
 
     pub fn allocate(n: usize, r: usize) -> Call {
         Call::Allocate { n, r }
@@ -126,7 +126,7 @@ pub mod short {
         Call::AllocateData { n, r }
     }
 
-    pub fn write_number(a: usize, j: usize, v: u16) -> Call {
+    pub fn write_number(a: usize, j: usize, v: Ref) -> Call {
         Call::WriteNumber { a, j, v }
     }
 

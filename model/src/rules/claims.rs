@@ -7,7 +7,7 @@
 use crate::rules::answers::Reply;
 use crate::rules::calls::{is_chosen, Call};
 use crate::rules::heap::{
-    bit, capacity, count, first_blocks, free_count, is_allocated, is_first_block, size, Memory,
+    bit, capacity, count, first_blocks, free_count, is_allocated, is_first_block, size, Memory, Ref,
 };
 use crate::rules::mark_claims::{wrong_about_marks, wrong_about_open, wrong_marks};
 use crate::rules::section_claims::{other_address, untrue_list, wrong_about_list};
@@ -33,8 +33,8 @@ pub fn ordinary(blocks: usize, memory: &Memory) -> BTreeSet<Object> {
 }
 
 /// "A reference is a root, or a cell of an object, that isn't 0." All of them, by what they hold. Numbers in data are none.
-pub fn all_references(blocks: usize, memory: &Memory) -> Vec<u16> {
-    let mut found: Vec<u16> = memory.roots.clone();
+pub fn all_references(blocks: usize, memory: &Memory) -> Vec<Ref> {
+    let mut found: Vec<Ref> = memory.roots.clone();
     for (first, size) in ordinary(blocks, memory) {
         found.extend(&memory.cells[4 * first..4 * (first + size)]);
     }
@@ -49,7 +49,7 @@ pub fn led_to(blocks: usize, memory: &Memory) -> BTreeSet<Object> {
 }
 
 /// The same from these names: what they name, and what that leads to. Grown step by step until nothing is added.
-pub fn led_to_from(blocks: usize, memory: &Memory, from: &[u16]) -> BTreeSet<Object> {
+pub fn led_to_from(blocks: usize, memory: &Memory, from: &[Ref]) -> BTreeSet<Object> {
     let all = objects(blocks, memory);
     let ordinary = ordinary(blocks, memory);
     let mut led: BTreeSet<Object> = BTreeSet::new();
@@ -152,10 +152,10 @@ pub fn written_in(before: &Memory, call: Call, reply: Reply) -> Memory {
             memory.cells.fill(0);
         }
         Call::Allocate { r, .. } | Call::AllocateData { r, .. } => {
-            memory.roots[r] = (1 + reply.value) as u16;
+            memory.roots[r] = (1 + reply.value) as Ref;
         }
-        Call::StoreRoot { r, v } => memory.roots[r] = v as u16,
-        Call::StoreCell { a, j, v } => memory.cells[4 * a + j] = v as u16,
+        Call::StoreRoot { r, v } => memory.roots[r] = v as Ref,
+        Call::StoreCell { a, j, v } => memory.cells[4 * a + j] = v as Ref,
         Call::WriteNumber { a, j, v } => memory.cells[4 * a + j] = v,
         Call::ReturnRoots { chosen } => {
             for (r, root) in memory.roots.iter_mut().enumerate() {
@@ -200,7 +200,7 @@ fn inexact_collection(
     }
     for (first, _) in &led {
         // "the smaller of the capacity and the number of roots and cells of reached objects that name it"
-        let mut names: Vec<u16> = before.roots.clone();
+        let mut names: Vec<Ref> = before.roots.clone();
         for (owner, size) in led.intersection(&ordinary) {
             names.extend(&before.cells[4 * owner..4 * (owner + size)]);
         }
@@ -270,7 +270,7 @@ fn wrong_value(
 }
 
 /// The reference that an accepted call itself writes, if it writes one.
-pub fn own_reference(call: Call, reply: Reply) -> Option<u16> {
+pub fn own_reference(call: Call, reply: Reply) -> Option<Ref> {
     let v = match call {
         _ if reply.number != 0 => 0,
         Call::StoreRoot { v, .. } | Call::StoreCell { v, .. } => v,
@@ -279,7 +279,7 @@ pub fn own_reference(call: Call, reply: Reply) -> Option<u16> {
         Call::ReturnRoots { .. } | Call::WriteNumber { .. } | Call::ReadNumber { .. } => 0,
         Call::OpenCollection | Call::StepCollection { .. } => 0,
     };
-    (v != 0).then_some(v as u16)
+    (v != 0).then_some(v as Ref)
 }
 
 /// Document 02, U5: "this very step brought the count to the capacity, a birth at width 1 included". The object stands

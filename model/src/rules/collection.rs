@@ -1,13 +1,13 @@
 //! The full collection: what is reached, what is freed, what the counts become.
 
 use crate::rules::counting::erase;
-use crate::rules::heap::{capacity, first_blocks, named, reference_places, set_count, Memory};
+use crate::rules::heap::{capacity, first_blocks, named, reference_places, set_count, Memory, Ref};
 use std::collections::BTreeSet;
 
 /// "An object is reached if a root names it or a cell of a reached object does."
 pub fn reached(blocks: usize, memory: &Memory) -> BTreeSet<usize> {
     let mut reached = BTreeSet::new();
-    let mut to_look_at: Vec<u16> = memory.roots.clone();
+    let mut to_look_at: Vec<Ref> = memory.roots.clone();
     while let Some(v) = to_look_at.pop() {
         if let Some(first) = named(blocks, memory, v) {
             if reached.insert(first) {

@@ -1,22 +1,27 @@
 //! Counting up, counting down, and what a count-down to 0 frees.
 
 use crate::rules::heap::{
-    capacity, count, named, reference_places, set_bit, set_count, size, Memory,
+    capacity, count, named, reference_places, set_bit, set_count, size, Memory, Ref,
 };
 use crate::rules::marks::{is_open, leave_map_and_list, mark_and_list_named};
 
-/// "the number of all cells and roots naming the object", the cells being those that are read as references.
-pub fn references(cells: &[u16], memory: &Memory, first: usize) -> usize {
-    let from_cells = cells.iter().filter(|v| **v as usize == 1 + first);
-    let from_roots = memory.roots.iter().filter(|v| **v as usize == 1 + first);
-    from_cells.count() + from_roots.count()
+/// "the number of all cells and roots naming the object", by its first block, the cells being those that are read as references. Each
+/// of them is looked at once.
+pub fn references(blocks: usize, cells: &[Ref], memory: &Memory) -> Vec<usize> {
+    let mut numbers = vec![0; blocks];
+    for v in cells.iter().chain(&memory.roots).filter(|v| **v != 0) {
+        if let Some(number) = numbers.get_mut(*v as usize - 1) {
+            *number += 1;
+        }
+    }
+    numbers
 }
 
 /// "First the object named by v, if v isn't 0, is counted up". "A count at capacity is stuck: up and down
 /// don't change it."
 ///
 /// Document 02, U5: "Counting up must say whether this very step brought the count to the capacity".
-pub fn count_up(blocks: usize, width: usize, memory: &mut Memory, v: u16) -> bool {
+pub fn count_up(blocks: usize, width: usize, memory: &mut Memory, v: Ref) -> bool {
     if v == 0 {
         return false;
     }
@@ -43,14 +48,14 @@ pub fn longest_waiting(_waiting: &[usize]) -> usize {
 
 /// "then the old object, if any, is counted down." "A count-down to 0 frees the object", "and each object
 /// its cells named is counted down likewise, once for each cell."
-pub fn release(blocks: usize, width: usize, memory: &mut Memory, old: u16, order: Order) {
+pub fn release(blocks: usize, width: usize, memory: &mut Memory, old: Ref, order: Order) {
     release_all(blocks, width, memory, &[old], order);
 }
 
 /// The same of several references.
 ///
 /// Document 02, U8: "While open, ... clearing a freed object's cells marks and lists the unmarked ones they named".
-pub fn release_all(blocks: usize, width: usize, memory: &mut Memory, old: &[u16], order: Order) {
+pub fn release_all(blocks: usize, width: usize, memory: &mut Memory, old: &[Ref], order: Order) {
     let mut waiting = Vec::new();
     for v in old {
         count_down(blocks, width, memory, *v, &mut waiting);
@@ -69,7 +74,7 @@ pub fn release_all(blocks: usize, width: usize, memory: &mut Memory, old: &[u16]
 }
 
 /// One count-down. An object whose count it brings to 0 waits to be freed. "A count at capacity is stuck".
-fn count_down(blocks: usize, width: usize, memory: &mut Memory, v: u16, waiting: &mut Vec<usize>) {
+fn count_down(blocks: usize, width: usize, memory: &mut Memory, v: Ref, waiting: &mut Vec<usize>) {
     if v == 0 {
         return;
     }

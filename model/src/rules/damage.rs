@@ -11,7 +11,7 @@ use crate::rules::chunks::least_power_of_two;
 use crate::rules::counting::references;
 use crate::rules::heap::{
     bit, capacity, cell_places, count, first_blocks, is_allocated, is_data, is_first_block, named,
-    size, Memory,
+    size, Memory, Ref,
 };
 
 /// The damage kind, or 0 where there is no damage.
@@ -55,9 +55,9 @@ fn kind_3(blocks: usize, memory: &Memory) -> bool {
         .any(|first| first % least_power_of_two(size(blocks, memory, *first)) != 0)
 }
 
-/// The cells that are read as references: all but those of objects that were made as data. U6: "Its cells hold any 16-bit
+/// The cells that are read as references: all but those of objects that were made as data. U6: "Its cells hold any ..
 /// number, are never followed, counted or checked as references".
-fn read_as_references(blocks: usize, memory: &Memory) -> Vec<u16> {
+fn read_as_references(blocks: usize, memory: &Memory) -> Vec<Ref> {
     let mut of_data = vec![false; 4 * blocks];
     for first in first_blocks(blocks, memory) {
         if is_data(memory, first) {
@@ -73,7 +73,7 @@ fn read_as_references(blocks: usize, memory: &Memory) -> Vec<u16> {
 
 /// "4. A cell of a free block that isn't 0, or a cell or root that is neither 0 nor 1 + a first block."
 fn kind_4(blocks: usize, memory: &Memory) -> bool {
-    let names_nothing = |v: u16| v != 0 && named(blocks, memory, v).is_none();
+    let names_nothing = |v: Ref| v != 0 && named(blocks, memory, v).is_none();
     let cell_of_free_block =
         (0..4 * blocks).any(|c| !is_allocated(memory, c / 4) && memory.cells[c] != 0);
     let cells = read_as_references(blocks, memory);
@@ -85,13 +85,13 @@ fn kind_4(blocks: usize, memory: &Memory) -> bool {
 /// "5. A count other than 0 where no object starts; an object with count 0; a count below capacity that
 /// differs from the number of all cells and roots naming the object."
 fn kind_5(blocks: usize, width: usize, memory: &Memory) -> bool {
-    let cells = read_as_references(blocks, memory);
+    let references = references(blocks, &read_as_references(blocks, memory), memory);
     (0..blocks).any(|i| {
         let count = count(blocks, width, memory, i);
         if !is_first_block(blocks, memory, i) {
             return count != 0;
         }
-        count == 0 || (count < capacity(width) && count != references(&cells, memory, i))
+        count == 0 || (count < capacity(width) && count != references[i])
     })
 }
 

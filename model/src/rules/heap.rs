@@ -3,6 +3,15 @@
 //! The number of blocks and the count width are arguments everywhere; the number of roots is the length of
 //! the list of roots. All functions but `misshapen` are for memories that aren't misshapen.
 
+/// Document 02, U12: "Cells, roots and working lists become 32-bit numbers, and so do data words, U4's figures and U6's number."
+pub type Ref = u32;
+
+/// The largest of these numbers.
+pub const MAX_NUMBER: Ref = Ref::MAX;
+
+/// U12: "16,384 to 65,536 blocks are now accepted and 131,072 is refused 1."
+pub const MAX_BLOCKS: usize = 65_536;
+
 /// The ten lent buffers.
 #[derive(Clone, Debug, Default, PartialEq, Eq, Hash)]
 pub struct Memory {
@@ -12,22 +21,22 @@ pub struct Memory {
     pub b: Vec<u8>,
     /// "The count maps lie one after another in one buffer of w × N/8 bytes, the least significant bit first."
     pub counts: Vec<u8>,
-    /// "Cells: 4 × N unsigned 16-bit numbers, cells 4i to 4i + 3 for block i."
-    pub cells: Vec<u16>,
-    /// "Roots: unsigned 16-bit numbers, filled as cells are."
-    pub roots: Vec<u16>,
-    /// "Waiting list: N unsigned 16-bit numbers of working space."
-    pub waiting: Vec<u16>,
-    /// Document 02, U4: "An added lent list of 16-bit numbers, one for each section, holds the size of its largest free
-    /// aligned chunk, 0 if none."
-    pub sections: Vec<u16>,
+    /// "Cells: 4 × N unsigned .. numbers, cells 4i to 4i + 3 for block i."
+    pub cells: Vec<Ref>,
+    /// "Roots: unsigned .. numbers, filled as cells are."
+    pub roots: Vec<Ref>,
+    /// "Waiting list: N unsigned .. numbers of working space."
+    pub waiting: Vec<Ref>,
+    /// Document 02, U4: "An added lent list of .. numbers, one for each section, holds the size of its largest free aligned
+    /// chunk, 0 if none."
+    pub sections: Vec<Ref>,
     /// Document 02, U6: "A new D-map of N/8 bytes has 1 on the first block of an object made as data."
     pub data: Vec<u8>,
     /// Document 02, U8: "a new mark map of N/8 bytes".
     pub marks: Vec<u8>,
-    /// Document 02, U8: "The list has N + 1 numbers of 16 bits: 1 + first blocks, strictly rising, then 0s, the last place being
-    /// 1 while a collection is open and else 0."
-    pub list: Vec<u16>,
+    /// Document 02, U8: "The list has N + 1 numbers ..: 1 + first blocks, strictly rising, then 0s, the last place being 1 while
+    /// a collection is open and else 0."
+    pub list: Vec<Ref>,
 }
 
 impl Memory {
@@ -67,16 +76,18 @@ pub fn section_length(blocks: usize) -> usize {
 }
 
 /// "one for each section": up to 256 blocks are one section.
-pub fn section_count(blocks: usize) -> usize {
-    (blocks / 256).max(1)
+pub const fn section_count(blocks: usize) -> usize {
+    match blocks / 256 {
+        0 => 1,
+        sections => sections,
+    }
 }
 
 /// "1 if N, w, the number of roots or any buffer's length is not as above." "Lengths and numbers of roots that later
 /// requests fix fall under 1 too, in every call that takes them".
 pub fn misshapen(blocks: usize, width: usize, memory: &Memory) -> bool {
-    // "N is the number of blocks, a power of two from 8 to 8,192."
-    let powers = [8, 16, 32, 64, 128, 256, 512, 1024, 2048, 4096, 8192];
-    if !powers.contains(&blocks) {
+    // "N is the number of blocks, a power of two from 8 to" the largest heap.
+    if !blocks.is_power_of_two() || !(8..=MAX_BLOCKS).contains(&blocks) {
         return true;
     }
     // "w is the count width, 1 to 4 bits."
@@ -163,7 +174,7 @@ pub fn first_blocks(blocks: usize, memory: &Memory) -> Vec<usize> {
 }
 
 /// "A cell is 0, or 1 + the first block of an object." The object that a cell or root names, if it names one.
-pub fn named(blocks: usize, memory: &Memory, v: u16) -> Option<usize> {
+pub fn named(blocks: usize, memory: &Memory, v: Ref) -> Option<usize> {
     if v == 0 {
         return None;
     }
@@ -183,7 +194,7 @@ pub fn is_data(memory: &Memory, first: usize) -> bool {
     bit(&memory.data, first) == 1
 }
 
-/// The places of an object's references. "Its cells hold any 16-bit number, are never followed, counted or checked as
+/// The places of an object's references. "Its cells hold any .. number, are never followed, counted or checked as
 /// references": data has none.
 pub fn reference_places(blocks: usize, memory: &Memory, first: usize) -> std::ops::Range<usize> {
     if is_data(memory, first) {

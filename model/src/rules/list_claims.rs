@@ -4,7 +4,7 @@
 use crate::rules::answers::Reply;
 use crate::rules::calls::Call;
 use crate::rules::claims::{all_references, objects, own_reference, written_in, Object};
-use crate::rules::heap::{bit, capacity, count, Memory};
+use crate::rules::heap::{bit, capacity, count, Memory, Ref};
 use std::collections::BTreeMap;
 
 /// A call of a list, as it was carried out.
@@ -92,7 +92,7 @@ fn filled_by(
 /// Document 02, U6, over a whole list: an object made as data is data as long as it lives, and each of its cells holds what
 /// was last written there, 0 where nothing was. What breaks it, if anything does.
 pub fn numbers_lost(blocks: usize, steps: &[Step]) -> Option<String> {
-    let mut written: BTreeMap<Object, Vec<u16>> = BTreeMap::new();
+    let mut written: BTreeMap<Object, Vec<Ref>> = BTreeMap::new();
     for (i, step) in steps.iter().enumerate() {
         let stand = objects(blocks, &step.after);
         written.retain(|object, _| stand.contains(object) && step.call != Call::Format);

@@ -5,7 +5,7 @@
 use crate::rules::answers::Reply;
 use crate::rules::calls::Call;
 use crate::rules::claims::{objects, ordinary, written_in};
-use crate::rules::heap::{bit, capacity, count, Memory};
+use crate::rules::heap::{bit, capacity, count, Memory, Ref};
 use std::collections::BTreeSet;
 
 /// First blocks.
@@ -70,7 +70,7 @@ pub fn ill_marked(blocks: usize, memory: &Memory) -> Option<usize> {
     let (marked, listed) = (marked(blocks, memory), listed(blocks, memory));
     let standing = standing(blocks, memory);
     // "1 + first blocks, strictly rising, then 0s": so the list is what sorting makes of it, with nothing twice.
-    let mut due: Vec<u16> = listed.iter().map(|first| (1 + first) as u16).collect();
+    let mut due: Vec<Ref> = listed.iter().map(|first| (1 + first) as Ref).collect();
     due.resize(blocks, 0);
     let is_open = open(blocks, memory);
     let done = marked.difference(&listed).copied().collect();

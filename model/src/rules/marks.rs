@@ -1,7 +1,7 @@
 //! The mark map and the second list of a collection in small steps (document 02, U8), and what is wrong with them.
 
 use crate::rules::heap::{
-    bit, first_blocks, is_first_block, named, reference_places, set_bit, Memory,
+    bit, first_blocks, is_first_block, named, reference_places, set_bit, Memory, Ref,
 };
 use std::collections::BTreeSet;
 
@@ -24,10 +24,10 @@ pub fn listed(blocks: usize, memory: &Memory) -> BTreeSet<usize> {
 }
 
 /// "1 + first blocks, strictly rising, then 0s": the list of these objects. The last place stays.
-fn write_list(blocks: usize, memory: &mut Memory, objects: &BTreeSet<usize>) {
+pub fn write_list(blocks: usize, memory: &mut Memory, objects: &BTreeSet<usize>) {
     memory.list[..blocks].fill(0);
     for (place, first) in memory.list.iter_mut().zip(objects) {
-        *place = (1 + first) as u16;
+        *place = (1 + first) as Ref;
     }
 }
 
@@ -42,19 +42,25 @@ pub fn mark_and_list(blocks: usize, memory: &mut Memory, first: usize) {
     write_list(blocks, memory, &objects);
 }
 
+/// The unmarked ones among the objects that these cells or roots name.
+pub fn unmarked_named(blocks: usize, memory: &Memory, names: &[Ref]) -> BTreeSet<usize> {
+    let objects = names.iter().filter_map(|v| named(blocks, memory, *v));
+    objects.filter(|first| !is_marked(memory, *first)).collect()
+}
+
 /// Marks and lists the unmarked ones among the objects that these cells or roots name.
-pub fn mark_and_list_named(blocks: usize, memory: &mut Memory, names: &[u16]) {
-    for v in names {
-        if let Some(first) = named(blocks, memory, *v) {
-            mark_and_list(blocks, memory, first);
-        }
+pub fn mark_and_list_named(blocks: usize, memory: &mut Memory, names: &[Ref]) {
+    for first in unmarked_named(blocks, memory, names) {
+        mark_and_list(blocks, memory, first);
     }
 }
 
 /// Takes an object off the list. Its mark stays.
 pub fn take_off(blocks: usize, memory: &mut Memory, first: usize) {
-    let mut objects = listed(blocks, memory);
-    if objects.remove(&first) {
+    let name = (1 + first) as Ref;
+    if memory.list[..blocks].contains(&name) {
+        let mut objects = listed(blocks, memory);
+        objects.remove(&first);
         write_list(blocks, memory, &objects);
     }
 }
@@ -88,7 +94,7 @@ fn list_is_not_of_its_form(blocks: usize, memory: &Memory) -> bool {
     let places = &memory.list[..blocks];
     let held = places.iter().take_while(|v| **v != 0).count();
     let (objects, rest) = places.split_at(held);
-    let names_nothing = |v: &u16| !is_first_block(blocks, memory, *v as usize - 1);
+    let names_nothing = |v: &Ref| !is_first_block(blocks, memory, *v as usize - 1);
     objects.iter().any(names_nothing)
         || objects.windows(2).any(|two| two[0] >= two[1])
         || rest.iter().any(|v| *v != 0)
@@ -113,7 +119,7 @@ fn unmarked_is_named_while_open(blocks: usize, memory: &Memory) -> bool {
     if !is_open(blocks, memory) {
         return false;
     }
-    let names_unmarked = |names: &[u16]| {
+    let names_unmarked = |names: &[Ref]| {
         let mut objects = names.iter().filter_map(|v| named(blocks, memory, *v));
         objects.any(|first| !is_marked(memory, first))
     };

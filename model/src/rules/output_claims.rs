@@ -1,7 +1,9 @@
 //! What must hold of reasons (U11) and shapes (U13), asked in other ways than they are found.
 
 use crate::rules::collection::reached;
-use crate::rules::heap::{cell_places, first_blocks, is_data, named, reference_places, Memory};
+use crate::rules::heap::{
+    cell_places, first_blocks, is_data, named, reference_places, Memory, Ref,
+};
 use crate::rules::outputs::{due_reason, due_shape};
 use crate::rules::reasons::{chain, read, Chain};
 use crate::rules::shapes::met_in_order;
@@ -123,7 +125,7 @@ fn broken_shape(
         return Some("no shape".to_string());
     };
     let numbers: BTreeMap<usize, u32> = met.iter().copied().zip(1..).collect();
-    let number = |v: u16| {
+    let number = |v: Ref| {
         if v == 0 {
             0
         } else {
@@ -141,7 +143,7 @@ fn broken_shape(
         let data = is_data(memory, *object);
         same &= next_is(cells.len() as u32 / 4) && next_is(u32::from(data));
         for v in cells {
-            same &= next_is(if data { u32::from(*v) } else { number(*v) });
+            same &= next_is(if data { *v } else { number(*v) });
         }
     }
     (!same || rest.next().is_some()).then(|| "another list".to_string())

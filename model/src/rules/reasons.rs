@@ -1,6 +1,6 @@
 //! Document 02, U11: the reason an object is kept, as a sentence; and a reader of sentences, written on its own.
 
-use crate::rules::heap::{first_blocks, named, reference_places, Memory};
+use crate::rules::heap::{first_blocks, named, reference_places, Memory, Ref};
 
 /// "a chain, as `root 1 cell 2 block 4`, with `cell J` once for each link followed": the root, and the cell of each link, its
 /// number within its owner.
@@ -13,27 +13,28 @@ pub struct Chain {
 /// The fewest links from each object to the one at a block, counted from the end: none from itself, and one more than from what
 /// a cell names. None where no links lead there.
 fn links_to(blocks: usize, memory: &Memory, at: usize) -> Vec<Option<usize>> {
-    let mut links = Vec::new();
+    let mut owners = vec![Vec::new(); blocks];
     for owner in first_blocks(blocks, memory) {
         // The cells of data "are never followed".
         for v in &memory.cells[reference_places(blocks, memory, owner)] {
-            links.extend(named(blocks, memory, *v).map(|object| (owner, object)));
+            if let Some(object) = named(blocks, memory, *v) {
+                owners[object].push(owner);
+            }
         }
     }
     let mut fewest = vec![None; blocks];
     fewest[at] = Some(0);
+    let mut ends = vec![at];
     // A chain that meets no object twice has at most N - 1 links.
     for count in 1..blocks {
-        let mut more = false;
-        for (owner, object) in &links {
-            if fewest[*owner].is_none() && fewest[*object] == Some(count - 1) {
+        let mut further = Vec::new();
+        for owner in ends.iter().flat_map(|object| &owners[*object]) {
+            if fewest[*owner].is_none() {
                 fewest[*owner] = Some(count);
-                more = true;
+                further.push(*owner);
             }
         }
-        if !more {
-            break;
-        }
+        ends = further;
     }
     fewest
 }
@@ -41,7 +42,7 @@ fn links_to(blocks: usize, memory: &Memory, at: usize) -> Vec<Option<usize>> {
 /// "The chain has the fewest links; among those the lowest root, then the lowest cell at the first difference."
 pub fn chain(blocks: usize, memory: &Memory, at: usize) -> Option<Chain> {
     let fewest = links_to(blocks, memory, at);
-    let links_from = |v: u16| named(blocks, memory, v).and_then(|object| fewest[object]);
+    let links_from = |v: Ref| named(blocks, memory, v).and_then(|object| fewest[object]);
     let roots = memory.roots.iter();
     let least = roots.filter_map(|v| links_from(*v)).min()?;
     let root = (0..memory.roots.len()).find(|r| links_from(memory.roots[*r]) == Some(least))?;

@@ -1,7 +1,7 @@
 //! Sections: the largest size available in each stretch of the heap (document 02, U4).
 
 use crate::rules::chunks::{lowest_free_chunk, lowest_free_chunk_between};
-use crate::rules::heap::{is_allocated, section_count, section_length, Memory};
+use crate::rules::heap::{is_allocated, section_count, section_length, Memory, Ref};
 
 /// "the size of its largest free aligned chunk, 0 if none", of the s blocks from a multiple of s on, s a power of two.
 ///
@@ -22,13 +22,13 @@ pub fn largest_free_chunk(memory: &Memory, start: usize, s: usize) -> usize {
 }
 
 /// The figure of section k.
-pub fn figure(blocks: usize, memory: &Memory, k: usize) -> u16 {
+pub fn figure(blocks: usize, memory: &Memory, k: usize) -> Ref {
     let length = section_length(blocks);
-    largest_free_chunk(memory, k * length, length) as u16
+    largest_free_chunk(memory, k * length, length) as Ref
 }
 
 /// The true list: the figure of each section.
-pub fn figures(blocks: usize, memory: &Memory) -> Vec<u16> {
+pub fn figures(blocks: usize, memory: &Memory) -> Vec<Ref> {
     (0..section_count(blocks))
         .map(|k| figure(blocks, memory, k))
         .collect()
@@ -60,7 +60,7 @@ pub fn lowest_by_sections(blocks: usize, memory: &Memory, s: usize) -> Option<us
     if s > length {
         return lowest_free_chunk(blocks, memory, s);
     }
-    let suffices = |figure: &u16| *figure as usize >= s;
+    let suffices = |figure: &Ref| *figure as usize >= s;
     let k = memory.sections.iter().position(suffices)?;
     lowest_free_chunk_between(memory, k * length, (k + 1) * length, s)
 }

@@ -1,7 +1,7 @@
 //! Document 02, U13: the shape of a heap as a list of numbers; and whether two heaps mean the same, decided without it.
 
 use crate::rules::collection::reached;
-use crate::rules::heap::{cell_places, is_data, named, reference_places, size, Memory};
+use crate::rules::heap::{cell_places, is_data, named, reference_places, size, Memory, Ref};
 use std::collections::BTreeMap;
 
 /// "Objects are numbered from 1 as first met, breadth first, from root 0 upwards and cell 0 upwards." All roots first, then the
@@ -9,7 +9,7 @@ use std::collections::BTreeMap;
 pub fn met_in_order(blocks: usize, memory: &Memory) -> Vec<usize> {
     let mut met: Vec<usize> = Vec::new();
     let mut is_met = vec![false; blocks];
-    let mut meet = |met: &mut Vec<usize>, v: u16| {
+    let mut meet = |met: &mut Vec<usize>, v: Ref| {
         if let Some(object) = named(blocks, memory, v) {
             if !is_met[object] {
                 is_met[object] = true;
@@ -35,7 +35,7 @@ pub fn met_in_order(blocks: usize, memory: &Memory) -> Vec<usize> {
 pub fn shape(blocks: usize, memory: &Memory) -> Vec<u32> {
     let met = met_in_order(blocks, memory);
     let numbers: BTreeMap<usize, u32> = met.iter().copied().zip(1..).collect();
-    let number_of = |v: u16| named(blocks, memory, v).map_or(0, |object| numbers[&object]);
+    let number_of = |v: Ref| named(blocks, memory, v).map_or(0, |object| numbers[&object]);
     let mut list = vec![memory.roots.len() as u32];
     list.extend(memory.roots.iter().map(|v| number_of(*v)));
     for object in &met {
@@ -43,7 +43,7 @@ pub fn shape(blocks: usize, memory: &Memory) -> Vec<u32> {
         list.push(u32::from(is_data(memory, *object)));
         for v in &memory.cells[cell_places(blocks, memory, *object)] {
             list.push(if is_data(memory, *object) {
-                u32::from(*v)
+                *v
             } else {
                 number_of(*v)
             });
@@ -92,7 +92,7 @@ fn search(
 /// Whether the pairs made so far keep what they must.
 fn keeps_all(one: Heap, other: Heap, pairs: &BTreeMap<usize, usize>) -> bool {
     let keeps_reference =
-        |v: u16, w: u16| match (named(one.0, one.1, v), named(other.0, other.1, w)) {
+        |v: Ref, w: Ref| match (named(one.0, one.1, v), named(other.0, other.1, w)) {
             (None, None) => true,
             (Some(object), Some(partner)) => match pairs.get(&object) {
                 Some(paired) => *paired == partner,

@@ -5,7 +5,7 @@
 use crate::rules::answers::Reply;
 use crate::rules::calls::Call;
 use crate::rules::claims::{led_to, led_to_from, objects, written_in, Object};
-use crate::rules::heap::Memory;
+use crate::rules::heap::{Memory, Ref};
 use crate::rules::mark_claims::{open, touched};
 use std::collections::BTreeSet;
 
@@ -59,9 +59,9 @@ pub fn follow(
         }
         (_, Some(mut opened)) => {
             let written = written_in(before, call, reply);
-            let touched: Vec<u16> = touched(before, call, &written)
+            let touched: Vec<Ref> = touched(before, call, &written)
                 .into_iter()
-                .map(|first| (1 + first) as u16)
+                .map(|first| (1 + first) as Ref)
                 .collect();
             opened
                 .may_stay

@@ -7,7 +7,7 @@ use crate::lists::generate::Desk;
 use crate::lists::random::Random;
 use crate::rules::calls::Call;
 use crate::rules::damage::damage;
-use crate::rules::heap::Memory;
+use crate::rules::heap::{Memory, Ref};
 use crate::texts::expect::buffer_lines;
 use std::fmt::Write;
 
@@ -22,8 +22,8 @@ pub fn trace(seed: u64, count: usize, blocks: usize, width: usize) -> String {
     // and the others all 0.
     for buffer in [5, 6, 9] {
         for i in 0..desk.bench.length(buffer) {
-            let v = desk.random.word() % 65_536;
-            desk.load(buffer, i, v);
+            let v = desk.random.word() as Ref;
+            desk.load(buffer, i, v.into());
         }
     }
     let mut out = format!("{blocks} {width} {roots}\n");
@@ -88,8 +88,7 @@ pub fn steps(seed: u64, count: usize) -> String {
             desk.call(call);
         }
         for i in 0..desk.blocks() {
-            let rubbish = desk.random.word() % 65_536;
-            desk.load(5, i, rubbish);
+            desk.load_rubbish(i);
         }
         if k % 8 == 7 {
             for (buffer, index, value) in some_damage(&mut desk.random, &desk.bench, k / 8 % AIMS) {

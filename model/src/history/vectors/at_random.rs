@@ -7,7 +7,7 @@ use crate::history::record::short::{
 use crate::history::record::{Operation, Record};
 use crate::history::run::{new_heap, run_as_report, Run, BLOCKS, ROOTS};
 use crate::lists::random::Random;
-use crate::rules::heap::{is_data, size, Memory};
+use crate::rules::heap::{is_data, size, Memory, Ref, MAX_NUMBER};
 
 /// What the records of a history are like.
 #[derive(Clone, Copy)]
@@ -40,21 +40,21 @@ const KINDS: [Kind; 5] = [
     Kind {
         name: "full",
         roots: 64,
-        sizes: 600,
+        sizes: 300,
         clears: 10,
         records: 800,
     },
     Kind {
         name: "huge",
         roots: 5,
-        sizes: 5000,
+        sizes: 2500,
         clears: 20,
         records: 300,
     },
     Kind {
         name: "stuck",
         roots: 40,
-        sizes: 300,
+        sizes: 150,
         clears: 25,
         records: 1500,
     },
@@ -77,7 +77,7 @@ pub fn histories(shelf: &mut Shelf) {
 const MIXED: Kind = Kind {
     name: "mixed",
     roots: 64,
-    sizes: 120,
+    sizes: 60,
     clears: 8,
     records: 200_000,
 };
@@ -152,10 +152,10 @@ impl Writer {
             allocate(0, 0).record(),
             allocate(1, 64).record(),
             copy(0, 200).record(),
-            write(owner, 65_535, owner).record(),
-            read(65_535, owner, 0).record(),
+            write(owner, MAX_NUMBER, owner).record(),
+            read(65_536, owner, 0).record(),
             clear(255).record(),
-            data(8193, 0).record(),
+            data(4097, 0).record(),
             write_number(1, 0, owner).record(),
             write(array, 0, array).record(),
             read(0, array, 0).record(),
@@ -188,7 +188,7 @@ impl Writer {
     }
 
     /// A cell of the object in a root that isn't empty; the first cells more often than the others.
-    fn some_cell(&mut self, root: u8) -> u16 {
+    fn some_cell(&mut self, root: u8) -> Ref {
         let first = self.memory.roots[root as usize] as usize - 1;
         let cells = 4 * size(BLOCKS, &self.memory, first);
         let most = if self.random.percent(70) {
@@ -196,23 +196,23 @@ impl Writer {
         } else {
             cells
         };
-        self.random.below(most) as u16
+        self.random.below(most) as Ref
     }
 
     /// Half of them look like references.
-    fn some_number(&mut self) -> u16 {
-        let any = self.random.word() as u16;
+    fn some_number(&mut self) -> Ref {
+        let any = self.random.word() as Ref;
         match self.random.below(4) {
             0 => self.memory.roots[self.random.below(ROOTS)],
-            1 => any % (BLOCKS as u16 + 2),
-            2 => 65_535,
+            1 => any % (BLOCKS as Ref + 2),
+            2 => MAX_NUMBER,
             _ => any,
         }
     }
 
     fn some_operation(&mut self) -> Operation {
         let (any, other) = (self.any_root(), self.any_root());
-        let size = 1 + self.random.below(self.kind.sizes) as u16;
+        let size = 1 + self.random.below(self.kind.sizes) as Ref;
         if self.random.percent(8) {
             return data(size, any);
         }

@@ -5,8 +5,13 @@ use crate::history::record::short::{
     allocate, clear, copy, data, read, write, write_number, COLLECT,
 };
 use crate::history::record::{bytes, Operation, Record};
+use crate::history::run::BLOCKS;
+use crate::rules::heap::{Ref, MAX_NUMBER};
 
-const EVERYTHING: Operation = Operation::Allocate { size: 8192, d: 63 };
+const EVERYTHING: Operation = Operation::Allocate {
+    size: BLOCKS as Ref,
+    d: 63,
+};
 
 /// An ordinary object of 2 blocks at 0 in root 0, data of 2 blocks at 2 in root 1. Roots 2 and up are empty.
 const BEFORE: [Operation; 2] = [
@@ -33,13 +38,13 @@ fn accepted(shelf: &mut Shelf) {
     shelf.operations("prints-3-6-3-0-6-0-data", &three);
     let mixed = [allocate(2, 0), data(7, 1), allocate(3, 2), data(1, 2)];
     shelf.operations("prints-4-13-7-0-12-0-both-kinds", &mixed);
-    let written = then(&[write_number(65_535, 7, 1), write_number(0, 0, 1)]);
+    let written = then(&[write_number(MAX_NUMBER, 7, 1), write_number(0, 0, 1)]);
     shelf.operations("prints-2-4-2-0-4-0-numbers-written", &written);
-    for size in [1, 256, 257, 4097, 8192] {
+    for size in [1, 256, 257, 2049, 4096] {
         let name = format!("prints-1-{size}-{size}-0-{size}-0-data");
         shelf.operations(name, &[data(size, 0)]);
     }
-    for size in [0, 8193, 65_535] {
+    for size in [0, 4097, 65_535, 65_537, MAX_NUMBER] {
         shelf.operations(format!("gives-3-data-of-{size}"), &then(&[data(size, 2)]));
     }
     // Becoming stuck: the seventh reference.
@@ -51,7 +56,7 @@ fn accepted(shelf: &mut Shelf) {
 /// "9 for ... a nonzero unused field": 7 names d and the size, 8 names d, c and the size.
 fn unnamed_fields(shelf: &mut Shelf) {
     let operations: [(&str, Operation, &[usize]); 2] = [
-        ("data", data(2, 3), &[2, 3, 4, 5]),
+        ("data", data(2, 3), &[2, 3, 4, 5, 6, 7]),
         ("number", write_number(258, 7, 1), &[2, 3]),
     ];
     for (name, operation, unnamed) in operations {
@@ -78,17 +83,17 @@ fn first_number(shelf: &mut Shelf) {
     for (name, operation) in [
         ("3-of-7", data(0, 2)),
         ("3-with-4-of-7", data(0, 64)),
-        ("3-with-4-of-7-too-large", data(8193, 255)),
+        ("3-with-4-of-7-too-large", data(4097, 255)),
         ("4-of-7", data(1, 64)),
-        ("4-with-5-of-7", data(8192, 64)),
-        ("5-of-7", data(8192, 2)),
+        ("4-with-5-of-7", data(4096, 64)),
+        ("5-of-7", data(4096, 2)),
         ("4-of-8", write_number(1, 0, 64)),
-        ("4-with-7-of-8", write_number(1, 65_535, 255)),
+        ("4-with-7-of-8", write_number(1, MAX_NUMBER, 255)),
         ("6-of-8", write_number(1, 0, 2)),
-        ("6-with-7-of-8", write_number(1, 65_535, 2)),
+        ("6-with-7-of-8", write_number(1, MAX_NUMBER, 2)),
         ("7-of-8", write_number(1, 8, 1)),
         ("7-with-12-of-8", write_number(1, 8, 0)),
-        ("7-with-12-of-8-far", write_number(1, 65_535, 0)),
+        ("7-with-12-of-8-far", write_number(1, MAX_NUMBER, 0)),
         ("12-of-8", write_number(1, 7, 0)),
         ("12-of-8-with-0", write_number(0, 0, 0)),
         ("12-of-3", write(0, 7, 1)),
@@ -121,11 +126,16 @@ fn first_number(shelf: &mut Shelf) {
 
 /// "write the size field's number into cell c of the data in d": any number, never 3 or 9; and which byte is the low one.
 fn numbers(shelf: &mut Shelf) {
-    for number in [0, 1, 255, 256, 8192, 8193, 65_535] {
+    for number in [
+        0, 1, 255, 256, 4096, 4097, 65_535, 65_536, 16_777_216, MAX_NUMBER,
+    ] {
         let name = format!("prints-2-4-2-0-4-0-number-{number}");
         shelf.operations(name, &then(&[write_number(number, 5, 1)]));
     }
-    for (size, cells) in [(2, [0, 7, 8, 256]), (65, [255, 256, 259, 260])] {
+    for (size, cells) in [
+        (2, [0, 7, 8, 256, 65_536]),
+        (65, [255, 256, 259, 260, 16_777_216]),
+    ] {
         for c in cells {
             let begin = if c < 4 * size {
                 "number"
@@ -140,38 +150,38 @@ fn numbers(shelf: &mut Shelf) {
 
 /// "When allocation gives 5 the run collects and tries once more": allocation of data too.
 fn forced_collections(shelf: &mut Shelf) {
-    // Garbage of 4,096 blocks, an object that names itself; and data that is held.
-    let garbage = [allocate(4096, 0), write(0, 0, 0), clear(0), data(4096, 1)];
-    let helps = [&garbage[..], &[data(4096, 2)]].concat();
-    shelf.operations("prints-3-12288-4096-1-8192-0-forced-by-data", &helps);
+    // Garbage of 2,048 blocks, an object that names itself; and data that is held.
+    let garbage = [allocate(2048, 0), write(0, 0, 0), clear(0), data(2048, 1)];
+    let helps = [&garbage[..], &[data(2048, 2)]].concat();
+    shelf.operations("prints-3-6144-2048-1-4096-0-forced-by-data", &helps);
     let no_help = [&helps[..], &[data(1, 3)]].concat();
     shelf.operations("gives-5-forced-by-data-is-no-help", &no_help);
-    let not_for_3 = [&garbage[..], &[data(8193, 2)]].concat();
+    let not_for_3 = [&garbage[..], &[data(4097, 2)]].concat();
     shelf.operations("gives-3-no-collection-for-data", &not_for_3);
-    let not_for_4 = [&garbage[..], &[data(4096, 64)]].concat();
+    let not_for_4 = [&garbage[..], &[data(2048, 64)]].concat();
     shelf.operations("gives-4-no-collection-for-data", &not_for_4);
     // What a forced collection leaves of data: its numbers, and that it is data.
     let stays = [&helps[..], &[write_number(1, 0, 1), write(2, 0, 1)]].concat();
     shelf.operations("gives-12-data-after-a-forced-collection", &stays);
     // Over the data that stands in the root: what that frees is not used.
-    let same_root = [data(8192, 0), data(8192, 0)];
+    let same_root = [data(4096, 0), data(4096, 0)];
     shelf.operations("gives-5-data-over-data", &same_root);
 }
 
 /// Data is held by roots and cells as objects are, and its numbers hold nothing.
 fn letting_go(shelf: &mut Shelf) {
     let cleared = [data(5, 0), clear(0), EVERYTHING];
-    shelf.operations("prints-2-8197-8192-0-8192-0-data-cleared", &cleared);
+    shelf.operations("prints-2-4101-4096-0-4096-0-data-cleared", &cleared);
     let in_a_cell = then(&[write(1, 3, 0), clear(1)]);
     let held = [&in_a_cell[..], &[EVERYTHING]].concat();
     shelf.operations("gives-5-data-held-by-a-cell", &held);
     let let_go = [&in_a_cell[..], &[clear(0), EVERYTHING]].concat();
-    shelf.operations("prints-3-8196-8192-0-8192-0-data-in-a-cell", &let_go);
+    shelf.operations("prints-3-4100-4096-0-4096-0-data-in-a-cell", &let_go);
     let read_out = [&in_a_cell[..], &[read(3, 0, 2), clear(0), EVERYTHING]].concat();
     shelf.operations("gives-5-data-read-out-of-a-cell", &read_out);
     // The number 1 looks like a reference to the object at 0: it keeps it neither from being let go nor from a collection.
     let named = then(&[write_number(1, 0, 1), clear(0), clear(1), EVERYTHING]);
-    shelf.operations("prints-3-8196-8192-0-8192-0-named-by-a-number", &named);
+    shelf.operations("prints-3-4100-4096-0-4096-0-named-by-a-number", &named);
     let one_left = then(&[
         write_number(1, 0, 1),
         clear(0),
@@ -180,11 +190,11 @@ fn letting_go(shelf: &mut Shelf) {
         clear(2),
     ]);
     let one_left = [&one_left[..], &[EVERYTHING]].concat();
-    shelf.operations("prints-4-8198-8192-0-8192-0-born-again-as-data", &one_left);
+    shelf.operations("prints-4-4102-4096-0-4096-0-born-again-as-data", &one_left);
     let cycle = then(&[write(0, 0, 0), write_number(1, 0, 1), clear(0), COLLECT]);
     let cycle = [&cycle[..], &[clear(1), EVERYTHING]].concat();
     shelf.operations(
-        "prints-3-8196-8192-1-8192-0-cycle-named-by-a-number",
+        "prints-3-4100-4096-1-4096-0-cycle-named-by-a-number",
         &cycle,
     );
     // Freed data lets nothing go: the object at 0 is still there, once.
@@ -197,7 +207,7 @@ fn letting_go(shelf: &mut Shelf) {
         write_number(0, 0, 1),
     ]);
     let over = [&over[..], &[clear(0), clear(1), EVERYTHING]].concat();
-    shelf.operations("prints-3-8196-8192-0-8192-0-numbers-over-numbers", &over);
+    shelf.operations("prints-3-4100-4096-0-4096-0-numbers-over-numbers", &over);
     // An ordinary object where data was, and the other way round.
     let then_ordinary = then(&[clear(1), allocate(2, 1), write(0, 0, 1), read(0, 1, 2)]);
     shelf.operations("prints-3-6-2-0-4-0-ordinary-where-data-was", &then_ordinary);

@@ -2,7 +2,8 @@
 
 use super::Shelf;
 use crate::history::record::short::{allocate, clear, copy, read, write, COLLECT};
-use crate::history::record::{bytes, Operation, Record};
+use crate::history::record::{bytes, Operation, Record, RECORD};
+use crate::rules::heap::MAX_NUMBER;
 
 pub fn histories(shelf: &mut Shelf) {
     shelf.add("prints-0-0-0-0-0-0-empty", Vec::new());
@@ -33,13 +34,14 @@ fn then(record: Record) -> Vec<u8> {
 /// "10 for a file ending inside a record": before 9, and at any length.
 fn cut_off(shelf: &mut Shelf) {
     for whole in [0, 1, 3] {
-        for tail in 1..=7 {
-            let unknown = [9, 255, 255, 255, 255, 255, 255];
+        for tail in 1..RECORD {
+            let mut unknown = [255; RECORD];
+            unknown[0] = 9;
             let file = [&bytes(&BEFORE[..whole]), &unknown[..tail]].concat();
             shelf.add(format!("gives-10-unknown-{whole}-and-{tail}"), file);
         }
     }
-    for tail in 1..=7 {
+    for tail in 1..RECORD {
         let good = allocate(2, 3).record().bytes();
         let file = [&bytes(&BEFORE), &good[..tail]].concat();
         shelf.add(format!("gives-10-good-3-and-{tail}"), file);
@@ -71,14 +73,14 @@ fn unknown_operations(shelf: &mut Shelf) {
 
 /// "a nonzero unused field": of every operation, every byte that its sentence doesn't name.
 fn unnamed_fields(shelf: &mut Shelf) {
-    // d is byte 1, s byte 2, c bytes 4 and 5, the size bytes 6 and 7.
+    // d is byte 1, s byte 2, c bytes 4 to 7, the size bytes 8 to 11.
     let operations: [(&str, Operation, &[usize]); 6] = [
-        ("allocate", allocate(2, 3), &[2, 3, 4, 5]),
-        ("copy", copy(0, 3), &[3, 4, 5, 6, 7]),
-        ("write", write(1, 0, 0), &[3, 6, 7]),
-        ("read", read(3, 0, 3), &[3, 6, 7]),
-        ("clear", clear(1), &[2, 3, 4, 5, 6, 7]),
-        ("collect", COLLECT, &[1, 2, 3, 4, 5, 6, 7]),
+        ("allocate", allocate(2, 3), &[2, 3, 4, 5, 6, 7]),
+        ("copy", copy(0, 3), &[3, 4, 5, 6, 7, 8, 9, 10, 11]),
+        ("write", write(1, 0, 0), &[3, 8, 9, 10, 11]),
+        ("read", read(3, 0, 3), &[3, 8, 9, 10, 11]),
+        ("clear", clear(1), &[2, 3, 4, 5, 6, 7, 8, 9, 10, 11]),
+        ("collect", COLLECT, &[1, 2, 3, 4, 5, 6, 7, 8, 9, 10, 11]),
     ];
     for (name, operation, unnamed) in operations {
         shelf.add(format!("good-{name}"), then(operation.record()));
@@ -100,7 +102,7 @@ fn first_number(shelf: &mut Shelf) {
     for (name, operation) in [
         ("3-in-1", allocate(0, 3)),
         ("4-in-1", allocate(2, 64)),
-        ("5-in-1", allocate(8192, 3)),
+        ("5-in-1", allocate(4096, 3)),
         ("4-in-2", copy(64, 0)),
         ("4-in-3", write(0, 0, 64)),
         ("6-in-3", write(0, 0, 2)),
@@ -123,16 +125,16 @@ fn first_number(shelf: &mut Shelf) {
     shelf.add("gives-9-unknown-with-4", then(unknown_and_root));
     for (name, operation) in [
         ("3-with-4-size-0", allocate(0, 64)),
-        ("3-with-4-size-8193", allocate(8193, 255)),
-        ("4-with-5", allocate(8192, 64)),
+        ("3-with-4-size-4097", allocate(4097, 255)),
+        ("4-with-5", allocate(4096, 64)),
         ("4-with-6-s-of-3", write(64, 0, 2)),
         ("4-with-7-s-of-3", write(64, 8, 1)),
-        ("4-with-6-and-7-of-3", write(255, 65_535, 2)),
+        ("4-with-6-and-7-of-3", write(255, MAX_NUMBER, 2)),
         ("4-with-6-d-of-4", read(0, 2, 64)),
         ("4-with-7-d-of-4", read(8, 1, 64)),
-        ("4-with-6-and-7-of-4", read(65_535, 2, 255)),
-        ("6-with-7-of-3", write(0, 65_535, 2)),
-        ("6-with-7-of-4", read(65_535, 2, 0)),
+        ("4-with-6-and-7-of-4", read(MAX_NUMBER, 2, 255)),
+        ("6-with-7-of-3", write(0, MAX_NUMBER, 2)),
+        ("6-with-7-of-4", read(MAX_NUMBER, 2, 0)),
     ] {
         shelf.add(format!("gives-{name}"), then(operation.record()));
     }
@@ -168,11 +170,24 @@ fn roots(shelf: &mut Shelf) {
 
 /// "3 if n is 0 or above N", and which byte is the low one.
 fn sizes(shelf: &mut Shelf) {
-    for size in [1, 2, 3, 255, 256, 257, 258, 4095, 4096, 4097, 8191, 8192] {
+    for size in [1, 2, 3, 255, 256, 257, 258, 2047, 2048, 2049, 4095, 4096] {
         let name = format!("prints-1-{size}-{size}-0-{size}-0-size");
         shelf.operations(name, &[allocate(size, 0)]);
     }
-    for size in [0, 8193, 16_384, 32_768, 65_535] {
+    // Many of these would be right by fewer of their bytes, or the other way round.
+    for size in [
+        0,
+        4097,
+        8192,
+        65_535,
+        65_536,
+        65_537,
+        65_792,
+        16_777_216,
+        16_777_217,
+        1 << 31,
+        MAX_NUMBER,
+    ] {
         let name = format!("gives-3-size-{size}");
         shelf.operations(name, &[allocate(1, 0), allocate(size, 1)]);
     }
@@ -181,8 +196,14 @@ fn sizes(shelf: &mut Shelf) {
 /// "7 if j is not below 4 × size", for objects of 2 and of 65 blocks, and which byte is the low one.
 fn cells(shelf: &mut Shelf) {
     for (size, cells) in [
-        (2, [0, 1, 7, 8, 255, 256, 65_535]),
-        (65, [1, 255, 256, 258, 259, 260, 513]),
+        (
+            2,
+            [0, 1, 7, 8, 255, 256, 65_535, 65_536, 1 << 24, MAX_NUMBER],
+        ),
+        (
+            65,
+            [1, 255, 256, 258, 259, 260, 513, 65_537, 65_792, 1 << 31],
+        ),
     ] {
         for c in cells {
             let begin = if c < 4 * size { "cell" } else { "gives-7-cell" };
@@ -201,7 +222,7 @@ fn cells(shelf: &mut Shelf) {
         read(258, 0, 3),
         clear(0),
         read(27, 3, 4),
-        allocate(8000, 5),
+        allocate(4000, 5),
     ];
     shelf.operations("gives-5-what-was-written-is-read", &kept);
 }
@@ -211,7 +232,7 @@ fn stops(shelf: &mut Shelf) {
     let refused = clear(64).record();
     let behind: [(&str, Vec<u8>); 4] = [
         ("good", bytes(&BEFORE)),
-        ("unknown", vec![9; 8]),
+        ("unknown", vec![9; RECORD]),
         ("cut-off", vec![9; 3]),
         ("many", bytes(&[COLLECT; 100])),
     ];

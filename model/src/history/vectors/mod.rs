@@ -1,4 +1,4 @@
-//! Some 460 histories that the program `report` is tested with. What must be printed for each is `report`'s line.
+//! Some 580 histories that the program `report` is tested with. What must be printed for each is `report`'s line.
 //!
 //! A name that begins `gives-N` says, from the documents, that the run stops with N at the last record, whole or cut off;
 //! one that begins `prints-A-B-C-D-E-F` has the line.
@@ -7,10 +7,12 @@ mod at_random;
 mod by_heap;
 mod by_number;
 mod by_record;
+mod old_form;
 
 use super::record::{bytes, Operation};
 
 pub use at_random::mixed;
+pub use old_form::old_histories;
 
 #[derive(Clone, Debug)]
 pub struct History {

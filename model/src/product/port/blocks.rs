@@ -1,5 +1,7 @@
 //! Bits, counts, first blocks, sizes, data, chunks and extents: by bytes where the library goes by bytes.
 
+use crate::rules::heap::Ref;
+
 pub fn get_bit(map: &[u8], i: usize) -> u8 {
     (map[i / 8] >> (i % 8)) % 2
 }
@@ -136,7 +138,7 @@ pub fn has_data(data: &[u8]) -> bool {
 const STRETCH: usize = 32;
 
 /// Which of the eight blocks of byte k have a cell that is not 0, as the bits of a byte.
-pub fn filled_byte(cells: &[u16], k: usize) -> u8 {
+pub fn filled_byte(cells: &[Ref], k: usize) -> u8 {
     let stretch = &cells[STRETCH * k..STRETCH * (k + 1)];
     let mut any = 0;
     for v in stretch {

@@ -1,11 +1,12 @@
-//! The check as it was before it went by bytes, kept to be compared with: kinds 1 to 5 and 7 block by block, a tally of 16-bit
+//! The check as it was before it went by bytes, kept to be compared with: kinds 1 to 5 and 7 block by block, a tally of whole
 //! numbers, a size and a run of bits bit by bit; and the collection with that size and those runs.
 
 use super::blocks::{chunk_size, get_bit, get_count, is_first, is_in_data, set_bit};
-use super::damage::{check_with, has_bad_cell_in, has_bad_root, is_free_or_past, MAX_BLOCKS};
+use super::damage::{check_with, has_bad_cell_in, has_bad_root, is_free_or_past};
 use super::references::collect_with;
 use super::sections::renew;
 use super::{Answer, Lent};
+use crate::rules::heap::Ref;
 
 fn fill_bits(map: &mut [u8], from: usize, count: usize, v: u8) {
     for i in 0..count {
@@ -79,7 +80,7 @@ fn has_bad_cell(blocks: usize, m: &Lent) -> bool {
     false
 }
 
-fn tally(refs: &[u16], at: &mut [u16; MAX_BLOCKS]) {
+fn tally(refs: &[Ref], at: &mut [Ref]) {
     for v in refs {
         if *v != 0 {
             at[*v as usize - 1] += 1;
@@ -87,7 +88,7 @@ fn tally(refs: &[u16], at: &mut [u16; MAX_BLOCKS]) {
     }
 }
 
-fn tally_cells(blocks: usize, m: &Lent, at: &mut [u16; MAX_BLOCKS]) {
+fn tally_cells(blocks: usize, m: &Lent, at: &mut [Ref]) {
     if !has_data(m.data) {
         tally(m.cells, at);
         return;
@@ -101,15 +102,15 @@ fn tally_cells(blocks: usize, m: &Lent, at: &mut [u16; MAX_BLOCKS]) {
     }
 }
 
-fn is_bad_count(first: bool, count: u8, capacity: u8, references: u16) -> bool {
+fn is_bad_count(first: bool, count: u8, capacity: u8, references: Ref) -> bool {
     if !first {
         return count != 0;
     }
-    count == 0 || (count < capacity && count as u16 != references)
+    count == 0 || (count < capacity && count as Ref != references)
 }
 
 fn has_bad_count(blocks: usize, width: usize, m: &Lent) -> bool {
-    let mut at = [0; MAX_BLOCKS];
+    let mut at = vec![0; blocks];
     tally(m.roots, &mut at);
     tally_cells(blocks, m, &mut at);
     let capacity = (1u8 << width) - 1;

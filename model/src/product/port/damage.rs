@@ -8,8 +8,7 @@ use super::blocks::{
 use super::sections::{is_stale, section_length};
 use super::steps::is_untidy;
 use super::{acceptance, refusal, Answer, Lent};
-
-pub const MAX_BLOCKS: usize = 8192;
+use crate::rules::heap::{Ref, MAX_BLOCKS};
 
 pub fn is_shaped(blocks: usize, width: usize, m: &Lent) -> bool {
     let mut power = 8;
@@ -138,7 +137,7 @@ pub fn has_bad_cell_in(blocks: usize, m: &Lent, from: usize, n: usize) -> bool {
     false
 }
 
-pub fn has_bad_root(blocks: usize, a: &[u8], b: &[u8], roots: &[u16]) -> bool {
+pub fn has_bad_root(blocks: usize, a: &[u8], b: &[u8], roots: &[Ref]) -> bool {
     for v in roots {
         if !is_reference(blocks, a, b, *v as usize) {
             return true;
@@ -155,7 +154,7 @@ fn one_more(n: u8) -> u8 {
     n + 1
 }
 
-fn tally(refs: &[u16], at: &mut [u8; MAX_BLOCKS]) {
+fn tally(refs: &[Ref], at: &mut [u8]) {
     for v in refs {
         let v = *v as usize;
         if v != 0 {
@@ -164,7 +163,7 @@ fn tally(refs: &[u16], at: &mut [u8; MAX_BLOCKS]) {
     }
 }
 
-fn tally_among(cells: &[u16], k: usize, these: u8, at: &mut [u8; MAX_BLOCKS]) {
+fn tally_among(cells: &[Ref], k: usize, these: u8, at: &mut [u8]) {
     let mut left = these;
     while left != 0 {
         let from = 32 * k + 4 * left.trailing_zeros() as usize;
@@ -173,7 +172,7 @@ fn tally_among(cells: &[u16], k: usize, these: u8, at: &mut [u8; MAX_BLOCKS]) {
     }
 }
 
-fn tally_cells(blocks: usize, m: &Lent, at: &mut [u8; MAX_BLOCKS]) {
+fn tally_cells(blocks: usize, m: &Lent, at: &mut [u8]) {
     if !has_data(m.data) {
         for k in 0..blocks / 8 {
             tally_among(m.cells, k, filled_byte(m.cells, k), at);
@@ -190,14 +189,7 @@ fn tally_cells(blocks: usize, m: &Lent, at: &mut [u8; MAX_BLOCKS]) {
 }
 
 /// Whether one of the blocks of byte k that are the bits of `these` has a count that is not the tally's.
-fn is_off_tally(
-    these: u8,
-    k: usize,
-    bytes: usize,
-    width: usize,
-    counts: &[u8],
-    at: &[u8; MAX_BLOCKS],
-) -> bool {
+fn is_off_tally(these: u8, k: usize, bytes: usize, width: usize, counts: &[u8], at: &[u8]) -> bool {
     let mut left = these;
     while left != 0 {
         let i = 8 * k + left.trailing_zeros() as usize;
@@ -212,7 +204,7 @@ fn is_off_tally(
 /// Kind 5, eight blocks at a time: where an object starts and where a count is not 0 must be the same, and a count below
 /// capacity must be the tally's.
 fn has_bad_count(blocks: usize, width: usize, m: &Lent) -> bool {
-    let mut at = [0; MAX_BLOCKS];
+    let mut at = vec![0; blocks];
     tally(m.roots, &mut at);
     tally_cells(blocks, m, &mut at);
     let bytes = blocks / 8;

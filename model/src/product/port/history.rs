@@ -7,12 +7,13 @@ use super::replay::{
 };
 use super::steps::is_open;
 use super::{lend, refusal, Answer, Lent};
-use crate::rules::heap::Memory;
+use crate::history::record::RECORD;
+use crate::history::run::{BLOCKS, ROOTS, WIDTH};
+use crate::rules::heap::{Memory, Ref, MAX_BLOCKS};
 use std::fmt;
 use std::io::{self, Read};
 
 const MAX_RECORDS: usize = 4_294_967_295;
-const MAX_BLOCKS: u64 = 8192;
 
 /// The figures of a run.
 #[derive(Clone, Copy, Debug, Default, PartialEq, Eq)]
@@ -47,7 +48,7 @@ enum Plan {
     Allocate { n: usize, r: usize, as_data: bool },
     StoreRoot { r: usize, v: usize },
     StoreCell { at: usize, j: usize, v: usize },
-    WriteNumber { at: usize, j: usize, v: u16 },
+    WriteNumber { at: usize, j: usize, v: Ref },
     Collect,
 }
 
@@ -62,13 +63,15 @@ struct Done {
 
 fn fields_at(bytes: &[u8], at: usize) -> Fields {
     let byte = |k: usize| bytes[at + k] as usize;
+    let four =
+        |k: usize| byte(k) + 256 * byte(k + 1) + 65_536 * byte(k + 2) + 16_777_216 * byte(k + 3);
     Fields {
         operation: byte(0),
         d: byte(1),
         s: byte(2),
         unused: byte(3),
-        c: byte(4) + 256 * byte(5),
-        size: byte(6) + 256 * byte(7),
+        c: four(4),
+        size: four(8),
     }
 }
 
@@ -128,7 +131,7 @@ fn plan_of(blocks: usize, m: &Lent, f: &Fields) -> Plan {
             owner => Plan::WriteNumber {
                 at: owner - 1,
                 j: f.c,
-                v: f.size as u16,
+                v: f.size as Ref,
             },
         },
         _ => Plan::Stop(9),
@@ -217,7 +220,7 @@ fn in_range(run: &SoFar) -> bool {
     let forced = u64::from(run.number != 0);
     run.records <= MAX_RECORDS
         && run.tally.allocations <= records
-        && run.tally.blocks <= MAX_BLOCKS * records
+        && run.tally.blocks <= MAX_BLOCKS as u64 * records
         && run.tally.stuck <= records
         && run.tally.collections <= records + forced
 }
@@ -241,10 +244,10 @@ pub fn run_records(
     if run.number != 0 {
         return Ok(run);
     }
-    let n = (bytes.len() / 8).min(MAX_RECORDS - run.records);
+    let n = (bytes.len() / RECORD).min(MAX_RECORDS - run.records);
     let mut used = blocks - count_zeros(m.a);
     for i in 0..n {
-        let fields = fields_at(bytes, 8 * i);
+        let fields = fields_at(bytes, RECORD * i);
         let plan = plan_of(blocks, m, &fields);
         let done = act(blocks, width, m, plan);
         note(&mut run, &mut used, &done);
@@ -252,7 +255,7 @@ pub fn run_records(
             return Ok(run);
         }
     }
-    if bytes.len() != 8 * n {
+    if bytes.len() != RECORD * n {
         run.number = 10;
     }
     Ok(run)
@@ -278,12 +281,12 @@ impl fmt::Display for SoFar {
     }
 }
 
+/// The bytes of a piece that the program reads at once: as many whole records as a mebibyte has.
+pub const PIECE: usize = RECORD * ((1 << 20) / RECORD);
+
 /// The program `report`: its heap, its pieces, its line.
 pub fn report(mut history: impl Read) -> io::Result<String> {
-    const BLOCKS: usize = 8192;
-    const WIDTH: usize = 3;
-    const PIECE: usize = 65_536;
-    let mut memory = Memory::zeros(BLOCKS, WIDTH, 64);
+    let mut memory = Memory::zeros(BLOCKS, WIDTH, ROOTS);
     let mut lent = lend(&mut memory);
     format(BLOCKS, &mut lent);
     let mut run = SoFar::default();

@@ -11,7 +11,7 @@ mod sections;
 mod steps;
 mod two_passes;
 
-use crate::rules::heap::Memory;
+use crate::rules::heap::{Memory, Ref};
 
 pub use blocks::{lowest_chunk, Searched};
 pub use by_blocks::{check_by_blocks, collection_by_blocks};
@@ -26,13 +26,13 @@ pub struct Lent<'a> {
     pub a: &'a mut [u8],
     pub b: &'a mut [u8],
     pub counts: &'a mut [u8],
-    pub cells: &'a mut [u16],
-    pub roots: &'a mut [u16],
-    pub waiting: &'a mut [u16],
-    pub sections: &'a mut [u16],
+    pub cells: &'a mut [Ref],
+    pub roots: &'a mut [Ref],
+    pub waiting: &'a mut [Ref],
+    pub sections: &'a mut [Ref],
     pub data: &'a mut [u8],
     pub marks: &'a mut [u8],
-    pub list: &'a mut [u16],
+    pub list: &'a mut [Ref],
 }
 
 /// A memory, lent to the port.

@@ -7,12 +7,13 @@ use super::blocks::{
 use super::sections::mark_unknown;
 use super::steps::{forget, is_open, meet, meet_store};
 use super::Lent;
+use crate::rules::heap::Ref;
 
 fn capacity(width: usize) -> u8 {
     (1u8 << width) - 1
 }
 
-fn count_up(blocks: usize, width: usize, counts: &mut [u8], v: u16) -> bool {
+fn count_up(blocks: usize, width: usize, counts: &mut [u8], v: Ref) -> bool {
     if v == 0 {
         return false;
     }
@@ -30,8 +31,8 @@ fn count_down(
     blocks: usize,
     width: usize,
     counts: &mut [u8],
-    waiting: &mut [u16],
-    v: u16,
+    waiting: &mut [Ref],
+    v: Ref,
     top: usize,
 ) -> usize {
     if v == 0 {
@@ -53,13 +54,13 @@ fn count_down(
     top
 }
 
-fn let_go(blocks: usize, width: usize, m: &mut Lent, v: u16) -> usize {
+fn let_go(blocks: usize, width: usize, m: &mut Lent, v: Ref) -> usize {
     let top = count_down(blocks, width, m.counts, m.waiting, v, 0);
     free_waiting(blocks, width, m, top)
 }
 
 /// One more object that a cell of something freed named. The objects that wait then.
-pub fn let_wait(blocks: usize, width: usize, m: &mut Lent, v: u16, top: usize) -> usize {
+pub fn let_wait(blocks: usize, width: usize, m: &mut Lent, v: Ref, top: usize) -> usize {
     count_down(blocks, width, m.counts, m.waiting, v, top)
 }
 
@@ -108,7 +109,7 @@ fn drop_object(
     top
 }
 
-fn put_root(blocks: usize, width: usize, m: &mut Lent, r: usize, v: u16) -> usize {
+fn put_root(blocks: usize, width: usize, m: &mut Lent, r: usize, v: Ref) -> usize {
     let old = m.roots[r];
     m.roots[r] = v;
     meet_store(m, 0, old, v);
@@ -127,7 +128,7 @@ const NOTHING: Stored = Stored {
     stuck: false,
 };
 
-pub fn store_root(blocks: usize, width: usize, m: &mut Lent, r: usize, v: u16) -> Stored {
+pub fn store_root(blocks: usize, width: usize, m: &mut Lent, r: usize, v: Ref) -> Stored {
     if m.roots[r] == v {
         return NOTHING;
     }
@@ -152,9 +153,9 @@ pub fn store_cell(
     blocks: usize,
     width: usize,
     m: &mut Lent,
-    owner: u16,
+    owner: Ref,
     c: usize,
-    v: u16,
+    v: Ref,
 ) -> Stored {
     let old = m.cells[c];
     if old == v {
@@ -184,7 +185,7 @@ pub fn place(
     }
     set_bit(m.data, i, u8::from(as_data));
     set_bit(m.marks, i, u8::from(is_open(m)));
-    let freed = put_root(blocks, width, m, r, (i + 1) as u16);
+    let freed = put_root(blocks, width, m, r, (i + 1) as Ref);
     Stored {
         freed,
         stuck: capacity(width) == 1,
@@ -195,8 +196,8 @@ fn visit(
     blocks: usize,
     width: usize,
     counts: &mut [u8],
-    waiting: &mut [u16],
-    v: u16,
+    waiting: &mut [Ref],
+    v: Ref,
     top: usize,
 ) -> usize {
     if v == 0 {

@@ -9,6 +9,7 @@ use super::references::{collect, place, return_roots, store_cell, store_root, St
 use super::sections::{find_chunk, renew, section_length};
 use super::steps::{is_open, open, take_steps};
 use super::{acceptance, refusal, telling, Answer, Lent};
+use crate::rules::heap::{Ref, MAX_NUMBER};
 
 pub fn format(blocks: usize, m: &mut Lent) {
     m.a.fill(0);
@@ -20,16 +21,16 @@ pub fn format(blocks: usize, m: &mut Lent) {
     m.marks.fill(0);
     m.list.fill(0);
     m.waiting.fill(0);
-    m.sections.fill(section_length(blocks) as u16);
+    m.sections.fill(section_length(blocks) as Ref);
 }
 
 /// A search of a heap of so many blocks, with its A-map and its list of sections, for the lowest free chunk of a size: its
 /// first block, or the number of blocks.
-pub trait Search: Fn(usize, &[u8], &[u16], usize) -> usize {}
+pub trait Search: Fn(usize, &[u8], &[Ref], usize) -> usize {}
 
-impl<F: Fn(usize, &[u8], &[u16], usize) -> usize> Search for F {}
+impl<F: Fn(usize, &[u8], &[Ref], usize) -> usize> Search for F {}
 
-pub fn search(blocks: usize, a: &[u8], sections: &[u16], size: usize) -> usize {
+pub fn search(blocks: usize, a: &[u8], sections: &[Ref], size: usize) -> usize {
     find_chunk(blocks, a, sections, size).at
 }
 
@@ -77,7 +78,7 @@ pub fn put_in_root(blocks: usize, width: usize, m: &mut Lent, r: usize, v: usize
     if !is_reference(blocks, m.a, m.b, v) {
         return refusal(8);
     }
-    let stored = store_root(blocks, width, m, r, v as u16);
+    let stored = store_root(blocks, width, m, r, v as Ref);
     stored_answer(blocks, m, stored)
 }
 
@@ -109,12 +110,12 @@ pub fn put_in_cell(
     if !is_reference(blocks, m.a, m.b, v) {
         return refusal(8);
     }
-    let owner = (1 + at) as u16;
-    let stored = store_cell(blocks, width, m, owner, 4 * at + j, v as u16);
+    let owner = (1 + at) as Ref;
+    let stored = store_cell(blocks, width, m, owner, 4 * at + j, v as Ref);
     stored_answer(blocks, m, stored)
 }
 
-pub fn write_number(blocks: usize, m: &mut Lent, at: usize, j: usize, v: u16) -> Answer {
+pub fn write_number(blocks: usize, m: &mut Lent, at: usize, j: usize, v: Ref) -> Answer {
     if let Some(answer) = test_cell(blocks, m, at, j, true) {
         return answer;
     }
@@ -209,7 +210,7 @@ fn step_by(find: &impl Search, blocks: usize, width: usize, m: &mut Lent, call: 
         7 => acceptance(count_zeros(m.a)),
         8 => let_go_of(blocks, width, m, call[1]),
         9 => allocate(find, blocks, width, m, x, y, true).0,
-        10 => write_number(blocks, m, x, y, call[3] as u16),
+        10 => write_number(blocks, m, x, y, call[3] as Ref),
         11 => read_number(blocks, m, x, y),
         12 => open_collection(m),
         13 => step_collection(blocks, width, m, x),
@@ -219,7 +220,7 @@ fn step_by(find: &impl Search, blocks: usize, width: usize, m: &mut Lent, call: 
 
 /// Whether four words are a call. A number write has a number that a cell can hold.
 fn is_call(call: &[u64]) -> bool {
-    call[0] < 14 && (call[0] != 10 || call[3] < 65_536)
+    call[0] < 14 && (call[0] != 10 || call[3] <= MAX_NUMBER.into())
 }
 
 /// Formats, then runs calls of four words each and writes replies of three words each.
@@ -250,7 +251,7 @@ pub fn replay_without_list(
         return refusal(1);
     }
     let aside = std::mem::take(&mut m.sections);
-    let find = |blocks: usize, a: &[u8], _: &[u16], size: usize| find(a, blocks, size);
+    let find = |blocks: usize, a: &[u8], _: &[Ref], size: usize| find(a, blocks, size);
     let answer = replay_by(&find, blocks, width, m, calls, replies);
     m.sections = aside;
     answer

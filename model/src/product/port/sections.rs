@@ -1,11 +1,12 @@
 //! Sections: their figures, the marks on those that have to be found anew, and the search by them.
 
 use super::blocks::{get_bit, lowest_chunk, Searched};
+use crate::rules::heap::{Ref, MAX_NUMBER};
 
 const MAX_SECTION: usize = 256;
 
 /// A figure that no section has: it has to be found anew.
-pub const UNKNOWN: u16 = 65_535;
+pub const UNKNOWN: Ref = MAX_NUMBER;
 
 pub fn section_length(blocks: usize) -> usize {
     if blocks < MAX_SECTION {
@@ -111,7 +112,7 @@ fn section_figure(blocks: usize, a: &[u8], s: usize) -> usize {
 }
 
 /// Whether a number of the list differs from its section's figure.
-pub fn is_stale(blocks: usize, a: &[u8], sections: &[u16]) -> bool {
+pub fn is_stale(blocks: usize, a: &[u8], sections: &[Ref]) -> bool {
     for (s, number) in sections.iter().enumerate() {
         if *number as usize != section_figure(blocks, a, s) {
             return true;
@@ -121,16 +122,16 @@ pub fn is_stale(blocks: usize, a: &[u8], sections: &[u16]) -> bool {
 }
 
 /// Finds the unknown figures anew.
-pub fn renew(blocks: usize, a: &[u8], sections: &mut [u16]) {
+pub fn renew(blocks: usize, a: &[u8], sections: &mut [Ref]) {
     for (s, number) in sections.iter_mut().enumerate() {
         if *number == UNKNOWN {
-            *number = section_figure(blocks, a, s) as u16;
+            *number = section_figure(blocks, a, s) as Ref;
         }
     }
 }
 
 /// Marks the sections that an extent touches. A list that isn't lent has none.
-pub fn mark_unknown(blocks: usize, sections: &mut [u16], i: usize, n: usize) {
+pub fn mark_unknown(blocks: usize, sections: &mut [Ref], i: usize, n: usize) {
     let length = section_length(blocks);
     let touched = (i + n - 1) / length + 1;
     for number in sections.iter_mut().take(touched).skip(i / length) {
@@ -138,7 +139,7 @@ pub fn mark_unknown(blocks: usize, sections: &mut [u16], i: usize, n: usize) {
     }
 }
 
-fn lowest_section(sections: &[u16], size: usize) -> usize {
+fn lowest_section(sections: &[Ref], size: usize) -> usize {
     let mut s = 0;
     while s < sections.len() {
         if size <= sections[s] as usize {
@@ -150,7 +151,7 @@ fn lowest_section(sections: &[u16], size: usize) -> usize {
 }
 
 /// The first block of the lowest free chunk, or `blocks`, with the list true.
-pub fn find_chunk(blocks: usize, a: &[u8], sections: &[u16], size: usize) -> Searched {
+pub fn find_chunk(blocks: usize, a: &[u8], sections: &[Ref], size: usize) -> Searched {
     let length = section_length(blocks);
     if length < size {
         return lowest_chunk(a, 0, blocks, size);

@@ -7,20 +7,19 @@ use super::blocks::{
 use super::references::{free_waiting, let_wait};
 use super::sections::mark_unknown;
 use super::Lent;
-
-const MAX_BLOCKS: usize = 8192;
+use crate::rules::heap::Ref;
 
 pub fn is_open(m: &Lent) -> bool {
     m.list[m.list.len() - 1] == 1
 }
 
 /// How many objects are on the list.
-fn held(list: &[u16]) -> usize {
+fn held(list: &[Ref]) -> usize {
     let places = &list[..list.len() - 1];
     places.partition_point(|v| *v != 0)
 }
 
-fn put_on(list: &mut [u16], v: u16) {
+fn put_on(list: &mut [Ref], v: Ref) {
     let n = held(list);
     let at = list[..n].partition_point(|other| *other < v);
     list.copy_within(at..n, at + 1);
@@ -28,7 +27,7 @@ fn put_on(list: &mut [u16], v: u16) {
 }
 
 /// Marks and lists the object that v names, if it is unmarked.
-pub fn meet(m: &mut Lent, v: u16) {
+pub fn meet(m: &mut Lent, v: Ref) {
     if v == 0 || get_bit(m.marks, v as usize - 1) == 1 {
         return;
     }
@@ -37,7 +36,7 @@ pub fn meet(m: &mut Lent, v: u16) {
 }
 
 /// Owner, old and new object of a store, while a collection is open.
-pub fn meet_store(m: &mut Lent, owner: u16, old: u16, new: u16) {
+pub fn meet_store(m: &mut Lent, owner: Ref, old: Ref, new: Ref) {
     if is_open(m) && old != new {
         for v in [owner, old, new] {
             meet(m, v);
@@ -52,7 +51,7 @@ pub fn forget(m: &mut Lent, i: usize) {
     }
     set_bit(m.marks, i, 0);
     let n = held(m.list);
-    if let Ok(at) = m.list[..n].binary_search(&(i as u16 + 1)) {
+    if let Ok(at) = m.list[..n].binary_search(&(i as Ref + 1)) {
         m.list.copy_within(at + 1..n, at);
         m.list[n - 1] = 0;
     }
@@ -76,7 +75,7 @@ pub fn is_untidy(blocks: usize, m: &Lent) -> bool {
 }
 
 fn is_untidy_open(blocks: usize, m: &Lent) -> bool {
-    let mut listed = [false; MAX_BLOCKS];
+    let mut listed = vec![false; blocks];
     let n = m.list[..blocks]
         .iter()
         .position(|v| *v == 0)
@@ -90,7 +89,7 @@ fn is_untidy_open(blocks: usize, m: &Lent) -> bool {
         listed[i] = true;
         before = *v;
     }
-    let is_unmarked = |v: &u16| *v != 0 && get_bit(m.marks, *v as usize - 1) == 0;
+    let is_unmarked = |v: &Ref| *v != 0 && get_bit(m.marks, *v as usize - 1) == 0;
     if m.list[n..blocks].iter().any(|v| *v != 0) || m.roots.iter().any(is_unmarked) {
         return true;
     }
@@ -114,15 +113,15 @@ pub struct Stepped {
 
 /// The flags of a list: what is listed, how many, and a block below which nothing is.
 struct Flags {
-    listed: [bool; MAX_BLOCKS],
+    listed: Vec<bool>,
     count: usize,
     from: usize,
 }
 
 impl Flags {
-    fn of(list: &[u16]) -> Flags {
+    fn of(list: &[Ref]) -> Flags {
         let mut flags = Flags {
-            listed: [false; MAX_BLOCKS],
+            listed: vec![false; list.len() - 1],
             count: 0,
             from: 0,
         };
@@ -148,12 +147,12 @@ impl Flags {
         self.from = self.from.min(i);
     }
 
-    fn write(&self, list: &mut [u16]) {
+    fn write(&self, list: &mut [Ref]) {
         let blocks = list.len() - 1;
         list[..blocks].fill(0);
         let listed = (0..blocks).filter(|i| self.listed[*i]);
         for (place, i) in list.iter_mut().zip(listed) {
-            *place = i as u16 + 1;
+            *place = i as Ref + 1;
         }
     }
 }
