@@ -1,8 +1,9 @@
 #!/bin/bash
 # Proves the library and puts it below PREFIX (target/install unless said): lib/libhuwekapo.a and lib/libhuwekapo.so,
-# include/huwekapo.h, huwekapo_heap.h and huwekapo_record.h, lib/pkgconfig/huwekapo.pc; and the program `report` with an exit status,
-# bin/huwekapo-report, with its manual page. HUWEKAPO_LIB_DIR names a folder of libcapi.a, as `rt staticlib capi` writes it; where it is not set, the library and
-# the program are proved now, unless they stand as these sources make them. Where nothing has changed nothing is written.
+# include/huwekapo.h, huwekapo_heap.h and huwekapo_record.h, lib/pkgconfig/huwekapo.pc; and the programs `report` and `widen` with an exit
+# status, bin/huwekapo-report and bin/huwekapo-widen, with their manual pages. HUWEKAPO_LIB_DIR names a folder of libcapi.a, as `rt staticlib
+# capi` writes it; where it is not set, the library and the programs are proved now, unless they stand as these sources make them. Where
+# nothing has changed nothing is written.
 set -eu
 here=$(cd "$(dirname "$0")" && pwd)
 if [ $# -gt 1 ] || [ "${1:-}" = --help ]; then
@@ -50,7 +51,7 @@ prove() {
     echo "$sources$(sha256sum <"$1")" >"$1.stamp"
 }
 
-report=$here/target/bin/report
+programs="report widen"
 if [ -n "${HUWEKAPO_LIB_DIR:-}" ]; then
     archive=$(cd "$HUWEKAPO_LIB_DIR" && pwd)/libcapi.a
     if [ ! -f "$archive" ]; then
@@ -60,7 +61,9 @@ if [ -n "${HUWEKAPO_LIB_DIR:-}" ]; then
 else
     archive=$here/target/staticlib/libcapi.a
     prove "$archive" staticlib capi
-    prove "$report" check report
+    for program in $programs; do
+        prove "$here/target/bin/$program" check "$program"
+    done
 fi
 
 version=$(sed -n 's/^#define HUWEKAPO_VERSION "\(.*\)"$/\1/p' "$here/include/huwekapo.h")
@@ -102,11 +105,13 @@ if [ "$(readlink "$prefix/lib/libhuwekapo.so" || true)" != "$shared" ]; then
     ln -sf "$shared" "$prefix/lib/libhuwekapo.so"
     written=1
 fi
-if [ -x "$report" ]; then
-    put 755 "$report" libexec/huwekapo/report
-    put 755 "$here/bin/huwekapo-report" bin/huwekapo-report
-    put 644 "$here/docs/man/huwekapo-report.1" share/man/man1/huwekapo-report.1
-else
-    echo "install.sh: target/bin/report is missing, and so bin/huwekapo-report is not installed: \`rt check report\` builds it" >&2
-fi
+for program in $programs; do
+    if [ -x "$here/target/bin/$program" ]; then
+        put 755 "$here/target/bin/$program" "libexec/huwekapo/$program"
+        put 755 "$here/bin/huwekapo-$program" "bin/huwekapo-$program"
+        put 644 "$here/docs/man/huwekapo-$program.1" "share/man/man1/huwekapo-$program.1"
+    else
+        echo "install.sh: target/bin/$program is missing, and so bin/huwekapo-$program is not installed: \`rt check $program\` builds it" >&2
+    fi
+done
 [ "$written" -eq 0 ] || echo "installed libhuwekapo $version below $prefix"

@@ -1,6 +1,6 @@
-/* The stack that each call takes, measured on a heap of 8,192 blocks at width 4 that is in use, with a collection open and with
- * none: a thread's stack is painted, the call is made, and the paint that is left is counted. What include/huwekapo.h tells device
- * makers is held to it. */
+/* The stack that each call takes, by the size of the heap: a thread's stack is painted, the call is made, and the paint that is left is
+ * counted. Each call is made on a heap that is in use, with a collection open and with none, and on a full heap whose blocks are one
+ * chain of objects, at width 4. What include/huwekapo.h tells device makers is held to it. */
 #include "huwekapo_heap.h"
 
 #include <pthread.h>
@@ -8,12 +8,19 @@
 #include <stdlib.h>
 #include <string.h>
 
-enum { BLOCKS = 8192, WIDTH = 4, ROOTS = 64, STACK = 1 << 18, PAINT = 0xA5, RECORDS = 3003, CALLS = RECORDS + 2 };
+enum { WIDTH = 4, ROOTS = 64, STACK = 1 << 22, PAINT = 0xA5, SIZES = 4, MOST = HUWEKAPO_MAX_BLOCKS };
 
-static uint16_t memory[HUWEKAPO_HEAP_LENGTH(BLOCKS, WIDTH, ROOTS)];
+static const size_t sizes[SIZES] = {64, 512, 8192, MOST};
+
+/* The calls of a list that makes a chain of all blocks, and the records of a history that makes one of a quarter of them. */
+#define CALLS(blocks) (3 * (blocks) + 4)
+#define LINKS(blocks) ((blocks) / 8)
+#define RECORDS(blocks) (3 * LINKS(blocks) + 3)
+
+static huwekapo_ref memory[HUWEKAPO_HEAP_LENGTH(MOST, WIDTH, ROOTS)], kept[2][HUWEKAPO_HEAP_LENGTH(MOST, WIDTH, ROOTS)];
 static struct huwekapo_heap heap;
-static uint64_t calls[HUWEKAPO_CALLS_LENGTH(CALLS)], replies[HUWEKAPO_REPLIES_LENGTH(CALLS)];
-static uint8_t records[8 * RECORDS];
+static uint64_t calls[HUWEKAPO_CALLS_LENGTH(CALLS(MOST))], replies[HUWEKAPO_REPLIES_LENGTH(CALLS(MOST))];
+static uint8_t records[HUWEKAPO_RECORD_LENGTH * RECORDS(MOST)];
 static const struct huwekapo_run new_run;
 
 static int failures = 0;
@@ -26,106 +33,123 @@ static void format(void) { made(huwekapo_heap_format(&heap)); }
 static void check(void) { made(huwekapo_heap_check(&heap)); }
 static void allocate(void) { made(huwekapo_heap_allocate(&heap, 3, 5)); }
 static void store_root(void) { made(huwekapo_heap_store_root(&heap, 0, 0)); }
-static void store_cell(void) { made(huwekapo_heap_store_cell(&heap, HUWEKAPO_BLOCK(heap.roots[0]), 3, 0)); }
+static void store_cell(void) { made(huwekapo_heap_store_cell(&heap, HUWEKAPO_BLOCK(heap.roots[0]), 0, 0)); }
 static void return_roots(void) { made(huwekapo_heap_return_roots(&heap, ~UINT64_C(0))); }
 static void collect(void) { made(huwekapo_heap_collect(&heap)); }
-static void look(void) { made(huwekapo_heap_look(&heap, HUWEKAPO_BLOCK(heap.roots[2]))); }
+static void look(void) { made(huwekapo_heap_look(&heap, HUWEKAPO_BLOCK(heap.roots[0]))); }
 static void free_blocks(void) { made(huwekapo_heap_free_blocks(&heap)); }
 
 static void allocate_data(void) { made(huwekapo_heap_allocate_data(&heap, 3, 5)); }
-static void write_number(void) { made(huwekapo_heap_write_number(&heap, HUWEKAPO_BLOCK(heap.roots[1]), 0, 65535)); }
+static void write_number(void) {
+    made(huwekapo_heap_write_number(&heap, HUWEKAPO_BLOCK(heap.roots[1]), 0, HUWEKAPO_MAX_NUMBER));
+}
 static void read_number(void) { made(huwekapo_heap_read_number(&heap, HUWEKAPO_BLOCK(heap.roots[1]), 0)); }
 
 static void open_collection(void) { made(huwekapo_heap_open_collection(&heap)); }
 
 /* All steps of a collection, and its close. */
-static void step_collection(void) { made(huwekapo_heap_step_collection(&heap, BLOCKS)); }
+static void step_collection(void) { made(huwekapo_heap_step_collection(&heap, heap.blocks)); }
 
 /* The object that the chain in root 0 ends with. */
 static void reason(void) {
-    static uint8_t output[HUWEKAPO_REASON_LENGTH(BLOCKS)];
-    static uint32_t cells[BLOCKS];
+    static uint8_t output[HUWEKAPO_REASON_LENGTH(MOST)];
     struct huwekapo_reply reply = huwekapo_heap_reason(&heap, 0, output, sizeof output);
     made(reply);
-    struct huwekapo_reading reading = huwekapo_read_reason(output, reply.value, cells, BLOCKS);
-    failures += reading.kind != HUWEKAPO_KEPT || reading.root != 0 || reading.links < 900 || reading.block != 0;
+    static huwekapo_ref cells[MOST];
+    struct huwekapo_reading reading = huwekapo_read_reason(output, reply.value, cells, MOST);
+    failures += reading.kind != HUWEKAPO_KEPT || reading.root != 0 || reading.links < LINKS(heap.blocks) - 1 || reading.block != 0;
 }
 
 static void shape(void) {
-    static uint32_t output[HUWEKAPO_SHAPE_LENGTH(BLOCKS, ROOTS)];
+    static huwekapo_ref output[HUWEKAPO_SHAPE_LENGTH(MOST, ROOTS)];
     made(huwekapo_heap_shape(&heap, output, sizeof output / sizeof *output));
 }
 
 static void replay(void) {
-    made(huwekapo_heap_replay(&heap, calls, HUWEKAPO_CALLS_LENGTH(CALLS), replies, HUWEKAPO_REPLIES_LENGTH(CALLS)));
-    for (size_t i = 0; i < CALLS; i++) {
+    size_t number = CALLS(heap.blocks);
+    made(huwekapo_heap_replay(&heap, calls, HUWEKAPO_CALLS_LENGTH(number), replies, HUWEKAPO_REPLIES_LENGTH(number)));
+    for (size_t i = 0; i < number; i++) {
         failures += replies[3 * i] != HUWEKAPO_ACCEPTED;
     }
 }
 
 /* The last record collects, which stops the run while a collection in steps is open. */
 static void run_records(void) {
-    size_t due = huwekapo_heap_is_open(&heap) ? RECORDS - 1 : RECORDS;
-    struct huwekapo_ran ran = huwekapo_heap_run_records(&heap, new_run, records, sizeof records);
+    size_t number = RECORDS(heap.blocks), due = huwekapo_heap_is_open(&heap) ? number - 1 : number;
+    struct huwekapo_ran ran = huwekapo_heap_run_records(&heap, new_run, records, HUWEKAPO_RECORD_LENGTH * number);
     made(ran.reply);
     failures += ran.run.records != due;
 }
 
-/* A list for replay and one of records: each makes a chain of objects in root 0, lets go of it at once, and collects. In the list
- * a collection in steps is open meanwhile. */
-static void write_lists(void) {
-    static const uint64_t call[3][4] = {{HUWEKAPO_CODE_ALLOCATE, 2, 1, 0},
-                                        {HUWEKAPO_CODE_STORE_CELL, 0, 0, 0},
-                                        {HUWEKAPO_CODE_STORE_ROOT, 0, 0, 0}};
-    static const uint8_t record[3][8] = {{HUWEKAPO_RECORD_ALLOCATE, 1, 0, 0, 0, 0, 2, 0},
-                                         {HUWEKAPO_RECORD_WRITE, 1, 0, 0, 0, 0, 0, 0},
-                                         {HUWEKAPO_RECORD_COPY, 0, 1, 0, 0, 0, 0, 0}};
-    for (size_t i = 0; i < RECORDS - 3; i++) {
-        size_t block = 2 * (i / 3);
-        memcpy(calls + 4 * i, call[i % 3], sizeof *call);
-        memcpy(records + 8 * i, record[i % 3], sizeof *record);
-        if (i % 3 == 1) {
-            /* The object made last names the one before it. */
-            calls[4 * i + 1] = block;
-            calls[4 * i + 3] = block == 0 ? 0 : HUWEKAPO_REFERENCE(block - 2);
-        } else if (i % 3 == 2) {
-            calls[4 * i + 2] = HUWEKAPO_REFERENCE(block);
-        }
-    }
-    calls[4 * (RECORDS - 3)] = HUWEKAPO_CODE_OPEN_COLLECTION;
-    for (size_t i = RECORDS - 3; i < RECORDS - 1; i++) {
-        calls[4 * (i + 1)] = HUWEKAPO_CODE_STORE_ROOT;
-        records[8 * i] = HUWEKAPO_RECORD_CLEAR;
-        calls[4 * (i + 1) + 1] = records[8 * i + 1] = i == RECORDS - 3;
-    }
-    calls[4 * (CALLS - 2)] = HUWEKAPO_CODE_STEP_COLLECTION;
-    calls[4 * (CALLS - 2) + 1] = BLOCKS;
-    calls[4 * (CALLS - 1)] = HUWEKAPO_CODE_COLLECT;
-    records[8 * (RECORDS - 1)] = HUWEKAPO_RECORD_COLLECT;
+static void put_call(size_t i, uint64_t code, uint64_t x, uint64_t y, uint64_t z) {
+    calls[4 * i] = code;
+    calls[4 * i + 1] = x;
+    calls[4 * i + 2] = y;
+    calls[4 * i + 3] = z;
 }
 
-/* A used heap: a chain of objects in root 0, and in the other roots data and objects by turns, of which that of root 4 is let go
- * of and names itself. */
-static void use(int open) {
-    static uint16_t used[sizeof memory / sizeof *memory];
-    if (heap.blocks == 0) {
-        heap = huwekapo_heap_in(memory, BLOCKS, WIDTH, ROOTS);
-        huwekapo_heap_replay(&heap, calls, HUWEKAPO_CALLS_LENGTH(RECORDS - 3), replies, sizeof replies / sizeof *replies);
-        for (size_t root = 1; root < ROOTS; root++) {
-            if (root % 2 == 1) {
-                made(huwekapo_heap_allocate_data(&heap, 1 + root % 5, root));
-            } else {
-                made(huwekapo_heap_allocate(&heap, 1 + root % 5, root));
-            }
+/* A list for replay: objects of one block until the heap is full, each naming the one before it, the last in root 0; then a collection
+ * in steps, while which the chain is let go of, and a full one. */
+static void write_calls(size_t blocks) {
+    for (size_t i = 0; i < blocks; i++) {
+        put_call(3 * i, HUWEKAPO_CODE_ALLOCATE, 1, 1, 0);
+        put_call(3 * i + 1, HUWEKAPO_CODE_STORE_CELL, i, 0, i);
+        put_call(3 * i + 2, HUWEKAPO_CODE_STORE_ROOT, 0, HUWEKAPO_REFERENCE(i), 0);
+    }
+    put_call(3 * blocks, HUWEKAPO_CODE_OPEN_COLLECTION, 0, 0, 0);
+    put_call(3 * blocks + 1, HUWEKAPO_CODE_RETURN_ROOTS, 3, 0, 0);
+    put_call(3 * blocks + 2, HUWEKAPO_CODE_STEP_COLLECTION, blocks, 0, 0);
+    put_call(3 * blocks + 3, HUWEKAPO_CODE_COLLECT, 0, 0, 0);
+}
+
+/* Records that make a chain of objects of two blocks in root 0, let go of it at once, and collect. */
+static void write_records(size_t blocks) {
+    struct huwekapo_recorder recorder = huwekapo_recorder_in(records, sizeof records, NULL, NULL);
+    for (size_t i = 0; i < LINKS(blocks); i++) {
+        huwekapo_record_allocate(&recorder, 2, 1);
+        huwekapo_record_write(&recorder, 0, 0, 1);
+        huwekapo_record_copy(&recorder, 1, 0);
+    }
+    huwekapo_record_clear(&recorder, 1);
+    huwekapo_record_clear(&recorder, 0);
+    huwekapo_record_collect(&recorder);
+    failures += huwekapo_recorder_end(&recorder) != 0 || recorder.records != RECORDS(blocks);
+}
+
+/* A heap in use: a chain of objects in root 0, and in the other roots data and objects by turns, of which that of root 4 is let go of
+ * and names itself. */
+static void fill(void) {
+    made(huwekapo_heap_format(&heap));
+    struct huwekapo_ran ran =
+        huwekapo_heap_run_records(&heap, new_run, records, HUWEKAPO_RECORD_LENGTH * 3 * LINKS(heap.blocks));
+    made(ran.reply);
+    failures += ran.run.number != 0;
+    for (size_t root = 1; root < ROOTS && root < LINKS(heap.blocks); root++) {
+        if (root % 2 == 1) {
+            made(huwekapo_heap_allocate_data(&heap, 1 + root % 5, root));
+        } else {
+            made(huwekapo_heap_allocate(&heap, 1 + root % 5, root));
         }
-        made(huwekapo_heap_store_cell(&heap, HUWEKAPO_BLOCK(heap.roots[4]), 0, heap.roots[4]));
-        made(huwekapo_heap_store_root(&heap, 4, 0));
-        memcpy(used, memory, sizeof memory);
     }
-    memcpy(memory, used, sizeof memory);
-    if (open) {
-        open_collection();
-    }
+    made(huwekapo_heap_store_cell(&heap, HUWEKAPO_BLOCK(heap.roots[4]), 0, heap.roots[4]));
+    made(huwekapo_heap_store_root(&heap, 4, 0));
+}
+
+/* A full heap whose blocks are one chain. */
+static void fill_with_chain(void) {
+    size_t number = 3 * heap.blocks;
+    made(huwekapo_heap_replay(&heap, calls, HUWEKAPO_CALLS_LENGTH(number), replies, HUWEKAPO_REPLIES_LENGTH(number)));
+    made(huwekapo_heap_store_root(&heap, 1, 0));
+}
+
+static void keep(size_t blocks) {
+    write_calls(blocks);
+    write_records(blocks);
+    heap = huwekapo_heap_in(memory, blocks, WIDTH, ROOTS);
+    fill();
+    memcpy(kept[0], memory, sizeof memory);
+    fill_with_chain();
+    memcpy(kept[1], memory, sizeof memory);
 }
 
 static void *in_thread(void *call) {
@@ -134,10 +158,10 @@ static void *in_thread(void *call) {
 }
 
 static size_t measure(void (*call)(void)) {
-    uint8_t *stack;
+    static uint8_t *stack;
     pthread_t thread;
     pthread_attr_t attributes;
-    if (posix_memalign((void **)&stack, 4096, STACK) != 0) {
+    if (stack == NULL && posix_memalign((void **)&stack, 4096, STACK) != 0) {
         return 0;
     }
     memset(stack, PAINT, STACK);
@@ -147,55 +171,78 @@ static size_t measure(void (*call)(void)) {
         return 0;
     }
     pthread_join(thread, NULL);
+    pthread_attr_destroy(&attributes);
     size_t left = 0;
     while (left < STACK && stack[left] == PAINT) {
         left++;
     }
-    free(stack);
     return STACK - left;
 }
 
 int main(void) {
-    enum when { EVER, NONE_OPEN, ONE_OPEN };
+    /* On which heaps a call is accepted: with a collection open, with none, and on the full one, with none. */
+    enum { OPEN = 1, CLOSED = 2, FULL = 4, ANY = OPEN | CLOSED | FULL };
+    /* The most that a call that tests the heap takes, by its size, and that the walks of a reason and of a shape do. */
+#define A_TEST {18000, 18000, 18000, 18000}
+#define A_REASON {95000, 95000, 95000, 95000}
+#define A_SHAPE {80000, 80000, 80000, 80000}
     static const struct {
         const char *name;
         void (*call)(void);
-        size_t most;
-        enum when when;
+        size_t most[SIZES];
+        int heaps;
     } each[] = {
-        {"format", format, 2000, EVER},
-        {"check", check, 18000, EVER},
-        {"allocate", allocate, 18000, EVER},
-        {"store_root", store_root, 18000, EVER},
-        {"store_cell", store_cell, 18000, EVER},
-        {"return_roots", return_roots, 18000, EVER},
-        {"collect", collect, 18000, NONE_OPEN},
-        {"look", look, 18000, EVER},
-        {"free_blocks", free_blocks, 18000, EVER},
-        {"allocate_data", allocate_data, 18000, EVER},
-        {"write_number", write_number, 18000, EVER},
-        {"read_number", read_number, 18000, EVER},
-        {"open_collection", open_collection, 18000, NONE_OPEN},
-        {"step_collection", step_collection, 18000, ONE_OPEN},
-        {"reason", reason, 95000, EVER},
-        {"shape", shape, 80000, EVER},
-        {"replay", replay, 5000, EVER},
-        {"run_records", run_records, 18000, EVER},
+        {"format", format, {2000, 2000, 2000, 2000}, ANY},
+        {"check", check, A_TEST, ANY},
+        {"allocate", allocate, A_TEST, OPEN | CLOSED},
+        {"store_root", store_root, A_TEST, ANY},
+        {"store_cell", store_cell, A_TEST, ANY},
+        {"return_roots", return_roots, A_TEST, ANY},
+        {"collect", collect, A_TEST, CLOSED | FULL},
+        {"look", look, A_TEST, ANY},
+        {"free_blocks", free_blocks, A_TEST, ANY},
+        {"allocate_data", allocate_data, A_TEST, OPEN | CLOSED},
+        {"write_number", write_number, A_TEST, OPEN | CLOSED},
+        {"read_number", read_number, A_TEST, OPEN | CLOSED},
+        {"open_collection", open_collection, A_TEST, CLOSED | FULL},
+        {"step_collection", step_collection, A_TEST, OPEN},
+        {"reason", reason, A_REASON, ANY},
+        {"shape", shape, A_SHAPE, ANY},
+        {"replay", replay, {5000, 5000, 5000, 5000}, ANY},
+        {"run_records", run_records, A_TEST, OPEN | CLOSED},
     };
-    write_lists();
+    enum { EACH = sizeof each / sizeof *each };
+    static size_t bytes[EACH][SIZES];
     size_t thread = measure(nothing);
-    for (size_t i = 0; i < sizeof each / sizeof *each; i++) {
-        size_t bytes = 0;
-        for (int open = 0; open <= 1; open++) {
-            if (each[i].when != (open ? NONE_OPEN : ONE_OPEN)) {
-                use(open);
-                size_t taken = measure(each[i].call) - thread;
-                bytes = taken > bytes ? taken : bytes;
+    for (size_t size = 0; size < SIZES; size++) {
+        keep(sizes[size]);
+        for (size_t i = 0; i < EACH; i++) {
+            for (int on = OPEN; on <= FULL; on *= 2) {
+                if (each[i].heaps & on) {
+                    memcpy(memory, kept[on == FULL], sizeof memory);
+                    if (on == OPEN) {
+                        open_collection();
+                    }
+                    size_t taken = measure(each[i].call) - thread;
+                    bytes[i][size] = taken > bytes[i][size] ? taken : bytes[i][size];
+                }
             }
         }
-        int same = bytes > 0 && bytes <= each[i].most;
-        printf("stack of %-15s %6zu bytes%s\n", each[i].name, bytes, same ? "" : "  MORE than the header says");
+    }
+    printf("bytes of stack, at blocks:");
+    for (size_t size = 0; size < SIZES; size++) {
+        printf("%10zu", sizes[size]);
+    }
+    for (size_t i = 0; i < EACH; i++) {
+        int same = 1;
+        printf("\n  %-24s", each[i].name);
+        for (size_t size = 0; size < SIZES; size++) {
+            printf("%10zu", bytes[i][size]);
+            same = same && bytes[i][size] > 0 && bytes[i][size] <= each[i].most[size];
+        }
+        printf("%s", same ? "" : "  MORE than the header says");
         failures += !same;
     }
+    puts("");
     return failures != 0;
 }

@@ -3,12 +3,13 @@
  * list is kept. */
 #include "huwekapo_heap.h"
 
+#include <inttypes.h>
 #include <stdio.h>
 
 enum { BLOCKS = 64, WIDTH = 2, ROOTS = 4 };
 enum { LIST, NODE }; /* roots */
 
-static uint16_t memory[HUWEKAPO_HEAP_LENGTH(BLOCKS, WIDTH, ROOTS)];
+static huwekapo_ref memory[HUWEKAPO_HEAP_LENGTH(BLOCKS, WIDTH, ROOTS)];
 
 /* The value of an accepted call. */
 static size_t value(const char *call, struct huwekapo_reply reply) {
@@ -42,7 +43,7 @@ int main(void) {
         printf("an object of %zu blocks at block %zu, count %zu\n", look.value, HUWEKAPO_BLOCK(v), look.second);
     }
     /* One section: the heap has fewer than 256 blocks. */
-    printf("%zu blocks are free, at most %d of them in one chunk\n", value("free blocks", huwekapo_heap_free_blocks(&heap)),
+    printf("%zu blocks are free, at most %" PRIu32 " of them in one chunk\n", value("free blocks", huwekapo_heap_free_blocks(&heap)),
            heap.sections[0]);
     printf("clearing the root frees %zu blocks\n", value("store", huwekapo_heap_store_root(&heap, LIST, 0)));
 

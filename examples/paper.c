@@ -4,13 +4,14 @@
  * Look at 4: size 3, count 1." */
 #include "huwekapo.h"
 
+#include <inttypes.h>
 #include <stdio.h>
 #include <string.h>
 
 enum { BLOCKS = 8, WIDTH = 2, ROOTS = 4 };
 
 static uint8_t a[BLOCKS / 8], b[BLOCKS / 8], counts[WIDTH * BLOCKS / 8], data[BLOCKS / 8], marks[BLOCKS / 8];
-static uint16_t cells[4 * BLOCKS], roots[ROOTS], waiting[BLOCKS], sections[HUWEKAPO_SECTIONS_LENGTH(BLOCKS)], list[BLOCKS + 1];
+static huwekapo_ref cells[4 * BLOCKS], roots[ROOTS], waiting[BLOCKS], sections[HUWEKAPO_SECTIONS_LENGTH(BLOCKS)], list[BLOCKS + 1];
 
 /* The ten lent buffers. */
 #define HEAP \
@@ -36,8 +37,8 @@ static void expect(const char *call, struct huwekapo_reply reply, size_t number,
 }
 
 /* The size of the largest free chunk of the one section. */
-static void expect_section(int figure) {
-    printf("sections = %d  ", sections[0]);
+static void expect_section(huwekapo_ref figure) {
+    printf("sections = %" PRIu32 "  ", sections[0]);
     verdict(sections[0] == figure);
 }
 
@@ -67,23 +68,25 @@ static void replay_p1(void) {
     verdict(replies[12] == 7);
 }
 
-/* Values that no cell can hold, and of which 16 bits would make 1, 0 and 65,535: refused 8. Nothing is written. */
+/* Values that no cell can hold, and of which 16 bits would make 1, and 32 bits 1, 0 and the largest number: refused 8. Nothing is
+ * written. */
 static const struct {
     const char *in_root;
     const char *in_cell;
     size_t v;
 } wide[] = {
     {"store 65537 in root 0", "store 65537 in cell 0 of 4", 65537},
+    {"store 2^32 + 1 in root 0", "store 2^32 + 1 in cell 0 of 4", ((size_t)1 << 32) + 1},
     {"store 2^32 in root 0", "store 2^32 in cell 0 of 4", (size_t)1 << 32},
     {"store 2^64 - 1 in root 0", "store 2^64 - 1 in cell 0 of 4", SIZE_MAX},
 };
 
 static void store_wide(void) {
-    for (size_t i = 0; i < 3; i++) {
+    for (size_t i = 0; i < sizeof wide / sizeof *wide; i++) {
         expect(wide[i].in_root, huwekapo_store_root(HEAP, 0, wide[i].v), HUWEKAPO_BAD_REFERENCE, 0, 0);
         expect(wide[i].in_cell, huwekapo_store_cell(HEAP, 4, 0, wide[i].v), HUWEKAPO_BAD_REFERENCE, 0, 0);
     }
-    printf("root 0 = %d, cell 0 of 4 = %d  ", roots[0], cells[16]);
+    printf("root 0 = %" PRIu32 ", cell 0 of 4 = %" PRIu32 "  ", roots[0], cells[16]);
     verdict(roots[0] == 1 && cells[16] == 0);
 }
 
@@ -99,13 +102,13 @@ static void stale_sections(void) {
 
 /* The same values in a list, which goes on behind each: allocate 2 into root 0, store each, look at 0. */
 static const uint64_t wide_list[] = {
-    2, 2, 0, 0, 3, 0, 65537, 0, 3, 0, UINT64_C(1) << 32, 0, 4, 0, 0, UINT64_MAX, 6, 0, 0, 0,
+    2, 2, 0, 0, 3, 0, (UINT64_C(1) << 32) + 1, 0, 3, 0, UINT64_C(1) << 32, 0, 4, 0, 0, UINT64_MAX, 6, 0, 0, 0,
 };
 
 static void replay_wide(void) {
     expect("replay wide values", huwekapo_replay(HEAP, wide_list, 20, replies, 15), HUWEKAPO_ACCEPTED, 5, 0);
     expect("  allocate 2 into root 0", replied(0), HUWEKAPO_ACCEPTED, 0, 0);
-    expect("  store 65537 in root 0", replied(1), HUWEKAPO_BAD_REFERENCE, 0, 0);
+    expect("  store 2^32 + 1 in root 0", replied(1), HUWEKAPO_BAD_REFERENCE, 0, 0);
     expect("  store 2^32 in root 0", replied(2), HUWEKAPO_BAD_REFERENCE, 0, 0);
     expect("  store 2^64 - 1 in cell 0", replied(3), HUWEKAPO_BAD_REFERENCE, 0, 0);
     expect("  look at 0", replied(4), HUWEKAPO_ACCEPTED, 2, 1);
@@ -117,9 +120,9 @@ static void write_pixels(void) {
     expect("format", huwekapo_format(HEAP), HUWEKAPO_ACCEPTED, 0, 0);
     expect("allocate 2 of data, root 0", huwekapo_allocate_data(HEAP, 2, 0), HUWEKAPO_ACCEPTED, 0, 0);
     expect("allocate 1 into root 1", huwekapo_allocate(HEAP, 1, 1), HUWEKAPO_ACCEPTED, 2, 0);
-    expect("write 65535 in cell 7 of 0", huwekapo_write_number(HEAP, 0, 7, 65535), HUWEKAPO_ACCEPTED, 0, 0);
+    expect("write 2^32 - 1 in cell 7 of 0", huwekapo_write_number(HEAP, 0, 7, HUWEKAPO_MAX_NUMBER), HUWEKAPO_ACCEPTED, 0, 0);
     expect("write 4 in cell 0 of 0", huwekapo_write_number(HEAP, 0, 0, 4), HUWEKAPO_ACCEPTED, 0, 0);
-    expect("read cell 7 of 0", huwekapo_read_number(HEAP, 0, 7), HUWEKAPO_ACCEPTED, 65535, 0);
+    expect("read cell 7 of 0", huwekapo_read_number(HEAP, 0, 7), HUWEKAPO_ACCEPTED, HUWEKAPO_MAX_NUMBER, 0);
     expect("read cell 1 of 0", huwekapo_read_number(HEAP, 0, 1), HUWEKAPO_ACCEPTED, 0, 0);
     expect("check", huwekapo_check(HEAP), HUWEKAPO_ACCEPTED, 0, 0);
     printf("D = %d  ", data[0]);
@@ -132,30 +135,30 @@ static void write_pixels(void) {
     expect("read cell 0 of 1", huwekapo_read_number(HEAP, 1, 0), HUWEKAPO_NO_OBJECT, 0, 0);
     expect("store 1 in cell 0 of 2", huwekapo_store_cell(HEAP, 2, 0, 1), HUWEKAPO_ACCEPTED, 0, 0);
     expect("return roots 0 and 1", huwekapo_return_roots(HEAP, 3), HUWEKAPO_ACCEPTED, 3, 0);
-    printf("D = %d, cells 0 and 7 = %d, %d  ", data[0], cells[0], cells[7]);
+    printf("D = %d, cells 0 and 7 = %" PRIu32 ", %" PRIu32 "  ", data[0], cells[0], cells[7]);
     verdict(data[0] == 0 && cells[0] == 0 && cells[7] == 0);
     data[0] = 4;
     expect("check, a D bit on block 2", huwekapo_check(HEAP), HUWEKAPO_DAMAGED, HUWEKAPO_STRAY_DATA, 0);
     data[0] = 0;
 }
 
-/* Data in a list: 1 block into root 0, 65,535 in its cell 3, read back. With a number that no cell holds the list is no list of
- * calls, and nothing is written. */
-static uint64_t number_list[] = {9, 1, 0, 0, 10, 0, 3, 65535, 11, 0, 3, 0};
+/* Data in a list: 1 block into root 0, the largest number in its cell 3, read back. With a number that no cell holds the list is no
+ * list of calls, and nothing is written. */
+static uint64_t number_list[] = {9, 1, 0, 0, 10, 0, 3, HUWEKAPO_MAX_NUMBER, 11, 0, 3, 0};
 
 static void replay_numbers(void) {
     expect("replay numbers", huwekapo_replay(HEAP, number_list, 12, replies, 9), HUWEKAPO_ACCEPTED, 3, 0);
     expect("  allocate 1 of data, root 0", replied(0), HUWEKAPO_ACCEPTED, 0, 0);
-    expect("  write 65535 in cell 3 of 0", replied(1), HUWEKAPO_ACCEPTED, 0, 0);
-    expect("  read cell 3 of 0", replied(2), HUWEKAPO_ACCEPTED, 65535, 0);
-    number_list[7] = 65536;
-    expect("replay, a number of 65536", huwekapo_replay(HEAP, number_list, 12, replies, 8), HUWEKAPO_NO_CALL, 0, 0);
-    expect("read cell 3 of 0", huwekapo_read_number(HEAP, 0, 3), HUWEKAPO_ACCEPTED, 65535, 0);
+    expect("  write 2^32 - 1 in cell 3", replied(1), HUWEKAPO_ACCEPTED, 0, 0);
+    expect("  read cell 3 of 0", replied(2), HUWEKAPO_ACCEPTED, HUWEKAPO_MAX_NUMBER, 0);
+    number_list[7] = UINT64_C(1) << 32;
+    expect("replay, a number of 2^32", huwekapo_replay(HEAP, number_list, 12, replies, 8), HUWEKAPO_NO_CALL, 0, 0);
+    expect("read cell 3 of 0", huwekapo_read_number(HEAP, 0, 3), HUWEKAPO_ACCEPTED, HUWEKAPO_MAX_NUMBER, 0);
 }
 
 /* The mark map and the first two places of the list, with its last. */
-static void expect_progress(int map, int first, int second, int last) {
-    printf("marks = %d, list = %d, %d .. %d  ", marks[0], list[0], list[1], list[BLOCKS]);
+static void expect_progress(uint8_t map, huwekapo_ref first, huwekapo_ref second, huwekapo_ref last) {
+    printf("marks = %d, list = %" PRIu32 ", %" PRIu32 " .. %" PRIu32 "  ", marks[0], list[0], list[1], list[BLOCKS]);
     verdict(marks[0] == map && list[0] == first && list[1] == second && list[BLOCKS] == last);
 }
 

@@ -6,9 +6,12 @@
 #include <stdio.h>
 #include <string.h>
 
-enum { BLOCKS = 8192, WIDTH = 3, ROOTS = 64, RECORD = 8, PIECE = 1 << 16 };
+enum { BLOCKS = HUWEKAPO_REPORT_BLOCKS, WIDTH = HUWEKAPO_REPORT_WIDTH, ROOTS = HUWEKAPO_REPORT_ROOTS };
 
-static uint16_t memory[HUWEKAPO_HEAP_LENGTH(BLOCKS, WIDTH, ROOTS)];
+/* Whole records, nearly a mebibyte: the heap is checked once for each piece. */
+enum { RECORD = HUWEKAPO_RECORD_LENGTH, PIECE = (1 << 20) / RECORD * RECORD };
+
+static huwekapo_ref memory[HUWEKAPO_HEAP_LENGTH(BLOCKS, WIDTH, ROOTS)];
 static uint8_t piece[PIECE];
 static struct huwekapo_run run; /* a new one is all 0 */
 

@@ -73,7 +73,7 @@ echo "100,000 records, written by the model: target/bin/report <target/mixed.his
 show_and_compare target/mixed.history
 
 echo
-echo "A history of your own, in eight-byte records (docs/FILES.md has their form):"
+echo "A history of your own, in twelve-byte records (docs/FILES.md has their form):"
 echo "    target/bin/report <FILE"
 echo "    bash examples/report.sh FILE ..    # with the figures named"
 echo "One written by hand, as examples/histories/*.txt are (docs/FILES.md has the words):"

@@ -15,12 +15,13 @@
  *   list      blocks + 1 numbers         1 + the first blocks of the marked objects that it has still to look at, strictly
  *                                        rising, then 0s; the last place is 1 while a collection is open and else 0
  *
- * blocks is a power of two from 8 to 8,192; width, the count width, is 1 to 4 bits. Block i is bit i % 8 (bit 0 is the
- * least) of byte i / 8 of a map. A chunk is s blocks starting at a multiple of s, s a power of two. A section is 256 blocks;
- * below 256 blocks it is all of them, and `sections` is one number.
+ * A number is a huwekapo_ref, of 32 bits. blocks is a power of two from HUWEKAPO_MIN_BLOCKS to HUWEKAPO_MAX_BLOCKS, 8 to 65,536;
+ * width, the count width, is 1 to 4 bits. Block i is bit i % 8 (bit 0 is the least) of byte i / 8 of a map. A chunk is s blocks
+ * starting at a multiple of s, s a power of two. A section is 256 blocks; below 256 blocks it is all of them, and `sections` is one
+ * number.
  *
  * Every call may be made with any arguments and any content of the buffers: what is wrong is refused by a number, and a
- * refusal changes no buffer. Arguments are whole words, and nothing of them is cut off: a v of 65,537 is refused 8. Only the
+ * refusal changes no buffer. Arguments are whole words, and nothing of them is cut off: a v of 2^32 + 1 is refused 8. Only the
  * number that is written into data is as wide as a cell: any such number is right. Format, both allocations, both stores, the
  * return, collect, steps, replay and runs of records leave `waiting` all 0, and `sections` as it must be, when accepted; the
  * opening of a collection writes `marks` and `list` and nothing else; the write of a number changes one cell and nothing else;
@@ -52,8 +53,8 @@
  *     95,000 and 80,000, whatever the size of the heap. Recursion goes six deep at most, over the halves of a section.
  *   - Time: every call but format and replay tests the whole heap before it does anything, steps too, and a run of records tests
  *     it once for each piece. Many calls at a time are therefore best made by replay, or by a run of records in long pieces.
- *   - Alignment: the numbers of cells, roots, waiting, sections and list are aligned as uint16_t is, those of a shape and the cells
- *     of a reason that is read as uint32_t is, those of replay's lists as uint64_t is.
+ *   - Alignment: the numbers of cells, roots, waiting, sections, list and a shape, and the cells of a reason that is read, are
+ *     aligned as uint32_t is, those of replay's lists as uint64_t is.
  */
 #ifndef HUWEKAPO_H
 #define HUWEKAPO_H
@@ -61,24 +62,35 @@
 #include <stddef.h>
 #include <stdint.h>
 
+#include "huwekapo_record.h"
+
 /* The version of this header, and of the library that it goes with. What changes an argument, a struct or a buffer raises the
  * minor number, and with it the shared library's name. */
 #define HUWEKAPO_VERSION_MAJOR 0
-#define HUWEKAPO_VERSION_MINOR 6
+#define HUWEKAPO_VERSION_MINOR 7
 #define HUWEKAPO_VERSION_PATCH 0
-#define HUWEKAPO_VERSION "0.6.0"
+#define HUWEKAPO_VERSION "0.7.0"
 #define HUWEKAPO_VERSION_NUMBER (1000000 * HUWEKAPO_VERSION_MAJOR + 1000 * HUWEKAPO_VERSION_MINOR + HUWEKAPO_VERSION_PATCH)
 
 /* The number of buffers that every call takes. */
 #define HUWEKAPO_BUFFER_COUNT 10
 
+/* A number of cells, roots, waiting, sections and list: a reference is 0, or 1 + the first block of an object. The largest. */
+typedef uint32_t huwekapo_ref;
+#define HUWEKAPO_MAX_NUMBER UINT32_MAX
+
 /* The limits. */
 #define HUWEKAPO_MIN_BLOCKS 8
-#define HUWEKAPO_MAX_BLOCKS 8192
+#define HUWEKAPO_MAX_BLOCKS 65536
 #define HUWEKAPO_MIN_WIDTH 1
 #define HUWEKAPO_MAX_WIDTH 4
 #define HUWEKAPO_MIN_ROOTS 1
 #define HUWEKAPO_MAX_ROOTS 64
+
+/* The heap of the program `report`. */
+#define HUWEKAPO_REPORT_BLOCKS 4096
+#define HUWEKAPO_REPORT_WIDTH 3
+#define HUWEKAPO_REPORT_ROOTS 64
 
 /* The length of each buffer, in elements. That of roots is the number of roots. */
 #define HUWEKAPO_A_LENGTH(blocks) ((blocks) / 8)
@@ -147,8 +159,8 @@ enum huwekapo_number {
     HUWEKAPO_NO_OBJECT = 6,     /* `at` is not a first block (or not below blocks) */
     HUWEKAPO_BAD_CELL = 7,      /* j is not below 4 times the object's size */
     HUWEKAPO_BAD_REFERENCE = 8, /* v is neither 0 nor 1 + a first block */
-    HUWEKAPO_NO_CALL = 9,       /* an entry is no call: its code is above 13, or it writes a number above 65,535. A record is
-                                   none: its operation is unknown, or a field that the operation does not name is not 0 */
+    HUWEKAPO_NO_CALL = 9,       /* an entry is no call: its code is above 13, or it writes a number that no cell holds. A record
+                                   is none: its operation is unknown, or a field that the operation does not name is not 0 */
     HUWEKAPO_CUT_OFF = 10,      /* the list ends inside a call. A history ends inside a record, or goes on past
                                    4,294,967,295 records */
     HUWEKAPO_STALE_SECTIONS = 11, /* a number of `sections` is not the size of the largest free chunk of its section */
@@ -196,18 +208,6 @@ enum huwekapo_code {
     HUWEKAPO_CODE_STEP_COLLECTION = 13
 };
 
-/* The operations of a history's records. */
-enum huwekapo_operation {
-    HUWEKAPO_RECORD_ALLOCATE = 1,
-    HUWEKAPO_RECORD_COPY = 2,
-    HUWEKAPO_RECORD_WRITE = 3,
-    HUWEKAPO_RECORD_READ = 4,
-    HUWEKAPO_RECORD_CLEAR = 5,
-    HUWEKAPO_RECORD_COLLECT = 6,
-    HUWEKAPO_RECORD_ALLOCATE_DATA = 7,
-    HUWEKAPO_RECORD_WRITE_NUMBER = 8
-};
-
 /* The parameters that every call begins with: blocks, width, and the buffers in their order, each as a pointer and a length in
  * elements. Six macros have them: HUWEKAPO_BUFFERS for a call that may write every buffer, HUWEKAPO_BUFFERS_BUT_ROOTS for one
  * that may write every buffer but the roots, HUWEKAPO_BUFFERS_BUT_ROOTS_AND_MARKS for one that may write every buffer but the
@@ -229,16 +229,16 @@ enum huwekapo_operation {
     byte *data, size_t data_length, \
     mark *marks, size_t marks_length, \
     place *list, size_t list_length
-#define HUWEKAPO_BUFFERS HUWEKAPO_BUFFERS_(uint8_t, uint16_t, uint16_t, uint16_t, uint8_t, uint16_t)
-#define HUWEKAPO_BUFFERS_BUT_ROOTS HUWEKAPO_BUFFERS_(uint8_t, uint16_t, uint16_t, const uint16_t, uint8_t, uint16_t)
+#define HUWEKAPO_BUFFERS HUWEKAPO_BUFFERS_(uint8_t, huwekapo_ref, huwekapo_ref, huwekapo_ref, uint8_t, huwekapo_ref)
+#define HUWEKAPO_BUFFERS_BUT_ROOTS HUWEKAPO_BUFFERS_(uint8_t, huwekapo_ref, huwekapo_ref, const huwekapo_ref, uint8_t, huwekapo_ref)
 #define HUWEKAPO_BUFFERS_BUT_ROOTS_AND_MARKS \
-    HUWEKAPO_BUFFERS_(uint8_t, uint16_t, uint16_t, const uint16_t, const uint8_t, const uint16_t)
+    HUWEKAPO_BUFFERS_(uint8_t, huwekapo_ref, huwekapo_ref, const huwekapo_ref, const uint8_t, const huwekapo_ref)
 #define HUWEKAPO_CONST_BUFFERS_BUT_CELLS \
-    HUWEKAPO_BUFFERS_(const uint8_t, const uint16_t, uint16_t, const uint16_t, const uint8_t, const uint16_t)
+    HUWEKAPO_BUFFERS_(const uint8_t, const huwekapo_ref, huwekapo_ref, const huwekapo_ref, const uint8_t, const huwekapo_ref)
 #define HUWEKAPO_CONST_BUFFERS_BUT_MARKS \
-    HUWEKAPO_BUFFERS_(const uint8_t, const uint16_t, const uint16_t, const uint16_t, uint8_t, uint16_t)
+    HUWEKAPO_BUFFERS_(const uint8_t, const huwekapo_ref, const huwekapo_ref, const huwekapo_ref, uint8_t, huwekapo_ref)
 #define HUWEKAPO_CONST_BUFFERS \
-    HUWEKAPO_BUFFERS_(const uint8_t, const uint16_t, const uint16_t, const uint16_t, const uint8_t, const uint16_t)
+    HUWEKAPO_BUFFERS_(const uint8_t, const huwekapo_ref, const huwekapo_ref, const huwekapo_ref, const uint8_t, const huwekapo_ref)
 
 /* Makes an empty heap of whatever the buffers held: b is all ones, each number of sections the blocks of a section,
  * every other buffer all 0. The value is 0. Refusals: 1. */
@@ -278,8 +278,8 @@ struct huwekapo_reply huwekapo_free_blocks(HUWEKAPO_CONST_BUFFERS);
 struct huwekapo_reply huwekapo_allocate_data(HUWEKAPO_BUFFERS, size_t n, size_t r);
 
 /* Writes v into cell j of the data at block `at`, and changes nothing else, `waiting` neither. The value is 0. Refusals: 1, 2,
- * 11, 13, 6, 7, 12. C makes 65,537 a 1 on the way into v: the caller has to see to it that it fits. */
-struct huwekapo_reply huwekapo_write_number(HUWEKAPO_CONST_BUFFERS_BUT_CELLS, size_t at, size_t j, uint16_t v);
+ * 11, 13, 6, 7, 12. C makes 2^32 + 1 a 1 on the way into v: the caller has to see to it that it fits. */
+struct huwekapo_reply huwekapo_write_number(HUWEKAPO_CONST_BUFFERS_BUT_CELLS, size_t at, size_t j, huwekapo_ref v);
 
 /* Reads cell j of the data at block `at`. The value is the number. Refusals: 1, 2, 11, 13, 6, 7, 12. */
 struct huwekapo_reply huwekapo_read_number(HUWEKAPO_CONST_BUFFERS, size_t at, size_t j);
@@ -345,7 +345,7 @@ struct huwekapo_reading huwekapo_read_reason(const uint8_t *text, size_t text_le
  *   7             free_blocks
  *   8, chosen     return_roots
  *   9, n, r       allocate_data
- *   10, at, j, v  write_number, v at most 65,535
+ *   10, at, j, v  write_number, v at most HUWEKAPO_MAX_NUMBER
  *   11, at, j     read_number
  *   12            open_collection
  *   13, budget    step_collection
@@ -381,14 +381,8 @@ struct huwekapo_ran {
 
 /* Runs the records of a history, or of a piece of it, from where `run` stands. For a whole history that is a new run, on a
  * formatted heap; in pieces, what the piece before it answered and left. A piece has any length, but only the last may end
- * inside a record, since that stops the run. A record is eight bytes, c and the size with the low byte first:
- *
- *   byte 0        the operation
- *   byte 1        root d
- *   byte 2        root s
- *   byte 3        0
- *   bytes 4, 5    cell number c
- *   bytes 6, 7    size
+ * inside a record, since that stops the run. huwekapo_record.h has the form of a record, HUWEKAPO_RECORD_LENGTH bytes, and the
+ * operations:
  *
  *   1             allocates the size into d; where no chunk is free the run collects and tries once more
  *   2             copies root s to d
@@ -410,8 +404,8 @@ struct huwekapo_ran {
  * 0. A run handed in stopped is handed back as it is, and only `waiting` is written.
  *
  * Refusals, which change no buffer and answer a run of all 0: 1, 2, 11, 13, then 19 for a `run` of more than 4,294,967,295
- * records, of more allocations than records, of more blocks than 8,192 for each record, of more objects that became stuck than
- * records, or of more collections than records (one more where its number is not 0). */
+ * records, of more allocations than records, of more blocks than HUWEKAPO_MAX_BLOCKS for each record, of more objects that became
+ * stuck than records, or of more collections than records (one more where its number is not 0). */
 struct huwekapo_ran huwekapo_run_records(HUWEKAPO_BUFFERS, struct huwekapo_run run, const uint8_t *bytes, size_t bytes_length);
 
 #ifdef __cplusplus

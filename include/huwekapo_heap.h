@@ -4,7 +4,7 @@
  * The caller has to see to it that each pointer of the struct is good for its length. huwekapo_heap_in makes the struct from one
  * piece of memory:
  *
- *     static uint16_t memory[HUWEKAPO_HEAP_LENGTH(1024, 3, 16)];
+ *     static huwekapo_ref memory[HUWEKAPO_HEAP_LENGTH(1024, 3, 16)];
  *     struct huwekapo_heap heap = huwekapo_heap_in(memory, 1024, 3, 16);
  *     huwekapo_heap_format(&heap);
  *     huwekapo_heap_allocate(&heap, 2, 0);
@@ -25,25 +25,25 @@ struct huwekapo_heap {
     uint8_t *a;
     uint8_t *b;
     uint8_t *counts;
-    uint16_t *cells;
-    uint16_t *roots;
-    uint16_t *waiting;
-    uint16_t *sections;
+    huwekapo_ref *cells;
+    huwekapo_ref *roots;
+    huwekapo_ref *waiting;
+    huwekapo_ref *sections;
     uint8_t *data;
     uint8_t *marks;
-    uint16_t *list;
+    huwekapo_ref *list;
 };
 
-/* The numbers of 16 bits that hold all ten buffers: cells, roots, waiting, sections and list, and two bytes of the maps in each
- * of the rest. */
+/* The numbers that hold all ten buffers: cells, roots, waiting, sections and list, and as many bytes of the maps as a number has in
+ * each of the rest. */
 #define HUWEKAPO_HEAP_LENGTH(blocks, width, roots) \
     (HUWEKAPO_CELLS_LENGTH(blocks) + (roots) + HUWEKAPO_WAITING_LENGTH(blocks) + HUWEKAPO_SECTIONS_LENGTH(blocks) + \
      HUWEKAPO_LIST_LENGTH(blocks) + \
      (HUWEKAPO_A_LENGTH(blocks) + HUWEKAPO_B_LENGTH(blocks) + HUWEKAPO_COUNTS_LENGTH(blocks, width) + \
-      HUWEKAPO_DATA_LENGTH(blocks) + HUWEKAPO_MARKS_LENGTH(blocks) + 1) / 2)
+      HUWEKAPO_DATA_LENGTH(blocks) + HUWEKAPO_MARKS_LENGTH(blocks) + sizeof(huwekapo_ref) - 1) / sizeof(huwekapo_ref))
 
 /* A heap in one piece of memory, of HUWEKAPO_HEAP_LENGTH numbers. It is not formatted. */
-static inline struct huwekapo_heap huwekapo_heap_in(uint16_t *memory, size_t blocks, size_t width, size_t roots) {
+static inline struct huwekapo_heap huwekapo_heap_in(huwekapo_ref *memory, size_t blocks, size_t width, size_t roots) {
     struct huwekapo_heap heap;
     heap.blocks = blocks;
     heap.width = width;
@@ -115,7 +115,7 @@ static inline struct huwekapo_reply huwekapo_heap_allocate_data(struct huwekapo_
     return huwekapo_allocate_data(HUWEKAPO_LEND_(heap), n, r);
 }
 
-static inline struct huwekapo_reply huwekapo_heap_write_number(struct huwekapo_heap *heap, size_t at, size_t j, uint16_t v) {
+static inline struct huwekapo_reply huwekapo_heap_write_number(struct huwekapo_heap *heap, size_t at, size_t j, huwekapo_ref v) {
     return huwekapo_write_number(HUWEKAPO_LEND_(heap), at, j, v);
 }
 

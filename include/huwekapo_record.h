@@ -1,7 +1,8 @@
-/* Records of a history, from C: what an interpreter calls beside its own work, so that its run can be run again on Huwekapo's heap. A root
- * stands for a local variable: the slot of a frame is a root. Nothing of the library is needed, nor of the C library.
+/* Records of a history, from C: their form, and what an interpreter calls beside its own work, so that its run can be run again on
+ * Huwekapo's heap. A root stands for a local variable: the slot of a frame is a root. Nothing of the library is needed, nor of the
+ * C library.
  *
- *     static uint8_t buffer[8 * 512];
+ *     static uint8_t buffer[512 * HUWEKAPO_RECORD_LENGTH];
  *     struct huwekapo_recorder recorder = huwekapo_recorder_in(buffer, sizeof buffer, write_out, file);
  *     huwekapo_record_allocate(&recorder, 2, 0);     (allocate 2 into 0)
  *     huwekapo_record_write(&recorder, 1, 7, 0);     (write 1 into cell 7 of 0)
@@ -22,11 +23,32 @@
 extern "C" {
 #endif
 
-#define HUWEKAPO_RECORD_LENGTH 8 /* bytes of a record */
+/* A record: the operation in byte 0, root d in byte 1, root s in byte 2, 0 in byte 3, then the cell number c and the size, each a
+ * number of four bytes with the low byte first. (Before version 0.7.0 a record had eight bytes, and these numbers two: the program
+ * `widen` makes a history of today of one of then.) */
+#define HUWEKAPO_RECORD_LENGTH 12 /* bytes of a record */
+#define HUWEKAPO_RECORD_CELL 4    /* where the cell number begins */
+#define HUWEKAPO_RECORD_SIZE 8    /* where the size begins */
+
+/* The largest root that a record can name, and the largest cell, size or number: a run refuses most of them. */
+#define HUWEKAPO_RECORD_MAX_ROOT UINT8_MAX
+#define HUWEKAPO_RECORD_MAX_NUMBER UINT32_MAX
+
+/* The operations. */
+enum huwekapo_operation {
+    HUWEKAPO_RECORD_ALLOCATE = 1,
+    HUWEKAPO_RECORD_COPY = 2,
+    HUWEKAPO_RECORD_WRITE = 3,
+    HUWEKAPO_RECORD_READ = 4,
+    HUWEKAPO_RECORD_CLEAR = 5,
+    HUWEKAPO_RECORD_COLLECT = 6,
+    HUWEKAPO_RECORD_ALLOCATE_DATA = 7,
+    HUWEKAPO_RECORD_WRITE_NUMBER = 8
+};
 
 /* What can be wrong. */
 #define HUWEKAPO_RECORD_NO_ROOM 1      /* the buffer is full, and nothing takes it; or it is shorter than a record */
-#define HUWEKAPO_RECORD_OUT_OF_RANGE 2 /* a root above 255, or a cell, size or number above 65,535 */
+#define HUWEKAPO_RECORD_OUT_OF_RANGE 2 /* a root above HUWEKAPO_RECORD_MAX_ROOT, another number above HUWEKAPO_RECORD_MAX_NUMBER */
 #define HUWEKAPO_RECORD_NOT_TAKEN 3    /* write_out answered another number than 0 */
 
 /* Takes so many bytes away, to a file, say. 0 is success. */
@@ -65,12 +87,21 @@ static inline int huwekapo_recorder_end(struct huwekapo_recorder *recorder) {
     return recorder->wrong;
 }
 
+/* Writes a number as a record has it. */
+static inline void huwekapo_record_put_(uint8_t *at, size_t number) {
+    at[0] = (uint8_t)(number & 0xFF);
+    at[1] = (uint8_t)(number >> 8 & 0xFF);
+    at[2] = (uint8_t)(number >> 16 & 0xFF);
+    at[3] = (uint8_t)(number >> 24 & 0xFF);
+}
+
 static inline int huwekapo_record_append_(
-    struct huwekapo_recorder *recorder, uint8_t operation, size_t d, size_t s, size_t c, size_t size) {
+    struct huwekapo_recorder *recorder, enum huwekapo_operation operation, size_t d, size_t s, size_t c, size_t size) {
     uint8_t *record;
     if (recorder->wrong)
         return recorder->wrong;
-    if (d > 0xFF || s > 0xFF || c > 0xFFFF || size > 0xFFFF)
+    if (d > HUWEKAPO_RECORD_MAX_ROOT || s > HUWEKAPO_RECORD_MAX_ROOT || c > HUWEKAPO_RECORD_MAX_NUMBER ||
+        size > HUWEKAPO_RECORD_MAX_NUMBER)
         return recorder->wrong = HUWEKAPO_RECORD_OUT_OF_RANGE;
     if (recorder->room < HUWEKAPO_RECORD_LENGTH)
         return recorder->wrong = HUWEKAPO_RECORD_NO_ROOM;
@@ -81,14 +112,12 @@ static inline int huwekapo_record_append_(
             return recorder->wrong;
     }
     record = recorder->buffer + recorder->length;
-    record[0] = operation;
+    record[0] = (uint8_t)operation;
     record[1] = (uint8_t)d;
     record[2] = (uint8_t)s;
     record[3] = 0;
-    record[4] = (uint8_t)(c & 0xFF);
-    record[5] = (uint8_t)(c >> 8);
-    record[6] = (uint8_t)(size & 0xFF);
-    record[7] = (uint8_t)(size >> 8);
+    huwekapo_record_put_(record + HUWEKAPO_RECORD_CELL, c);
+    huwekapo_record_put_(record + HUWEKAPO_RECORD_SIZE, size);
     recorder->length += HUWEKAPO_RECORD_LENGTH;
     recorder->records += 1;
     return 0;
@@ -96,42 +125,42 @@ static inline int huwekapo_record_append_(
 
 /* Allocates so many blocks of 16 bytes into root d. */
 static inline int huwekapo_record_allocate(struct huwekapo_recorder *recorder, size_t size, size_t d) {
-    return huwekapo_record_append_(recorder, 1, d, 0, 0, size);
+    return huwekapo_record_append_(recorder, HUWEKAPO_RECORD_ALLOCATE, d, 0, 0, size);
 }
 
 /* Copies root s to d. */
 static inline int huwekapo_record_copy(struct huwekapo_recorder *recorder, size_t s, size_t d) {
-    return huwekapo_record_append_(recorder, 2, d, s, 0, 0);
+    return huwekapo_record_append_(recorder, HUWEKAPO_RECORD_COPY, d, s, 0, 0);
 }
 
 /* Writes root s into cell c of the object in d. */
 static inline int huwekapo_record_write(struct huwekapo_recorder *recorder, size_t s, size_t c, size_t d) {
-    return huwekapo_record_append_(recorder, 3, d, s, c, 0);
+    return huwekapo_record_append_(recorder, HUWEKAPO_RECORD_WRITE, d, s, c, 0);
 }
 
 /* Reads cell c of the object in s into root d. */
 static inline int huwekapo_record_read(struct huwekapo_recorder *recorder, size_t c, size_t s, size_t d) {
-    return huwekapo_record_append_(recorder, 4, d, s, c, 0);
+    return huwekapo_record_append_(recorder, HUWEKAPO_RECORD_READ, d, s, c, 0);
 }
 
 /* Clears root d. */
 static inline int huwekapo_record_clear(struct huwekapo_recorder *recorder, size_t d) {
-    return huwekapo_record_append_(recorder, 5, d, 0, 0, 0);
+    return huwekapo_record_append_(recorder, HUWEKAPO_RECORD_CLEAR, d, 0, 0, 0);
 }
 
 /* A full collection. */
 static inline int huwekapo_record_collect(struct huwekapo_recorder *recorder) {
-    return huwekapo_record_append_(recorder, 6, 0, 0, 0, 0);
+    return huwekapo_record_append_(recorder, HUWEKAPO_RECORD_COLLECT, 0, 0, 0, 0);
 }
 
 /* Allocates so many blocks of data, whose cells hold numbers, into root d. */
 static inline int huwekapo_record_allocate_data(struct huwekapo_recorder *recorder, size_t size, size_t d) {
-    return huwekapo_record_append_(recorder, 7, d, 0, 0, size);
+    return huwekapo_record_append_(recorder, HUWEKAPO_RECORD_ALLOCATE_DATA, d, 0, 0, size);
 }
 
 /* Writes a number into cell c of the data in d. */
 static inline int huwekapo_record_write_number(struct huwekapo_recorder *recorder, size_t number, size_t c, size_t d) {
-    return huwekapo_record_append_(recorder, 8, d, 0, c, number);
+    return huwekapo_record_append_(recorder, HUWEKAPO_RECORD_WRITE_NUMBER, d, 0, c, number);
 }
 
 #ifdef __cplusplus

@@ -51,7 +51,7 @@ def tag() -> str:
 def contents() -> Dict[str, bytes]:
     """The files of the wheel by name, but for the list of them."""
     information = f"{NAME}-{library.VERSION}.dist-info"
-    files = {f"{NAME}/{path.name}": path.read_bytes() for path in (PYTHON / NAME).iterdir() if path.suffix in (".py", ".typed")}
+    files = {f"{NAME}/{path.name}": path.read_bytes() for path in (PYTHON / NAME).iterdir() if path.suffix in (".py", ".typed", ".html")}
     files[f"{NAME}/{library.FILE}"] = Path(library.path()).read_bytes()
     files[f"{information}/METADATA"] = METADATA.encode()
     files[f"{information}/WHEEL"] = f"Wheel-Version: 1.0\nGenerator: huwekapo_wheel\nRoot-Is-Purelib: false\nTag: {tag()}\n".encode()

@@ -38,13 +38,13 @@ A history that can't be run to its end has no such figures. `run` raises `Stoppe
     >>> heap
     <Heap of 8 blocks, width 2, 4 roots: 6 blocks in use>
 
-Cells of an object made as data hold any 16-bit number, and no reference:
+Cells of an object made as data hold any 32-bit number, and no reference:
 
     >>> heap.format()
     >>> pixels = heap.allocate_data(2, 0)
-    >>> heap.write_number(pixels, 7, 65535)
+    >>> heap.write_number(pixels, 7, 4294967295)
     >>> heap.read_number(pixels, 7), heap.data[0]
-    (65535, 1)
+    (4294967295, 1)
 
 A collection that may not stop the program for long is opened and stepped. Two objects that name each other, and that no root names:
 
@@ -82,6 +82,11 @@ Why an object is kept is a sentence; and two heaps mean the same where their sha
     >>> list(huwekapo.records(file.getvalue()))
     [Record(operation=1, d=0, s=0, c=0, size=2, unused=0), Record(operation=2, d=1, s=0, c=0, size=0, unused=0)]
 
+A history of before version 0.7.0, when a record had eight bytes, is widened first:
+
+    >>> huwekapo.widened(bytes([1, 0, 0, 0, 0, 0, 2, 0])) == huwekapo.Record(1, size=2).packed()
+    True
+
 `python3 -m huwekapo` has the commands. The heap is the library libhuwekapo.so; this package lends it buffers and hands on what it
 answers. Nothing is proved of the package itself.
 """
@@ -96,6 +101,7 @@ from .recorder import Recorder
 from .refused import Damage, Number, Refused
 from .runs import Run, Stopped
 from .shapes import same_shape
+from .widening import widen, widened
 
 __version__ = VERSION
 
@@ -130,4 +136,6 @@ __all__ = [
     "run",
     "same_shape",
     "stuck",
+    "widen",
+    "widened",
 ]

@@ -1,4 +1,5 @@
-"""The commands: python3 -m huwekapo report, widths, plot, why, same, sweep, verify, example, assemble, words, convert, show."""
+"""The commands: python3 -m huwekapo report, widths, plot, why, same, sweep, verify, example, assemble, words, convert, show, widen, page, pauses,
+compare."""
 
 from __future__ import annotations
 
@@ -13,10 +14,12 @@ from .examples import PROGRAMS
 from .files import can_be_written, shown, written
 from .heap import Heap
 from .history import History
-from .library import MAX_BLOCKS, MAX_ROOTS, MAX_WIDTH, REPORT_BLOCKS, REPORT_ROOTS, REPORT_WIDTH, LibraryMissing
+from .library import MAX_BLOCKS, MAX_ROOTS, MAX_WIDTH, MIN_BLOCKS, REPORT_BLOCKS, REPORT_ROOTS, REPORT_WIDTH, LibraryMissing
 from .progress import Bar
 from .record import RECORD
 from .refused import Refused
+from .runs import Run
+from .widening import ADVICE
 
 # What only one command needs is imported where it is used: `report` should not wait for it.
 
@@ -24,9 +27,10 @@ from .refused import Refused
 ENDED, FAILED, WRONG_USE, STOPPED, INTERRUPTED = 0, 1, 2, 3, 130
 
 STATUSES = """exit status:
-  0  all was run to its end; of verify: all is as the table has it; of same: both are of one shape
+  0  all was run to its end; of verify: all is as the table has it; of same: both are of one shape; of compare: no difference
   3  a run stopped: a record was refused, or the file was cut off (the records before it were run)
-  1  something failed: a file that can't be read, a line or a row that is not as it must be; of same: the shapes differ
+  1  something failed: a file that can't be read, a line or a row that is not as it must be; of same: the shapes differ; of compare:
+     the tables do
   2  wrong use
   130  interrupted
 """
@@ -34,18 +38,31 @@ STATUSES = """exit status:
 #: Of each command: what may stand behind its name.
 EXAMPLES = {
     "report": ["caches.history", "caches.history --blocks 1024 --width 2 --sections", "- --line <caches.history"],
-    "widths": ["caches.history", "caches.history --widths 2-4 --blocks 1024,8192", "caches.history --csv >table.csv"],
-    "plot": ["caches.history -o caches.svg", "caches.history --widths 2,3 --columns 1 --no-title -o caches.pdf"],
+    "widths": ["caches.history", "caches.history --widths 2-4 --blocks 1024,4096", "caches.history --csv >table.csv"],
+    "plot": [
+        "caches.history -o caches.svg",
+        "caches.history --widths 2,3 --columns 1 --no-title -o caches.pdf",
+        "table.csv -o collection.svg",
+        "caches.history --pauses --blocks 1024 -o pauses.svg",
+    ],
+    "pauses": ["caches.history --blocks 1024", "caches.history --blocks 1024 --width 2 --budgets 1,10,100,1000 --csv >pauses.csv"],
     "why": ["leak.history 1 --records 100", "leak.history --largest", "leak.history --garbage --blocks 1024"],
-    "same": ["caches.history other.history", "caches.history --blocks 1024,8192"],
-    "sweep": ["histories -o table.csv", "histories -o table.csv --widths 1-4 --blocks 1024,8192 --jobs 2"],
+    "same": ["caches.history other.history", "caches.history --blocks 1024,4096"],
+    "sweep": ["histories -o table.csv", "histories -o table.csv --widths 1-4 --blocks 1024,4096 --jobs 2"],
     "verify": ["table.csv histories", "table.csv histories --sample 20 --seed 1"],
+    "compare": ["before.csv after.csv", "before.csv after.csv --csv >changes.csv"],
     "example": ["caches -o caches.history", "images --records 5000 --seed 2 -o images.history"],
     "assemble": ["own.txt -o own.history", "- -o - <own.txt >own.history"],
-    "convert": ["own.events -o own.history", "own.events -o own.history --stack uses --header 2 --leave-out 65536 --table"],
+    "convert": ["own.events -o own.history", "own.events -o own.history --stack uses --header 2 --leave-out 50000 --table"],
+    "page": ["caches.history -o caches.html", "caches.history --blocks 1024 --widths 2,3 -o caches.html"],
     "show": ["own.history --blocks 64 --width 2", "own.history --at 20 --blocks 64"],
     "words": ["own.history", "own.history >own.txt"],
+    "widen": ["old.history -o new.history", "- -o - <old.history | huwekapo report -"],
 }
+
+
+#: The sizes of a heap, in words.
+BLOCKS_WORDS = f"a power of two from {MIN_BLOCKS} to {MAX_BLOCKS:,}"
 
 
 def number(word: str) -> int:
@@ -63,8 +80,8 @@ def positive(word: str) -> int:
 
 def blocks(word: str) -> int:
     found = number(word)
-    if not 8 <= found <= MAX_BLOCKS or found & (found - 1):
-        raise argparse.ArgumentTypeError(f"{word}: a power of two from 8 to {MAX_BLOCKS:,}")
+    if not MIN_BLOCKS <= found <= MAX_BLOCKS or found & (found - 1):
+        raise argparse.ArgumentTypeError(f"{word}: {BLOCKS_WORDS}")
     return found
 
 
@@ -159,7 +176,7 @@ def arguments() -> argparse.ArgumentParser:
         made.add_argument("file", metavar="FILE", help="a history; - is standard input")
 
     def shape(made: argparse.ArgumentParser, many_blocks: bool, many_widths: bool) -> None:
-        words = f"blocks of the heap, a power of two from 8 to {MAX_BLOCKS:,} ({REPORT_BLOCKS})"
+        words = f"blocks of the heap, {BLOCKS_WORDS} ({REPORT_BLOCKS})"
         if many_blocks:
             made.add_argument("--blocks", type=several(blocks), default=[REPORT_BLOCKS], metavar="N,..", help=words)
         else:
@@ -194,8 +211,16 @@ def arguments() -> argparse.ArgumentParser:
     shape(made, True, True)
     form(made)
 
-    made = command("plot", _plot, "A picture of the blocks in use over the records of a history, for each count width.")
-    history(made)
+    made = command(
+        "plot",
+        _plot,
+        "A picture of the blocks in use over the records of a history, for each count width; or, of a sweep's table, of its figures by width "
+        "with their quartiles.",
+    )
+    made.add_argument("file", metavar="FILE", help="a history, - is standard input; or a table, whose name ends with .csv")
+    words = "instead the pauses of collections, at once and in steps, as the command `pauses` measures them; for one width"
+    made.add_argument("--pauses", action="store_true", help=words)
+    made.add_argument("--budgets", type=several(positive), default=[1, 10, 100], metavar="STEPS,..", help="steps a call, of pauses (1,10,100)")
     words = "the picture to write: its ending says which kind (.svg, .pdf, .png)"
     made.add_argument("-o", "--output", required=True, metavar="FIGURE", help=words)
     shape(made, False, True)
@@ -204,6 +229,28 @@ def arguments() -> argparse.ArgumentParser:
     titles = made.add_mutually_exclusive_group()
     titles.add_argument("--title", help="the title (the file's name)")
     titles.add_argument("--no-title", action="store_true", help="no title")
+
+    made = command(
+        "pauses",
+        _pauses,
+        "How long a program has to wait where its history's run collects: for a full collection, and for one in small steps.",
+    )
+    history(made)
+    shape(made, False, False)
+    made.add_argument("--budgets", type=several(positive), default=[1, 10, 100], metavar="STEPS,..", help="steps a call (1,10,100)")
+    made.add_argument("--moments", type=positive, default=20, metavar="N", help="the collections that are measured at most (20)")
+    made.add_argument("--csv", action="store_true", help="comma-separated, with every moment")
+
+    made = command(
+        "page",
+        _page,
+        "A page to look at in a browser: the map of the heap over the records of a history, for each count width, with what keeps an object. "
+        "It is one file, and fetches nothing.",
+    )
+    history(made)
+    made.add_argument("-o", "--output", required=True, metavar="PAGE", help="the page to write, as own.html; - is standard output")
+    shape(made, False, True)
+    made.add_argument("--title", help="the title (the file's name)")
 
     made = command("why", _why, "Why an object of a history is kept, as a sentence; of garbage, what holds it.")
     history(made)
@@ -239,6 +286,11 @@ def arguments() -> argparse.ArgumentParser:
     made.add_argument("--report", metavar="PROGRAM", help=words)
     processes(made)
 
+    made = command("compare", _compare, "What changed between two tables of one collection of histories, row by row.")
+    made.add_argument("first", metavar="TABLE", help="the table of a sweep")
+    made.add_argument("second", metavar="OTHER", help="the one that it is compared with")
+    made.add_argument("--csv", action="store_true", help="every change, comma-separated")
+
     made = command("example", _example, "A history as a small Java program might leave it.")
     made.add_argument("name", choices=PROGRAMS, metavar="NAME", help=", ".join(PROGRAMS))
     made.add_argument("--records", type=positive, default=100_000, metavar="N", help="its length (100000)")
@@ -273,8 +325,17 @@ def arguments() -> argparse.ArgumentParser:
     words = "replay events and records apart, and compare them, before anything is written (where there are at most 100,000 events)"
     made.add_argument("--check", action=argparse.BooleanOptionalAction, help=words)
     made.add_argument("--table", action="store_true", help="also a table by count width, with both rules side by side")
-    words = f"blocks of the table's heap, a power of two from 8 to {MAX_BLOCKS:,} ({REPORT_BLOCKS})"
+    words = f"blocks of the table's heap, {BLOCKS_WORDS} ({REPORT_BLOCKS})"
     made.add_argument("--blocks", type=blocks, default=REPORT_BLOCKS, metavar="N", help=words)
+
+    made = command(
+        "widen",
+        _widen,
+        "A history of today from an old one, whose records have eight bytes: record by record, whatever they are; the end of a file that is "
+        "cut off is copied. The proved program `widen` does the same.",
+    )
+    made.add_argument("old", metavar="OLD", help="the old history; - is standard input")
+    made.add_argument("-o", "--output", required=True, metavar="HISTORY", help="the history to write; - is standard output")
     return parser
 
 
@@ -304,6 +365,7 @@ def _report(chosen: argparse.Namespace) -> int:
     heap = Heap(chosen.blocks, chosen.width, chosen.roots)
     with _history(chosen.file) as history, Bar("records", history.size()) as bar:
         found = history.run(heap, bar.done, may_stop=True)
+    _advise(history, found, chosen.blocks, chosen.width, chosen.roots)
     status = STOPPED if found.stopped else ENDED
     if chosen.csv or chosen.json:
         from .measures import Measured
@@ -353,6 +415,7 @@ def _widths(chosen: argparse.Namespace) -> int:
     if not any(measured.run.stopped for measured in measures):
         return ENDED
     _say(summary((name, measured.run.number) for measured in measures))
+    _advise(history, measures[0].run, measures[0].blocks, measures[0].width, chosen.roots)
     return STOPPED
 
 
@@ -368,6 +431,10 @@ def _plot(chosen: argparse.Namespace) -> int:
     except MatplotlibMissing as error:
         return _failed(error)
     can_be_written(chosen.output)
+    if chosen.pauses:
+        return _plot_pauses(chosen)
+    if chosen.file.endswith(".csv"):
+        return _plot_table(chosen)
     with _history(chosen.file, again=True) as history:
         size = history.size() or 0
         courses = []
@@ -381,9 +448,84 @@ def _plot(chosen: argparse.Namespace) -> int:
     for one in courses:
         if one.run.stopped:
             _say([f"{name}, width {one.width}: {one.run.stop()}: {one.run.stop_in_words()}: the picture ends there"])
+    _advise(history, courses[0].run, chosen.blocks, courses[0].width, chosen.roots)
     if all(one.run.records == 0 for one in courses):
         _say([f"{name}: no record was run: the picture is empty, and says so"])
     return STOPPED if any(one.run.stopped for one in courses) else ENDED
+
+
+def _plot_table(chosen: argparse.Namespace) -> int:
+    from .collection import groups, plot, text
+    from .sweep import SweepError
+
+    try:
+        found = groups(chosen.file)
+    except SweepError as error:
+        return _failed(error)
+    title = None if chosen.no_title else chosen.title or os.path.basename(chosen.file)
+    plot(found, title, chosen.output, chosen.columns)
+    if sys.stdout is not None:
+        sys.stdout.write(text(found))
+    return ENDED
+
+
+def _plot_pauses(chosen: argparse.Namespace) -> int:
+    from .pauses import pauses, plot, text
+
+    if len(chosen.widths) != 1:
+        # Where none is chosen, that of the program `report`.
+        chosen.widths = [REPORT_WIDTH] if chosen.widths == [1, 2, 3, 4] else chosen.widths
+    if len(chosen.widths) != 1:
+        return _failed(ValueError("--pauses: of one width, as --widths 2"), WRONG_USE)
+    with _history(chosen.file, again=True) as history, Bar("records", history.size()) as bar:
+        found = pauses(history, chosen.blocks, chosen.widths[0], chosen.roots, chosen.budgets, progress=bar.done)
+        title = None if chosen.no_title else chosen.title or os.path.basename(history.name)
+    if not found.moments:
+        return _failed(ValueError(f"{shown(history.name)}: no record was run: there is nothing to draw"))
+    plot(found, title, chosen.output, chosen.columns)
+    if sys.stdout is not None:
+        sys.stdout.write(text(found))
+    return _paused(history, found.run, chosen.blocks, chosen.widths[0], chosen.roots)
+
+
+def _pauses(chosen: argparse.Namespace) -> int:
+    from .pauses import pauses, text, write_csv
+
+    _needs_output()
+    with _history(chosen.file, again=True) as history, Bar("records", history.size()) as bar:
+        found = pauses(history, chosen.blocks, chosen.width, chosen.roots, chosen.budgets, chosen.moments, bar.done)
+    if chosen.csv:
+        write_csv(found, sys.stdout)
+    else:
+        sys.stdout.write(_printable(text(found)))
+    return _paused(history, found.run, chosen.blocks, chosen.width, chosen.roots)
+
+
+def _paused(history: History, run: Run, *sizes: int) -> int:
+    if not run.stopped:
+        return ENDED
+    _say([f"{shown(history.name)}: {run.stop()}: {run.stop_in_words()}: these are the pauses before it"])
+    _advise(history, run, *sizes)
+    return STOPPED
+
+
+def _page(chosen: argparse.Namespace) -> int:
+    from .page import page
+
+    _output_is_there(chosen.output)
+    with _history(chosen.file, again=True) as history:
+        size = history.size() or 0
+        with Bar("records", size * len(chosen.widths)) as bar:
+            title = chosen.title or os.path.basename(history.name)
+            text, runs = page(history, chosen.blocks, chosen.widths, chosen.roots, title, bar.done)
+        name = shown(history.name)
+    with _output(chosen.output) as file:
+        file.write(text.encode())
+    for width, run in zip(chosen.widths, runs):
+        if run.stopped:
+            _say([f"{name}, width {width}: {run.stop()}: {run.stop_in_words()}: the page ends there"])
+    _advise(history, runs[0], chosen.blocks, chosen.widths[0], chosen.roots)
+    return STOPPED if any(run.stopped for run in runs) else ENDED
 
 
 def _why(chosen: argparse.Namespace) -> int:
@@ -399,6 +541,7 @@ def _why(chosen: argparse.Namespace) -> int:
             run = next(history.runs(heap, chosen.records))
     if run.stopped:
         _say([f"{shown(history.name)}: {run.stop()}: {run.stop_in_words()}: this is the heap before it"])
+        _advise(history, run, chosen.blocks, chosen.width, chosen.roots)
     sizes = objects(heap)
     at = chosen.block
     if at is None:
@@ -430,6 +573,7 @@ def _same(chosen: argparse.Namespace) -> int:
                 run = history.run(heap, may_stop=True)
                 if run.stopped:
                     _say([f"{shown(history.name)}: {run.stop()}: {run.stop_in_words()}: held is the heap before it"])
+                    _advise(history, run, *sizes)
                 stopped = stopped or run.stopped
                 shapes.append(heap.shape())
     where = parting(*shapes)
@@ -475,6 +619,7 @@ def _sweep(chosen: argparse.Namespace) -> int:
     if swept.pruned:
         said.append(f"{swept.pruned} rows of histories that are not there any more were taken out")
     said += summary(swept.runs)
+    said += [f"{shown(name)}: {ADVICE}" for name in swept.old]
     _say(said + [f"not run: {failure}" for failure in swept.failures])
     if swept.failures:
         return FAILED
@@ -511,6 +656,27 @@ def _verify(chosen: argparse.Namespace) -> int:
     differences = len(found.differences)
     print(f"{differences:,} difference{'' if differences == 1 else 's'}" if differences else "no difference")
     return FAILED if found.differences else ENDED
+
+
+def _compare(chosen: argparse.Namespace) -> int:
+    from .compare import compare, text
+    from .sweep import SweepError
+
+    _needs_output()
+    try:
+        found = compare(chosen.first, chosen.second)
+    except SweepError as error:
+        return _failed(error)
+    if chosen.csv:
+        import csv
+
+        writer = csv.writer(sys.stdout, lineterminator="\n")
+        writer.writerow(["history", "heap_blocks", "count_width", "roots", "column", "first", "second"])
+        for change in found.changes:
+            writer.writerow([_printable(str(word)) for word in (*change.task, *change[1:])])
+    else:
+        sys.stdout.write(_printable(text(found, (chosen.first, chosen.second))))
+    return FAILED if found.differ else ENDED
 
 
 def _example(chosen: argparse.Namespace) -> int:
@@ -633,7 +799,18 @@ def _show(chosen: argparse.Namespace) -> int:
     sys.stdout.write(text(heap))
     if found.stopped:
         _say([f"{name}: {found.stop()}: {found.stop_in_words()}"])
+        _advise(history, found, chosen.blocks, chosen.width, chosen.roots)
     return STOPPED if found.stopped else ENDED
+
+
+def _widen(chosen: argparse.Namespace) -> int:
+    from .widening import widen
+
+    _output_is_there(chosen.output)
+    size = os.path.getsize(chosen.old) if os.path.isfile(chosen.old) else None
+    with _input(chosen.old) as old, _streamed(chosen.output) as new, Bar("bytes", size) as bar:
+        widen(old, new, bar.done)
+    return ENDED
 
 
 class _Wrong(Exception):
@@ -679,6 +856,16 @@ def _output(name: str) -> Iterator[BinaryIO]:
     sys.stdout.buffer.write(kept.getbuffer())
 
 
+@contextmanager
+def _streamed(name: str) -> Iterator[BinaryIO]:
+    """The same, but that standard output gets all as it comes."""
+    if name == "-":
+        yield sys.stdout.buffer
+        return
+    with written(name) as file:
+        yield file
+
+
 def _needs_output() -> None:
     """Python has no standard output where it was closed."""
     if sys.stdout is None:
@@ -696,6 +883,13 @@ def _say(lines: Iterable[str]) -> None:
     if sys.stderr is not None:
         for line in lines:
             print(line, file=sys.stderr)
+
+
+def _advise(history: History, run: Run, *sizes: int) -> None:
+    """Says of a history whose run on a heap of these blocks, this width and so many roots stopped what may be done."""
+    advice = history.advice(run, *sizes)
+    if advice:
+        _say([f"{shown(history.name)}: {advice}"])
 
 
 def _failed(error: Exception, status: int = FAILED) -> int:

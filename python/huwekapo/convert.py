@@ -8,7 +8,6 @@ to it (both rules). Roots 0 to 60 are for holds and for what is fetched for one 
 
 from __future__ import annotations
 
-import struct
 from collections import OrderedDict, deque
 from typing import Callable, Container, Deque, Dict, Iterable, List, NamedTuple, Optional, Set, Tuple
 
@@ -24,9 +23,6 @@ FOR_HOLDS, STATICS, POOL, EMPTY = 61, 61, 62, 63
 
 #: The number of the statics' owner among the objects.
 TOP = 0
-
-#: As `record` has it, which takes longer.
-_PACKED = struct.Struct("<BBBBHH").pack
 
 #: Is told how many events are done.
 Progress = Callable[[int], object]
@@ -304,7 +300,7 @@ class _Converter:
     # Roots and records.
 
     def _record(self, operation: int, d: int = 0, s: int = 0, c: int = 0, size: int = 0) -> None:
-        self._out += _PACKED(operation, d, s, 0, c, size)
+        self._out += record(operation, d, s, c, size)
 
     def _first(self, owner: int) -> int:
         return self._layouts[owner].first

@@ -8,10 +8,14 @@ from __future__ import annotations
 
 from typing import Callable, Dict, Iterator, List, Optional
 
+from .library import REPORT_ROOTS
 from .record import ALLOCATE, ALLOCATE_DATA, CLEAR, COPY, READ, RECORD, WRITE, WRITE_NUMBER, record
 
 #: Variables of a program, as many as the program `report` has roots.
-_ROOTS = 64
+_ROOTS = REPORT_ROOTS
+
+#: The colours of a pixel.
+_COLOURS = 256 * 256
 
 
 class _Object:
@@ -57,7 +61,7 @@ class _Program:
         self.variables[d] = _Object(size)
 
     def pixels(self, size: int, d: int) -> None:
-        """d = new short[4 * size]"""
+        """d = new int[4 * size]"""
         self._record(ALLOCATE_DATA, d=d, size=size)
         # Its cells name nothing.
         self.variables[d] = _Object(0)
@@ -286,10 +290,10 @@ def _images(program: _Program) -> Iterator[None]:
         program.pixels(size, pixels)
         for _ in range(2 + program.below(4)):
             # Numbers that would be references elsewhere are among them.
-            program.draw(program.below(65_536) if program.chance(0.5) else program.below(1024), program.below(4 * size), pixels)
+            program.draw(program.below(_COLOURS) if program.chance(0.5) else program.below(1024), program.below(4 * size), pixels)
         program.write(pixels, 0, picture)
         program.pixels(1, thumbnail)
-        program.draw(program.below(65_536), program.below(4), thumbnail)
+        program.draw(program.below(_COLOURS), program.below(4), thumbnail)
         program.write(thumbnail, 1, picture)
         if program.chance(0.3) and program.read(program.below(16), album, other):
             # A picture made from another; some know what was made of them, and are on a cycle then.
@@ -297,7 +301,7 @@ def _images(program: _Program) -> Iterator[None]:
             if program.chance(0.2):
                 program.write(picture, 3, other)
             if program.chance(0.5) and program.read(0, other, pixels):
-                program.draw(program.below(65_536), program.below(16), pixels)
+                program.draw(program.below(_COLOURS), program.below(16), pixels)
         program.write(picture, place, album)
         program.clear(picture, pixels, thumbnail, other)
         yield

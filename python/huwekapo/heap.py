@@ -8,12 +8,15 @@ import threading
 from typing import Any, Iterable, List, NamedTuple, Sequence, Union
 
 from . import library
-from .library import MAX_BLOCKS, MAX_ROOTS, MAX_SECTION, MAX_WIDTH, REPORT_BLOCKS, REPORT_ROOTS, REPORT_WIDTH
+from .library import MAX_BLOCKS, MAX_NUMBER, MAX_ROOTS, MAX_SECTION, MAX_WIDTH, REPORT_BLOCKS, REPORT_ROOTS, REPORT_WIDTH
 from .refused import Refused
 from .runs import Run
 
 #: What is readable as bytes.
 Bytes = Union[bytes, bytearray, memoryview]
+
+#: The formats of memoryviews, by the bytes of a number.
+_FORMATS = {1: "B", 4: "I"}
 
 
 class Look(NamedTuple):
@@ -41,12 +44,12 @@ class Reply(NamedTuple):
 class Heap:
     """A formatted heap of so many blocks, with counts of so many bits and so many roots.
 
-    blocks is a power of two from 8 to 8,192, width 1 to 4, and there are 1 to 64 roots; else `Refused` 1 is raised. Each method is one
+    blocks is a power of two from 8 to 65,536, width 1 to 4, and there are 1 to 64 roots; else `Refused` 1 is raised. Each method is one
     call of the library, and hands on what it answers: a refusal is raised as `Refused`, and has changed nothing. References are 0, or
-    1 + the first block of an object; cells of an object made as data hold any 16-bit number.
+    1 + the first block of an object; cells of an object made as data hold any 32-bit number.
 
     The buffers are readable as memoryviews: `a`, `b`, `counts`, `data` and `marks` of bytes, `cells`, `roots`, `waiting`, `sections` and
-    `list` of 16-bit numbers. They show the heap as it is, also after later calls. A heap may be used from several threads: its calls wait
+    `list` of 32-bit numbers. They show the heap as it is, also after later calls. A heap may be used from several threads: its calls wait
     for each other.
 
     A collection is made at once by `collect`, or in small steps: `open_collection`, then `step_collection` until `is_open` is false. While
@@ -147,7 +150,7 @@ class Heap:
 
     def _view(self, name: str) -> memoryview:
         view = memoryview(self._arrays[name]).cast("B").toreadonly()
-        return view.cast("H") if self._arrays[name]._type_ is ctypes.c_uint16 else view
+        return view.cast(_FORMATS[ctypes.sizeof(self._arrays[name]._type_)])
 
     @property
     def blocks(self) -> int:
@@ -250,10 +253,10 @@ class Heap:
         return self._stored("allocate_data", n, r)
 
     def write_number(self, at: int, j: int, v: int) -> None:
-        """Writes v, 0 to 65,535, into cell j of the data at block `at`, and changes nothing else. Another v is no number of a cell:
-        OverflowError. Refusals: 1, 2, 11, 13, 6, 7, 12."""
-        if not 0 <= operator.index(v) < 1 << 16:
-            raise OverflowError(f"{v} is no 16-bit number")
+        """Writes v, 0 to 4,294,967,295, into cell j of the data at block `at`, and changes nothing else. Another v is no number of a
+        cell: OverflowError. Refusals: 1, 2, 11, 13, 6, 7, 12."""
+        if not 0 <= operator.index(v) <= MAX_NUMBER:
+            raise OverflowError(f"{v} is no number from 0 to {MAX_NUMBER:,}")
         self._value("write_number", at, j, v)
 
     def read_number(self, at: int, j: int) -> int:
@@ -313,7 +316,7 @@ class Heap:
         size, its D bit and its cells, references as object numbers. Objects are numbered from 1 as first met, breadth first. Two heaps have
         equal ones exactly where `same_shape` says so. Refusals: 1, 2, 11, 13."""
         roots = min(len(self._arrays["roots"]), MAX_ROOTS)
-        output = (ctypes.c_uint32 * library.shape_length(min(self._blocks, MAX_BLOCKS), roots))()
+        output = (library.REF * library.shape_length(min(self._blocks, MAX_BLOCKS), roots))()
         reply = _accepted(self._call("shape", ctypes.addressof(output), len(output)))
         return output[: reply.value]
 

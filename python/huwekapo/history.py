@@ -13,9 +13,11 @@ from .heap import Bytes, Heap
 from .library import REPORT_BLOCKS, REPORT_ROOTS, REPORT_WIDTH
 from .record import RECORD
 from .runs import Run, Stopped
+from .widening import ADVICE, OLD_RECORD, may_be_old
 
-#: The bytes that are run at a time: so many that the check of the heap, which each piece begins with, hardly counts.
-PIECE = 1 << 20
+#: The bytes that are run at a time, whole records and a mebibyte at most: so many that the check of the heap, which each piece begins
+#: with, hardly counts.
+PIECE = (1 << 20) // RECORD * RECORD
 
 #: The seconds for which bytes that come slowly are held back, to be run in one piece.
 _PATIENCE = 0.1
@@ -45,6 +47,8 @@ class History:
             self._file = source
         self._start = _position(self._file) if self._file else 0
         self._was_read = False
+        # The first bytes, as many as an old record has: a pipe gives them once.
+        self._beginning = b""
 
     @staticmethod
     def of(source: Source) -> History:
@@ -124,16 +128,22 @@ class History:
         buffer = bytearray(PIECE)
         # This pins the buffer, whose address the library is given.
         array = (ctypes.c_uint8 * len(buffer)).from_buffer(buffer)
-        with self._opened() as file:
-            for length in _pieces(file, memoryview(buffer), fill):
-                yield ctypes.addressof(array), length
+        for length in self._read(memoryview(buffer), fill):
+            yield ctypes.addressof(array), length
 
     def pieces(self) -> Iterator[bytes]:
-        """The bytes of the history, a mebibyte at a time. Only the last piece may end inside a record."""
+        """The bytes of the history, nearly a mebibyte at a time. Only the last piece may end inside a record."""
         buffer = memoryview(bytearray(PIECE))
+        for length in self._read(buffer, fill=True):
+            yield bytes(buffer[:length])
+
+    def _read(self, view: memoryview, fill: bool) -> Iterator[int]:
+        """The lengths of the pieces, each read to the view's start."""
         with self._opened() as file:
-            for length in _pieces(file, buffer, fill=True):
-                yield bytes(buffer[:length])
+            for number, length in enumerate(_pieces(file, view, fill)):
+                if number == 0:
+                    self._beginning = bytes(view[: min(length, OLD_RECORD)])
+                yield length
 
     def run(self, heap: Heap, progress: Optional[Progress] = None, may_stop: bool = False) -> Run:
         """Runs the history on a heap, and gives where the run ends. Where it stops before the end it raises `Stopped`, unless it
@@ -143,8 +153,13 @@ class History:
             if progress:
                 progress(RECORD * run.records)
         if run.stopped and not may_stop:
-            raise Stopped(run, self.name)
+            raise Stopped(run, self.name, self.advice(run, heap.blocks, heap.width, len(heap.roots)))
         return run
+
+    def advice(self, run: Run, blocks: int, width: int, roots: int) -> str:
+        """What there is to say where a run of this history on such a heap stopped as that of an old history does, whose records had eight
+        bytes; empty where nothing is."""
+        return ADVICE if may_be_old(self._beginning, run, blocks, width, roots) else ""
 
     def run_to(self, heap: Heap, records: Optional[int], progress: Optional[Progress] = None) -> Run:
         """Runs the first records of the history on a heap, as many as there are at most, or all; and gives where the run stands then,

@@ -12,7 +12,7 @@ import os
 from typing import Any, Callable, Iterator, List, NamedTuple
 
 #: The version of the library that this package is for, and its own.
-VERSION = "0.6.0"
+VERSION = "0.7.0"
 
 #: The environment variable that names the library: its file, or the folder that it lies in.
 VARIABLE = "HUWEKAPO_LIBRARY"
@@ -21,8 +21,13 @@ FILE = "libhuwekapo.so"
 
 WORD = ctypes.c_size_t
 
+#: A cell or root, and whatever is lent with them: 0, or 1 + the first block of an object. The largest number that a cell holds.
+REF = ctypes.c_uint32
+MAX_NUMBER = 256 ** ctypes.sizeof(REF) - 1
+
 #: The library's limits. What is beyond them is refused by it; no buffers of that size are made here.
-MAX_BLOCKS = 8192
+MIN_BLOCKS = 8
+MAX_BLOCKS = 65536
 MAX_WIDTH = 4
 MAX_ROOTS = 64
 
@@ -30,7 +35,7 @@ MAX_ROOTS = 64
 MAX_SECTION = 256
 
 #: The heap of the program `report`.
-REPORT_BLOCKS = 8192
+REPORT_BLOCKS = 4096
 REPORT_WIDTH = 3
 REPORT_ROOTS = 64
 
@@ -48,13 +53,13 @@ BUFFERS = (
     Buffer("a", ctypes.c_uint8, lambda blocks, width, roots: blocks // 8),
     Buffer("b", ctypes.c_uint8, lambda blocks, width, roots: blocks // 8),
     Buffer("counts", ctypes.c_uint8, lambda blocks, width, roots: width * (blocks // 8)),
-    Buffer("cells", ctypes.c_uint16, lambda blocks, width, roots: 4 * blocks),
-    Buffer("roots", ctypes.c_uint16, lambda blocks, width, roots: roots),
-    Buffer("waiting", ctypes.c_uint16, lambda blocks, width, roots: blocks),
-    Buffer("sections", ctypes.c_uint16, lambda blocks, width, roots: max(1, blocks // MAX_SECTION)),
+    Buffer("cells", REF, lambda blocks, width, roots: 4 * blocks),
+    Buffer("roots", REF, lambda blocks, width, roots: roots),
+    Buffer("waiting", REF, lambda blocks, width, roots: blocks),
+    Buffer("sections", REF, lambda blocks, width, roots: max(1, blocks // MAX_SECTION)),
     Buffer("data", ctypes.c_uint8, lambda blocks, width, roots: blocks // 8),
     Buffer("marks", ctypes.c_uint8, lambda blocks, width, roots: blocks // 8),
-    Buffer("list", ctypes.c_uint16, lambda blocks, width, roots: blocks + 1),
+    Buffer("list", REF, lambda blocks, width, roots: blocks + 1),
 )
 
 
@@ -117,7 +122,7 @@ FUNCTIONS: dict[str, tuple[list[Any], Any]] = {
     "look": ([WORD], Reply),
     "free_blocks": ([], Reply),
     "allocate_data": ([WORD, WORD], Reply),
-    "write_number": ([WORD, WORD, ctypes.c_uint16], Reply),
+    "write_number": ([WORD, WORD, REF], Reply),
     "read_number": ([WORD, WORD], Reply),
     "open_collection": ([], Reply),
     "step_collection": ([WORD], Reply),

@@ -4,7 +4,7 @@ from __future__ import annotations
 
 import os
 import sys
-from typing import Any, NamedTuple, Optional, Sequence
+from typing import Any, Callable, NamedTuple, Optional, Sequence
 
 from .files import Place, shown, written
 from .heap import Heap
@@ -128,10 +128,15 @@ _SETTINGS = {
 def plot(courses: Sequence[Course], blocks: int, title: Optional[str], path: Place, columns: int = 2) -> None:
     """Draws the courses to a file whose ending names its kind (svg, pdf, png), with a title or none, as wide as one or two columns of
     a journal."""
+    saved(lambda: draw(courses, blocks, title, columns), path)
+
+
+def saved(drawn: Callable[[], Any], path: Place) -> None:
+    """Writes a picture to a file whose ending names its kind; the same picture is the same file."""
     ending = kind(path)
     pyplot = pictures()
     with pyplot.rc_context(_SETTINGS):
-        figure = draw(courses, blocks, title, columns)
+        figure = drawn()
         dates = {"svg": {"Date": None}, "pdf": {"CreationDate": None}, "png": {}}
         try:
             with written(path) as file:

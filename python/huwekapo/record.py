@@ -2,19 +2,21 @@
 
 from __future__ import annotations
 
+import struct
 from typing import TYPE_CHECKING, Iterator, NamedTuple
 
 if TYPE_CHECKING:
     from .history import Source
 
-#: The bytes of a record.
-RECORD = 8
+#: The bytes of a record: operation, d, s and one unused, then c and the size in four bytes each, low byte first.
+_FORM = struct.Struct("<BBBBII")
+RECORD = _FORM.size
 
 #: The operations.
 ALLOCATE, COPY, WRITE, READ, CLEAR, COLLECT, ALLOCATE_DATA, WRITE_NUMBER = range(1, 9)
 
 #: The largest root that a record can name, and the largest cell, size or number: a run refuses most of them.
-LARGEST_ROOT, LARGEST_NUMBER = 0xFF, 0xFFFF
+LARGEST_ROOT, LARGEST_NUMBER = 2**8 - 1, 2**32 - 1
 
 
 class Record(NamedTuple):
@@ -29,16 +31,16 @@ class Record(NamedTuple):
     unused: int = 0
 
     def packed(self) -> bytes:
-        """The eight bytes."""
+        """Its bytes."""
         return record(*self)
 
     @staticmethod
-    def of(eight: bytes) -> Record:
-        """The record of eight bytes, whatever they are."""
-        if len(eight) != RECORD:
-            raise ValueError(f"a record has {RECORD} bytes, and these are {len(eight)}")
-        c, size = int.from_bytes(eight[4:6], "little"), int.from_bytes(eight[6:8], "little")
-        return Record(eight[0], eight[1], eight[2], c, size, eight[3])
+    def of(some: bytes) -> Record:
+        """The record of so many bytes, whatever they are."""
+        if len(some) != RECORD:
+            raise ValueError(f"a record has {RECORD} bytes, and these are {len(some)}")
+        operation, d, s, unused, c, size = _FORM.unpack(some)
+        return Record(operation, d, s, c, size, unused)
 
 
 class CutOff(ValueError):
@@ -60,7 +62,7 @@ class CutOff(ValueError):
 
 def record(operation: int, d: int = 0, s: int = 0, c: int = 0, size: int = 0, unused: int = 0) -> bytes:
     """A record of an operation on the roots d and s, cell c and a size, which for `WRITE_NUMBER` is the number."""
-    return bytes([operation, d, s, unused]) + c.to_bytes(2, "little") + size.to_bytes(2, "little")
+    return _FORM.pack(operation, d, s, unused, c, size)
 
 
 def records(history: Source) -> Iterator[Record]:

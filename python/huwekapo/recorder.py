@@ -22,7 +22,7 @@ from .record import (
 )
 
 #: The bytes that are kept before they are written: whole records.
-_KEPT = 1 << 16
+_KEPT = 1 << 15
 
 
 class Recorder:

@@ -50,7 +50,7 @@ _CALL_WORDS: Dict[int, str] = {
     Number.NO_OBJECT: "`at` is not a first block (or not below blocks)",
     Number.BAD_CELL: "j is not below 4 times the object's size",
     Number.BAD_REFERENCE: "v is neither 0 nor 1 + a first block",
-    Number.NO_CALL: "an entry is no call: its code is above 13, or it writes a number above 65,535",
+    Number.NO_CALL: "an entry is no call: its code is above 13, or it writes a number that no cell holds",
     Number.CUT_OFF: "the list ends inside a call",
     Number.STALE_SECTIONS: "a number of `sections` is not the size of the largest free chunk of its section",
     Number.WRONG_KIND: "a reference is stored in a cell of data, or read from one; or a number is written or read where the object is "

@@ -54,12 +54,15 @@ class Stopped(Exception):
 
     run: where the run stands.
     name: the history's name.
+    advice: what may be done; empty where nothing is known.
     """
 
-    def __init__(self, run: Run, name: str) -> None:
-        super().__init__(run, name)
+    def __init__(self, run: Run, name: str, advice: str = "") -> None:
+        super().__init__(run, name, advice)
         self.run = run
         self.name = name
+        self.advice = advice
 
     def __str__(self) -> str:
-        return f"{self.name}: {self.run.stop()}: {self.run.stop_in_words()}"
+        words = f"{self.name}: {self.run.stop()}: {self.run.stop_in_words()}"
+        return f"{words}: {self.advice}" if self.advice else words

@@ -29,6 +29,8 @@ from .heap import Heap
 from .history import PIECE, History
 from .library import REPORT_ROOTS, build
 from .measures import COLUMNS, FIGURE_COLUMNS, measure
+from .runs import Run
+from .widening import OLD_RECORD, may_be_old
 
 #: The columns of the table: the history's path below the folder, the SHA-256 of its bytes, and those of `measures`.
 TABLE_COLUMNS = ["history", "sha256", *COLUMNS]
@@ -64,6 +66,8 @@ class Swept(NamedTuple):
     failures: list[str]
     #: the history of each row and the number that stopped it
     runs: list[tuple[str, int]]
+    #: the histories that may be of the old form, of records of eight bytes
+    old: list[str]
 
 
 class SweepError(Exception):
@@ -115,7 +119,19 @@ def sweep(
                 progress(len(rows), len(tasks))
         file.replace(rows[task] for task in tasks if task in rows)
     runs = [(task.history, int(cell(rows[task], "number"))) for task in tasks if task in rows]
-    return Swept(kept, len(rows) - kept, anew, len(lost), passed_over + failures + _changed(rows.values()), runs)
+    old = sorted({task.history for task in tasks if task in rows and _may_be_old(paths[task.history], task, rows[task])})
+    return Swept(kept, len(rows) - kept, anew, len(lost), passed_over + failures + _changed(rows.values()), runs, old)
+
+
+def _may_be_old(path: Path, task: Task, row: Row) -> bool:
+    run = Run(int(cell(row, "number")), int(cell(row, "records")))
+    if run.records != 0 or not run.stopped:
+        return False
+    try:
+        with open(path, "rb", buffering=0) as file:
+            return may_be_old(file.read(OLD_RECORD), run, task.blocks, task.width, task.roots)
+    except OSError:
+        return False
 
 
 def histories(folder: Place, pattern: str, left_out: Optional[Place] = None) -> tuple[dict[str, Path], list[str]]:

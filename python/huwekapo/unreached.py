@@ -102,15 +102,12 @@ def reached(heap: Heap) -> set[int]:
 def survey(heap: Heap) -> tuple[Kinds, Garbage]:
     """What a root reaches, by its kind, and what none does, by what holds it, of a heap that is not damaged."""
     found = Unreached(heap)
-    sizes, by_cycles = found.sizes, found.by_cycles
-    by_stuck = _led_to((first for first in stuck(heap) if first not in found.reached), sizes, found.cells, found.reached)
-    parts = (found.objects - by_cycles, by_cycles - by_stuck, by_cycles & by_stuck)
-    return _by_kind({first: sizes[first] for first in found.reached}, data(heap)), Garbage(*(_held(some, sizes) for some in parts))
+    return _by_kind({first: found.sizes[first] for first in found.reached}, data(heap)), found.garbage()
 
 
 class Unreached:
-    """The objects that no root reaches, of a heap that is not damaged, by their first blocks; and those of them on a cycle of garbage or
-    behind one."""
+    """The objects that no root reaches, of a heap that is not damaged, by their first blocks; those of them on a cycle of garbage or behind
+    one; and those that are stuck, or to which stuck ones of them lead."""
 
     def __init__(self, heap: Heap) -> None:
         self.sizes = objects(heap)
@@ -118,6 +115,12 @@ class Unreached:
         self.reached = _led_to((v - 1 for v in heap.roots.tolist() if v), self.sizes, self.cells, set())
         self.objects = self.sizes.keys() - self.reached
         self.by_cycles = self.objects - _unnamed(self.objects, self.sizes, self.cells)
+        self.by_stuck = _led_to((first for first in stuck(heap) if first not in self.reached), self.sizes, self.cells, self.reached)
+
+    def garbage(self) -> Garbage:
+        """These, by what holds them."""
+        parts = (self.objects - self.by_cycles, self.by_cycles - self.by_stuck, self.by_cycles & self.by_stuck)
+        return Garbage(*(_held(some, self.sizes) for some in parts))
 
     def names(self, first: int) -> list[tuple[int, int]]:
         """The cells of an object that name one of these, each its number and the first block of what it names."""

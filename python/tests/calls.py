@@ -25,7 +25,7 @@ OTHERS: Dict[str, Call] = {
     "look": lambda heap: heap.look(0),
     "free_blocks": lambda heap: heap.free_blocks(),
     "allocate_data": lambda heap: heap.allocate_data(1, 1),
-    "write_number": lambda heap: heap.write_number(1, 3, 65535),
+    "write_number": lambda heap: heap.write_number(1, 3, library.MAX_NUMBER),
     "read_number": lambda heap: heap.read_number(1, 3),
     "open_collection": lambda heap: heap.open_collection(),
     "step_collection": lambda heap: heap.step_collection(1),

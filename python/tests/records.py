@@ -35,3 +35,9 @@ def write_number(v: int, c: int, d: int) -> bytes:
 
 
 COLLECT = record(form.COLLECT)
+
+
+def narrowed(history: bytes) -> bytes:
+    """The old history of eight-byte records that is widened to this one, where there is one."""
+    records = (history[at : at + form.RECORD] for at in range(0, len(history), form.RECORD))
+    return b"".join(one[:6] + one[8:10] if len(one) == form.RECORD else one for one in records)

@@ -16,6 +16,7 @@ from pathlib import Path
 sys.path.insert(0, str(Path(__file__).resolve().parent.parent))
 
 import huwekapo
+from huwekapo.record import RECORD
 
 TURNS = 9
 
@@ -46,7 +47,7 @@ def main() -> int:
     if len(lines) != 1:
         print(f"different lines: {sorted(lines)}")
         return 1
-    print(f"{os.path.getsize(history) // 8:,} records: report {program:.3f} s; from Python {run:.3f} s, ratio {run / program:.2f}", end="")
+    print(f"{os.path.getsize(history) // RECORD:,} records: report {program:.3f} s; from Python {run:.3f} s, ratio {run / program:.2f}", end="")
     print(f"; the whole command {whole:.3f} s, ratio {whole / program:.2f}")
     return 0
 

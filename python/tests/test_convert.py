@@ -14,7 +14,7 @@ from typing import List, Optional, Tuple
 
 import huwekapo
 from huwekapo import conversion, convert, events, kept, words
-from huwekapo.record import ALLOCATE, ALLOCATE_DATA
+from huwekapo.record import ALLOCATE, ALLOCATE_DATA, RECORD
 
 from .traces import at_random
 
@@ -102,8 +102,8 @@ class Forms(unittest.TestCase):
             (b"A 3 9 o 8", "there is no class 9"),
             (b"A 3 1 x 8", "an object is `A OBJECT CLASS KIND BYTES`, its kind o (fields), r (references) or n (numbers)"),
             (b"A 3 1 o", "an object is"),
-            (b"A 3 2 n 1048600", "object 3 has 65,538 blocks: a record can say 65,535 at most"),
-            (b"A 3 2 r 1000000\nU 3 65534 0", "cell 65534 of object 3: a record can name cell 65,533 at most"),
+            (b"A 3 2 n 68719476800", "object 3 has 4,294,967,301 blocks: a record can say 4,294,967,295 at most"),
+            (b"A 3 2 r 20000000000\nU 3 4294967294 0", "cell 4294967294 of object 3: a record can name cell 4,294,967,293 at most"),
             (b"C 1 Other", "class 1 stands there already"),
             (b"C 3", "a class is `C CLASS NAME`"),
             (b"\xff", "line 5: byte 1 is no UTF-8"),
@@ -240,7 +240,7 @@ class Conversions(unittest.TestCase):
         for rule, due in [(convert.SLOTS, 9783), (convert.USES, 1583)]:
             made = converted(text, rule)
             self.assertEqual(kept.check(text, made, rule, 1, most=500).moments, 500)
-            self.assertEqual(len(made.history) // 8, due)
+            self.assertEqual(len(made.history) // RECORD, due)
             runs = [huwekapo.run(made.history, width=width).figures for width in (1, 2, 3, 4)]
             self.assertEqual([figures.allocations for figures in runs], 4 * [trace.objects + 1])
             # At these widths nothing that sticks holds others for longer: whoever has so many references sticks, and no other.
@@ -265,18 +265,18 @@ class Checks(unittest.TestCase):
             for rule in convert.RULES:
                 made = converted(text, rule)
                 for _ in range(5):
-                    at = 8 * chance.randrange(len(made.history) // 8)
+                    at = RECORD * chance.randrange(len(made.history) // RECORD)
                     history = bytearray(made.history)
-                    place = chance.choice([0, 1, 2, 4, 6])
+                    place = chance.choice([0, 1, 2, 4, 8])
                     history[at + place] = chance.choice([number for number in range(9) if number != history[at + place]])
                     found = self.spoilt(text, rule, made, bytes(history))
                     tried, noticed = tried + 1, noticed + found
-                    if made.history[at] in (ALLOCATE, ALLOCATE_DATA) and at >= 8 * made.prologue and place != 1:
+                    if made.history[at] in (ALLOCATE, ALLOCATE_DATA) and at >= RECORD * made.prologue and place != 1:
                         # Another size, another kind, or a field that has to be 0.
                         self.assertTrue(found, (seed, rule, at, place))
                 # A record more.
-                self.assertTrue(self.spoilt(text, rule, made, made.history + made.history[-8:]))
-                self.assertTrue(self.spoilt(text, rule, made, made.history[:-8]) or made.marks[-1] == 0)
+                self.assertTrue(self.spoilt(text, rule, made, made.history + made.history[-RECORD:]))
+                self.assertTrue(self.spoilt(text, rule, made, made.history[:-RECORD]) or made.marks[-1] == 0)
         # Some are equal in effect: a null written over a null, a root cleared that the same event fills again.
         self.assertGreater(noticed, 0.85 * tried)
 

@@ -8,7 +8,11 @@ import unittest
 
 import huwekapo
 from huwekapo import examples
+from huwekapo.library import REPORT_BLOCKS
 from huwekapo.measures import measure
+from huwekapo.record import RECORD
+
+from .records import narrowed
 
 
 class Examples(unittest.TestCase):
@@ -16,8 +20,8 @@ class Examples(unittest.TestCase):
         for name in examples.PROGRAMS:
             for seed in range(3):
                 history = examples.example(name, 20_000, seed)
-                self.assertEqual(len(history), 8 * 20_000)
-                for blocks in [1024, 8192]:
+                self.assertEqual(len(history), RECORD * 20_000)
+                for blocks in [1024, REPORT_BLOCKS]:
                     run = huwekapo.run(history, blocks, may_stop=True)
                     with self.subTest(name=name, seed=seed, blocks=blocks, line=run.line()):
                         # The leak outgrows a small heap; nothing else stops.
@@ -27,7 +31,7 @@ class Examples(unittest.TestCase):
     def test_any_length(self) -> None:
         whole = examples.example("trees", 500)
         for records in [0, 1, 2, 77, 499]:
-            self.assertEqual(examples.example("trees", records), whole[: 8 * records])
+            self.assertEqual(examples.example("trees", records), whole[: RECORD * records])
 
     def test_seeds(self) -> None:
         for name in examples.PROGRAMS:
@@ -37,7 +41,8 @@ class Examples(unittest.TestCase):
     def test_the_same_everywhere(self) -> None:
         # On every version of Python: the figures of README.md are theirs.
         every = b"".join(examples.example(name, 2000, 1) for name in examples.PROGRAMS)
-        self.assertEqual(hashlib.sha256(every).hexdigest(), DIGEST)
+        self.assertEqual(hashlib.sha256(narrowed(every)).hexdigest(), DIGEST)
+        self.assertEqual(huwekapo.widened(narrowed(every)), every)
 
     def test_what_they_show(self) -> None:
         by_width = {
@@ -63,6 +68,7 @@ class Examples(unittest.TestCase):
             self.assertGreater(by_width[name][0].garbage.both.blocks, 1000, name)
 
 
+# Of the bytes as they were when a record had eight: the programs are the same.
 DIGEST = "55ee933256f726fc4d1bf8dd59bbbe08b95c6a666b68ebd7f758769e0bce253d"
 
 if __name__ == "__main__":

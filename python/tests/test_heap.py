@@ -71,8 +71,8 @@ class Calls(unittest.TestCase):
         heap = Heap(8, 2, 4)
         self.assertEqual((heap.allocate_data(2, 0), heap.allocate(1, 1)), (0, 2))
         self.assertEqual((heap.data[0], heap.cells[:8].tolist()), (1, 8 * [0]))
-        # Numbers that look like references, 65535, and the ends of what a cell holds.
-        for j, v in enumerate([3, 1, 4, 65535, 0, 256, 9, 65534]):
+        # Numbers that look like references, 65536, and the ends of what a cell holds.
+        for j, v in enumerate([3, 1, 4, 4294967295, 0, 256, 65536, 4294967294]):
             before = {buffer.name: list(getattr(heap, buffer.name)) for buffer in library.BUFFERS}
             heap.write_number(0, j, v)
             self.assertEqual(heap.read_number(0, j), v)
@@ -95,7 +95,7 @@ class Calls(unittest.TestCase):
             with self.subTest(name=name), self.refused(number, 0, name):
                 call()
         # ctypes alone would make 0 of it.
-        for v in [65536, 65537, 2**64, -1]:
+        for v in [2**32, 2**32 + 1, 2**64, -1]:
             with self.subTest(v=v), self.assertRaises(OverflowError):
                 heap.write_number(0, 0, v)
         self.assertEqual(heap.read_number(0, 0), 3)
@@ -136,8 +136,9 @@ class Calls(unittest.TestCase):
         with self.refused(9, 0, "NO_CALL"):
             heap.replay([(14,)])
         with self.refused(9, 0, "NO_CALL"):
-            heap.replay([(9, 1, 0), (10, 0, 0, 65536)])
-        self.assertEqual(heap.replay([(9, 1, 0), (10, 0, 3, 65535), (11, 0, 3)]), [Reply(0, 0, 0), Reply(0, 0, 0), Reply(0, 65535, 0)])
+            heap.replay([(9, 1, 0), (10, 0, 0, 2**32)])
+        due = [Reply(0, 0, 0), Reply(0, 0, 0), Reply(0, 2**32 - 1, 0)]
+        self.assertEqual(heap.replay([(9, 1, 0), (10, 0, 3, 2**32 - 1), (11, 0, 3)]), due)
         with self.assertRaises(ValueError):
             heap.replay([(2, 2, 0, 0, 0)])
 
@@ -172,7 +173,7 @@ class Calls(unittest.TestCase):
             Heap.from_buffers(8, 2, a=[0], b=[255], **{**fresh, "counts": [1, 0]}).check()
         with self.refused(2, 7, "STRAY_DATA"):
             Heap.from_buffers(8, 2, a=[0], b=[255], **{**fresh, "data": [1]}).check()
-        Heap.from_buffers(8, 2, a=[0], b=[255], waiting=8 * [65535], **fresh).check()
+        Heap.from_buffers(8, 2, a=[0], b=[255], waiting=8 * [2**32 - 1], **fresh).check()
         with self.refused(1, 0, "MISSHAPEN"):
             Heap.from_buffers(8, 2, a=[0, 0], b=[255], **fresh).check()
         with self.assertRaises(OverflowError):
@@ -359,13 +360,13 @@ class Header(unittest.TestCase):
     def test_functions(self) -> None:
         kinds = {
             "size_t": "WORD",
-            "uint16_t": "uint16",
+            "huwekapo_ref": "ref",
             "uint64_t": "uint64",
             "struct huwekapo_run": "run",
             **{f"{const}{number} *": "pointer" for const in ("", "const ") for number in ("uint8_t", "uint32_t", "uint64_t")},
         }
         declared = {
-            library.ctypes.c_uint16: "uint16", library.WORD: "WORD", library.ctypes.c_uint64: "uint64", library.RunSoFar: "run",
+            library.REF: "ref", library.WORD: "WORD", library.ctypes.c_uint64: "uint64", library.RunSoFar: "run",
             library.ctypes.c_void_p: "pointer",
         }
         # On x86-64 both are the same type of ctypes.

@@ -15,6 +15,9 @@ from unittest import mock
 import huwekapo
 from huwekapo import Figures, Heap, History, Refused, Run, Stopped, examples, in_use
 
+from huwekapo.library import REPORT_BLOCKS
+from huwekapo.record import RECORD
+
 from .records import COLLECT, allocate, allocate_data, clear, copy, read, record, write, write_number
 
 THREE = allocate(2, 0) + allocate(1, 1) + allocate(3, 2)
@@ -40,11 +43,11 @@ class Lines(unittest.TestCase):
 
     def test_data(self) -> None:
         # 2 blocks of data in root 0, a number in its last cell, an object in root 1 that names it; both count as allocations.
-        start = allocate_data(2, 0) + write_number(65535, 7, 0) + allocate(1, 1) + write(0, 0, 1)
+        start = allocate_data(2, 0) + write_number(2**32 - 1, 7, 0) + allocate(1, 1) + write(0, 0, 1)
         heap = Heap(8, 1, 4)
         run = heap.run_records(Run(), start)
         # Each is born stuck at width 1; a number makes nothing stuck.
-        self.assertEqual((run.line(), heap.read_number(0, 7), heap.cells[8]), ("2 3 2 0 3 2\n", 65535, 1))
+        self.assertEqual((run.line(), heap.read_number(0, 7), heap.cells[8]), ("2 3 2 0 3 2\n", 2**32 - 1, 1))
         for record_, number in [(read(0, 0, 2), 12), (write(1, 0, 0), 12), (write_number(0, 0, 1), 12), (read(8, 0, 2), 7), (read(0, 1, 2), 0)]:
             self.assertEqual(huwekapo.run(start + record_, 8, 2, 4, may_stop=True).number, number)
         # 7 forces a collection as 1 does: the data that is stuck and let go of makes room.
@@ -72,12 +75,16 @@ class Lines(unittest.TestCase):
     def test_stops(self) -> None:
         for number, history in [
             (3, allocate(0, 99)),
-            (3, allocate(8193, 0)),
+            (3, allocate(REPORT_BLOCKS + 1, 0)),
+            (3, allocate(REPORT_BLOCKS + 65536, 0)),
+            (3, allocate(2**32 - 1, 0)),
             (4, copy(64, 0)),
             (4, write(0, 0, 64)),
             (6, read(0, 1, 2)),
             (6, write(0, 0, 1)),
             (7, write(0, 8, 0)),
+            (7, write(0, 65536, 0)),
+            (7, write(0, 2**32 - 1, 0)),
             (3, allocate_data(0, 99)),
             (4, write_number(1, 0, 64)),
             (6, write_number(1, 0, 1)),
@@ -87,7 +94,10 @@ class Lines(unittest.TestCase):
             (9, record(8, s=1)),
             (9, record(7, size=1, c=1)),
             (9, record(5, unused=1)),
+            (9, record(5, c=65536)),
+            (9, record(5, size=2**24)),
             (10, b"\x05"),
+            (10, 11 * b"\x05"),
         ]:
             with self.subTest(number=number, history=history.hex()):
                 history = allocate(2, 0) + history + THREE * (number != 10)
@@ -106,8 +116,9 @@ class Lines(unittest.TestCase):
         self.assertEqual(huwekapo.run(THREE).stop(), "")
 
     def test_forced_collection(self) -> None:
-        full = allocate(4096, 0) + write(0, 0, 0) + allocate(4096, 1)
-        run = huwekapo.run(io.BytesIO(full + clear(0) + allocate(4096, 2)))
+        half = REPORT_BLOCKS // 2
+        full = allocate(half, 0) + write(0, 0, 0) + allocate(half, 1)
+        run = huwekapo.run(io.BytesIO(full + clear(0) + allocate(half, 2)))
         self.assertEqual((run.number, run.figures.collections), (0, 1))
         run = huwekapo.run(full + allocate(1, 2), may_stop=True)
         self.assertEqual((run.number, run.records, run.figures.collections), (5, 3, 1))
@@ -153,7 +164,7 @@ class Runs(unittest.TestCase):
         pieces = Heap(1024, 2, 64)
         dice, run, at = random.Random(1), Run(), 0
         while at < len(history):
-            length = 8 * dice.randrange(200)
+            length = RECORD * dice.randrange(200)
             run = pieces.run_records(run, history[at : at + length])
             at += length
         self.assertEqual(run, expected)
@@ -206,11 +217,11 @@ class Files(unittest.TestCase):
                     self.assertEqual(huwekapo.run(source).line(), self.line)  # type: ignore[arg-type]
 
     def test_small_pieces(self) -> None:
-        history = self.history[: 8 * 500]
-        for cut, end in [(0, b""), (1, b"\x00"), (7, b"1234567")]:
+        history = self.history[: RECORD * 500]
+        for cut, end in [(0, b""), (1, b"\x00"), (11, b"12345678901")]:
             expected = line(history + end)
             # Bytes that come slowly are held back for a while; without that, each is run as soon as it makes a record.
-            for length, patience in [(length, patience) for length in (1, 3, 7, 8, 9) for patience in (0, 0.1)]:
+            for length, patience in [(length, patience) for length in (1, 3, 11, 12, 13) for patience in (0, 0.1)]:
                 with self.subTest(cut=cut, length=length, patience=patience), mock.patch("huwekapo.history._PATIENCE", patience):
                     told: list[int] = []
                     run = huwekapo.run(Slow(history + end, length), progress=told.append, may_stop=True)  # type: ignore[arg-type]
@@ -247,7 +258,7 @@ class Files(unittest.TestCase):
 
     def test_steps(self) -> None:
         heap = Heap()
-        runs = list(History(io.BytesIO(self.history[: 8 * 1000] + b"\x01")).runs(heap, step=300))
+        runs = list(History(io.BytesIO(self.history[: RECORD * 1000] + b"\x01")).runs(heap, step=300))
         self.assertEqual([run.records for run in runs], [300, 600, 900, 1000])
         self.assertEqual([run.number for run in runs], [0, 0, 0, 10])
         self.assertEqual([run.records for run in History(io.BytesIO(b"")).runs(heap, step=300)], [0])
@@ -260,10 +271,10 @@ class Files(unittest.TestCase):
             self.assertEqual(runs[-1], huwekapo.run(self.history))
 
     def test_highest_of_each_step(self) -> None:
-        history = self.history[: 8 * 2000]
+        history = self.history[: RECORD * 2000]
         heap, run, used = Heap(1024, 2, 64), Run(), []
-        for at in range(0, len(history), 8):
-            run = heap.run_records(run, history[at : at + 8])
+        for at in range(0, len(history), RECORD):
+            run = heap.run_records(run, history[at : at + RECORD])
             used.append(in_use(heap))
         for step in [1, 7, 300, 2000, 5000]:
             steps = list(History(history).steps(Heap(1024, 2, 64), step))

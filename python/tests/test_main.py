@@ -20,6 +20,7 @@ import huwekapo
 from huwekapo import examples, measures
 from huwekapo.__main__ import EXAMPLES, STATUSES, arguments, blocks, main, several, widths
 from huwekapo.files import written
+from huwekapo.record import RECORD
 
 from .records import allocate, clear, write
 
@@ -118,7 +119,7 @@ class Commands(unittest.TestCase):
         title, *rows = shown[len(named) :].splitlines()
         self.assertEqual(title, "largest free chunk of each section of 256 blocks, from block:")
         self.assertEqual(rows[0].split(), ["0:", "128", *(7 * ["256"])])
-        self.assertEqual([row.split() for row in rows[1:]], [[f"{at:,}:", *(8 * ["256"])] for at in (2048, 4096, 6144)])
+        self.assertEqual([row.split() for row in rows[1:]], [["2,048:", *(8 * ["256"])]])
         # Beside the line alone, of a heap that is one section, where the run stopped.
         shown = self.start("report", "--line", "--sections", self.three, "--blocks", 8, "--roots", 2, status=3)[0]
         self.assertEqual(shown.splitlines()[0], "refused 4 at record 2")
@@ -127,9 +128,9 @@ class Commands(unittest.TestCase):
     def test_wrong_words(self) -> None:
         table = self.folder / "table.csv"
         for words, part in [
-            (["report", self.three, "--blocks", "100"], "--blocks: 100: a power of two from 8 to 8,192"),
-            (["report", self.three, "--blocks", "4"], "--blocks: 4: a power of two from 8 to 8,192"),
-            (["report", self.three, "--blocks", "9" * 30], "9: a power of two from 8 to 8,192"),
+            (["report", self.three, "--blocks", "100"], "--blocks: 100: a power of two from 8 to 65,536"),
+            (["report", self.three, "--blocks", "4"], "--blocks: 4: a power of two from 8 to 65,536"),
+            (["report", self.three, "--blocks", "9" * 30], "9: a power of two from 8 to 65,536"),
             (["report", self.three, "--blocks", "9" * 5000], "--blocks: "),
             (["report", self.three, "--width", "5"], "--width: 5: 1 to 4"),
             (["report", self.three, "--width", "x"], "--width: x: no number"),
@@ -140,7 +141,7 @@ class Commands(unittest.TestCase):
             (["widths", self.three, "--widths", "1-999999999999"], "999999999999: 1 to 4"),
             (["widths", self.three, "--widths", "3-2"], "3-2: no width"),
             (["widths", self.three, "--blocks", "8,12"], "--blocks: 12: a power of two"),
-            (["sweep", self.folder, "-o", table, "--blocks", "1000"], "--blocks: 1000: a power of two from 8 to 8,192"),
+            (["sweep", self.folder, "-o", table, "--blocks", "1000"], "--blocks: 1000: a power of two from 8 to 65,536"),
             (["sweep", self.folder, "-o", table, "--pattern", ""], "the pattern of a file's name"),
             (["sweep", self.folder, "-o", table, "--jobs", "0"], "0: a number from 1 on"),
             (["plot", self.three, "-o", self.folder / "x.xyz"], "x.xyz: the ending says which kind of picture it is: .svg, .pdf, .png"),
@@ -288,7 +289,7 @@ class Commands(unittest.TestCase):
         link.symlink_to(made)
         self.start("example", "trees", "--records", 5, "-o", link)
         self.assertTrue(link.is_symlink())
-        self.assertEqual(len(made.read_bytes()), 40)
+        self.assertEqual(len(made.read_bytes()), 5 * RECORD)
         self.start("example", "trees", "--records", 5, "-o", "/dev/null")
         self.assertFalse(Path("/dev/null").is_file())
 

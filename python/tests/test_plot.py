@@ -14,6 +14,7 @@ import huwekapo
 from huwekapo import examples
 from huwekapo.measures import GARBAGE_WORDS
 from huwekapo.plot import BREADTHS, MatplotlibMissing, course, draw, kind, plot
+from huwekapo.record import RECORD
 
 from .records import COLLECT, allocate, allocate_data, clear, copy, write, write_number
 
@@ -133,7 +134,7 @@ class Pictures(unittest.TestCase):
                 for panel in figure.axes:
                     # Up to the number of blocks, whatever is in use.
                     self.assertEqual(tuple(panel.get_ylim()), (0, blocks))
-                    self.assertEqual(tuple(panel.get_xlim()), (0, max(1, len(history) // 8)))
+                    self.assertEqual(tuple(panel.get_xlim()), (0, max(1, len(history) // RECORD)))
                     for axis in (panel.xaxis, panel.yaxis):
                         for at, text in zip(axis.get_ticklocs(), axis.get_ticklabels()):
                             # A tick says where it is.
@@ -157,7 +158,7 @@ class Pictures(unittest.TestCase):
         self.assertEqual(list(mark.get_xdata()), [10, 10])
         empty = self.drawn(b"", 16, [2])
         self.assertEqual([text.get_text() for text in empty.axes[0].texts], ["an empty history: no record was run"])
-        at_once = self.drawn(b"\xff" * 8, 16, [2])
+        at_once = self.drawn(b"\xff" * RECORD, 16, [2])
         self.assertEqual([text.get_text() for text in at_once.axes[0].texts], ["no record was run: refused 9 at record 0"])
 
     def test_titles(self) -> None:
@@ -174,7 +175,7 @@ class Pictures(unittest.TestCase):
         for columns in (1, 2):
             # The first axis ends in a long number.
             for widths, history in ([1], HISTORY + 9_999_990 * clear(0)), ([1, 2, 3, 4], HISTORY + COLLECT + b"1"):
-                figure = self.drawn(history, 16, widths, columns=columns, step=1 + len(history) // 80)
+                figure = self.drawn(history, 16, widths, columns=columns, step=1 + len(history) // (10 * RECORD))
                 boxes = [figure._suptitle.get_window_extent(), *(legend.get_window_extent() for legend in figure.legends)]
                 boxes += [panel.get_tightbbox() for panel in figure.axes]
                 for k, box in enumerate(boxes):

@@ -54,7 +54,8 @@ def at_random(seed: int, number: int) -> List[Record]:
         operation = chance.randrange(1, 9)
         named = {part.lower() for part in words.FORMS[operation]}
         fields = {"d": chance.choice([0, 63, 255, chance.randrange(256)]), "s": chance.randrange(256)}
-        fields.update(c=chance.choice([0, 65535, chance.randrange(65536)]), size=chance.choice([1, 255, 256, chance.randrange(65536)]))
+        largest = record.LARGEST_NUMBER
+        fields.update(c=chance.choice([0, 65536, largest, chance.randrange(largest)]), size=chance.choice([1, 256, 2**24, chance.randrange(largest)]))
         if operation == record.COLLECT:
             named = set()
         made.append(Record(operation, **{name: value for name, value in fields.items() if name in named}))
@@ -95,18 +96,18 @@ class Recorders(unittest.TestCase):
             recorder.clear(4)
             recorder.collect()
             recorder.allocate_data(257, 1)
-            recorder.write_number(65535, 2, 1)
+            recorder.write_number(4294901760, 16909060, 1)
             self.assertEqual(recorder.records, 8)
         due = " ".join(
             [
-                "01 03 00 00 00 00 02 00",
-                "02 03 01 00 00 00 00 00",
-                "03 02 01 00 07 00 00 00",
-                "04 05 02 00 01 09 00 00",
-                "05 04 00 00 00 00 00 00",
-                "06 00 00 00 00 00 00 00",
-                "07 01 00 00 00 00 01 01",
-                "08 01 00 00 02 00 ff ff",
+                "01 03 00 00 00 00 00 00 02 00 00 00",
+                "02 03 01 00 00 00 00 00 00 00 00 00",
+                "03 02 01 00 07 00 00 00 00 00 00 00",
+                "04 05 02 00 01 09 00 00 00 00 00 00",
+                "05 04 00 00 00 00 00 00 00 00 00 00",
+                "06 00 00 00 00 00 00 00 00 00 00 00",
+                "07 01 00 00 00 00 00 00 01 01 00 00",
+                "08 01 00 00 04 03 02 01 00 00 ff ff",
             ]
         )
         self.assertEqual(file.getvalue().hex(" "), due)
@@ -130,17 +131,17 @@ class Recorders(unittest.TestCase):
         with Recorder(file) as recorder:
             recorder.clear(255)
             for act, part in [
-                (lambda: recorder.allocate(65536, 0), "record 1: size 65536 is not from 0 to 65,535"),
+                (lambda: recorder.allocate(2**32, 0), "record 1: size 4294967296 is not from 0 to 4,294,967,295"),
                 (lambda: recorder.allocate(1, 256), "record 1: root 256 is not from 0 to 255"),
                 (lambda: recorder.copy(-1, 0), "root -1"),
-                (lambda: recorder.read(65536, 0, 0), "cell 65536"),
+                (lambda: recorder.read(2**32, 0, 0), "cell 4294967296"),
                 (lambda: recorder.write_number(-1, 0, 0), "number -1"),
             ]:
                 with self.assertRaisesRegex(OverflowError, part):
                     act()
             with self.assertRaises(TypeError):
                 recorder.clear(1.0)  # type: ignore[arg-type]
-        self.assertEqual(len(file.getvalue()), 8)
+        self.assertEqual(len(file.getvalue()), record.RECORD)
 
     def test_whole_records_at_any_time(self) -> None:
         class Slow(io.RawIOBase):
@@ -159,7 +160,7 @@ class Recorders(unittest.TestCase):
         for one in some:
             recorder._append(*one[:5])
             if recorder.records % 1000 == 0:
-                self.assertEqual(len(slow.taken) % 8, 0)
+                self.assertEqual(len(slow.taken) % record.RECORD, 0)
         recorder.close()
         self.assertEqual(bytes(slow.taken), b"".join(one.packed() for one in some))
 
@@ -168,16 +169,16 @@ class Readers(unittest.TestCase):
     def test_cut_off(self) -> None:
         found = huwekapo.records(Record(6).packed() + b"abc")
         self.assertEqual(next(found), Record(6))
-        with self.assertRaisesRegex(huwekapo.CutOff, "bytes: ends inside record 1: 3 of its 8 bytes are there"):
+        with self.assertRaisesRegex(huwekapo.CutOff, "bytes: ends inside record 1: 3 of its 12 bytes are there"):
             next(found)
         self.assertEqual(list(huwekapo.records(b"")), [])
 
     def test_what_is_no_operation(self) -> None:
-        odd = bytes([9, 1, 2, 3, 4, 5, 6, 7])
+        odd = bytes([9, *range(1, 12)])
         (one,) = huwekapo.records(odd)
-        self.assertEqual((one, one.packed()), (Record(9, 1, 2, 0x0504, 0x0706, 3), odd))
-        with self.assertRaisesRegex(ValueError, "8 bytes, and these are 7"):
-            Record.of(odd[:7])
+        self.assertEqual((one, one.packed()), (Record(9, 1, 2, 0x07060504, 0x0B0A0908, 3), odd))
+        with self.assertRaisesRegex(ValueError, "12 bytes, and these are 11"):
+            Record.of(odd[:11])
 
     def test_long(self) -> None:
         some = at_random(3, 140_000)
@@ -214,15 +215,15 @@ class Words(unittest.TestCase):
             ("allocate 2 in 0", "line 1: 'allocate 2 in 0' is no record: write `allocate SIZE into ROOT` or `allocate data SIZE into ROOT`"),
             ("write number 7 in cell 3 of 0", "`write number NUMBER into cell CELL of ROOT`"),
             ("collect now", "line 1: 'collect now' is no record: write `collect`"),
-            ("allocate 65536 into 0", "line 1: 65536 is too large: a size is from 0 to 65,535"),
-            ("write number 65536 into cell 0 of 0", "65536 is too large: a number is from 0 to 65,535"),
+            ("allocate 4294967296 into 0", "line 1: 4294967296 is too large: a size is from 0 to 4,294,967,295"),
+            ("write number 4294967296 into cell 0 of 0", "4294967296 is too large: a number is from 0 to 4,294,967,295"),
             ("clear 256", "256 is too large: a root is from 0 to 255"),
             ("clear " + "9" * 9999, "9 is too large"),
             ("clear -1", "line 1: '-1' is no number: a root is from 0 to 255"),
             ("allocate data into 0", "'data' is no number: a size"),
-            ("read cell x of 0 into 0", "'x' is no number: a cell is from 0 to 65,535"),
-            ("bytes", "line 1: bytes takes 1 to 8 numbers, and here are 0"),
-            ("bytes 1 2 3 4 5 6 7 8 9", "and here are 9"),
+            ("read cell x of 0 into 0", "'x' is no number: a cell is from 0 to 4,294,967,295"),
+            ("bytes", "line 1: bytes takes 1 to 12 numbers, and here are 0"),
+            ("bytes 1 2 3 4 5 6 7 8 9 10 11 12 13", "and here are 13"),
             ("bytes 256", "256 is too large: a byte is from 0 to 255"),
             ("bytes 1 2\n# x\ncollect", "line 3: stands behind a record that is cut off, in line 1: only the last may be"),
         ]:
@@ -270,7 +271,7 @@ class Commands(unittest.TestCase):
             text.write_text("collect\nclear 300\n")
             said = self.start("assemble", text, "-o", made, status=1)[1]
             self.assertEqual(said, f"huwekapo: {text}: line 2: 300 is too large: a root is from 0 to 255\n")
-            self.assertEqual(made.stat().st_size, 10)
+            self.assertEqual(made.stat().st_size, record.RECORD + 2)
             said = self.start("assemble", "-", "-o", "-", status=1, given=b"x")
             self.assertEqual((said[0], said[1][:42]), (b"", "huwekapo: standard input: line 1: 'x' begi"))
             self.assertIn("No such file", self.start("assemble", Path(folder, "b"), "-o", made, status=1)[1])
@@ -306,20 +307,20 @@ class InC(unittest.TestCase):
         return done.returncode, done.stdout
 
     def test_byte_for_byte(self) -> None:
-        some = at_random(8, 8000)
+        some = at_random(8, 5000)
         due = recorded(some)
-        self.assertEqual(self.drive(some, 64_000, "buffer"), (0, due))
-        for room in [8, 13, 16, 4096, 65536]:
+        self.assertEqual(self.drive(some, len(due), "buffer"), (0, due))
+        for room in [12, 13, 24, 4096, 65536]:
             self.assertEqual(self.drive(some, room, "callback"), (0, due), room)
 
     def test_what_is_wrong(self) -> None:
         some = at_random(9, 100)
         due = recorded(some)
-        self.assertEqual(self.drive(some, 799, "buffer"), (1, due[:792]))
-        self.assertEqual(self.drive(some, 7, "callback"), (1, b""))
-        for bad in [Record(1, 256, 0, 0, 1), Record(2, 0, 256), Record(3, 0, 0, 65536), Record(8, 0, 0, 0, 65536), Record(5, 2**32)]:
+        self.assertEqual(self.drive(some, len(due) - 1, "buffer"), (1, due[: -record.RECORD]))
+        self.assertEqual(self.drive(some, record.RECORD - 1, "callback"), (1, b""))
+        for bad in [Record(1, 256, 0, 0, 1), Record(2, 0, 256), Record(3, 0, 0, 2**32), Record(8, 0, 0, 0, 2**32), Record(5, 2**32)]:
             # What was recorded before is there, and nothing behind it.
-            self.assertEqual(self.drive(some[:50] + [bad] + some[50:], 64, "callback"), (2, due[:400]))
+            self.assertEqual(self.drive(some[:50] + [bad] + some[50:], 64, "callback"), (2, due[: 50 * record.RECORD]))
 
     def test_not_taken(self) -> None:
         given = "".join("6 0 0 0 0\n" for _ in range(10_000)).encode()

@@ -7,6 +7,7 @@ import unittest
 from typing import Dict, List
 
 from huwekapo import Heap, Number, Refused, Run, library
+from huwekapo.library import MAX_BLOCKS
 from huwekapo.sections import text
 
 from .calls import FORMATTING, OTHERS, OUT_OF_TURN, Call, buffers, lent
@@ -40,7 +41,7 @@ class Sections(unittest.TestCase):
 
     def test_every_call_is_there(self) -> None:
         self.assertEqual({*FORMATTING, *OTHERS}, set(library.FUNCTIONS))
-        for blocks in [8, 256, 512, 8192]:
+        for blocks in [8, 256, 512, 8192, MAX_BLOCKS]:
             for is_open in [False, True]:
                 for name, call in {**FORMATTING, **OTHERS}.items():
                     heap = Heap.from_buffers(blocks, 2, **lent(blocks, is_open))
@@ -50,20 +51,20 @@ class Sections(unittest.TestCase):
                     self.assertEqual(heap.sections.tolist(), figures(heap), name)
 
     def test_formatted(self) -> None:
-        for blocks, expected in [(8, [8]), (128, [128]), (256, [256]), (512, [256, 256]), (8192, 32 * [256])]:
+        for blocks, expected in [(8, [8]), (128, [128]), (256, [256]), (512, [256, 256]), (8192, 32 * [256]), (MAX_BLOCKS, 256 * [256])]:
             heap = Heap(blocks)
             self.assertEqual(heap.sections.tolist(), expected)
             self.assertEqual(heap.section_blocks * len(heap.sections), blocks)
 
     def test_wrong_length(self) -> None:
-        for blocks, lengths in [(8, [0, 2]), (256, [0, 2]), (512, [0, 1, 3]), (8192, [31, 33])]:
+        for blocks, lengths in [(8, [0, 2]), (256, [0, 2]), (512, [0, 1, 3]), (8192, [31, 33]), (MAX_BLOCKS, [32, 255, 257])]:
             for length in lengths:
                 given = {**lent(blocks), "sections": length * [256]}
                 for name, call in {**FORMATTING, **OTHERS}.items():
                     self.refused(name, call, blocks, given, Number.MISSHAPEN)
 
     def test_stale_list(self) -> None:
-        for blocks in [8, 512, 8192]:
+        for blocks in [8, 512, MAX_BLOCKS]:
             for place in [0, -1]:
                 for change in [-1, 1]:
                     given = lent(blocks, blocks == 512)

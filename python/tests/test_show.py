@@ -13,6 +13,7 @@ from typing import List, Tuple
 
 import huwekapo
 from huwekapo import Heap, examples, show
+from huwekapo.record import RECORD
 
 from .records import allocate, clear, copy, write
 
@@ -164,7 +165,7 @@ class Commands(unittest.TestCase):
             path.write_bytes(PAPER)
             for at, words in [(0, "0 records"), (1, "1 record"), (2, "2 records"), (3, "3 records")]:
                 shown = self.start(path, "--at", at, *small)
-                self.assertEqual(shown, (f"behind {words}\n{show.text(behind(PAPER[: 8 * at]))}", ""))
+                self.assertEqual(shown, (f"behind {words}\n{show.text(behind(PAPER[: RECORD * at]))}", ""))
             self.assertEqual(self.start(path, *small), shown)
             self.assertEqual(self.start("-", *small, given=PAPER), shown)
             said = self.start(path, "--at", 4, *small, status=1)

@@ -206,7 +206,7 @@ class Refusals(unittest.TestCase):
             (True, 3, places(1, 2, last=0)),
             (False, 1, places(last=0)),
             (False, 0, places(1, last=0)),
-            (False, 0, places(last=65535)),
+            (False, 0, places(last=2**32 - 1)),
         ]:
             given = {**lent(8, is_open), "marks": [marks], "list": listed}
             for name in OTHERS:

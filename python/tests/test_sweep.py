@@ -60,7 +60,7 @@ class Case(unittest.TestCase):
 class Sweeps(Case):
     def test_rows(self) -> None:
         self.put_examples(2000)
-        swept = sweep(self.histories, self.table, [3, 1], [8192, 1024])
+        swept = sweep(self.histories, self.table, [3, 1], [4096, 1024])
         rows = self.rows()
         self.assertEqual((swept.kept, swept.run, swept.anew, swept.pruned, swept.failures), (0, 15 * 4, 0, 0, []))
         self.assertEqual(list(rows[0]), TABLE_COLUMNS)
@@ -86,7 +86,7 @@ class Sweeps(Case):
         tables = []
         for jobs in [1, 2, 3]:
             self.table = self.top / f"{jobs}.csv"
-            sweep(self.histories, self.table, [1, 2, 3, 4], [1024, 8192], jobs=jobs)
+            sweep(self.histories, self.table, [1, 2, 3, 4], [1024, 4096], jobs=jobs)
             tables.append(self.table.read_bytes())
         self.assertEqual(tables[1:], 2 * tables[:1])
         self.assertEqual(len(self.rows()), 15 * 8)
@@ -344,7 +344,7 @@ class Verified(Case):
     def setUp(self) -> None:
         super().setUp()
         self.put_examples(1500, [1])
-        sweep(self.histories, self.table, [2, 3], [1024, 8192])
+        sweep(self.histories, self.table, [2, 3], [1024, 4096])
 
     def command(self, *words: object, status: int = 0) -> str:
         command = [sys.executable, "-m", "huwekapo", "verify", str(self.table), str(self.histories), "--jobs", "1", *map(str, words)]
@@ -390,15 +390,15 @@ class Verified(Case):
 
     def test_command_finds_a_false_figure(self) -> None:
         whole = self.table.read_text()
-        run = huwekapo.run(self.histories / "trees/1.history", 8192, 3)
-        shape = "8192,3,64,,0,1500,"
+        run = huwekapo.run(self.histories / "trees/1.history", 4096, 3)
+        shape = "4096,3,64,,0,1500,"
         line = shape + ",".join(map(str, run.figures))
         self.assertEqual(whole.count(line), 1)
         false = shape + ",".join(map(str, run.figures._replace(peak=run.figures.peak - 1)))
         self.table.write_text(whole.replace(line, false))
         said = self.command(status=1).splitlines()
         what = f"peak is `{run.figures.peak - 1}` in the table, and `{run.figures.peak}` when it is run"
-        self.assertEqual(said[0], f"trees/1.history, 8192 blocks, width 3: {what}")
+        self.assertEqual(said[0], f"trees/1.history, 4096 blocks, width 3: {what}")
         self.assertIn("1 difference" if report_program() is None else "2 differences", said[-1])
 
     def test_missing_and_torn_rows(self) -> None:
@@ -480,8 +480,8 @@ class Killed(Case):
 
     def test_killed_and_resumed(self) -> None:
         self.put_examples(60_000)
-        words = ["--widths", "1-4", "--blocks", "1024,8192"]
-        sweep(self.histories, self.table, [1, 2, 3, 4], [1024, 8192])
+        words = ["--widths", "1-4", "--blocks", "1024,4096"]
+        sweep(self.histories, self.table, [1, 2, 3, 4], [1024, 4096])
         expected = self.table.read_bytes()
         for jobs in ["1", "2"]:
             with self.subTest(jobs=jobs):
@@ -519,9 +519,9 @@ class Killed(Case):
         first = self.start("--jobs", "1")
         self.wait_for(lambda: len(self.finished()) >= 2)
         with self.assertRaisesRegex(SweepError, "another sweep writes"):
-            sweep(self.histories, self.table, [1, 2, 3, 4], [8192])
+            sweep(self.histories, self.table, [1, 2, 3, 4], [4096])
         self.kill(first)
-        self.assertGreater(sweep(self.histories, self.table, [1, 2, 3, 4], [8192]).kept, 0)
+        self.assertGreater(sweep(self.histories, self.table, [1, 2, 3, 4], [4096]).kept, 0)
 
 
 def _kill_a_child(*_: int) -> None:

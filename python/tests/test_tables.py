@@ -50,7 +50,7 @@ class Widths(unittest.TestCase):
     def test_data_has_a_column_where_there_is_some(self) -> None:
         self.assertNotIn("data", text(widths(HISTORY, [16], [2, 3], 4)))
         # Data of 2 blocks in root 1, whose number names nothing, beside 4 blocks of objects; then it is let go.
-        pixels = HISTORY + allocate_data(2, 1) + write_number(65535, 7, 1)
+        pixels = HISTORY + allocate_data(2, 1) + write_number(2**32 - 1, 7, 1)
         shown = text(widths(pixels, [16], [3], 4)).splitlines()
         self.assertEqual([shown[0].split()[3:6], shown[1].split()[4:7]], [["stuck", "blocks", "of"], ["use", "moments", "data"]])
         self.assertEqual(list(map(int, shown[2].split())), [16, 3, 0, 7, 0, 2, 0, 1, 0])

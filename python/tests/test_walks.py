@@ -8,6 +8,7 @@ from typing import List, Optional, Tuple
 
 import huwekapo
 from huwekapo import Heap, Reason, Refused, holds, objects, read_reason, same_shape
+from huwekapo.library import MAX_BLOCKS
 from huwekapo.shapes import objects_of, parting
 from huwekapo.unreached import Unreached, stuck
 
@@ -122,15 +123,16 @@ class Reasons(unittest.TestCase):
 
     def test_the_longest(self) -> None:
         # A chain of as many objects as there are blocks.
-        heap = Heap(8192, 3, 2)
+        blocks = MAX_BLOCKS
+        heap = Heap(blocks, 3, 2)
         calls = [(2, 1, 0)]
-        for at in range(1, 8192):
+        for at in range(1, blocks):
             calls += [(2, 1, 1), (4, at, 3, at), (3, 0, 1 + at)]
         heap.replay([*calls, (3, 1, 0)])
         sentence = heap.reason(0)
-        self.assertEqual(sentence, "root 0" + 8191 * " cell 3" + " block 0\n")
-        self.assertEqual(len(read_reason(sentence).cells), 8191)
-        self.assertEqual(objects_of(heap.shape()), 8192)
+        self.assertEqual(sentence, "root 0" + (blocks - 1) * " cell 3" + " block 0\n")
+        self.assertEqual(len(read_reason(sentence).cells), blocks - 1)
+        self.assertEqual(objects_of(heap.shape()), blocks)
 
 
 class Holds(unittest.TestCase):
@@ -185,11 +187,11 @@ class Shapes(unittest.TestCase):
         heap.allocate(2, 1)
         heap.allocate_data(1, 3)
         heap.allocate(1, 0)
-        heap.write_number(2, 0, 65535)
+        heap.write_number(2, 0, 2**32 - 1)
         heap.store_cell(0, 7, 1)
         heap.store_cell(0, 6, 3)
         # Breadth first from root 0: what is at block 3, at 0, at 2.
-        self.assertEqual(heap.shape(), [4, 1, 2, 0, 3, 1, 0, 0, 0, 0, 0, 2, 0, 0, 0, 0, 0, 0, 0, 3, 2, 1, 1, 65535, 0, 0, 0])
+        self.assertEqual(heap.shape(), [4, 1, 2, 0, 3, 1, 0, 0, 0, 0, 0, 2, 0, 0, 0, 0, 0, 0, 0, 3, 2, 1, 1, 2**32 - 1, 0, 0, 0])
 
     def test_breadth_first(self) -> None:
         # Depth first, the object behind cell 0 of the first would be number 3.

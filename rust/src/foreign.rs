@@ -24,7 +24,7 @@ macro_rules! declared {
                 roots_length: usize,
                 waiting: *$lent Ref,
                 waiting_length: usize,
-                sections: *$lent u16,
+                sections: *$lent Ref,
                 sections_length: usize,
                 data: *$lent u8,
                 data_length: usize,
@@ -62,7 +62,7 @@ declared! {
     huwekapo_look(const, const, const, at: usize) -> Reply;
     huwekapo_free_blocks(const, const, const) -> Reply;
     huwekapo_allocate_data(mut, mut, mut, n: usize, r: usize) -> Reply;
-    huwekapo_write_number(mut, const, const, at: usize, j: usize, v: u16) -> Reply;
+    huwekapo_write_number(mut, const, const, at: usize, j: usize, v: Ref) -> Reply;
     huwekapo_read_number(const, const, const, at: usize, j: usize) -> Reply;
     huwekapo_open_collection(const, const, mut) -> Reply;
     huwekapo_step_collection(mut, const, mut, budget: usize) -> Reply;

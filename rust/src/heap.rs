@@ -2,10 +2,9 @@
 
 use crate::lent::{self, Reply, Shared, Unique};
 use crate::{Ref, Refusal, SoFar};
-
-/// The largest numbers of blocks and of roots.
-const MAX_BLOCKS: usize = 8192;
-const MAX_ROOTS: usize = 64;
+use crate::{
+    MAX_BLOCKS, MAX_ROOTS, MAX_SECTION, MAX_WIDTH, REPORT_BLOCKS, REPORT_ROOTS, REPORT_WIDTH,
+};
 
 /// The ten buffers of a heap, as [`lent`](crate::lent) has them. Two are equal where all but the waiting lists are: that
 /// list is working space.
@@ -24,7 +23,7 @@ pub struct Buffers {
     /// The waiting list.
     pub waiting: Vec<Ref>,
     /// The size of the largest free chunk of each section.
-    pub sections: Vec<u16>,
+    pub sections: Vec<Ref>,
     /// The D-map.
     pub data: Vec<u8>,
     /// The mark map.
@@ -114,7 +113,7 @@ pub struct Stepped {
 }
 
 impl Heap {
-    /// A formatted heap: blocks is a power of two from 8 to 8,192, the width 1 to 4, and there are 1 to 64
+    /// A formatted heap: blocks is a power of two from 8 to [`MAX_BLOCKS`], the width 1 to 4, and there are 1 to 64
     /// roots. Refusals: 1.
     pub fn new(blocks: usize, width: usize, roots: usize) -> Result<Heap, Refusal> {
         // Numbers that are too large are refused by the library; no buffers of that size are made for it.
@@ -123,11 +122,11 @@ impl Heap {
         let buffers = Buffers {
             a: vec![0; bytes],
             b: vec![0; bytes],
-            counts: vec![0; width.min(4) * bytes],
+            counts: vec![0; width.min(MAX_WIDTH) * bytes],
             cells: vec![0; 4 * most],
             roots: vec![0; roots.min(MAX_ROOTS + 1)],
             waiting: vec![0; most],
-            sections: vec![0; (most / 256).max(1)],
+            sections: vec![0; (most / MAX_SECTION).max(1)],
             data: vec![0; bytes],
             marks: vec![0; bytes],
             list: vec![0; most + 1],
@@ -135,6 +134,11 @@ impl Heap {
         let mut heap = Heap::from_buffers(blocks, width, buffers);
         heap.format()?;
         Ok(heap)
+    }
+
+    /// A formatted heap such as the program `report` has.
+    pub fn of_report() -> Heap {
+        Heap::new(REPORT_BLOCKS, REPORT_WIDTH, REPORT_ROOTS).expect("the program has a good shape")
     }
 
     /// A heap of given buffers, which may hold anything: every call tests them.
@@ -167,7 +171,7 @@ impl Heap {
     /// The size of the largest free chunk of each section, 0 where it has none: a section is 256 blocks, or all of them
     /// where there are fewer, and a chunk is s blocks starting at a multiple of s, s a power of two.
     #[must_use]
-    pub fn sections(&self) -> &[u16] {
+    pub fn sections(&self) -> &[Ref] {
         &self.buffers.sections
     }
 
@@ -271,14 +275,14 @@ impl Heap {
     }
 
     /// Writes v into cell j of the data at block `at`, and changes nothing else. Refusals: 1, 2, 11, 13, 6, 7, 12.
-    pub fn write_number(&mut self, at: usize, j: usize, v: u16) -> Result<(), Refusal> {
+    pub fn write_number(&mut self, at: usize, j: usize, v: Ref) -> Result<(), Refusal> {
         value(lent::write_number(self.unique(), at, j, v)).map(|_| ())
     }
 
     /// Reads cell j of the data at block `at`. Refusals: 1, 2, 11, 13, 6, 7, 12.
-    pub fn read_number(&self, at: usize, j: usize) -> Result<u16, Refusal> {
+    pub fn read_number(&self, at: usize, j: usize) -> Result<Ref, Refusal> {
         // The value is what a cell holds.
-        value(lent::read_number(self.shared(), at, j)).map(|number| number as u16)
+        value(lent::read_number(self.shared(), at, j)).map(|number| number as Ref)
     }
 
     /// Opens a collection in small steps: marks and lists every object that a root names, and changes nothing else.

@@ -15,12 +15,12 @@
 //!                                      rising, then 0s; the last place is 1 while a collection is open and else 0
 //! ```
 //!
-//! blocks is a power of two from 8 to 8,192; width, the count width, is 1 to 4 bits. Block i is bit i % 8 (bit 0 is
-//! the least) of byte i / 8 of a map. A chunk is s blocks starting at a multiple of s, s a power of two. A section is
-//! 256 blocks; below 256 blocks it is all of them, and `sections` is one number.
+//! A number is a [`Ref`], of 32 bits. blocks is a power of two from 8 to [`MAX_BLOCKS`](crate::MAX_BLOCKS); width, the count
+//! width, is 1 to 4 bits. Block i is bit i % 8 (bit 0 is the least) of byte i / 8 of a map. A chunk is s blocks starting at a
+//! multiple of s, s a power of two. A section is 256 blocks; below 256 blocks it is all of them, and `sections` is one number.
 //!
 //! Every call may be made with any arguments and any content of the buffers: what is wrong is refused by a number,
-//! and a refusal changes no buffer. Arguments are whole words, and nothing of them is cut off: a v of 65,537 is
+//! and a refusal changes no buffer. Arguments are whole words, and nothing of them is cut off: a v of 2^32 + 1 is
 //! refused 8. Only the number that is written into data is as wide as a cell: any such number is right. Format, both
 //! allocations, both stores, the return, collect, steps, replay and runs of records leave `waiting` all 0, and `sections` as
 //! it must be, when accepted; the opening of a collection writes `marks` and `list` and nothing else; the write of a number
@@ -124,7 +124,7 @@ pub struct Shared<'a> {
     /// The waiting list.
     pub waiting: &'a [Ref],
     /// The size of the largest free chunk of each section.
-    pub sections: &'a [u16],
+    pub sections: &'a [Ref],
     /// The D-map.
     pub data: &'a [u8],
     /// The mark map.
@@ -153,7 +153,7 @@ pub struct Unique<'a> {
     /// The waiting list.
     pub waiting: &'a mut [Ref],
     /// The size of the largest free chunk of each section.
-    pub sections: &'a mut [u16],
+    pub sections: &'a mut [Ref],
     /// The D-map.
     pub data: &'a mut [u8],
     /// The mark map.
@@ -298,7 +298,7 @@ pub fn allocate_data(heap: Unique, n: usize, r: usize) -> Reply {
 
 /// Writes v into cell j of the data at block `at`, and changes nothing else, `waiting` neither. The value is 0.
 /// Refusals: 1, 2, 11, 13, 6, 7, 12.
-pub fn write_number(heap: Unique, at: usize, j: usize, v: u16) -> Reply {
+pub fn write_number(heap: Unique, at: usize, j: usize, v: Ref) -> Reply {
     lend!(
         huwekapo_write_number,
         heap,
@@ -402,7 +402,7 @@ pub fn shape(heap: Shared, output: &mut [u32]) -> Reply {
 /// 7             free_blocks
 /// 8, chosen     return_roots
 /// 9, n, r       allocate_data
-/// 10, at, j, v  write_number, v at most 65,535
+/// 10, at, j, v  write_number, v such as a cell holds
 /// 11, at, j     read_number
 /// 12            open_collection
 /// 13, budget    step_collection
@@ -413,7 +413,7 @@ pub fn shape(heap: Shared, output: &mut [u32]) -> Reply {
 /// Refusals, which write nothing: 1, 10, 9, 18.
 ///
 /// - 10: the list ends inside a call
-/// - 9: an entry is no call: its code is above 13, or it writes a number above 65,535
+/// - 9: an entry is no call: its code is above 13, or it writes a number that no cell holds
 /// - 18: `replies` is too short for the replies of all calls
 pub fn replay(heap: Unique, calls: &[u64], replies: &mut [u64]) -> Reply {
     let (list, replies_at) = (calls.as_ptr(), replies.as_mut_ptr());
@@ -432,16 +432,9 @@ pub fn replay(heap: Unique, calls: &[u64], replies: &mut [u64]) -> Reply {
 
 /// Runs the records of a history, or of a piece of it, from where `run` stands. For a whole history that is a new run, on a
 /// formatted heap; in pieces, what the piece before it answered and left. A piece has any length, but only the last may end
-/// inside a record, since that stops the run. A record is eight bytes, c and the size with the low byte first:
+/// inside a record, since that stops the run. [`Record`](crate::Record) has the form of a record, and the operations:
 ///
 /// ```text
-/// byte 0        the operation
-/// byte 1        root d
-/// byte 2        root s
-/// byte 3        0
-/// bytes 4, 5    cell number c
-/// bytes 6, 7    size
-///
 /// 1             allocates the size into d; where no chunk is free the run collects and tries once more
 /// 2             copies root s to d
 /// 3             writes root s into cell c of the object in d
@@ -464,8 +457,8 @@ pub fn replay(heap: Unique, calls: &[u64], replies: &mut [u64]) -> Reply {
 ///
 /// Refusals, which change no buffer and answer a run of all 0: 1, 2, 11, 13, 19.
 ///
-/// - 19: the run has more than 4,294,967,295 records, more allocations than records, more blocks than 8,192 for each
-///   record, more objects that became stuck than records, or more collections than records (one more where its number is
+/// - 19: the run has more than 4,294,967,295 records, more allocations than records, more blocks than
+///   [`MAX_BLOCKS`](crate::MAX_BLOCKS) for each record, more objects that became stuck than records, or more collections than records (one more where its number is
 ///   not 0)
 pub fn run_records(heap: Unique, run: SoFar, bytes: &[u8]) -> Ran {
     lend!(

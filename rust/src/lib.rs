@@ -31,8 +31,8 @@
 //!
 //! // A pixel buffer: its cells hold any number, and no reference.
 //! let pixels = heap.allocate_data(3, 2)?.block;
-//! heap.write_number(pixels, 11, 65_535)?;
-//! assert_eq!(heap.read_number(pixels, 11), Ok(65_535));
+//! heap.write_number(pixels, 11, 4_294_967_295)?;
+//! assert_eq!(heap.read_number(pixels, 11), Ok(4_294_967_295));
 //! assert_eq!(heap.store_cell(pixels, 0, 0), Err(Refusal::WrongKind));
 //!
 //! // A collection in small steps. The object at block 0 is stuck, and no root names it any more.
@@ -61,17 +61,40 @@ mod heap;
 mod history;
 pub mod lent;
 mod reason;
+mod record;
 mod refusal;
 mod run;
 
 pub use heap::{Allocated, Buffers, Heap, Look, Stepped, Stored};
 pub use history::{SoFar, Stopped, Tally};
 pub use reason::{read_reason, Reason};
+pub use record::Record;
 pub use refusal::{Damage, Refusal};
 pub use run::{Run, RunError};
 
 /// A cell or root: 0, or 1 + the first block of an object. A cell of data holds any number.
-pub type Ref = u16;
+pub type Ref = u32;
+
+/// The largest heap, in blocks. What is beyond this or the next two is refused by the library.
+pub const MAX_BLOCKS: usize = 65_536;
+
+/// The widest count, in bits.
+pub const MAX_WIDTH: usize = 4;
+
+/// The most roots.
+pub const MAX_ROOTS: usize = 64;
+
+/// The blocks of a section; a smaller heap is one section.
+pub const MAX_SECTION: usize = 256;
+
+/// The blocks of the program `report`'s heap.
+pub const REPORT_BLOCKS: usize = 4096;
+
+/// The count width of the program `report`'s heap.
+pub const REPORT_WIDTH: usize = 3;
+
+/// The roots of the program `report`'s heap.
+pub const REPORT_ROOTS: usize = 64;
 
 /// The version of this crate, and of the library that it is for.
 pub const VERSION: &str = env!("CARGO_PKG_VERSION");

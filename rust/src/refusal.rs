@@ -164,7 +164,7 @@ impl fmt::Display for Refusal {
             Refusal::BadCell => "j is not below 4 times the object's size",
             Refusal::BadReference => "v is neither 0 nor 1 + a first block",
             Refusal::NoCall => {
-                "an entry is no call: its code is above 13, or it writes a number above 65,535"
+                "an entry is no call: its code is above 13, or it writes a number that no cell holds"
             }
             Refusal::CutOff => "the list ends inside a call",
             Refusal::StaleSections => {

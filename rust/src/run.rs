@@ -1,32 +1,33 @@
 //! A run of a recorded history on a heap, from anything that can be read.
 
-use crate::{Heap, Refusal, SoFar};
+use crate::{Heap, Record, Refusal, SoFar};
 use std::fmt;
 use std::io::{self, ErrorKind, Read};
 
 /// The bytes of a record.
-const RECORD: usize = 8;
+const RECORD: usize = Record::LENGTH;
 
-/// The bytes that are read before they are run: whole records, and so many that the check of the heap, which each piece
-/// begins with, hardly counts.
-const PIECE: usize = 1 << 20;
+/// The bytes that are read before they are run: whole records, a mebibyte at most, and so many that the check of the heap,
+/// which each piece begins with, hardly counts.
+const PIECE: usize = (1 << 20) / RECORD * RECORD;
 
 /// A run of a recorded history on a heap of any size, width and number of roots.
 ///
 /// ```
-/// use huwekapo::{Heap, Run};
+/// use huwekapo::{Heap, Record, Run};
 ///
-/// // Allocates 2, 1 and 3 blocks into roots 0, 1 and 2.
-/// let history = [
-///     [1, 0, 0, 0, 0, 0, 2, 0],
-///     [1, 1, 0, 0, 0, 0, 1, 0],
-///     [1, 2, 0, 0, 0, 0, 3, 0],
-/// ];
-/// let mut run = Run::new(Heap::new(8192, 3, 64)?);
-/// let so_far = run.read(history.as_flattened())?;
+/// let history: Vec<u8> = [
+///     Record::Allocate { size: 2, d: 0 },
+///     Record::Allocate { size: 1, d: 1 },
+///     Record::Allocate { size: 3, d: 2 },
+/// ]
+/// .into_iter()
+/// .collect();
+/// let mut run = Run::new(Heap::of_report());
+/// let so_far = run.read(&history[..])?;
 /// assert_eq!(so_far.to_string(), "3 6 3 0 6 0");
 /// assert_eq!(so_far.tally.blocks, 6);
-/// assert_eq!(run.heap().free_blocks()?, 8186);
+/// assert_eq!(run.heap().free_blocks()?, 4090);
 /// # Ok::<(), Box<dyn std::error::Error>>(())
 /// ```
 #[derive(Clone, Debug)]
@@ -79,7 +80,7 @@ impl Run {
         self.heap
     }
 
-    /// Runs a history to its end, or until the run stops, and answers where it stands. Pieces of a mebibyte are run, put
+    /// Runs a history to its end, or until the run stops, and answers where it stands. Pieces of about a mebibyte are run, put
     /// together from however few bytes a single read gives; a read that was interrupted is tried again. After any other
     /// failure to read the run can go on with the same reader, and no byte is lost. A heap or a run that is refused is
     /// refused before anything is read.

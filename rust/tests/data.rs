@@ -1,8 +1,8 @@
 //! Data: objects whose cells hold any number. 8 blocks, width 2 and 4 roots unless said.
 
 mod common;
-use common::{block, freed};
-use huwekapo::{Damage, Heap, Look, Refusal, Run};
+use common::{allocate, block, freed, read, write, Bytes};
+use huwekapo::{Damage, Heap, Look, Record, Ref, Refusal, Run};
 
 fn fresh() -> Heap {
     Heap::new(8, 2, 4).expect("a good shape")
@@ -27,7 +27,7 @@ fn with_rubbish(heap: Heap) -> Heap {
 /// "write and read one of its cells": one cell changes, and nothing else, the waiting list neither.
 #[test]
 fn numbers_are_written_and_read() {
-    for v in [0, 1, 3, 4, 9, 255, 65_535] {
+    for v in [0, 1, 3, 4, 9, 255, 65_535, 65_536, Ref::MAX] {
         for j in 0..8 {
             let mut heap = with_rubbish(pixels());
             assert_eq!(heap.write_number(0, j, v), Ok(()));
@@ -115,7 +115,7 @@ fn freed_data_leaves_nothing() {
     for free in frees {
         let mut heap = pixels();
         for j in 0..8 {
-            assert_eq!(heap.write_number(0, j, 65_535), Ok(()));
+            assert_eq!(heap.write_number(0, j, Ref::MAX), Ok(()));
         }
         assert_eq!(free(&mut heap), Ok(2));
         assert_eq!(heap.data(), [0]);
@@ -156,19 +156,15 @@ fn another_length_is_refused() {
 /// Operations 7 and 8. The figures count data as they count objects; a number counts in nothing.
 #[test]
 fn records() {
-    let allocate_data = |n, d| [7, d, 0, 0, 0, 0, n, 0];
-    let write_number = |v: u16, c, d| {
-        let [low, high] = v.to_le_bytes();
-        [8, d, 0, 0, c, 0, low, high]
+    let allocate_data = |size, d| Record::AllocateData { size, d }.bytes();
+    let write_number = |number, c, d| Record::WriteNumber { number, c, d }.bytes();
+    let with = |mut record: Bytes, at: usize| {
+        record[at] = 1;
+        record
     };
-    let (allocate, write, read) = (
-        |n, d| [1, d, 0, 0, 0, 0, n, 0],
-        |s, c, d| [3, d, s, 0, c, 0, 0, 0],
-        |c, s, d| [4, d, s, 0, c, 0, 0, 0],
-    );
     let start = [
         allocate_data(2, 0),
-        write_number(65_535, 7, 0),
+        write_number(Ref::MAX, 7, 0),
         allocate(1, 1),
     ];
     for (last, line) in [
@@ -185,16 +181,18 @@ fn records() {
         (allocate_data(0, 4), "refused 3 at record 3"),
         (allocate_data(1, 4), "refused 4 at record 3"),
         (allocate_data(8, 0), "refused 5 at record 3"),
-        ([8, 0, 1, 0, 0, 0, 0, 0], "refused 9 at record 3"),
-        ([8, 0, 0, 1, 0, 0, 0, 0], "refused 9 at record 3"),
-        ([7, 0, 1, 0, 0, 0, 1, 0], "refused 9 at record 3"),
-        ([7, 0, 0, 0, 1, 0, 1, 0], "refused 9 at record 3"),
+        (with(write_number(0, 0, 0), 2), "refused 9 at record 3"),
+        (with(write_number(0, 0, 0), 3), "refused 9 at record 3"),
+        (with(allocate_data(1, 0), 2), "refused 9 at record 3"),
+        (with(allocate_data(1, 0), 4), "refused 9 at record 3"),
+        (with(allocate_data(1, 0), 7), "refused 9 at record 3"),
+        (with(allocate_data(1, 0), 11), "refused 3 at record 3"),
     ] {
         let mut run = Run::new(fresh());
         let history = [start[0], start[1], start[2], last];
         let so_far = run.read(history.as_flattened()).expect("sound");
         assert_eq!(so_far.to_string(), line, "{last:?}");
-        assert_eq!(run.heap().read_number(0, 7), Ok(65_535));
+        assert_eq!(run.heap().read_number(0, 7), Ok(Ref::MAX));
         // 7 forces a collection as 1 does.
         assert_eq!(so_far.tally.collections, u64::from(so_far.number == 5));
     }

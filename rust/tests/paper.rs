@@ -113,7 +113,8 @@ fn p10_and_the_other_refusals() {
     assert_eq!(heap.look(usize::MAX), Err(Refusal::NoObject));
 }
 
-/// Values that no cell can hold, and of which 16 bits would make 1, 0 and 65,535. A refusal writes nothing.
+/// Values that no cell can hold, and of which 16 bits would make 1, and 32 bits 1, 0 and the largest number. A refusal writes
+/// nothing.
 #[test]
 fn values_are_whole_words() {
     let mut heap = fresh(2);
@@ -121,7 +122,7 @@ fn values_are_whole_words() {
     let mut buffers = heap.into_buffers();
     buffers.waiting.fill(99);
     let mut heap = Heap::from_buffers(8, 2, buffers.clone());
-    for v in [65_537, 1 << 32, usize::MAX] {
+    for v in [65_537, (1 << 32) + 1, 1 << 32, usize::MAX] {
         for r in 0..4 {
             assert_eq!(heap.store_root(r, v), Err(Refusal::BadReference));
         }
@@ -153,11 +154,14 @@ fn p11() {
 
 #[test]
 fn shapes() {
-    assert!(Heap::new(8192, 4, 64).is_ok());
+    for blocks in [8, 4096, 8192, 16_384, 32_768, 65_536] {
+        assert!(Heap::new(blocks, 4, 64).is_ok());
+    }
     for (blocks, width, roots) in [
         (4, 2, 4),
         (12, 2, 4),
-        (16_384, 2, 4),
+        (65_535, 2, 4),
+        (131_072, 2, 4),
         (usize::MAX, 2, 4),
         (8, 0, 4),
         (8, 5, 4),

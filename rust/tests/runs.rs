@@ -1,43 +1,14 @@
 //! Runs of recorded histories.
 
 mod common;
-use common::{lend, lists};
+use common::{allocate, clear, collect, copy, lend, lists, read, write, Bytes};
 use huwekapo::lent::{self, Ran, Reply};
-use huwekapo::{Buffers, Damage, Heap, Refusal, Run, RunError, SoFar, Stopped, Tally};
+use huwekapo::{Buffers, Damage, Heap, Record, Refusal, Run, RunError, SoFar, Stopped, Tally};
+use huwekapo::{MAX_BLOCKS, REPORT_BLOCKS};
 use std::io::{self, ErrorKind, Read};
 
 /// "10 for a file .. going on past 4,294,967,295 records"
 const MOST_RECORDS: usize = 4_294_967_295;
-
-fn allocate(size: u16, d: u8) -> [u8; 8] {
-    let [low, high] = size.to_le_bytes();
-    [1, d, 0, 0, 0, 0, low, high]
-}
-
-fn copy(s: u8, d: u8) -> [u8; 8] {
-    [2, d, s, 0, 0, 0, 0, 0]
-}
-
-fn write(s: u8, c: u16, d: u8) -> [u8; 8] {
-    let [low, high] = c.to_le_bytes();
-    [3, d, s, 0, low, high, 0, 0]
-}
-
-fn read(c: u16, s: u8, d: u8) -> [u8; 8] {
-    let [low, high] = c.to_le_bytes();
-    [4, d, s, 0, low, high, 0, 0]
-}
-
-fn clear(d: u8) -> [u8; 8] {
-    [5, d, 0, 0, 0, 0, 0, 0]
-}
-
-const COLLECT: [u8; 8] = [6, 0, 0, 0, 0, 0, 0, 0];
-
-/// The heap of the program `report`.
-fn report_heap() -> Heap {
-    Heap::new(8192, 3, 64).expect("a good shape")
-}
 
 /// 8 blocks, width 2, 4 roots.
 fn small_heap() -> Heap {
@@ -75,7 +46,7 @@ fn run_on(heap: Heap, history: &[u8]) -> (SoFar, Heap) {
 
 /// The line of a history on the program's heap.
 fn line(history: &[u8]) -> String {
-    run_on(report_heap(), history).0.to_string()
+    run_on(Heap::of_report(), history).0.to_string()
 }
 
 /// Random records for 8 roots, with no collection in them.
@@ -91,7 +62,7 @@ fn random_history(seed: u64, records: usize) -> Vec<u8> {
     for _ in 0..records {
         let (d, s) = (next(8) as u8, next(8) as u8);
         history.extend(match next(8) {
-            0..=2 => allocate(1 + next(8) as u16, d),
+            0..=2 => allocate(1 + next(8) as u32, d),
             3..=5 => copy(s, d),
             _ => clear(d),
         });
@@ -139,11 +110,11 @@ impl Read for Failing<'_> {
 #[test]
 fn the_example() {
     let history = [allocate(2, 0), allocate(1, 1), allocate(3, 2)];
-    let (so_far, heap) = run_on(report_heap(), history.as_flattened());
+    let (so_far, heap) = run_on(Heap::of_report(), history.as_flattened());
     assert_eq!(so_far, self::so_far(0, 3, [3, 6, 3, 0, 6, 0]));
     assert_eq!(so_far.to_string(), "3 6 3 0 6 0");
     assert_eq!(so_far.outcome(), Ok(tally([3, 6, 3, 0, 6, 0])));
-    assert_eq!(heap.free_blocks(), Ok(8186));
+    assert_eq!(heap.free_blocks(), Ok(REPORT_BLOCKS - 6));
     assert_eq!(line(&[]), "0 0 0 0 0 0");
 }
 
@@ -179,7 +150,7 @@ fn every_operation() {
         clear(2),
         clear(3),
         clear(0),
-        COLLECT,
+        collect(),
     ];
     let (run, heap) = run_on(small_heap(), history.as_flattened());
     assert_eq!(run, so_far(0, 10, [2, 3, 2, 1, 3, 1]));
@@ -189,26 +160,41 @@ fn every_operation() {
 /// Each number that stops a run, with the record, and what it says.
 #[test]
 fn stops() {
-    let unknown = [9, 0, 0, 0, 0, 0, 0, 0];
-    let unused = [5, 0, 0, 1, 0, 0, 0, 0];
+    const BLOCKS: u32 = REPORT_BLOCKS as u32;
+    let of = |operation, at: usize| -> Bytes {
+        let mut bytes = [0; Record::LENGTH];
+        bytes[0] = operation;
+        bytes[at] = 1;
+        bytes
+    };
     for (number, record) in [
         (3, allocate(0, 9)),
-        (3, allocate(8193, 64)),
-        (4, allocate(8192, 64)),
+        (3, allocate(BLOCKS + 1, 64)),
+        (3, allocate(BLOCKS + 65_536, 64)),
+        (3, allocate(u32::MAX, 64)),
+        (4, allocate(BLOCKS, 64)),
         (4, copy(64, 0)),
         (6, write(0, 0, 1)),
         (6, read(0, 1, 0)),
         (7, write(0, 4, 0)),
+        (7, write(0, 65_536, 0)),
         (7, read(4, 0, 1)),
-        (9, unknown),
-        (9, unused),
+        (7, read(u32::MAX, 0, 1)),
+        (9, of(9, 1)),
+        (9, of(0, 1)),
+        (9, of(5, 3)),
+        (9, of(5, 4)),
+        (9, of(5, 7)),
+        (9, of(5, 11)),
+        (9, of(3, 8)),
+        (9, of(1, 7)),
     ] {
-        let history = [allocate(1, 0), record, COLLECT];
-        let (run, heap) = run_on(report_heap(), history.as_flattened());
+        let history = [allocate(1, 0), record, collect()];
+        let (run, heap) = run_on(Heap::of_report(), history.as_flattened());
         assert_eq!(run, so_far(number, 1, [1, 1, 1, 0, 1, 0]));
         assert_eq!(run.to_string(), format!("refused {number} at record 1"));
         assert_eq!(run.outcome(), Err(Stopped { number, record: 1 }));
-        assert_eq!(heap.free_blocks(), Ok(8191));
+        assert_eq!(heap.free_blocks(), Ok(REPORT_BLOCKS - 1));
     }
     assert_eq!(
         Stopped {
@@ -223,9 +209,9 @@ fn stops() {
 /// "10 for a file ending inside a record .. met after the whole records", also where the tail would be 9.
 #[test]
 fn a_history_that_is_cut_off() {
-    for length in 1..8 {
-        let mut history = [allocate(2, 0), allocate(1, 1), [9; 8]].as_flattened()[..16].to_vec();
-        history.extend(&[9; 8][..length]);
+    for length in 1..Record::LENGTH {
+        let mut history = [allocate(2, 0), allocate(1, 1)].as_flattened().to_vec();
+        history.extend(&[9; Record::LENGTH][..length]);
         assert_eq!(line(&history), "refused 10 at record 2");
     }
 }
@@ -275,7 +261,7 @@ fn with_a_collection_open() {
     let open = heap.clone();
     assert!(open.is_open());
 
-    let stopped = heap.run_records(run, &COLLECT);
+    let stopped = heap.run_records(run, &collect());
     assert_eq!(stopped, Ok(so_far(14, 5, [1, 5, 5, 0, 5, 1])));
     assert_eq!(
         stopped.expect("accepted").to_string(),
@@ -289,7 +275,7 @@ fn with_a_collection_open() {
     // Closed, both are run.
     let closed = heap.step_collection(9).expect("open");
     assert_eq!((closed.steps, closed.freed), (1, 0));
-    let history = [COLLECT, clear(0), clear(2), allocate(8, 1)];
+    let history = [collect(), clear(0), clear(2), allocate(8, 1)];
     let run = heap.run_records(run, history.as_flattened());
     assert_eq!(run, Ok(so_far(0, 9, [2, 13, 8, 2, 8, 1])));
 }
@@ -305,7 +291,7 @@ fn pieces_are_the_whole() {
         stopped += u64::from(whole.0.number != 0);
         collections += whole.0.tally.collections;
 
-        for cut in (0..=history.len()).step_by(8) {
+        for cut in (0..=history.len()).step_by(Record::LENGTH) {
             let (first, rest) = history.split_at(cut);
             let mut heap = heap.clone();
             let run = heap.run_records(SoFar::default(), first).expect("sound");
@@ -313,7 +299,7 @@ fn pieces_are_the_whole() {
             assert_eq!((run, heap), whole);
         }
         // Pieces that are cut anywhere are put together.
-        for length in [1, 3, 7, 8, 9, 100, 65_535] {
+        for length in [1, 3, 8, 11, 12, 13, 100, 65_535] {
             let mut run = Run::new(heap.clone());
             for piece in history.chunks(length) {
                 run.feed(piece).expect("sound");
@@ -335,7 +321,7 @@ fn pieces_of_a_history_that_is_cut_off() {
     let mut history = [allocate(2, 0), allocate(1, 1)].as_flattened().to_vec();
     history.extend([9; 5]);
     for length in 1..=history.len() {
-        let mut run = Run::new(report_heap());
+        let mut run = Run::new(Heap::of_report());
         for piece in history.chunks(length) {
             run.feed(piece).expect("sound");
         }
@@ -347,7 +333,7 @@ fn pieces_of_a_history_that_is_cut_off() {
 
 #[test]
 fn short_and_interrupted_reads() {
-    // 2,000,000 bytes, which is more than one piece.
+    // 3,000,000 bytes, which is more than two pieces.
     let mut history = Vec::new();
     for _ in 0..125_000 {
         history.extend(allocate(3, 0));
@@ -372,7 +358,7 @@ fn a_failed_read() {
     let history = [allocate(2, 0), allocate(1, 1), allocate(3, 2)];
     let history = history.as_flattened();
     for bytes in 0..=history.len() {
-        let mut run = Run::new(report_heap());
+        let mut run = Run::new(Heap::of_report());
         let mut reader = Failing {
             bytes: history,
             left: Some(bytes),
@@ -381,7 +367,7 @@ fn a_failed_read() {
             Err(RunError::Read(error)) => assert_eq!(error.kind(), ErrorKind::ConnectionReset),
             other => panic!("{other:?}"),
         }
-        assert_eq!(run.so_far().records, bytes / 8);
+        assert_eq!(run.so_far().records, bytes / Record::LENGTH);
         let end = run.read(&mut reader).expect("it fails once");
         assert_eq!(end.to_string(), "3 6 3 0 6 0");
     }
@@ -420,9 +406,9 @@ fn the_limit() {
     let two = two.as_flattened();
     for (start, bytes, end) in [
         (near, &one[..], last),
-        (near, &two[..9], past),
+        (near, &two[..13], past),
         (near, two, past),
-        (near, &one[..7], SoFar { number: 10, ..near }),
+        (near, &one[..11], SoFar { number: 10, ..near }),
         (last, &[], last),
         (last, &[0], past),
         (last, &one[..], past),
@@ -493,14 +479,15 @@ fn refusals() {
 #[test]
 fn runs_out_of_range() {
     const RECORDS: u64 = MOST_RECORDS as u64;
+    const MOST: u64 = MAX_BLOCKS as u64;
     let run_of = |run: SoFar| small_heap().run_records(run, &[]);
     for run in [
         so_far(0, 0, [0; 6]),
-        so_far(0, 1, [1, 8192, u64::MAX, 1, u64::MAX, 0]),
-        so_far(5, 1, [1, 8192, 8192, 2, 8192, 0]),
+        so_far(0, 1, [1, MOST, u64::MAX, 1, u64::MAX, 0]),
+        so_far(5, 1, [1, MOST, MOST, 2, MOST, 0]),
         so_far(77, 0, [0, 0, 0, 1, 0, 0]),
         so_far(0, 1, [0, 0, 0, 0, 0, 1]),
-        so_far(0, MOST_RECORDS, [RECORDS, 8192 * RECORDS, 0, RECORDS, 0, 0]),
+        so_far(0, MOST_RECORDS, [RECORDS, MOST * RECORDS, 0, RECORDS, 0, 0]),
         so_far(10, MOST_RECORDS, [0, 0, 0, RECORDS + 1, 0, 0]),
     ] {
         assert_eq!(run_of(run), Ok(run));
@@ -513,7 +500,7 @@ fn runs_out_of_range() {
         so_far(0, 1, [2, 0, 0, 0, 0, 0]),
         so_far(5, 1, [2, 0, 0, 0, 0, 0]),
         so_far(0, 0, [0, 1, 0, 0, 0, 0]),
-        so_far(0, 1, [1, 8193, 0, 0, 0, 0]),
+        so_far(0, 1, [1, MOST + 1, 0, 0, 0, 0]),
         so_far(0, 1, [0, 0, 0, 2, 0, 0]),
         so_far(5, 1, [0, 0, 0, 3, 0, 0]),
         so_far(0, 1, [0, 0, 0, 0, 0, 2]),

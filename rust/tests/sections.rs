@@ -2,15 +2,16 @@
 //! is not.
 
 mod common;
+use common::{allocate, clear, write};
 use common::{block, call, is_out_of_turn, lent_to_calls, refusal, refused, FORMATTING, OTHERS};
-use huwekapo::{Heap, Refusal, SoFar};
+use huwekapo::{Heap, Ref, Refusal, SoFar, MAX_BLOCKS};
 
 fn fresh(blocks: usize) -> Heap {
     Heap::new(blocks, 2, 4).expect("a good shape")
 }
 
 /// The size of the largest chunk of a section of the A-map that is free: each power of two, at each of its multiples.
-fn figure(a: &[u8], section: std::ops::Range<usize>) -> u16 {
+fn figure(a: &[u8], section: std::ops::Range<usize>) -> Ref {
     let is_free = |block: usize| a[block / 8] >> (block % 8) & 1 == 0;
     let mut largest = 0;
     let mut size = 1;
@@ -21,10 +22,10 @@ fn figure(a: &[u8], section: std::ops::Range<usize>) -> u16 {
         }
         size *= 2;
     }
-    largest as u16
+    largest as Ref
 }
 
-fn figures(heap: &Heap) -> Vec<u16> {
+fn figures(heap: &Heap) -> Vec<Ref> {
     let size = heap.blocks().min(256);
     let starts = (0..heap.blocks()).step_by(size);
     starts
@@ -34,7 +35,7 @@ fn figures(heap: &Heap) -> Vec<u16> {
 
 #[test]
 fn the_calls_are_accepted() {
-    for blocks in [8, 256, 512, 8192] {
+    for blocks in [8, 256, 512, 8192, MAX_BLOCKS] {
         for open in [false, true] {
             for name in FORMATTING.iter().chain(&OTHERS) {
                 let mut buffers = lent_to_calls(blocks, open);
@@ -54,6 +55,7 @@ fn formatted() {
     assert_eq!(fresh(256).sections(), [256]);
     assert_eq!(fresh(512).sections(), [256, 256]);
     assert_eq!(fresh(8192).sections(), [256; 32]);
+    assert_eq!(fresh(MAX_BLOCKS).sections(), [256; 256]);
 }
 
 #[test]
@@ -64,6 +66,7 @@ fn a_wrong_length() {
         (256, &[0, 2]),
         (512, &[0, 1, 3, 512]),
         (8192, &[0, 31, 33]),
+        (MAX_BLOCKS, &[0, 32, 255, 257]),
     ] {
         for length in lengths {
             let mut buffers = lent_to_calls(blocks, false);
@@ -78,15 +81,15 @@ fn a_wrong_length() {
 /// One number that is one too large or one too small, or far off, in the first section or the last.
 #[test]
 fn a_stale_list() {
-    for (blocks, open) in [8, 256, 512, 8192]
+    for (blocks, open) in [8, 256, 512, 8192, MAX_BLOCKS]
         .into_iter()
-        .zip([false, true, true, false])
+        .zip([false, true, true, false, true])
     {
         let good = lent_to_calls(blocks, open);
         let last = good.sections.len() - 1;
         for place in [0, last] {
             let right = good.sections[place];
-            for wrong in [right - 1, right + 1, 0, u16::MAX] {
+            for wrong in [right - 1, right + 1, 0, 65_535, Ref::MAX] {
                 let mut buffers = good.clone();
                 buffers.sections[place] = wrong;
                 for name in OTHERS {
@@ -151,7 +154,10 @@ fn where_an_allocation_goes() {
 #[test]
 fn true_after_every_call() {
     let (mut full, mut refused, mut freed) = (0, 0, 0);
-    for (seed, blocks) in [8, 16, 128, 256, 512, 2048, 8192].into_iter().enumerate() {
+    for (seed, blocks) in [8, 16, 128, 256, 512, 2048, 8192, MAX_BLOCKS]
+        .into_iter()
+        .enumerate()
+    {
         let mut state = seed as u64;
         let mut next = |below: usize| {
             state = state
@@ -167,14 +173,14 @@ fn true_after_every_call() {
             let done = match next(8) {
                 0..=3 => heap.allocate(size, next(16)).map(|_| 0),
                 4 => heap
-                    .store_root(next(16), heap.roots()[next(16)].into())
+                    .store_root(next(16), heap.roots()[next(16)] as usize)
                     .map(|done| done.freed),
                 5 => heap.return_roots(1 << next(16) | 1 << next(16)),
                 6 => heap.store_root(next(16), 0).map(|done| done.freed),
                 _ => match heap.roots()[next(16)] {
                     0 => heap.collect(),
                     owner => heap
-                        .store_cell(usize::from(owner) - 1, 0, heap.roots()[next(16)].into())
+                        .store_cell(owner as usize - 1, 0, heap.roots()[next(16)] as usize)
                         .map(|done| done.freed),
                 },
             };
@@ -199,17 +205,11 @@ fn true_after_every_call() {
 /// The same behind runs of records, in which a forced collection frees.
 #[test]
 fn true_after_a_run() {
-    let allocate = |size: u16, d: u8| {
-        let [low, high] = size.to_le_bytes();
-        [1, d, 0, 0, 0, 0, low, high]
-    };
-    let keep_itself = [3, 0, 0, 0, 0, 0, 0, 0];
-    let clear = [5, 0, 0, 0, 0, 0, 0, 0];
     // Garbage that names itself, two objects in the other half, and one that needs the garbage's place.
     let history = [
         allocate(256, 0),
-        keep_itself,
-        clear,
+        write(0, 0, 0),
+        clear(0),
         allocate(3, 1),
         allocate(100, 2),
         allocate(200, 3),

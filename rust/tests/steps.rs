@@ -4,12 +4,12 @@ mod common;
 use common::{
     block, call, freed, is_out_of_turn, lent_to_calls, refusal, refused, FORMATTING, OTHERS,
 };
-use huwekapo::{Buffers, Heap, Look, Refusal, Stepped};
+use huwekapo::{Buffers, Heap, Look, Ref, Refusal, Stepped};
 
 /// The mark map, and the list up to its first 0.
-fn progress(heap: &Heap) -> (u8, Vec<u16>) {
+fn progress(heap: &Heap) -> (u8, Vec<Ref>) {
     let (places, last) = heap.list().split_at(heap.blocks());
-    assert_eq!(last, [u16::from(heap.is_open())]);
+    assert_eq!(last, [Ref::from(heap.is_open())]);
     let listed = places.iter().take_while(|place| **place != 0).count();
     assert!(places[listed..].iter().all(|place| *place == 0));
     (heap.marks()[0], places[..listed].to_vec())
@@ -257,7 +257,7 @@ fn untidy() {
         // Not "1 + first blocks": that of a free block, and past the end.
         (true, |heap| heap.list[2] = 4),
         (true, |heap| heap.list[2] = 9),
-        (true, |heap| heap.list[2] = u16::MAX),
+        (true, |heap| heap.list[2] = Ref::MAX),
         // "or holds an unmarked object"
         (true, |heap| heap.list[2] = 3),
         // "a mark isn't on a first block"
@@ -277,7 +277,7 @@ fn untidy() {
         (false, |heap| heap.marks[0] = 1),
         (false, |heap| heap.list[0] = 1),
         (false, |heap| heap.list[7] = 1),
-        (false, |heap| heap.list[8] = u16::MAX),
+        (false, |heap| heap.list[8] = Ref::MAX),
     ];
     for (i, (open, change)) in wrong.into_iter().enumerate() {
         let mut buffers = lent_to_calls(8, open);
@@ -381,8 +381,8 @@ fn among_other_calls() {
                 open = Some((0, objects(&heap).len(), Some(objects(&at_once))));
                 heap.open_collection().expect("none open");
             } else if open.is_none() || next(8) == 0 {
-                let (root, value) = (next(8), usize::from(heap.roots()[next(8)]));
-                let owner = usize::from(heap.roots()[root]);
+                let (root, value) = (next(8), heap.roots()[next(8)] as usize);
+                let owner = heap.roots()[root] as usize;
                 let done = match next(8) {
                     0..=3 => heap.allocate(1 + next(3), root).map(|_| ()),
                     4 => heap.allocate_data(1 + next(3), root).map(|_| ()),

@@ -2,7 +2,34 @@
 #![allow(dead_code)]
 
 use huwekapo::lent::{self, Reply, Shared, Unique};
-use huwekapo::{Allocated, Buffers, Heap, SoFar, Stored};
+use huwekapo::{Allocated, Buffers, Heap, Record, Ref, SoFar, Stored};
+
+/// The bytes of a record.
+pub type Bytes = [u8; Record::LENGTH];
+
+pub fn allocate(size: u32, d: u8) -> Bytes {
+    Record::Allocate { size, d }.bytes()
+}
+
+pub fn copy(s: u8, d: u8) -> Bytes {
+    Record::Copy { s, d }.bytes()
+}
+
+pub fn write(s: u8, c: u32, d: u8) -> Bytes {
+    Record::Write { s, c, d }.bytes()
+}
+
+pub fn read(c: u32, s: u8, d: u8) -> Bytes {
+    Record::Read { c, s, d }.bytes()
+}
+
+pub fn clear(d: u8) -> Bytes {
+    Record::Clear { d }.bytes()
+}
+
+pub fn collect() -> Bytes {
+    Record::Collect.bytes()
+}
 
 pub fn block(made: Allocated) -> usize {
     made.block
@@ -116,11 +143,11 @@ fn writing_call(name: &str, heap: Unique) -> Reply {
         "return_roots" => lent::return_roots(heap, 1),
         "collect" => lent::collect(heap),
         "allocate_data" => lent::allocate_data(heap, 1, 1),
-        "write_number" => lent::write_number(heap, 1, 3, 65_535),
+        "write_number" => lent::write_number(heap, 1, 3, Ref::MAX),
         "open_collection" => lent::open_collection(heap),
         "step_collection" => lent::step_collection(heap, 1),
         "run_records" => {
-            let ran = lent::run_records(heap, SoFar::default(), &[6, 0, 0, 0, 0, 0, 0, 0]);
+            let ran = lent::run_records(heap, SoFar::default(), &collect());
             assert!(ran.reply.number == 0 || ran.run == SoFar::default());
             ran.reply
         }
