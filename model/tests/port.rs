@@ -2,6 +2,7 @@
 //! same work.
 
 use model::history::figures::Figures;
+use model::history::record::{bytes, short as record, RECORD};
 use model::history::report;
 use model::history::run::run_records;
 use model::history::vectors::all_but_the_longest;
@@ -183,15 +184,15 @@ fn port_is_the_model_on_histories() {
 /// in.
 #[test]
 fn port_hands_runs_in_and_out() {
-    let history = [1, 0, 0, 0, 0, 0, 2, 0, 1, 0, 0, 0, 0, 0, 9, 0];
+    let history = bytes(&[record::allocate(2, 0), record::allocate(9, 0)]);
     let mut memory = Memory::zeros(8, 2, 4);
     memory.b.fill(255);
     memory.sections.fill(8);
     let mut lent = lend(&mut memory);
     let mut run = |so_far, bytes: &[u8]| port::run_records(8, 2, &mut lent, so_far, bytes);
-    let first = run(SoFar::default(), &history[..8]).expect("accepted");
+    let first = run(SoFar::default(), &history[..RECORD]).expect("accepted");
     assert_eq!(first.to_string(), "1 2 2 0 2 0\n");
-    let stopped = run(first, &history[8..]).expect("accepted");
+    let stopped = run(first, &history[RECORD..]).expect("accepted");
     assert_eq!(stopped.to_string(), "refused 3 at record 1\n");
     assert_eq!(run(stopped, &history), Ok(stopped));
     let wrong = SoFar {

@@ -106,6 +106,21 @@ class Calls(unittest.TestCase):
         narrow.allocate_data(1, 0)
         self.assertTrue(narrow.became_stuck)
 
+    def test_large_heaps(self) -> None:
+        for blocks in [16384, 32768, 65536]:
+            heap = Heap(blocks, 2, 4)
+            self.assertEqual((heap.allocate(blocks // 2, 0), heap.allocate_data(blocks // 2, 1)), (0, blocks // 2))
+            # The largest cells, and the largest number.
+            self.assertEqual(heap.store_cell(0, 2 * blocks - 1, 1 + blocks // 2), 0)
+            heap.write_number(blocks // 2, 2 * blocks - 1, 2**32 - 1)
+            self.assertEqual((heap.cells[2 * blocks - 1], heap.cells[4 * blocks - 1]), (1 + blocks // 2, 2**32 - 1))
+            for v in [1 + blocks, 1 + blocks // 2 + 65536, 2**32 + 1]:
+                with self.refused(8, 0, "BAD_REFERENCE"):
+                    heap.store_root(2, v)
+            self.assertEqual((heap.store_root(1, 0), heap.collect(), heap.look(blocks // 2)), (0, 0, Look(blocks // 2, 1)))
+            self.assertEqual((heap.reason(blocks // 2), len(heap.shape())), (f"root 0 cell {2 * blocks - 1} block {blocks // 2}\n", 9 + 4 * blocks))
+            self.assertEqual((heap.store_root(0, 0), heap.sections.tolist()), (blocks, blocks // 256 * [256]))
+
     def test_became_stuck(self) -> None:
         heap = Heap(8, 2, 4)
         told = []
@@ -143,7 +158,7 @@ class Calls(unittest.TestCase):
             heap.replay([(2, 2, 0, 0, 0)])
 
     def test_refusals(self) -> None:
-        for shape in [(4, 2, 4), (12, 2, 4), (16384, 2, 4), (8, 0, 4), (8, 5, 4), (8, 2, 0), (8, 2, 65), (2**64 - 1, 2, 4)]:
+        for shape in [(4, 2, 4), (12, 2, 4), (24576, 2, 4), (131072, 2, 4), (8, 0, 4), (8, 5, 4), (8, 2, 0), (8, 2, 65), (2**64 - 1, 2, 4)]:
             with self.subTest(shape=shape), self.refused(1, 0, "MISSHAPEN"):
                 Heap(*shape)
         heap = Heap(8, 2, 4)

@@ -117,6 +117,17 @@ class Widening(unittest.TestCase):
             self.assertEqual((done.stdout == widened(old), done.stderr), (True, b""), len(old))
 
 
+    @unittest.skipUnless(os.environ.get("HUWEKAPO_MODEL"), "HUWEKAPO_MODEL does not name the model")
+    def test_against_the_model(self) -> None:
+        # "the widened one must print the line the old form gives on a heap of that size": the model reads the old form itself.
+        model = os.environ["HUWEKAPO_MODEL"]
+        for old in [at_random(seed) for seed in range(30)] + list(given().values()):
+            made = subprocess.run([model, "history", "widen"], input=old, capture_output=True, check=True).stdout
+            self.assertEqual(made, widened(old))
+            line = subprocess.run([model, "history", "old"], input=old, capture_output=True, check=True).stdout.decode()
+            self.assertEqual(line, huwekapo.run(widened(old), may_stop=True).line())
+
+
 class Unwidened(unittest.TestCase):
     """An old history that is run as it is."""
 

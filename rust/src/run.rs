@@ -16,13 +16,11 @@ const PIECE: usize = (1 << 20) / RECORD * RECORD;
 /// ```
 /// use huwekapo::{Heap, Record, Run};
 ///
-/// let history: Vec<u8> = [
+/// let history = Record::history([
 ///     Record::Allocate { size: 2, d: 0 },
 ///     Record::Allocate { size: 1, d: 1 },
 ///     Record::Allocate { size: 3, d: 2 },
-/// ]
-/// .into_iter()
-/// .collect();
+/// ]);
 /// let mut run = Run::new(Heap::of_report());
 /// let so_far = run.read(&history[..])?;
 /// assert_eq!(so_far.to_string(), "3 6 3 0 6 0");

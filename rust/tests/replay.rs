@@ -99,7 +99,7 @@ fn a_return_in_a_list() {
 /// A value that no cell can hold is refused 8, and the list goes on.
 #[test]
 fn a_wide_value_in_a_list() {
-    for v in [65_536, 65_537, 1 << 32, 1 << 40, u64::MAX] {
+    for v in [65_536, 65_537, 1 << 32, (1 << 32) + 1, 1 << 40, u64::MAX] {
         let mut calls = vec![3, 0, v, 0];
         calls.extend(P1);
         calls.extend([3, 0, v, 0, 4, 0, 7, v, 6, 0, 0, 0]);
@@ -126,7 +126,7 @@ fn a_wide_value_in_a_list() {
 fn numbers_in_a_list() {
     let calls = [
         [9, 2, 0, 9],
-        [10, 0, 7, 65_535],
+        [10, 0, 7, u64::from(u32::MAX)],
         [11, 0, 7, u64::MAX],
         [2, 1, 1, 0],
         [10, 2, 0, 0],
@@ -137,7 +137,8 @@ fn numbers_in_a_list() {
     let mut replies = [7; 21];
     let accepted = replay(lend(8, 2, &mut buffers), calls.as_flattened(), &mut replies);
     assert_eq!(accepted, reply(0, 7));
-    assert_eq!(replies[..9], [0, 0, 0, 0, 0, 0, 0, 65_535, 0]);
+    assert_eq!(replies[..7], [0; 7]);
+    assert_eq!(replies[7..9], [u64::from(u32::MAX), 0]);
     assert_eq!(replies[9..], [0, 2, 0, 12, 0, 0, 12, 0, 0, 0, 2, 0]);
     assert_eq!(buffers.data, [0]);
     assert_eq!(buffers.cells, [0; 32]);
@@ -146,7 +147,7 @@ fn numbers_in_a_list() {
 /// A number that no cell can hold is no call: the list is refused 9, also where there is no room for the replies.
 #[test]
 fn a_wide_number_in_a_list() {
-    for v in [65_536, 65_537, 1 << 32, u64::MAX] {
+    for v in [1 << 32, (1 << 32) + 1, u64::MAX] {
         let calls = [[9, 1, 0, 0], [10, 0, 0, v]];
         for room in [0, 5, 6] {
             assert_eq!(refusal(8, calls.as_flattened(), room), 9);
