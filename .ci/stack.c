@@ -182,10 +182,9 @@ static size_t measure(void (*call)(void)) {
 int main(void) {
     /* On which heaps a call is accepted: with a collection open, with none, and on the full one, with none. */
     enum { OPEN = 1, CLOSED = 2, FULL = 4, ANY = OPEN | CLOSED | FULL };
-    /* The most that a call that tests the heap takes, by its size, and that the walks of a reason and of a shape do. */
-#define A_TEST {18000, 18000, 18000, 18000}
-#define A_REASON {95000, 95000, 95000, 95000}
-#define A_SHAPE {80000, 80000, 80000, 80000}
+    /* The most that a call that tests the heap takes, by its size, and that the walk of a reason or of a shape does. */
+#define A_TEST {19000, 19000, 19000, 77000}
+#define A_WALK {18000, 18000, 135000, 1060000}
     static const struct {
         const char *name;
         void (*call)(void);
@@ -206,9 +205,9 @@ int main(void) {
         {"read_number", read_number, A_TEST, OPEN | CLOSED},
         {"open_collection", open_collection, A_TEST, CLOSED | FULL},
         {"step_collection", step_collection, A_TEST, OPEN},
-        {"reason", reason, A_REASON, ANY},
-        {"shape", shape, A_SHAPE, ANY},
-        {"replay", replay, {5000, 5000, 5000, 5000}, ANY},
+        {"reason", reason, A_WALK, ANY},
+        {"shape", shape, A_WALK, ANY},
+        {"replay", replay, {19000, 19000, 19000, 19000}, ANY},
         {"run_records", run_records, A_TEST, OPEN | CLOSED},
     };
     enum { EACH = sizeof each / sizeof *each };
