@@ -504,7 +504,7 @@ class Killed(Case):
                 self.assertEqual(self.table.read_bytes(), expected)
 
     def test_interrupted(self) -> None:
-        self.put_examples(400_000)
+        self.put_examples(100_000)
         for jobs in ["1", "2"]:
             self.table = self.top / f"interrupted {jobs}.csv"
             sweeping = self.start("--jobs", jobs)
