@@ -7,7 +7,9 @@ use Prim.Native.Nat.{ℕ, zero, suc, _+_, _<_}
 use native.Mathlib.Numerals.{add-one}
 use native.Mathlib.Decide.{ℕ-discrete}
 use native.Mathlib.Omega.{arith}
+use lib.Dec.{eqb}
 use lib.ListN.{getD}
+use borrow.Author.Tests.{eq-eqb, ne-eqb}
 use Rattle.rules.specs.Tools.{all, someBelow, firstNumber}
 
 -- ---- one test
@@ -19,6 +21,12 @@ test-cases false = inr refl
 pub false-unless : (t : Bool) → (t ≡ true → ⊥) → t ≡ false
 false-unless true h = absurd (h refl)
 false-unless false h = refl
+
+pub eqb-either-way : (x y : ℕ) → eqb x y ≡ eqb y x
+eqb-either-way x y = elim (ℕ-discrete x y) [
+  | yes e ↦ eq-eqb x y e ∙ sym (eq-eqb y x (sym e))
+  | no n ↦ ne-eqb x y n ∙ sym (ne-eqb y x (λ e. n (sym e)))
+]
 
 -- what holds of both holds of the one chosen
 pub choose : {A : Type 0} (P : A → Type 0) (t : Bool) {x y : A} → P x → P y → P (elim t [ true ↦ x | false ↦ y ])

@@ -3,11 +3,11 @@
 -- these lists.
 use mathlib.Core.Path.{_≡_, refl, ap, _∙_}
 use mathlib.Core.Bool.{Bool, true, false, not, _&&_}
-use mathlib.Core.List.{List, [], _∷_}
+use mathlib.Core.List.{List, [], _∷_, map}
 use mathlib.Core.Option.{Option, none, some}
 use Prim.Native.Nat.{ℕ, zero, suc, _+_, _*_, _/_, min}
 use lib.Dec.{eqb}
-use lib.ListN.{getD, set}
+use lib.ListN.{length, getD, set}
 use Rattle.planes.specs.Plane.{setCount}
 use Rattle.rules.specs.Heap.{Memory, withA, withB, withCounts, withCells, withRoots, withWaiting, withSections, withD, withMarks, withList, capacity, isFirst}
 use Rattle.rules.specs.Heap.{sizeAt, reference}
@@ -19,7 +19,8 @@ use Rattle.rules.specs.Steps.{names, isListed, isOpen, withProgress, wit
 use Rattle.rules.specs.Steps.{taken, stepsFrom, survivorsDown, survivorsLetGo, unmarkedFreed, closed, closes, stepped, wasMarked, namedByFreed}
 use Rattle.rules.specs.Steps.{toSurvivor, marksAfter, listAfter, shaded, storeRootShading, storeCellShading, allocateShading}
 use Rattle.rules.specs.Steps.{clearShading, returnShading}
-use Rattle.rules.specs.Walk.{referencesOf, followed, numbered}
+use Rattle.rules.specs.Copy.{Laid, sizeOf, layFirst, layAll, placesIn, newReference, newCell, copyOne, copyFirst, copyAll, copied}
+use Rattle.rules.specs.Walk.{numberIn, blockAt, referencesOf, followed, numbered}
 use Rattle.rules.specs.Shape.{cellsOf, described, shapeOf}
 use Rattle.rules.specs.Reason.{chainTo}
 use Rattle.rules.specs.Sentence.{sentenceFor}
@@ -284,3 +285,29 @@ shape-aside N x h = refl
 pub sentence-aside : (N : ℕ) (x : List ℕ) (h : Memory) (a : ℕ) → sentenceFor N (withWaiting x h) a ≡ sentenceFor N h a
 unfolding sentenceFor chainTo followed referencesOf
 sentence-aside N x h a = refl
+
+-- ---- request U14: nor does the copy of a heap
+
+module _ (N : ℕ) (x : List ℕ) (h : Memory) where
+  numbered-aside : numbered N (withWaiting x h) ≡ numbered N h
+  unfolding numbered followed referencesOf
+  numbered-aside = refl
+
+  copy-aside : (met places : List ℕ) (M v k : ℕ) → copyFirst N (withWaiting x h) met places M v k ≡ copyFirst N h met places M v k
+  unfolding copyFirst copyOne newCell
+  copy-aside met places M v zero = refl
+  copy-aside met places M v (suc k) =
+      ap (λ (g : Memory). copyOne N h met places M v g (blockAt met (suc k)) (getD places k 0)) (copy-aside met places M v k)
+
+  pub laid-aside : (M : ℕ) → layAll N (withWaiting x h) M ≡ layAll N h M
+  unfolding layAll
+  laid-aside M = ap (λ (met : List ℕ). layFirst M (sizeOf N h met) (length met)) numbered-aside
+
+  pub copied-aside : (M v : ℕ) → copied N (withWaiting x h) M v ≡ copied N h M v
+  unfolding copied copyAll
+  copied-aside M v =
+      let met = numbered N h in
+      ap (λ (m : List ℕ). collected M v (copyAll N (withWaiting x h) m (placesIn (layAll N (withWaiting x h) M)) M v)) numbered-aside
+      ∙ ap (λ (o : Option Laid). collected M v (copyAll N (withWaiting x h) met (placesIn o) M v)) (laid-aside M)
+      ∙ ap (λ (g : Memory). collected M v (withRoots (map (λ y. newReference (placesIn (layAll N h M)) (numberIn met y)) (h .roots)) g))
+      (copy-aside met (placesIn (layAll N h M)) M v (length met))

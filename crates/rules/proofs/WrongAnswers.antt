@@ -14,6 +14,8 @@ use Rattle.rules.specs.Distinctions.{eightBlocks, cellHolding, rootHoldi
 use Rattle.rules.specs.WrongAnswers.{Question, PromisedTo, used, listed, collecting, chained, stale, shared, stuck, alone, cyclic, collectedCyclic}
 use Rattle.rules.specs.WrongAnswers.{unreached, numeric, numericCells}
 use Rattle.rules.specs.WrongAnswers.{allocatedTwo, allocatedThree, allocatedOver, wrongAnswers}
+use Rattle.rules.specs.CopyCases.{junk, junkFour, threeRoots, stuckOne, plainOne, threefold, full, fullOpen, threeAndOne, fragmented, withData, tangled, nine}
+use Rattle.rules.specs.CopyCases.{fullInSixteen, copyAnswers}
 use Rattle.types.specs.declared.Reply.{Reply}
 use Rattle.rules.proofs.Cases.{computed}
 use Rattle.rules.proofs.Tests.{Each}
@@ -66,7 +68,7 @@ one-answer (r, h) =
 -- ---- one question
 
 asked : Question → Answer
-asked q = answer 8 (q .width) (q .before) (q .call)
+asked q = answer (q .blocks) (q .width) (q .before) (q .call)
 
 -- what is promised is the rules' answer, and this is promised
 promised : (q : Question) (x : Answer) → PromisedTo q x → x ≡ asked q
@@ -100,3 +102,21 @@ wrong-differ = refl
 pub wrong-answers-told : Each Told wrongAnswers
 wrong-answers-told =
     each-told (λ (q : Question). q .right) (λ q. q .wrong) sameAnswer asked PromisedTo one-answer promised answered wrongAnswers rights-hold wrong-differ
+
+-- ---- request U14
+
+openedCopies : List Question
+unfolding opened junk junkFour threeRoots stuckOne plainOne threefold full fullOpen threeAndOne fragmented withData tangled nine fullInSixteen copyAnswers
+openedCopies = copyAnswers
+
+copies-right : map asked copyAnswers ≡ map (λ q. q .right) copyAnswers
+unfolding computed asked openedCopies
+copies-right = refl
+
+copies-differ : wrongDiffer (λ (q : Question). q .right) (λ q. q .wrong) sameAnswer copyAnswers ≡ true
+unfolding computed sameNumbers sameReply sameMemory sameAnswer noneIs wrongDiffer openedCopies
+copies-differ = refl
+
+pub copy-answers-told : Each Told copyAnswers
+copy-answers-told =
+    each-told (λ (q : Question). q .right) (λ q. q .wrong) sameAnswer asked PromisedTo one-answer promised answered copyAnswers copies-right copies-differ

@@ -1,8 +1,9 @@
 -- Document 01, "Replies, operation by operation": the calls, and what each answers on every memory and every argument.
 use Prim.Native.Nat.{ℕ, _+_, _-_, _*_}
+use mathlib.Core.Path.{_≡_}
 use mathlib.Core.Bool.{Bool, true, false, not, _&&_}
 use mathlib.Core.List.{List, [], _∷_}
-use mathlib.Core.Option.{Option·getD}
+use mathlib.Core.Option.{Option, none, some, Option·getD}
 use lib.ListN.{length, getD, set, replicate}
 use lib.Dec.{leb, ltb, eqb}
 use Rattle.bitmap.specs.Bit.{one, zeros}
@@ -16,6 +17,7 @@ use Rattle.rules.specs.Steps.{isOpen, isUntidy, opened, progressOf, step
 use Rattle.rules.specs.Steps.{storeRootShading, storeCellShading, allocateShading, returnShading}
 use Rattle.rules.specs.Shape.{shapeOf}
 use Rattle.rules.specs.Sentence.{sentenceFor}
+use Rattle.rules.specs.Copy.{layAll, allLaid, copied}
 use Rattle.types.specs.declared.Reply.{Reply}
 
 -- the calls with their own arguments
@@ -36,6 +38,11 @@ pub data Call : Type 0 where
   -- requests U11 and U13: each writes into a lent output, which is no part of the heap; `room` is its length
   writeReason : (at room : ℕ) → Call
   writeShape : (room : ℕ) → Call
+  -- request U14: "Copy .. into a second lent heap". The call is made on the second heap; the first, of K blocks
+  -- and count width u, is an argument, and "is only read".
+  copyFrom : (K u : ℕ) → (first : Memory) → Call
+  -- the same copy as a call on the first heap: the second, of M blocks and count width v, is an argument
+  copyInto : (M v : ℕ) → (second : Memory) → Call
 
 -- an allocation, of an object made as data or of an ordinary one
 abbrev pub allocateAs : (asData : Bool) → (n r : ℕ) → Call
@@ -73,6 +80,46 @@ testsHeap openCollection = true
 testsHeap (takeSteps budget) = true
 testsHeap (writeReason at room) = true
 testsHeap (writeShape room) = true
+testsHeap (copyFrom K u first) = false
+testsHeap (copyInto M v second) = true
+
+-- a heap that is lent besides the one that the call is made on, with its number of blocks and its count width
+pub record Other : Type 0 where
+  pub blocks : ℕ
+  pub width : ℕ
+  pub heap : Memory
+
+abbrev pub otherHeap : Call → Option Other
+otherHeap format = none
+otherHeap check = none
+otherHeap collect = none
+otherHeap freeBlocks = none
+otherHeap (allocate n r) = none
+otherHeap (storeRoot r v) = none
+otherHeap (storeCell at j v) = none
+otherHeap (look at) = none
+otherHeap (returnRoots chosen) = none
+otherHeap (allocateData n r) = none
+otherHeap (writeNumber at j x) = none
+otherHeap (readNumber at j) = none
+otherHeap openCollection = none
+otherHeap (takeSteps budget) = none
+otherHeap (writeReason at room) = none
+otherHeap (writeShape room) = none
+otherHeap (copyFrom K u first) = some (record { blocks = K; width = u; heap = first })
+otherHeap (copyInto M v second) = some (record { blocks = M; width = v; heap = second })
+
+-- no other heap is lent
+abbrev pub Alone : Call → Type 0
+Alone c = otherHeap c ≡ none
+
+-- request U14: the shape of the other heap of a copy; "its N and w may differ, its roots are as many"
+abbrev pub otherShaped : Memory → Call → Bool
+otherShaped h c =
+    elim (otherHeap c) [
+      | none ↦ true
+      | some o ↦ shaped (o .blocks) (o .width) (o .heap) && eqb (length (h .roots)) (length (o .heap .roots))
+    ]
 
 -- of an allocation: "3 if n is 0 or above N; 4 if r is not below the number of roots; 5 if no chunk of s
 -- blocks is free"
@@ -110,13 +157,23 @@ ownRefusals N h (takeSteps budget) = (14, not (isOpen N h)) ∷ []
 ownRefusals N h (writeReason at room) = (6, not (isFirst N h at)) ∷ (15, ltb room (length (sentenceFor N h at))) ∷ []
 -- request U13: "16, the lent list is too short, after the check's refusals"
 ownRefusals N h (writeShape room) = (16, ltb room (length (shapeOf N h))) ∷ []
+-- Request U14: what the check of the first heap refuses; "with a collection open it gives 14"; "17, an object
+-- finds no chunk at its turn, after all others". Of the second heap only the shape is tested.
+ownRefusals N h (copyFrom K u first) =
+    (2, not (eqb (damage K u first) 0))
+    ∷ (11, staleFigures K (first .a) (first .sections))
+    ∷ (13, isUntidy K first)
+    ∷ (14, isOpen K first)
+    ∷ (17, not (allLaid (layAll K first N)))
+    ∷ []
+ownRefusals N h (copyInto M v second) = (14, isOpen N h) ∷ (17, not (allLaid (layAll N h M))) ∷ []
 
 -- all numbers of a call: "1 if N, w, the number of roots or any buffer's length is not as above"; "2 if the
 -- heap is damaged"; request U4: "11, the list doesn't match the maps, next after 2"; request U8: 13, "next
 -- after 11"; then its own
 unfoldable pub refusals : ℕ → ℕ → Memory → Call → List (ℕ × Bool)
 refusals N w h c =
-    (1, not (shaped N w h))
+    (1, not (otherShaped h c && shaped N w h))
     ∷ (2, testsHeap c && not (eqb (damage N w h) 0))
     ∷ (11, testsHeap c && staleFigures N (h .a) (h .sections))
     ∷ (13, testsHeap c && isUntidy N h)
@@ -126,9 +183,17 @@ refusals N w h c =
 unfoldable pub refusedWith : ℕ → ℕ → Memory → Call → ℕ
 refusedWith N w h c = firstNumber (refusals N w h c)
 
+-- the damage that number 2 tells of: that of the heap which is tested, of a copy the first
+abbrev pub damageTold : ℕ → ℕ → Memory → Call → ℕ
+damageTold N w h c =
+    elim (testsHeap c) [
+      | true ↦ damage N w h
+      | false ↦ elim (otherHeap c) [ none ↦ 0 | some o ↦ damage (o .blocks) (o .width) (o .heap) ]
+    ]
+
 -- "A refusal carries value 0, or the damage kind for number 2 .., and changes no buffer."
-abbrev pub refused : ℕ → ℕ → Memory → (number : ℕ) → Answer
-refused N w h number = (reply number (elim (eqb number 2) [ true ↦ damage N w h | false ↦ 0 ]) 0, h)
+abbrev pub refused : (kind : ℕ) → Memory → (number : ℕ) → Answer
+refused kind h number = (reply number (elim (eqb number 2) [ true ↦ kind | false ↦ 0 ]) 0, h)
 
 -- ---- what an accepted call answers
 
@@ -179,6 +244,9 @@ outcome N w h (takeSteps budget) =
 -- The heap is only read; what the output holds afterwards is `outputAfter` (Promise.antt).
 outcome N w h (writeReason at room) = accepted h (length (sentenceFor N h at))
 outcome N w h (writeShape room) = accepted h (length (shapeOf N h))
+-- request U14: "the value is the blocks in use in the second heap"
+outcome N w h (copyFrom K u first) = let g = settled N (copied K first N w) in accepted g (N - zeros (g .a))
+outcome N w h (copyInto M v second) = accepted h (M - zeros (copied N h M v .a))
 
 -- ---- the answer
 
@@ -186,7 +254,7 @@ outcome N w h (writeShape room) = accepted h (length (shapeOf N h))
 unfoldable pub answer : ℕ → ℕ → Memory → Call → Answer
 answer N w h c =
     let number = refusedWith N w h c in
-    elim (eqb number 0) [ true ↦ outcome N w h c | false ↦ refused N w h number ]
+    elim (eqb number 0) [ true ↦ outcome N w h c | false ↦ refused (damageTold N w h c) h number ]
 
 -- the plain machine on a list of calls: each answer, from the memory that the one before left
 unfoldable pub run : ℕ → ℕ → Memory → List Call → List Answer

@@ -10,6 +10,7 @@ pub mod Walk
 pub mod Shape
 pub mod Reason
 pub mod Sentence
+pub mod Copy
 pub mod Calls
 pub mod Promise
 pub mod Cases
@@ -18,3 +19,4 @@ pub mod StepCases
 pub mod OutputCases
 pub mod WrongAnswers
 pub mod WrongOutputs
+pub mod CopyCases

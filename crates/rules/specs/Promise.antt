@@ -8,11 +8,11 @@ use lib.Dec.{eqb}
 use Rattle.rules.specs.Heap.{Memory}
 use Rattle.rules.specs.Shape.{shapeOf}
 use Rattle.rules.specs.Sentence.{sentenceFor}
-use Rattle.rules.specs.Calls.{Call, writeReason, writeShape, answer}
+use Rattle.rules.specs.Calls.{Call, writeReason, writeShape, copyFrom, copyInto, answer}
 use Rattle.types.specs.declared.Reply.{Reply}
 
 -- The reply and every lent number of the heap after the call, the waiting list too, are the rules'. The
--- `ensures` of each public call is this, and of the two that have an output one of the last two below.
+-- `ensures` of each public call is this; of the two that have an output and of the copy one of those below.
 pub record Promise (N w : ℕ) (call : Call) (before : Memory) (reply : Reply) (after : Memory) : Type 0 where
   pub reply-is : reply ≡ answer N w before call .0
   pub after-is : after ≡ answer N w before call .1
@@ -37,3 +37,10 @@ ReasonPromise N w at before out reply after left =
 -- request U13
 abbrev pub ShapePromise : (N w : ℕ) → Memory → (out : List ℕ) → Reply → Memory → (left : List ℕ) → Type 0
 ShapePromise N w before out reply after left = OutputPromise N w (writeShape (length out)) (shapeOf N before) before out reply after left
+
+-- ---- of two heaps
+
+-- Request U14, of a copy of the first heap into the second: what each of them is promised, with one reply.
+pub record CopyPromise (N w : ℕ) (first : Memory) (M v : ℕ) (second : Memory) (reply : Reply) (firstAfter secondAfter : Memory) : Type 0 where
+  pub first-heap : Promise N w (copyInto M v second) first reply firstAfter
+  pub second-heap : Promise M v (copyFrom N w first) second reply secondAfter

@@ -137,16 +137,20 @@ chosenBelow chosen n = eqb (chosen / 2 ^ n) 0
 
 -- ---- allocation
 
--- the new object of n blocks at i: "only its first n blocks become allocated .. The B bit of block n of the
--- object goes to 0, the count becomes 1, the cells are 0." Request U6: the D-map has 1 on its first block
--- where it is made as data, and 0 where it is not.
-unfoldable pub placed : ℕ → ℕ → (asData : Bool) → Memory → ℕ → ℕ → Memory
-placed N w asData h i n =
+-- an object of n blocks made at i: "only its first n blocks become allocated .. The B bit of block n of the
+-- object goes to 0"; with its count, all cells of the heap, and its bit of the D-map
+abbrev pub madeAt : ℕ → ℕ → Memory → (i n count : ℕ) → (cells : List ℕ) → (bit : ℕ) → Memory
+madeAt N w h i n count cells bit =
     withA (fillBits (h .a) i n 1)
     (withB (setBit (h .b) (i + n - 1) 0)
-    (withCounts (setCount (N / 8) w (h .counts) i 1)
-    (withCells (clearCells (h .cells) (4 * i) (4 * n))
-    (withD (setBit (h .d) i (one asData)) h))))
+    (withCounts (setCount (N / 8) w (h .counts) i count)
+    (withCells cells
+    (withD (setBit (h .d) i bit) h))))
+
+-- the new object: "the count becomes 1, the cells are 0." Request U6: the D-map has 1 on its first block where
+-- it is made as data, and 0 where it is not.
+unfoldable pub placed : ℕ → ℕ → (asData : Bool) → Memory → ℕ → ℕ → Memory
+placed N w asData h i n = madeAt N w h i n 1 (clearCells (h .cells) (4 * i) (4 * n)) (one asData)
 
 -- request U5: ".. a birth at width 1 included": the count of the new object, which is 1, is the capacity
 abbrev pub birthSticks : ℕ → Bool

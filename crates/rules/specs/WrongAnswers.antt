@@ -13,6 +13,7 @@ use Rattle.rules.specs.Distinctions.{eightBlocks, cellHolding, rootHoldi
 
 -- a call with its right answer, that is the reply and the memory after it, and wrong ones
 pub record Question : Type 0 where
+  pub blocks : ℕ
   pub width : ℕ
   pub before : Memory
   pub call : Call
@@ -20,11 +21,11 @@ pub record Question : Type 0 where
   pub wrong : List Answer
 
 abbrev pub question : ℕ → Memory → Call → Answer → List Answer → Question
-question width before call right wrong = record { width = width; before = before; call = call; right = right; wrong = wrong }
+question width before call right wrong = record { blocks = 8; width = width; before = before; call = call; right = right; wrong = wrong }
 
 -- the answer keeps the promise of a public call
 abbrev pub PromisedTo : Question → Answer → Type 0
-PromisedTo q x = Promise 8 (q .width) (q .call) (q .before) (x .0) (x .1)
+PromisedTo q x = Promise (q .blocks) (q .width) (q .call) (q .before) (x .0) (x .1)
 
 -- ---- the heaps, of width 2
 

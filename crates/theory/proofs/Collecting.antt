@@ -19,6 +19,7 @@ use Rattle.rules.specs.Steps.{isOpen, isMarked, isListed, withNone, withProgres
 use Rattle.rules.specs.Steps.{unmarkedFreed, closed, closes, stepped, storeRootShading, storeCellShading, allocateShading, returnShading}
 use Rattle.rules.specs.Calls.{Call, format, check, collect, freeBlocks, allocate, storeRoot, storeCell, look, returnRoots, openCollection, takeSteps}
 use Rattle.rules.specs.Calls.{allocateData, writeNumber, readNumber, writeReason, writeShape, Answer, reply, settled, freeing, outcome, answer, lastMemory}
+use Rattle.rules.specs.Calls.{copyFrom, copyInto}
 use Rattle.rules.specs.Promise.{Promise}
 use Rattle.types.specs.declared.Reply.{Reply}
 use Rattle.rules.proofs.Replies.{answer-either, accepted-outcome, Passed, passed}
@@ -47,6 +48,7 @@ use Rattle.theory.proofs.EachCall.Open.{paleIn, ApartIn, Open, Goes, to
 use Rattle.theory.proofs.EachCall.Served.{number-view}
 use Rattle.theory.proofs.EachCall.ReturnsServed.{length-without}
 use Rattle.theory.proofs.Calls.{finds-fit, promised, stays-fit}
+use Rattle.theory.proofs.Copies.Accepted.{copy-shut}
 
 -- ---- what leads to the object at b, in the words and in the graph
 
@@ -117,6 +119,8 @@ stepping (writeNumber a j v) = false
 stepping (readNumber a j) = false
 stepping (writeReason a room) = false
 stepping (writeShape room) = false
+stepping (copyFrom K u first) = false
+stepping (copyInto M v second) = false
 
 no-steps : (c : Call) (x : Reply) → stepping c ≡ false → stepsOf c x ≡ 0
 unfolding stepsOf
@@ -136,6 +140,8 @@ no-steps (writeNumber a j v) x e = refl
 no-steps (readNumber a j) x e = refl
 no-steps (writeReason a room) x e = refl
 no-steps (writeShape room) x e = refl
+no-steps (copyFrom K u first) x e = refl
+no-steps (copyInto M v second) x e = refl
 
 refused-steps : (c : Call) (x : Reply) → x .number ≢ 0 → stepsOf c x ≡ 0
 unfolding stepsOf
@@ -155,6 +161,8 @@ refused-steps (writeNumber a j v) x n = refl
 refused-steps (readNumber a j) x n = refl
 refused-steps (writeReason a room) x n = refl
 refused-steps (writeShape room) x n = refl
+refused-steps (copyFrom K u first) x n = refl
+refused-steps (copyInto M v second) x n = refl
 
 not-stepping : {A : Type 0} (c : Call) (budget : ℕ) → stepping c ≡ false → c ≡ takeSteps budget → A
 not-stepping c budget none is = absurd (false≢true (sym none ∙ ap stepping is))
@@ -423,20 +431,22 @@ module _ (N w : ℕ) (h : Memory) (before : Open N w h) (fit : Fit N w h) where
         gone = λ budget is accepted shut b apart. not-stepping (writeNumber a j x) budget refl is;
       }
 
-  format-during : (x : Reply) → During N w (made format h x (formatted N w (length (h .roots))))
-  unfolding stepsOf formatted withNone
-  format-during x =
+  -- a call that takes no steps and leaves none open: a format, or a copy into the heap (request U14)
+  shut-during : (c : Call) (x : Reply) (g : Memory) → stepping c ≡ false → isOpen N g ≡ false → During N w (made c h x g)
+  shut-during c x g other shut =
       record {
-        bounded = omega arith;
-        fewer = λ e. absurd (true≢false (sym e ∙ none-after N (formatted N w (length (h .roots)))));
-        apart = λ e. absurd (true≢false (sym e ∙ none-after N (formatted N w (length (h .roots)))));
-        stays = λ e. absurd (true≢false (sym e ∙ none-after N (formatted N w (length (h .roots)))));
-        gone = λ budget is accepted shut b a. not-stepping format budget refl is;
+        bounded = omega (arith, no-steps c x other);
+        fewer = λ e. absurd (true≢false (sym e ∙ shut));
+        apart = λ e. absurd (true≢false (sym e ∙ shut));
+        stays = λ e. absurd (true≢false (sym e ∙ shut));
+        gone = λ budget is accepted shut b a. not-stepping c budget other is;
       }
 
   outcome-during : (c : Call) → Passed N h c → let y = outcome N w h c in During N w (made c h (y .0) (y .1))
-  unfolding outcome Passed written
-  outcome-during format p = format-during _
+  unfolding outcome Passed written formatted withNone
+  outcome-during format p = shut-during format _ _ refl (none-after N (formatted N w (length (h .roots))))
+  outcome-during (copyFrom K u first) p = shut-during (copyFrom K u first) _ _ refl (copy-shut N w h (fit .healthy .shape) K u first p)
+  outcome-during (copyInto M v second) p = same-during (copyInto M v second) _ (no-steps (copyInto M v second) _ refl) (λ _. refl)
   outcome-during check p = same-during check _ (no-steps check _ refl) (λ _. refl)
   outcome-during freeBlocks p = same-during freeBlocks _ (no-steps freeBlocks _ refl) (λ _. refl)
   outcome-during (look a) p = same-during (look a) _ (no-steps (look a) _ refl) (λ _. refl)

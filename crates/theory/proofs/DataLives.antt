@@ -3,7 +3,7 @@
 -- (`NumbersWritten`).
 use mathlib.Core.Path.{_≡_, refl, sym, ap, _∙_, subst}
 use mathlib.Core.Logic.{_≢_}
-use mathlib.Core.Bool.{true}
+use mathlib.Core.Bool.{true, false}
 use mathlib.Core.List.{List, [], _∷_, _++_}
 use Prim.Native.Nat.{ℕ, _+_, _*_, _<_}
 use native.Mathlib.Decide.{ℕ-discrete}
@@ -13,7 +13,7 @@ use Rattle.rules.specs.Calls.{Call, allocateData, writeNumber, readNumber, Answ
 use Rattle.rules.specs.Promise.{Promise}
 use Rattle.types.specs.declared.Reply.{Reply}
 use Rattle.rules.proofs.Replies.{one-applies, number-is, accepted-outcome}
-use Rattle.theory.specs.Words.{Object, Made, leftBy}
+use Rattle.theory.specs.Words.{Object, copiedOver, Made, leftBy}
 use Rattle.theory.specs.Stuck.{LivesOn}
 use Rattle.theory.specs.Demand.{Finds, Chain}
 use Rattle.theory.specs.Data.{StaysSo, Unwritten, StillData, DataWhileItLives, Makes}
@@ -39,14 +39,14 @@ cellOf b j h = getD (h .cells) (4 * b + j) 0
 
 -- the call m of a list, made on what h left, with the object of n blocks at b standing before it and after it
 module _ (N w b n : ℕ) {h : Memory} (fit : Fit N w h) (m : Made) (finds : Finds N h (m .before))
-    (promise : Promise N w (m .call) (m .before) (m .reply) (m .after)) where
+    (promise : Promise N w (m .call) (m .before) (m .reply) (m .after)) (living : copiedOver (m .call) (m .reply) ≡ false) where
   accepted-so : m .reply .number ≡ 0 → answer N w (m .before) (m .call) .0 .number ≡ 0
   accepted-so taken = ap (λ (x : Reply). x .number) (sym (promise .reply-is)) ∙ taken
 
   stays : Object N h b n → Object N (m .after) b n → StaysSo (m .before) (m .after) (m .call) b n
   stays was is =
       subst (λ (g : Memory). StaysSo (m .before) g (m .call) b n) (sym (promise .after-is))
-      (answer-stays N w (m .before) (finds-fit N w finds fit) (m .call) b n (found N finds was)
+      (answer-stays N w (m .before) (finds-fit N w finds fit) (m .call) b n (subst (λ (x : Reply). copiedOver (m .call) x ≡ false) (promise .reply-is) living) (found N finds was)
       (subst (λ (g : Memory). Object N g b n) (promise .after-is) is))
 
   found-data : isData (h .d) b ≡ true → isData (m .before .d) b ≡ true
@@ -95,14 +95,14 @@ kept :
     → isData (h .d) b ≡ true → Kept b n since h (leftBy h since)
 unfolding lastMemory
 kept N w b n [] others fit chain lives made = record { kind = made; same-numbers = λ j l u. refl }
-kept N w b n (m ∷ since) others fit (Chain.next finds promise rest) (LivesOn.next was lives) made =
+kept N w b n (m ∷ since) others fit (Chain.next finds promise rest) (LivesOn.next was living lives) made =
     let is = stands N lives in
     let later =
-    kept N w b n since others (stays-fit N w fit m finds promise) rest lives (data-stays N w b n fit m finds promise was is made) in
+    kept N w b n since others (stays-fit N w fit m finds promise) rest lives (data-stays N w b n fit m finds promise living was is made) in
     record {
       kind = later .kind;
       same-numbers = λ j l u.
-          later .same-numbers j l (tail u) ∙ number-stays N w b n fit m finds promise was is made j l (head u);
+          later .same-numbers j l (tail u) ∙ number-stays N w b n fit m finds promise living was is made j l (head u);
     }
   where
     head : {j : ℕ} → Unwritten b j (m ∷ since) → (x : ℕ) → m .call ≡ writeNumber b j x → m .reply .number ≢ 0
@@ -118,13 +118,13 @@ last-number :
     → (j x : ℕ) → j < 4 * n → m .call ≡ writeNumber b j x → m .reply .number ≡ 0 → Unwritten b j later
     → cellOf b j (leftBy h (earlier ++ (m ∷ later))) ≡ x
 unfolding lastMemory
-last-number N w b n [] later others m fit (Chain.next finds promise rest) (LivesOn.next was lives) made j x l is taken u =
+last-number N w b n [] later others m fit (Chain.next finds promise rest) (LivesOn.next was living lives) made j x l is taken u =
     kept N w b n later others (stays-fit N w fit m finds promise) rest lives
-    (data-stays N w b n fit m finds promise was (stands N lives) made) .same-numbers j l u
-    ∙ number-stands N w b n fit m finds promise j x is taken
-last-number N w b n (k ∷ earlier) later others m fit (Chain.next finds promise rest) (LivesOn.next was lives) made j x l is taken u =
+    (data-stays N w b n fit m finds promise living was (stands N lives) made) .same-numbers j l u
+    ∙ number-stands N w b n fit m finds promise living j x is taken
+last-number N w b n (k ∷ earlier) later others m fit (Chain.next finds promise rest) (LivesOn.next was living lives) made j x l is taken u =
     last-number N w b n earlier later others m (stays-fit N w fit k finds promise) rest lives
-    (data-stays N w b n fit k finds promise was (stands N lives) made) j x l is taken u
+    (data-stays N w b n fit k finds promise living was (stands N lives) made) j x l is taken u
 
 -- ---- from the allocation on
 

@@ -62,7 +62,7 @@ found N {h} {g} {b} {n} finds was =
 
 pub stands : (N : ℕ) {h : Memory} {b n : ℕ} {ms : List Made} → LivesOn N b n h ms → Object N h b n
 stands N (LivesOn.none object) = object
-stands N (LivesOn.next object rest) = object
+stands N (LivesOn.next object living rest) = object
 
 -- ---- request U2
 
@@ -80,13 +80,13 @@ some-wrote :
     → LivesOn N b n h between → countOf N w h b < capacity w → countOf N w (leftBy h between) b ≡ capacity w → SomeWrote N w b between
 unfolding lastMemory
 some-wrote N w b n [] others fit chain lives low top = absurd (omega arith)
-some-wrote N w b n {h} (m ∷ between) others fit (Chain.next finds promise rest) (LivesOn.next was lives) low top =
+some-wrote N w b n {h} (m ∷ between) others fit (Chain.next finds promise rest) (LivesOn.next was living lives) low top =
     let served = serves N w fit m finds promise in
     elim (decLt (countOf N w (m .after) b) (capacity w)) [
       | yes l ↦ SomeWrote.later (some-wrote N w b n between others (stays-fit N w fit m finds promise) rest lives l top)
       | no l ↦
           SomeWrote.here
-          (served .sticks b n (found N finds was) (stands N lives) still (omega (arith, count-lt (N / 8) w (m .after .counts) b)))
+          (served .sticks living b n (found N finds was) (stands N lives) still (omega (arith, count-lt (N / 8) w (m .after .counts) b)))
     ]
   where
     still : countOf N w (m .before) b < capacity w

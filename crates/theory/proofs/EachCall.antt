@@ -9,6 +9,7 @@ pub mod Clearing
 pub mod ReturnsServed
 pub mod CollectionServed
 pub mod StepsServed
+pub mod CopyServed
 pub mod Open
 pub mod TidyKept
 pub mod ReturnOrders

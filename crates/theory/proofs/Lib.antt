@@ -9,5 +9,6 @@ pub mod Collecting
 pub mod Demand
 pub mod Spaces
 pub mod DataLives
+pub mod Copies
 pub mod Theorems
 pub mod Usable

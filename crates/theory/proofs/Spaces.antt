@@ -1,7 +1,7 @@
 -- A call that is lent a waiting list of another length is refused with 1 and changes nothing, so the calls around it are a chain without it.
 use mathlib.Core.Path.{_≡_, refl, sym, ap, _∙_, subst}
 use mathlib.Core.Logic.{_≢_}
-use mathlib.Core.Bool.{not}
+use mathlib.Core.Bool.{not, _&&_}
 use mathlib.Core.List.{List, [], _∷_, _++_}
 use Prim.Native.Nat.{ℕ}
 use native.Mathlib.Decide.{ℕ-discrete}
@@ -9,9 +9,9 @@ use native.Mathlib.Omega.{arith}
 use lib.ListN.{length}
 use borrow.Author.Tests.{eq-eqb, ne-eqb}
 use Rattle.rules.specs.Heap.{Memory, withWaiting, shaped}
-use Rattle.rules.specs.Calls.{Call, Answer, reply, refusals, refusedWith, answer, lastMemory}
+use Rattle.rules.specs.Calls.{Call, Answer, reply, otherShaped, refusals, refusedWith, answer, lastMemory}
 use Rattle.rules.specs.Promise.{Promise}
-use Rattle.rules.proofs.Tests.{false-unless, first-found}
+use Rattle.rules.proofs.Tests.{false-unless, false-and, first-found}
 use Rattle.rules.proofs.Shape.{shape-facts}
 use Rattle.rules.proofs.Replies.{refused-with}
 use Rattle.theory.specs.Words.{heapOf, Made, leftBy}
@@ -26,7 +26,8 @@ other-space : (N w : ℕ) (h : Memory) (c : Call) → length (h .waiting) ≢ N 
 unfolding refusedWith refusals
 other-space N w h c other =
     let misshapen = false-unless (shaped N w h) (λ e. other (shape-facts N w h e .length-waiting)) in
-    refused-with N w h c 1 (omega arith) (first-found 1 (not (shaped N w h)) _ (ap not misshapen))
+    refused-with N w h c 1 (omega arith)
+    (first-found 1 (not (otherShaped h c && shaped N w h)) _ (ap not (false-and (otherShaped h c) (shaped N w h) (λ _. misshapen))))
 
 refused-space :
     (N w : ℕ) (m : Made) → Promise N w (m .call) (m .before) (m .reply) (m .after) → length (m .before .waiting) ≢ N

@@ -19,7 +19,7 @@ use Rattle.rules.specs.Promise.{Promise}
 use Rattle.rules.specs.Steps.{Progress, progressOf, stepsFrom, unmarkedFreed}
 use Rattle.rules.specs.Calls.{Call, format, allocate, allocateData, allocateAs, Answer, allocationRefusals, ownRefusals, outcome, answer}
 use Rattle.theory.specs.Demand.{Demand3}
-use Rattle.rules.proofs.Replies.{number-is, accepted-none, accepted-outcome, Passed, shape-passed, passed, refused-as-check}
+use Rattle.rules.proofs.Replies.{number-is, accepted-none, accepted-outcome, Passed, shape-passed, passed, allocation-alone, refused-as-check}
 use Rattle.rules.proofs.Tests.{true-and, first-past}
 use Rattle.rules.proofs.Shape.{shape-facts}
 use Rattle.rules.proofs.Chunks.{exponent-covers, exponent-least}
@@ -79,6 +79,9 @@ use Rattle.theory.proofs.Walks.Order.{numbered-by-chains}
 use Rattle.theory.proofs.Sentences.Says.{read-in-one-way, sentence-says}
 use Rattle.theory.proofs.Sentences.Bounds.{sentence-bounded}
 use Rattle.theory.proofs.EachCall.Outputs.{reason-given, shape-given, fifteen, sixteen}
+use Rattle.theory.proofs.Copies.Refused.{copy-refused-exactly}
+use Rattle.theory.proofs.Copies.Unread.{first-waiting-unread, second-heap-unread}
+use Rattle.theory.proofs.Copies.Statements.{copies-exactly, one-copy-in-both-lists, one-shape-one-copy, equal-copies, copy-of-copy}
 
 intact-healthy : (N w : ℕ) (h : Memory) → Intact N w h → Healthy N w h
 intact-healthy N w h u = healthy-facts N w h (u .right-shape) (u .no-damage)
@@ -104,7 +107,7 @@ refused-exactly N w h u asData n r low high inside =
     let c : Call = allocateAs asData n r in
     let size = true-and (leb 1 n) (leb n N) (le-leb 1 n low) (le-leb n N high) in
     let number =
-    number-is N w h c ∙ fit-number N w h (undamaged-fit N w h u) c ∙ ap firstNumber (allocation-own N h asData n r)
+    number-is N w h c ∙ fit-number N w h (undamaged-fit N w h u) c (allocation-alone asData n r) ∙ ap firstNumber (allocation-own N h asData n r)
     ∙ first-past 3 (not (leb 1 n && leb n N)) _ (ap not size)
     ∙ first-past 4 (not (ltb r (length (h .roots)))) _ (ap not (lt-ltb r (length (h .roots)) inside)) in
     rw number
@@ -328,4 +331,12 @@ theory =
       sentence-bounded = sentence-bounded;
       reason-given = reason-given;
       fifteen-exactly = λ N w h u at n room object. fifteen N w h (undamaged-fit N w h u) room at (object .first);
+      copies-exactly = copies-exactly;
+      one-copy-in-both-lists = one-copy-in-both-lists;
+      copy-refused-exactly = copy-refused-exactly;
+      first-waiting-unread = first-waiting-unread;
+      second-heap-unread = second-heap-unread;
+      one-shape-one-copy = one-shape-one-copy;
+      equal-copies = equal-copies;
+      copy-of-copy = copy-of-copy;
     }

@@ -7,10 +7,12 @@ use mathlib.Core.List.{List, [], _∷_}
 use lib.Dec.{eqb}
 use Rattle.bitmap.specs.Bit.{zeros}
 use Rattle.rules.specs.Heap.{Memory, isFirst, sizeAt}
+use Rattle.rules.specs.Store.{formatted}
 use Rattle.rules.specs.Calls.{Call, format, check, collect, freeBlocks, allocate, storeRoot, storeCell, look, returnRoots, openCollection, takeSteps}
 use Rattle.rules.specs.Calls.{allocateData, writeNumber, readNumber, writeReason, writeShape, allocateAs, answer}
+use Rattle.rules.specs.Calls.{copyFrom, copyInto}
 use Rattle.types.specs.declared.Reply.{Reply}
-use Rattle.theory.specs.Words.{Made, leftBy}
+use Rattle.theory.specs.Words.{copiedOver, Made, leftBy}
 use Rattle.theory.specs.Demand.{Chain}
 use Rattle.theory.specs.Statements.{Undamaged}
 
@@ -33,38 +35,45 @@ freedBlocks N h g = sumBelow (freedAt N h g) N
 abbrev pub inUse : ℕ → Memory → ℕ
 inUse N h = N - zeros (h .a)
 
--- the blocks that an accepted call allocates
-unfoldable pub allocates : Call → ℕ
-allocates (allocate n r) = n
-allocates format = 0
-allocates check = 0
-allocates collect = 0
-allocates freeBlocks = 0
-allocates (storeRoot r v) = 0
-allocates (storeCell at j v) = 0
-allocates (look at) = 0
-allocates (returnRoots chosen) = 0
-allocates (allocateData n r) = n
-allocates (writeNumber at j x) = 0
-allocates (readNumber at j) = 0
-allocates (writeReason at room) = 0
-allocates (writeShape room) = 0
-allocates openCollection = 0
-allocates (takeSteps budget) = 0
+-- the blocks that an accepted call allocates; a copy (request U14) tells how many it made
+unfoldable pub allocates : Call → Reply → ℕ
+allocates (allocate n r) x = n
+allocates format x = 0
+allocates check x = 0
+allocates collect x = 0
+allocates freeBlocks x = 0
+allocates (storeRoot r v) x = 0
+allocates (storeCell at j v) x = 0
+allocates (look at) x = 0
+allocates (returnRoots chosen) x = 0
+allocates (allocateData n r) x = n
+allocates (writeNumber at j v) x = 0
+allocates (readNumber at j) x = 0
+allocates (writeReason at room) x = 0
+allocates (writeShape room) x = 0
+allocates openCollection x = 0
+allocates (takeSteps budget) x = 0
+allocates (copyFrom K u first) x = x .value
+allocates (copyInto M v second) x = 0
 
 -- a refused call allocates nothing
 unfoldable pub allocatedBy : Call → Reply → ℕ
-allocatedBy call x = elim (eqb (x .number) 0) [ true ↦ allocates call | false ↦ 0 ]
+allocatedBy call x = elim (eqb (x .number) 0) [ true ↦ allocates call x | false ↦ 0 ]
 
 -- "blocks allocated in all"
 unfoldable pub blocksAllocated : List Made → ℕ
 blocksAllocated [] = 0
 blocksAllocated (m ∷ ms) = allocatedBy (m .call) (m .reply) + blocksAllocated ms
 
+-- the blocks that a call frees: those of the objects that it frees, which in a copy into the heap are all that
+-- stood there, whatever it makes then
+unfoldable pub freedBy : (N : ℕ) → Call → Memory → Reply → Memory → ℕ
+freedBy N call h x g = elim (copiedOver call x) [ true ↦ freedBlocks N h (formatted N 0 0) | false ↦ freedBlocks N h g ]
+
 -- "the blocks freed by every call, allocations too"
 unfoldable pub blocksFreed : ℕ → List Made → ℕ
 blocksFreed N [] = 0
-blocksFreed N (m ∷ ms) = freedBlocks N (m .before) (m .after) + blocksFreed N ms
+blocksFreed N (m ∷ ms) = freedBy N (m .call) (m .before) (m .reply) (m .after) + blocksFreed N ms
 
 -- over every list of calls from an undamaged heap, with what was in use before it; a new heap has no block in use (`NewHeapUnused`,
 -- history/specs/Claims.antt)

@@ -9,7 +9,7 @@ use Rattle.bitmap.specs.Bit.{bitAt}
 use Rattle.rules.specs.Heap.{Memory, withCells, isData, reference}
 use Rattle.rules.specs.Steps.{names}
 use Rattle.rules.specs.Calls.{Call, storeCell, allocateData, writeNumber, readNumber, allocateAs, reply, answer}
-use Rattle.theory.specs.Words.{Object, Made, leftBy}
+use Rattle.theory.specs.Words.{Object, copiedOver, Made, leftBy}
 use Rattle.theory.specs.Stuck.{LivesOn}
 use Rattle.theory.specs.Demand.{Chain}
 use Rattle.theory.specs.Statements.{Intact, Undamaged}
@@ -70,9 +70,9 @@ pub record Twelve (N w : ℕ) (h : Memory) (at j : ℕ) : Type 0 where
 abbrev pub TwelveExactly : Type 0
 TwelveExactly = (N w : ℕ) (h : Memory) → Undamaged N w h → (at n j : ℕ) → Object N h at n → j < 4 * n → Twelve N w h at j
 
--- What stands stays what it is. An object that stands before a call and after it is data after it where it
--- was data before; and then each of its cells holds the number that it held, unless the call writes a number
--- into this very cell.
+-- What stands stays what it is. An object that stands before a call and after it, not made anew by a copy, is
+-- data after it where it was data before; and then each of its cells holds the number that it held, unless the
+-- call writes a number into this very cell.
 pub record StaysSo (h g : Memory) (call : Call) (b n : ℕ) : Type 0 where
   pub same-kind : isData (g .d) b ≡ isData (h .d) b
   pub same-numbers :
@@ -81,8 +81,8 @@ pub record StaysSo (h g : Memory) (call : Call) (b n : ℕ) : Type 0 where
 
 abbrev pub NumbersStay : Type 0
 NumbersStay =
-    (N w : ℕ) (h : Memory) → Undamaged N w h → (call : Call) (b n : ℕ) → let g = answer N w h call .1 in
-    Object N h b n → Object N g b n → StaysSo h g call b n
+    (N w : ℕ) (h : Memory) → Undamaged N w h → (call : Call) (b n : ℕ) → let x = answer N w h call in
+    copiedOver call (x .0) ≡ false → Object N h b n → Object N (x .1) b n → StaysSo h (x .1) call b n
 
 -- ---- over a list of calls
 

@@ -17,4 +17,5 @@ pub mod Shape
 pub mod Trail
 pub mod Reason
 pub mod Outputs
+pub mod Copies
 pub mod Theory

@@ -10,8 +10,9 @@ use Rattle.rules.specs.Heap.{Memory, withCounts, capacity, countOf, isFirst}
 use Rattle.rules.specs.Store.{countUp, placed}
 use Rattle.rules.specs.Calls.{Call, format, check, collect, freeBlocks, allocate, storeRoot, storeCell, look, returnRoots, openCollection, takeSteps}
 use Rattle.rules.specs.Calls.{allocateData, writeNumber, readNumber, writeReason, writeShape, allocateAs, answer}
+use Rattle.rules.specs.Calls.{copyFrom, copyInto}
 use Rattle.types.specs.declared.Reply.{Reply}
-use Rattle.theory.specs.Words.{Object}
+use Rattle.theory.specs.Words.{Object, copiedOver}
 use Rattle.theory.specs.Stuck.{writes}
 use Rattle.theory.specs.Statements.{Undamaged}
 
@@ -35,6 +36,8 @@ counted N w (writeReason at room) h x = h
 counted N w (writeShape room) h x = h
 counted N w openCollection h x = h
 counted N w (takeSteps budget) h x = h
+counted N w (copyFrom K u first) h x = h
+counted N w (copyInto M v second) h x = h
 
 -- "this very step brought the count to the capacity, a birth at width 1 included": the object at b, between the heap h before the call and
 -- a heap g with the reference counted
@@ -66,12 +69,13 @@ pub record EachTells (N w : ℕ) (h : Memory) : Type 0 where
 abbrev pub StuckTold : Type 0
 StuckTold = (N w : ℕ) (h : Memory) → EachTells N w h
 
--- No moment goes untold: where an object stands before a call below the capacity and after it at the capacity, the second value is 1. The
--- new object of an allocation is in `StuckTold`.
+-- No moment goes untold: where an object stands before a call below the capacity and after it, not made anew by
+-- a copy, at the capacity, the second value is 1. The new object of an allocation is in `StuckTold`.
 abbrev pub NoneUntold : Type 0
 NoneUntold =
     (N w : ℕ) (h : Memory) → Undamaged N w h → (call : Call) (b n : ℕ) → let x = answer N w h call in
-    Object N h b n → Object N (x .1) b n → countOf N w h b < capacity w → countOf N w (x .1) b ≡ capacity w → x .0 .second ≡ 1
+    copiedOver call (x .0) ≡ false → Object N h b n → Object N (x .1) b n → countOf N w h b < capacity w → countOf N w (x .1) b ≡ capacity w
+    → x .0 .second ≡ 1
 
 -- "no object below the capacity before a collection stands at it afterwards"; where it is gone, its block has count 0
 abbrev pub CollectionSticksNone : Type 0

@@ -7,7 +7,7 @@ use lib.ListN.{length, getD}
 use Rattle.rules.specs.Heap.{Memory, isFirst, reference}
 use Rattle.rules.specs.Sections.{staleFigures}
 use Rattle.rules.specs.Steps.{isOpen, isMarked}
-use Rattle.rules.specs.Calls.{Call, collect, openCollection, takeSteps, testsHeap, answer}
+use Rattle.rules.specs.Calls.{Call, collect, openCollection, takeSteps, testsHeap, Alone, answer}
 use Rattle.theory.specs.Words.{Object}
 use Rattle.theory.specs.Steps.{MarkedUnlisted}
 use Rattle.theory.specs.Statements.{Intact, Undamaged}
@@ -37,10 +37,10 @@ pub data Untidy (N : ℕ) (h : Memory) : Type 0 where
   place-left : isOpen N h ≡ false → (k : ℕ) → k ≤ N → getD (h .list) k 0 ≢ 0 → Untidy N h
 
 -- "13, .. next after 11": a call that tests the heap is answered so where none of 1, 2 and 11 applies and one
--- of the clauses is met, and only then
+-- of the clauses is met, and only then. Of a copy see `CopyRefusals` (Copies.antt).
 abbrev pub ThirteenExactly : Type 0
 ThirteenExactly =
-    (N w : ℕ) (h : Memory) (call : Call)
+    (N w : ℕ) (h : Memory) (call : Call) → Alone call
     → (answer N w h call .0 .number ≡ 13)
     ↔ ((testsHeap call ≡ true) × Intact N w h × (staleFigures N (h .a) (h .sections) ≡ false) × Untidy N h)
 
@@ -53,4 +53,5 @@ pub data OutOfTurn (N : ℕ) (h : Memory) : Call → Type 0 where
 -- ".. after 13", and only then
 abbrev pub FourteenExactly : Type 0
 FourteenExactly =
-    (N w : ℕ) (h : Memory) (call : Call) → (answer N w h call .0 .number ≡ 14) ↔ (Undamaged N w h × OutOfTurn N h call)
+    (N w : ℕ) (h : Memory) (call : Call) → Alone call
+    → (answer N w h call .0 .number ≡ 14) ↔ (Undamaged N w h × OutOfTurn N h call)

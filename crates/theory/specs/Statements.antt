@@ -13,7 +13,7 @@ use Rattle.rules.specs.Damage.{endOnFree, openEnd, damage}
 use Rattle.rules.specs.Sections.{staleFigures}
 use Rattle.rules.specs.Steps.{isUntidy}
 use Rattle.rules.specs.Store.{formatted, countUp, letGoIn, changeRoot, changeCell, placed, allocateIn}
-use Rattle.rules.specs.Calls.{Call, format, check, allocateAs, testsHeap, answer}
+use Rattle.rules.specs.Calls.{Call, format, check, allocateAs, testsHeap, otherShaped, answer}
 use Rattle.rules.specs.Collection.{marked, reached}
 use Rattle.rules.specs.Promise.{Promise}
 use Rattle.types.specs.declared.Reply.{Reply}
@@ -43,7 +43,7 @@ FormatMakesUndamaged = (N w : ℕ) (h : Memory) → shaped N w h ≡ true → Un
 -- refuses, every call that tests the heap is refused alike, with the same value, and changes no buffer
 abbrev pub RefusedAsCheck : Type 0
 RefusedAsCheck =
-    (N w : ℕ) (h : Memory) (call : Call) → testsHeap call ≡ true → (answer N w h check .0 .number ≡ 0 → ⊥)
+    (N w : ℕ) (h : Memory) (call : Call) → testsHeap call ≡ true → otherShaped h call ≡ true → (answer N w h check .0 .number ≡ 0 → ⊥)
     → answer N w h call ≡ answer N w h check
 
 -- only an undamaged heap is accepted, by every call that tests the heap

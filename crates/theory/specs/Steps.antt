@@ -14,6 +14,7 @@ use Rattle.rules.specs.Store.{isChosen}
 use Rattle.rules.specs.Steps.{isOpen, isMarked, isListed}
 use Rattle.rules.specs.Calls.{Call, format, check, collect, freeBlocks, allocate, storeRoot, storeCell, look, returnRoots, openCollection, takeSteps}
 use Rattle.rules.specs.Calls.{allocateData, writeNumber, readNumber, writeReason, writeShape, allocateAs, reply, answer}
+use Rattle.rules.specs.Calls.{copyFrom, copyInto}
 use Rattle.types.specs.declared.Reply.{Reply}
 use Rattle.theory.specs.Words.{Object, Leads, written, Made, leftBy}
 
@@ -74,13 +75,15 @@ stepsOf (writeNumber at j v) x = 0
 stepsOf (readNumber at j) x = 0
 stepsOf (writeReason at room) x = 0
 stepsOf (writeShape room) x = 0
+stepsOf (copyFrom K u first) x = 0
+stepsOf (copyInto M v second) x = 0
 
 unfoldable pub stepsIn : List Made → ℕ
 stepsIn [] = 0
 stepsIn (m ∷ ms) = stepsOf (m .call) (m .reply) + stepsIn ms
 
 -- the last call of the list is an accepted one that takes steps and leaves none open: the close. A format
--- ends a collection too, and is none.
+-- ends a collection too, and so does a copy into the heap (request U14); neither is a close.
 pub data Closes (N : ℕ) : List Made → Type 0 where
   last : {m : Made} (budget : ℕ) → m .call ≡ takeSteps budget → m .reply .number ≡ 0 → isOpen N (m .after) ≡ false → Closes N (m ∷ [])
   later : {m : Made} {ms : List Made} → Closes N ms → Closes N (m ∷ ms)

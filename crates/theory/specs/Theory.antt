@@ -16,6 +16,8 @@ use Rattle.theory.specs.Data.{DataNeverFollowed, DataNamesNothing, Alloc
 use Rattle.theory.specs.Shape.{AllNumbered, EqualShape, ShapeBounded}
 use Rattle.theory.specs.Reason.{ChainIsBest, NoneExactly, WalkFindsChain, NumberedByChains, ReadInOneWay, SentenceSays, SentenceBounded}
 use Rattle.theory.specs.Outputs.{ReasonGiven, ShapeGiven, FifteenExactly, SixteenExactly}
+use Rattle.theory.specs.Copies.{CopiesExactly, OneCopyInBothLists, CopyRefusedExactly, FirstWaitingUnread, SecondHeapUnread, OneShapeOneCopy}
+use Rattle.theory.specs.Copies.{EqualCopies, CopyOfCopy}
 
 pub record Theory : Type 0 where
   -- demand 3, and what makes it usable
@@ -87,3 +89,11 @@ pub record Theory : Type 0 where
   pub sentence-bounded : SentenceBounded
   pub reason-given : ReasonGiven
   pub fifteen-exactly : FifteenExactly
+  pub copies-exactly : CopiesExactly
+  pub one-copy-in-both-lists : OneCopyInBothLists
+  pub copy-refused-exactly : CopyRefusedExactly
+  pub first-waiting-unread : FirstWaitingUnread
+  pub second-heap-unread : SecondHeapUnread
+  pub one-shape-one-copy : OneShapeOneCopy
+  pub equal-copies : EqualCopies
+  pub copy-of-copy : CopyOfCopy

@@ -1,8 +1,9 @@
 -- Document 01, "The words of demand 3": what its claims are about, each sentence beside what renders it; and a list of calls as made.
 use Prim.Native.Nat.{ℕ, _+_, _*_, _≤_, _<_}
 use mathlib.Core.Path.{_≡_}
-use mathlib.Core.Bool.{true, false}
+use mathlib.Core.Bool.{Bool, true, false, not, _&&_}
 use mathlib.Core.List.{List, [], map}
+use mathlib.Core.Option.{none, some}
 use lib.ListN.{length, getD, set, replicate}
 use lib.Dec.{eqb}
 use Rattle.rules.specs.Heap.{Memory, withCells, withRoots, withWaiting, isFirst, sizeAt, reference}
@@ -11,6 +12,7 @@ use Rattle.rules.specs.Tools.{tabulate}
 use Rattle.rules.specs.Collection.{referencesFrom}
 use Rattle.rules.specs.Calls.{Call, format, check, collect, freeBlocks, allocate, storeRoot, storeCell, look, returnRoots, openCollection, takeSteps}
 use Rattle.rules.specs.Calls.{allocateData, writeNumber, readNumber, writeReason, writeShape, Answer, lastMemory}
+use Rattle.rules.specs.Calls.{copyFrom, copyInto, testsHeap, otherHeap}
 use Rattle.types.specs.declared.Reply.{Reply}
 
 -- an object of n blocks whose first block is b
@@ -46,10 +48,14 @@ pub record InExtent (N : ℕ) (h : Memory) (i b : ℕ) : Type 0 where
 unfoldable pub rootsWithout : (chosen : ℕ) → List ℕ → List ℕ
 rootsWithout chosen roots = tabulate (length roots) (λ r. elim (isChosen chosen r) [ true ↦ 0 | false ↦ getD roots r 0 ])
 
+-- "0 everywhere"
+abbrev pub emptied : Memory → Memory
+emptied h = withCells (replicate (length (h .cells)) 0) (withRoots (replicate (length (h .roots)) 0) h)
+
 -- "the roots and cells as they stood before the call, with what the call itself stores written in (0 everywhere for a call that formats
 -- the heap) and nothing let go yet". An allocation stores the reference to the block that its reply gives.
 unfoldable pub written : Memory → Call → Reply → Memory
-written h format x = withCells (replicate (length (h .cells)) 0) (withRoots (replicate (length (h .roots)) 0) h)
+written h format x = emptied h
 written h (allocate n r) x = withRoots (set (h .roots) r (1 + x .value)) h
 written h (storeRoot r v) x = withRoots (set (h .roots) r v) h
 written h (storeCell at j v) x = withCells (set (h .cells) (4 * at + j) v) h
@@ -65,10 +71,17 @@ written h (writeNumber at j v) x = withCells (set (h .cells) (4 * at + j) v) h
 written h (readNumber at j) x = h
 written h (writeReason at room) x = h
 written h (writeShape room) x = h
+written h (copyFrom K u first) x = emptied h
+written h (copyInto M v second) x = h
 
 -- a refused call stores nothing
 unfoldable pub stored : Memory → Call → Reply → Memory
 stored h call x = elim (eqb (x .number) 0) [ true ↦ written h call x | false ↦ h ]
+
+-- An accepted copy into the heap (request U14): "formatted by the call, so that nothing that stood there lives
+-- on". What it makes is new, even where an object of its first block and size stood before.
+abbrev pub copiedOver : Call → Reply → Bool
+copiedOver call x = elim (otherHeap call) [ none ↦ false | some other ↦ not (testsHeap call) && eqb (x .number) 0 ]
 
 -- ---- a list of calls
 

@@ -5,6 +5,7 @@ use Prim.Native.Nat.{ℕ}
 use Rattle.rules.specs.Heap.{Memory}
 use Rattle.rules.specs.Calls.{Call, format, check, collect, freeBlocks, allocate, storeRoot, storeCell, look, returnRoots, openCollection, takeSteps}
 use Rattle.rules.specs.Calls.{allocateData, writeNumber, readNumber, writeReason, writeShape, outcome, answer}
+use Rattle.rules.specs.Calls.{copyFrom, copyInto}
 use Rattle.rules.proofs.Replies.{answer-either, Passed, passed}
 use Rattle.theory.proofs.Memories.Fit.{Fit}
 use Rattle.theory.proofs.EachCall.Served.{no-collection, Served, unchanged, refused-served, number-served, format-served}
@@ -15,6 +16,7 @@ use Rattle.theory.proofs.EachCall.StepsServed.{open-served, steps-serve
 use Rattle.theory.proofs.EachCall.TidyKept.{answer-tidy}
 use Rattle.theory.proofs.EachCall.ReturnsServed.{return-served}
 use Rattle.theory.proofs.EachCall.CollectionServed.{collect-served}
+use Rattle.theory.proofs.EachCall.CopyServed.{copy-served}
 use Rattle.theory.proofs.EachCall.TrueList.{answer-listed}
 
 module _ (N w : ℕ) (h : Memory) (fit : Fit N w h) where
@@ -48,10 +50,12 @@ module _ (N w : ℕ) (h : Memory) (fit : Fit N w h) where
   outcome-served (writeShape room) p = unchanged N w h (fit .healthy) (writeShape room) _ (no-collection (writeShape room) refl)
   outcome-served openCollection p = open-served N w h (fit .healthy)
   outcome-served (takeSteps budget) p = steps-served N w h fit p budget _
+  outcome-served (copyInto M v second) p = unchanged N w h (fit .healthy) (copyInto M v second) _ (no-collection (copyInto M v second) refl)
+  outcome-served (copyFrom K u first) p = copy-served N w h (fit .healthy .shape) K u first p
 
   pub answer-served : (c : Call) → Served N w c h (answer N w h c)
   answer-served c =
-      answer-either N w h c (λ x. Served N w c h x) (refused-served N w h (fit .healthy) c) (λ e. outcome-served c (passed N w h c e))
+      answer-either N w h c (λ x. Served N w c h x) (refused-served N w h (fit .healthy) c _) (λ e. outcome-served c (passed N w h c e))
 
 -- and it leaves the memory fit
 pub answer-fit : (N w : ℕ) (h : Memory) → Fit N w h → (c : Call) → Fit N w (answer N w h c .1)

@@ -17,9 +17,10 @@ use Rattle.rules.specs.Steps.{storeRootShading, storeCellShading, allocateShadi
 use Rattle.rules.specs.Calls.{Call, format, check, collect, freeBlocks, allocate, storeRoot, storeCell, look, returnRoots, openCollection, takeSteps}
 use Rattle.rules.specs.Calls.{allocateData, writeNumber, readNumber, writeReason, writeShape, allocated, Answer}
 use Rattle.rules.specs.Calls.{reply, ownRefusals, refusals, refusedWith, refused, settled, freeing, outcome, answer}
+use Rattle.rules.specs.Calls.{copyFrom, copyInto, damageTold}
 use Rattle.types.specs.declared.Reply.{Reply}
 use Rattle.rules.proofs.Unread.{store-root-aside, store-cell-aside, return-aside, allocate-aside, collect-beside, open-aside, steps-aside}
-use Rattle.rules.proofs.Unread.{stepped-aside, sentence-aside, shape-aside}
+use Rattle.rules.proofs.Unread.{stepped-aside, sentence-aside, shape-aside, laid-aside, copied-aside}
 use Rattle.theory.specs.Words.{heapOf}
 use Rattle.theory.specs.Statements.{WaitingUnread}
 use Rattle.theory.proofs.Memories.TidyHeap.{waiting-untidy}
@@ -33,7 +34,7 @@ module _ (N w : ℕ) (h : Memory) (x : List ℕ) (same-length : length x ≡ len
   abbrev g : Memory
   g = withWaiting x h
 
-  same-shape : shaped N w g ≡ shaped N w h
+  pub same-shape : shaped N w g ≡ shaped N w h
   same-shape =
       ap
       (λ (n : ℕ).
@@ -41,7 +42,7 @@ module _ (N w : ℕ) (h : Memory) (x : List ℕ) (same-length : length x ≡ len
       (length (h .d)) (length (h .marks)) (length (h .list)))
       same-length
 
-  same-damage : damage N w g ≡ damage N w h
+  pub same-damage : damage N w g ≡ damage N w h
   unfolding damage endOnFree openEnd unaligned badCell badRoot badCount strayData
   same-damage = refl
 
@@ -67,14 +68,16 @@ module _ (N w : ℕ) (h : Memory) (x : List ℕ) (same-length : length x ≡ len
   same-own (writeShape room) = rw (shape-aside N x h)
   same-own openCollection = refl
   same-own (takeSteps budget) = refl
+  same-own (copyFrom K u first) = refl
+  same-own (copyInto M v second) = rw (laid-aside N x h M)
 
   same-number : (c : Call) → refusedWith N w g c ≡ refusedWith N w h c
   unfolding refusedWith refusals
   same-number c = rw (same-shape, same-damage, waiting-untidy N x h, same-own c)
 
-  refused-alike : (number : ℕ) → Alike (refused N w g number) (refused N w h number)
+  refused-alike : (c : Call) (number : ℕ) → Alike (refused (damageTold N w g c) g number) (refused (damageTold N w h c) h number)
   unfolding damage endOnFree openEnd unaligned badCell badRoot badCount strayData
-  refused-alike number = record { reply-is = refl; heap-is = refl }
+  refused-alike c number = record { reply-is = refl; heap-is = refl }
 
   freeing-alike : (p q : Memory) (second : ℕ) → p ≡ withWaiting x q → Alike (freeing N g p second) (freeing N h q second)
   unfolding freeing
@@ -91,6 +94,8 @@ module _ (N w : ℕ) (h : Memory) (x : List ℕ) (same-length : length x ≡ len
   outcome-alike : (c : Call) → Alike (outcome N w g c) (outcome N w h c)
   unfolding outcome progressOf isListed
   outcome-alike format = record { reply-is = refl; heap-is = refl }
+  outcome-alike (copyInto M v second) = record { reply-is = ap (λ (k : Memory). reply 0 (M - zeros (k .a)) 0) (copied-aside N x h M v); heap-is = refl }
+  outcome-alike (copyFrom K u first) = record { reply-is = refl; heap-is = refl }
   outcome-alike check = unchanged-alike (reply 0 0 0)
   outcome-alike freeBlocks = unchanged-alike (reply 0 (zeros (h .a)) 0)
   outcome-alike collect = freeing-alike (collected N w g) (collected N w h) 0 (collect-beside N w (withWaiting x) h)
@@ -127,14 +132,15 @@ module _ (N w : ℕ) (h : Memory) (x : List ℕ) (same-length : length x ≡ len
   unfolding answer
   answer-alike c =
       let number : ℕ = refusedWith N w h c in
-      subst (λ (k : ℕ). Alike (elim (eqb k 0) [ true ↦ outcome N w g c | false ↦ refused N w g k ]) (answer N w h c)) (sym (same-number c))
+      subst (λ (k : ℕ). Alike (elim (eqb k 0) [ true ↦ outcome N w g c | false ↦ refused (damageTold N w g c) g k ]) (answer N w h c)) (sym (same-number c))
       (go (eqb number 0) number)
     where
       go :
           (t : Bool) (k : ℕ)
-          → Alike (elim t [ true ↦ outcome N w g c | false ↦ refused N w g k ]) (elim t [ true ↦ outcome N w h c | false ↦ refused N w h k ])
+          → Alike (elim t [ true ↦ outcome N w g c | false ↦ refused (damageTold N w g c) g k ])
+          (elim t [ true ↦ outcome N w h c | false ↦ refused (damageTold N w h c) h k ])
       go true k = outcome-alike c
-      go false k = refused-alike k
+      go false k = refused-alike c k
 
 pub waiting-unread : WaitingUnread
 waiting-unread N w h g same-heap same-length call =

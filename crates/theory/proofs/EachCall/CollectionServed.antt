@@ -145,5 +145,5 @@ module _ (N w : ℕ) (h : Memory) (healthy : Healthy N w h) where
             after-aligned;
         no-early-free = led-stays;
         collects = λ _ accepted. exact;
-        sticks = λ b n was is low top. absurd (unstuck b (was .first) (is .first) low top);
+        sticks = λ living b n was is low top. absurd (unstuck b (was .first) (is .first) low top);
       }

@@ -7,6 +7,7 @@ use native.Mathlib.Omega.{arith}
 use Rattle.rules.specs.Heap.{Memory}
 use Rattle.rules.specs.Calls.{format, check, collect, freeBlocks, allocate, storeRoot, storeCell, look, returnRoots, allocateData, writeNumber, readNumber, writeReason, writeShape}
 use Rattle.rules.specs.Calls.{openCollection, takeSteps}
+use Rattle.rules.specs.Calls.{copyFrom, copyInto}
 use Rattle.rules.specs.Calls.{Call, ownRefusals, refusals, refusedWith, answer}
 use Rattle.rules.proofs.Tests.{Each, done, also, first-other}
 use Rattle.rules.proofs.Replies.{number-is}
@@ -46,4 +47,9 @@ five-to-allocations N w h check e = absurd (not-five N w h check done e)
 five-to-allocations N w h collect e = absurd (not-five N w h collect (also (omega arith) done) e)
 five-to-allocations N w h openCollection e = absurd (not-five N w h openCollection (also (omega arith) done) e)
 five-to-allocations N w h (takeSteps budget) e = absurd (not-five N w h (takeSteps budget) (also (omega arith) done) e)
+five-to-allocations N w h (copyInto M v second) e = absurd (not-five N w h (copyInto M v second) (also (omega arith) (also (omega arith) done)) e)
+five-to-allocations N w h (copyFrom K u first) e =
+    absurd
+    (not-five N w h (copyFrom K u first)
+    (also (omega arith) (also (omega arith) (also (omega arith) (also (omega arith) (also (omega arith) done))))) e)
 five-to-allocations N w h freeBlocks e = absurd (not-five N w h freeBlocks done e)

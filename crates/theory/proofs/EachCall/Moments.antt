@@ -22,13 +22,14 @@ use Rattle.rules.specs.Collection.{collected}
 use Rattle.rules.specs.Steps.{isOpen}
 use Rattle.rules.specs.Calls.{Call, format, check, collect, freeBlocks, allocate, storeRoot, storeCell, look, returnRoots, openCollection, takeSteps}
 use Rattle.rules.specs.Calls.{allocateData, writeNumber, readNumber, writeReason, writeShape, allocateAs, Answer}
+use Rattle.rules.specs.Calls.{copyFrom, copyInto}
 use Rattle.rules.specs.Calls.{reply, testsHeap, ownRefusals, settled, freeing, outcome, answer}
 use Rattle.types.specs.declared.Reply.{Reply}
 use Rattle.rules.proofs.Tests.{test-cases, first-found}
 use Rattle.rules.proofs.Replies.{accepted-none, accepted-outcome, Passed, passed}
 use Rattle.rules.proofs.Objects.{first-facts}
 use Rattle.rules.proofs.Tabulate.{length-tabulate}
-use Rattle.theory.specs.Words.{Object}
+use Rattle.theory.specs.Words.{Object, copiedOver}
 use Rattle.theory.specs.Stuck.{writes, Wrote}
 use Rattle.theory.specs.Moments.{counted, BecameStuck, Tells, StuckTold}
 use Rattle.theory.proofs.Maps.Extents.{sizesOf, length-sizes-of, sized-first}
@@ -383,9 +384,10 @@ module _ (N w : ℕ) (h : Memory) (fit : Fit N w h) where
 
   pub none-untold :
       (call : Call) (b n : ℕ) → let x = answer N w h call in
-      Object N h b n → Object N (x .1) b n → countOf N w h b < capacity w → countOf N w (x .1) b ≡ capacity w → x .0 .second ≡ 1
+      copiedOver call (x .0) ≡ false → Object N h b n → Object N (x .1) b n → countOf N w h b < capacity w
+      → countOf N w (x .1) b ≡ capacity w → x .0 .second ≡ 1
   unfolding writes
-  none-untold call b n was is low top = go call was is low top (answer-served N w h fit call .sticks b n was is low top)
+  none-untold call b n living was is low top = go call was is low top (answer-served N w h fit call .sticks living b n was is low top)
     where
       go : (c : Call) → let x = answer N w h c in
           Object N h b n → Object N (x .1) b n → countOf N w h b < capacity w → countOf N w (x .1) b ≡ capacity w
@@ -414,6 +416,8 @@ module _ (N w : ℕ) (h : Memory) (fit : Fit N w h) where
       go (writeShape room) was is low top wrote = absurd (omega (arith, wrote .reference))
       go openCollection was is low top wrote = absurd (omega (arith, wrote .reference))
       go (takeSteps budget) was is low top wrote = absurd (omega (arith, wrote .reference))
+      go (copyInto M v second) was is low top wrote = absurd (omega (arith, wrote .reference))
+      go (copyFrom K u first) was is low top wrote = absurd (omega (arith, wrote .reference))
 
   -- ---- the collection
 
@@ -422,7 +426,7 @@ module _ (N w : ℕ) (h : Memory) (fit : Fit N w h) where
   unfolding outcome freeing Passed
   accepted-none-stuck none b was low =
       let left : Memory = settled N (collected N w h) in
-      let answered = ap (λ (x : Answer). countOf N w (x .1) b) (fit-accepted N w h fit collect none) in
+      let answered = ap (λ (x : Answer). countOf N w (x .1) b) (fit-accepted N w h fit collect refl none) in
       let bounded = count-lt (N / 8) w (left .counts) b in
       elim (test-cases (isFirst N left b)) [
         | inl is ↦ elim (ℕ-discrete (countOf N w left b) (capacity w)) [
@@ -446,7 +450,7 @@ module _ (N w : ℕ) (h : Memory) (fit : Fit N w h) where
   collection-sticks-none b was low =
       elim (test-cases (isOpen N h)) [
         | inl e ↦
-            let refused = fit-refused N w h fit collect (λ z. omega (arith, first-found 14 (isOpen N h) [] e, z)) in
+            let refused = fit-refused N w h fit collect refl (λ z. omega (arith, first-found 14 (isOpen N h) [] e, z)) in
             rw (ap (λ (x : Answer). countOf N w (x .1) b) refused) low
         | inr e ↦ accepted-none-stuck e b was low
       ]

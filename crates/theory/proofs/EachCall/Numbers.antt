@@ -11,7 +11,7 @@ use lib.Seq.{getD-set-same}
 use borrow.Author.Tests.{lt-ltb, not-true}
 use Rattle.rules.specs.Tools.{firstNumber}
 use Rattle.rules.specs.Heap.{Memory, withCells, isFirst, sizeAt, isRef, isData}
-use Rattle.rules.specs.Calls.{Call, storeCell, writeNumber, readNumber, Answer, reply, cellRefusals, ownRefusals, outcome, answer}
+use Rattle.rules.specs.Calls.{Call, storeCell, writeNumber, readNumber, Answer, reply, cellRefusals, Alone, ownRefusals, outcome, answer}
 use Rattle.rules.proofs.Tests.{Each, done, also, first-past, first-found, first-other}
 use Rattle.rules.proofs.Replies.{number-is, accepted-none, accepted-outcome, Passed, passed}
 use Rattle.theory.specs.Words.{Object}
@@ -67,7 +67,7 @@ module _ (N w : ℕ) (h : Memory) (fit : Fit N w h) (at j x : ℕ) (first : isFi
         one-cell = refl;
         same-references = number-references N w h (fit .healthy) at j x first l made;
         read-back =
-            ap (λ (y : Answer). y .0) (fit-accepted N w left left-fit (readNumber at j) (first, l, made))
+            ap (λ (y : Answer). y .0) (fit-accepted N w left left-fit (readNumber at j) refl (first, l, made))
             ∙ ap (λ (v : ℕ). reply 0 v 0)
             (getD-set-same (h .cells) (4 * at + j) x 0
             (omega (arith, cell-below N w h (fit .healthy) at j first l, fit .healthy .shape .length-cells)));
@@ -94,10 +94,10 @@ not-first t = let both = twelve-first (not t) [] done in (λ e. not-true t (both
 
 module _ (N w : ℕ) (h : Memory) (fit : Fit N w h) (at j : ℕ) (first : isFirst N h at ≡ true) (l : j < 4 * sizeAt N h at) where
   -- where 6 and 7 don't apply, what comes then decides
-  past-seven : (c : Call) (more : List (ℕ × Bool)) → ownRefusals N h c ≡ cellRefusals N h at j more
+  past-seven : (c : Call) (more : List (ℕ × Bool)) → Alone c → ownRefusals N h c ≡ cellRefusals N h at j more
       → answer N w h c .0 .number ≡ firstNumber more
-  past-seven c more own =
-      number-is N w h c ∙ fit-number N w h fit c ∙ ap firstNumber own
+  past-seven c more alone own =
+      number-is N w h c ∙ fit-number N w h fit c alone ∙ ap firstNumber own
       ∙ first-past 6 (not (isFirst N h at)) _ (ap not first)
       ∙ first-past 7 (not (ltb j (4 * sizeAt N h at))) _ (ap not (lt-ltb j (4 * sizeAt N h at) l))
 
@@ -106,9 +106,9 @@ module _ (N w : ℕ) (h : Memory) (fit : Fit N w h) (at j : ℕ) (first : isFirs
   twelve =
       record {
         reference-store = λ v.
-            rw (past-seven (storeCell at j v) ((12, isData (h .d) at) ∷ (8, not (isRef N h v)) ∷ []) refl)
+            rw (past-seven (storeCell at j v) ((12, isData (h .d) at) ∷ (8, not (isRef N h v)) ∷ []) refl refl)
             (twelve-first (isData (h .d) at) ((8, not (isRef N h v)) ∷ []) (also (omega arith) done));
         number-write = λ x.
-            rw (past-seven (writeNumber at j x) ((12, not (isData (h .d) at)) ∷ []) refl) (not-first (isData (h .d) at));
-        number-read = rw (past-seven (readNumber at j) ((12, not (isData (h .d) at)) ∷ []) refl) (not-first (isData (h .d) at));
+            rw (past-seven (writeNumber at j x) ((12, not (isData (h .d) at)) ∷ []) refl refl) (not-first (isData (h .d) at));
+        number-read = rw (past-seven (readNumber at j) ((12, not (isData (h .d) at)) ∷ []) refl refl) (not-first (isData (h .d) at));
       }

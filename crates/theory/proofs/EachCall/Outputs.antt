@@ -14,7 +14,7 @@ use Rattle.rules.specs.Tools.{firstNumber}
 use Rattle.rules.specs.Heap.{Memory, isFirst}
 use Rattle.rules.specs.Shape.{shapeOf}
 use Rattle.rules.specs.Sentence.{sentenceFor}
-use Rattle.rules.specs.Calls.{Call, writeReason, writeShape, Answer, reply, accepted, ownRefusals, refused, outcome, answer}
+use Rattle.rules.specs.Calls.{Call, writeReason, writeShape, Answer, reply, accepted, Alone, ownRefusals, refused, outcome, answer}
 use Rattle.rules.specs.Promise.{Promise, OutputPromise, outputAfter}
 use Rattle.rules.proofs.Tests.{first-past, first-found}
 use Rattle.rules.proofs.Replies.{number-is, accepted-none, accepted-outcome, answer-either, Passed, passed}
@@ -76,11 +76,11 @@ shape-given N w h out reply after left p =
 
 -- ---- code that keeps the promise, on an undamaged heap
 
-module _ (N w : ℕ) (h : Memory) (u : Undamaged N w h) (c : Call) (text out : List ℕ) (r : Reply) where
+module _ (N w : ℕ) (h : Memory) (u : Undamaged N w h) (c : Call) (alone : Alone c) (text out : List ℕ) (r : Reply) where
   pub output-refused : (n : ℕ) → n ≢ 0 → firstNumber (ownRefusals N h c) ≡ n → r ≡ reply n 0 0 → OutputPromise N w c text h out r h out
   unfolding outputAfter
   output-refused n some number is =
-      let answered = fit-refused N w h (undamaged-fit N w h u) c (λ z. some (sym number ∙ z)) in
+      let answered = fit-refused N w h (undamaged-fit N w h u) c alone (λ z. some (sym number ∙ z)) in
       record {
         heap = record {
           reply-is = is ∙ ap (λ (k : ℕ). reply k 0 0) (sym number) ∙ sym (ap (λ (y : Answer). y .0) answered);
@@ -93,7 +93,7 @@ module _ (N w : ℕ) (h : Memory) (u : Undamaged N w h) (c : Call) (text out : L
       → r ≡ reply 0 end 0 → OutputPromise N w c text h out r h left
   unfolding outputAfter
   output-accepted left end passed gives put is =
-      let answered = fit-accepted N w h (undamaged-fit N w h u) c passed ∙ gives in
+      let answered = fit-accepted N w h (undamaged-fit N w h u) c alone passed ∙ gives in
       let plain : 0 + length text ≡ length text = omega arith in
       record {
         heap = record {
@@ -128,7 +128,7 @@ module _ (N w : ℕ) (h : Memory) (fit : Fit N w h) (room : ℕ) where
   unfolding ownRefusals
   fifteen at first =
       let number : answer N w h (writeReason at room) .0 .number ≡ firstNumber ((15, ltb room (length (sentenceFor N h at))) ∷ []) =
-      number-is N w h (writeReason at room) ∙ fit-number N w h fit (writeReason at room)
+      number-is N w h (writeReason at room) ∙ fit-number N w h fit (writeReason at room) refl
       ∙ first-past 6 (not (isFirst N h at)) _ (ap not first) in
       record {
         too-short = rw number (last-short 15 room (length (sentenceFor N h at)) (omega arith));
@@ -139,7 +139,7 @@ module _ (N w : ℕ) (h : Memory) (fit : Fit N w h) (room : ℕ) where
   unfolding ownRefusals
   sixteen =
       let number : answer N w h (writeShape room) .0 .number ≡ firstNumber ((16, ltb room (length (shapeOf N h))) ∷ []) =
-      number-is N w h (writeShape room) ∙ fit-number N w h fit (writeShape room) in
+      number-is N w h (writeShape room) ∙ fit-number N w h fit (writeShape room) refl in
       record {
         too-short = rw number (last-short 16 room (length (shapeOf N h)) (omega arith));
         long-enough = rw number (last-fits 16 room (length (shapeOf N h)) (omega arith));

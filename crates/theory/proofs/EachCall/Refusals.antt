@@ -4,6 +4,7 @@ use mathlib.Core.Path.{_≡_, refl, sym, ap, _∙_}
 use mathlib.Core.Logic.{_≢_, inl, inr}
 use mathlib.Core.Bool.{Bool, true, false, not, _&&_, _||_, true≢false}
 use mathlib.Core.List.{[], _∷_}
+use mathlib.Core.Option.{Option·some-ne-none}
 use Prim.Native.Nat.{ℕ, _+_, _-_, _*_, _<_}
 use native.Mathlib.Omega.{arith}
 use lib.Dec.{leb, eqb}
@@ -15,10 +16,10 @@ use Rattle.rules.specs.Damage.{damage}
 use Rattle.rules.specs.Sections.{staleFigures}
 use Rattle.rules.specs.Steps.{names, isOpen, isMarked, isListed, badNext, badPlace, strayMark, rootMissed, cellMissed, isUntidy}
 use Rattle.rules.specs.Calls.{format, check, collect, freeBlocks, allocate, storeRoot, storeCell, look, returnRoots, allocateData, writeNumber, readNumber, writeReason, writeShape}
-use Rattle.rules.specs.Calls.{openCollection, takeSteps, Call, testsHeap, ownRefusals, refusals, refusedWith, answer}
+use Rattle.rules.specs.Calls.{openCollection, takeSteps, copyFrom, copyInto, Call, testsHeap, Alone, otherShaped, ownRefusals, refusals, refusedWith, answer}
 use Rattle.rules.proofs.Tests.{Each, done, also, test-cases, and-true, true-and, and-false, false-and, or-true, true-or, some-true, true-some}
 use Rattle.rules.proofs.Tests.{first-past, first-found, first-other, first-after}
-use Rattle.rules.proofs.Replies.{number-is, own-number}
+use Rattle.rules.proofs.Replies.{number-is, alone-shaped, own-number}
 use Rattle.theory.specs.Statements.{Intact, Undamaged}
 use Rattle.theory.specs.Refusals.{Untidy, not-rising, no-first-block, unmarked-listed, stray-mark, root-missed, cell-missed, mark-left, place-left}
 use Rattle.theory.specs.Refusals.{ThirteenExactly, OutOfTurn, step, opening, collection, FourteenExactly}
@@ -236,10 +237,10 @@ module _ (N w : ℕ) (h : Memory) where
       × (firstNumber ((13, testsHeap c && isUntidy N h) ∷ ownRefusals N h c) ≡ n)
   unfolding refusedWith refusals
   heap-past n c l e =
-      let shape = first-after n 1 (not (shaped N w h)) _ (omega arith) (sym (number-is N w h c) ∙ e) in
+      let shape = first-after n 1 (not (otherShaped h c && shaped N w h)) _ (omega arith) (sym (number-is N w h c) ∙ e) in
       let kind = first-after n 2 (testsHeap c && not (eqb (damage N w h) 0)) _ (omega arith) (shape .1) in
       let list = first-after n 11 (testsHeap c && stale) _ (omega arith) (kind .1) in
-      (not-false (shaped N w h) (shape .0), kind .0, list .0, list .1)
+      (and-true (otherShaped h c) (shaped N w h) (not-false (otherShaped h c && shaped N w h) (shape .0)) .1, kind .0, list .0, list .1)
 
   -- .. by a call that tests the heap
   intact : (c : Call) → testsHeap c ≡ true → shaped N w h ≡ true → testsHeap c && not (eqb (damage N w h) 0) ≡ false → Intact N w h
@@ -253,32 +254,34 @@ module _ (N w : ℕ) (h : Memory) where
   own-other : (n : ℕ) (c : Call) → 11 < n → Each (λ k. k .0 ≢ n) (ownRefusals N h c) → firstNumber (ownRefusals N h c) ≢ n
   own-other n c l others = first-other n (ownRefusals N h c) (omega arith) others
 
-  own-not-thirteen : (c : Call) → firstNumber (ownRefusals N h c) ≢ 13
+  own-not-thirteen : (c : Call) → Alone c → firstNumber (ownRefusals N h c) ≢ 13
   unfolding ownRefusals
-  own-not-thirteen format = own-other 13 format (omega arith) done
-  own-not-thirteen check = own-other 13 check (omega arith) done
-  own-not-thirteen freeBlocks = own-other 13 freeBlocks (omega arith) done
-  own-not-thirteen collect = own-other 13 collect (omega arith) (also (omega arith) done)
-  own-not-thirteen openCollection = own-other 13 openCollection (omega arith) (also (omega arith) done)
-  own-not-thirteen (takeSteps budget) = own-other 13 (takeSteps budget) (omega arith) (also (omega arith) done)
-  own-not-thirteen (look a) = own-other 13 (look a) (omega arith) (also (omega arith) done)
-  own-not-thirteen (returnRoots chosen) = own-other 13 (returnRoots chosen) (omega arith) (also (omega arith) done)
-  own-not-thirteen (storeRoot r v) = own-other 13 (storeRoot r v) (omega arith) (also (omega arith) (also (omega arith) done))
-  own-not-thirteen (storeCell a j v) =
+  own-not-thirteen format alone = own-other 13 format (omega arith) done
+  own-not-thirteen check alone = own-other 13 check (omega arith) done
+  own-not-thirteen freeBlocks alone = own-other 13 freeBlocks (omega arith) done
+  own-not-thirteen collect alone = own-other 13 collect (omega arith) (also (omega arith) done)
+  own-not-thirteen openCollection alone = own-other 13 openCollection (omega arith) (also (omega arith) done)
+  own-not-thirteen (takeSteps budget) alone = own-other 13 (takeSteps budget) (omega arith) (also (omega arith) done)
+  own-not-thirteen (look a) alone = own-other 13 (look a) (omega arith) (also (omega arith) done)
+  own-not-thirteen (returnRoots chosen) alone = own-other 13 (returnRoots chosen) (omega arith) (also (omega arith) done)
+  own-not-thirteen (storeRoot r v) alone = own-other 13 (storeRoot r v) (omega arith) (also (omega arith) (also (omega arith) done))
+  own-not-thirteen (storeCell a j v) alone =
       own-other 13 (storeCell a j v) (omega arith) (also (omega arith) (also (omega arith) (also (omega arith) (also (omega arith) done))))
-  own-not-thirteen (allocate n r) = own-other 13 (allocate n r) (omega arith) (also (omega arith) (also (omega arith) (also (omega arith) done)))
-  own-not-thirteen (allocateData n r) =
+  own-not-thirteen (allocate n r) alone = own-other 13 (allocate n r) (omega arith) (also (omega arith) (also (omega arith) (also (omega arith) done)))
+  own-not-thirteen (allocateData n r) alone =
       own-other 13 (allocateData n r) (omega arith) (also (omega arith) (also (omega arith) (also (omega arith) done)))
-  own-not-thirteen (writeNumber a j x) =
+  own-not-thirteen (writeNumber a j x) alone =
       own-other 13 (writeNumber a j x) (omega arith) (also (omega arith) (also (omega arith) (also (omega arith) done)))
-  own-not-thirteen (readNumber a j) =
+  own-not-thirteen (readNumber a j) alone =
       own-other 13 (readNumber a j) (omega arith) (also (omega arith) (also (omega arith) (also (omega arith) done)))
-  own-not-thirteen (writeReason a room) = own-other 13 (writeReason a room) (omega arith) (also (omega arith) (also (omega arith) done))
-  own-not-thirteen (writeShape room) = own-other 13 (writeShape room) (omega arith) (also (omega arith) done)
+  own-not-thirteen (writeReason a room) alone = own-other 13 (writeReason a room) (omega arith) (also (omega arith) (also (omega arith) done))
+  own-not-thirteen (writeShape room) alone = own-other 13 (writeShape room) (omega arith) (also (omega arith) done)
+  own-not-thirteen (copyFrom K u first) alone = absurd (Option·some-ne-none _ alone)
+  own-not-thirteen (copyInto M v second) alone = absurd (Option·some-ne-none _ alone)
 
-  thirteen-there : (c : Call) → answer N w h c .0 .number ≡ 13
+  thirteen-there : (c : Call) → Alone c → answer N w h c .0 .number ≡ 13
       → (testsHeap c ≡ true) × Intact N w h × (stale ≡ false) × Untidy N h
-  thirteen-there c e =
+  thirteen-there c alone e =
       let past = heap-past 13 c (omega arith) e in
       let both = and-true (testsHeap c) (isUntidy N h) (thirteen (testsHeap c && isUntidy N h) (past .3)) in
       (both .0, intact c (both .0) (past .0) (past .1), and-false (testsHeap c) stale (past .2) (both .0), clause-met N h (both .1))
@@ -286,13 +289,13 @@ module _ (N w : ℕ) (h : Memory) where
       thirteen : (t : Bool) → firstNumber ((13, t) ∷ ownRefusals N h c) ≡ 13 → t ≡ true
       thirteen true e = refl
       thirteen false e =
-          absurd (own-not-thirteen c (sym (first-past 13 false (ownRefusals N h c) refl) ∙ e))
+          absurd (own-not-thirteen c alone (sym (first-past 13 false (ownRefusals N h c) refl) ∙ e))
 
-  thirteen-back : (c : Call) → testsHeap c ≡ true → Intact N w h → stale ≡ false → Untidy N h → answer N w h c .0 .number ≡ 13
+  thirteen-back : (c : Call) → Alone c → testsHeap c ≡ true → Intact N w h → stale ≡ false → Untidy N h → answer N w h c .0 .number ≡ 13
   unfolding refusedWith refusals
-  thirteen-back c tests u fresh met =
+  thirteen-back c alone tests u fresh met =
       number-is N w h c
-      ∙ first-past 1 (not (shaped N w h)) _ (ap not (u .right-shape))
+      ∙ first-past 1 (not (otherShaped h c && shaped N w h)) _ (ap not (true-and (otherShaped h c) (shaped N w h) (alone-shaped h c alone) (u .right-shape)))
       ∙ first-past 2 (testsHeap c && not (eqb (damage N w h) 0)) _ (false-and (testsHeap c) _ (λ _. ap not (eq-eqb (damage N w h) 0 (u .no-damage))))
       ∙ first-past 11 (testsHeap c && stale) _ (false-and (testsHeap c) stale (λ _. fresh))
       ∙ first-found 13 (testsHeap c && isUntidy N h) _
@@ -324,27 +327,29 @@ module _ (N w : ℕ) (h : Memory) where
       let marks = first-after 14 13 (testsHeap c && isUntidy N h) _ (omega arith) (past .3) in
       own-other 14 c (omega arith) others (marks .1)
 
-  fourteen-there : (c : Call) → answer N w h c .0 .number ≡ 14 → Undamaged N w h × OutOfTurn N h c
+  fourteen-there : (c : Call) → Alone c → answer N w h c .0 .number ≡ 14 → Undamaged N w h × OutOfTurn N h c
   unfolding ownRefusals
-  fourteen-there collect e = let p = past-thirteen collect refl e in (p .0, collection (fourteen-alone (isOpen N h) (p .1)))
-  fourteen-there openCollection e = let p = past-thirteen openCollection refl e in (p .0, opening (fourteen-alone (isOpen N h) (p .1)))
-  fourteen-there (takeSteps budget) e =
+  fourteen-there collect alone e = let p = past-thirteen collect refl e in (p .0, collection (fourteen-alone (isOpen N h) (p .1)))
+  fourteen-there openCollection alone e = let p = past-thirteen openCollection refl e in (p .0, opening (fourteen-alone (isOpen N h) (p .1)))
+  fourteen-there (takeSteps budget) alone e =
       let p = past-thirteen (takeSteps budget) refl e in
       (p .0, step budget (not-true (isOpen N h) (fourteen-alone (not (isOpen N h)) (p .1))))
-  fourteen-there format e = absurd (never format done e)
-  fourteen-there check e = absurd (never check done e)
-  fourteen-there freeBlocks e = absurd (never freeBlocks done e)
-  fourteen-there (look a) e = absurd (never (look a) (also (omega arith) done) e)
-  fourteen-there (returnRoots chosen) e = absurd (never (returnRoots chosen) (also (omega arith) done) e)
-  fourteen-there (storeRoot r v) e = absurd (never (storeRoot r v) (also (omega arith) (also (omega arith) done)) e)
-  fourteen-there (storeCell a j v) e =
+  fourteen-there format alone e = absurd (never format done e)
+  fourteen-there check alone e = absurd (never check done e)
+  fourteen-there freeBlocks alone e = absurd (never freeBlocks done e)
+  fourteen-there (look a) alone e = absurd (never (look a) (also (omega arith) done) e)
+  fourteen-there (returnRoots chosen) alone e = absurd (never (returnRoots chosen) (also (omega arith) done) e)
+  fourteen-there (storeRoot r v) alone e = absurd (never (storeRoot r v) (also (omega arith) (also (omega arith) done)) e)
+  fourteen-there (storeCell a j v) alone e =
       absurd (never (storeCell a j v) (also (omega arith) (also (omega arith) (also (omega arith) (also (omega arith) done)))) e)
-  fourteen-there (allocate n r) e = absurd (never (allocate n r) (also (omega arith) (also (omega arith) (also (omega arith) done))) e)
-  fourteen-there (allocateData n r) e = absurd (never (allocateData n r) (also (omega arith) (also (omega arith) (also (omega arith) done))) e)
-  fourteen-there (writeNumber a j x) e = absurd (never (writeNumber a j x) (also (omega arith) (also (omega arith) (also (omega arith) done))) e)
-  fourteen-there (readNumber a j) e = absurd (never (readNumber a j) (also (omega arith) (also (omega arith) (also (omega arith) done))) e)
-  fourteen-there (writeReason a room) e = absurd (never (writeReason a room) (also (omega arith) (also (omega arith) done)) e)
-  fourteen-there (writeShape room) e = absurd (never (writeShape room) (also (omega arith) done) e)
+  fourteen-there (allocate n r) alone e = absurd (never (allocate n r) (also (omega arith) (also (omega arith) (also (omega arith) done))) e)
+  fourteen-there (allocateData n r) alone e = absurd (never (allocateData n r) (also (omega arith) (also (omega arith) (also (omega arith) done))) e)
+  fourteen-there (writeNumber a j x) alone e = absurd (never (writeNumber a j x) (also (omega arith) (also (omega arith) (also (omega arith) done))) e)
+  fourteen-there (readNumber a j) alone e = absurd (never (readNumber a j) (also (omega arith) (also (omega arith) (also (omega arith) done))) e)
+  fourteen-there (writeReason a room) alone e = absurd (never (writeReason a room) (also (omega arith) (also (omega arith) done)) e)
+  fourteen-there (writeShape room) alone e = absurd (never (writeShape room) (also (omega arith) done) e)
+  fourteen-there (copyFrom K u first) alone e = absurd (Option·some-ne-none _ alone)
+  fourteen-there (copyInto M v second) alone e = absurd (Option·some-ne-none _ alone)
 
   fourteen-own : {c : Call} → OutOfTurn N h c → firstNumber (ownRefusals N h c) ≡ 14
   unfolding ownRefusals
@@ -352,12 +357,12 @@ module _ (N w : ℕ) (h : Memory) where
   fourteen-own (opening is-open) = first-found 14 (isOpen N h) [] is-open
   fourteen-own (collection is-open) = first-found 14 (isOpen N h) [] is-open
 
-  fourteen-back : (c : Call) → Undamaged N w h → OutOfTurn N h c → answer N w h c .0 .number ≡ 14
-  fourteen-back c u turn =
-      number-is N w h c ∙ own-number N w h c (u .intact .right-shape) (u .intact .no-damage) (u .true-list) (u .tidy) ∙ fourteen-own turn
+  fourteen-back : (c : Call) → Alone c → Undamaged N w h → OutOfTurn N h c → answer N w h c .0 .number ≡ 14
+  fourteen-back c alone u turn =
+      number-is N w h c ∙ own-number N w h c (alone-shaped h c alone) (u .intact .right-shape) (u .intact .no-damage) (u .true-list) (u .tidy) ∙ fourteen-own turn
 
 pub thirteen-exactly : ThirteenExactly
-thirteen-exactly N w h call = (thirteen-there N w h call, λ p. thirteen-back N w h call (p .0) (p .1) (p .2) (p .3))
+thirteen-exactly N w h call alone = (thirteen-there N w h call alone, λ p. thirteen-back N w h call alone (p .0) (p .1) (p .2) (p .3))
 
 pub fourteen-exactly : FourteenExactly
-fourteen-exactly N w h call = (fourteen-there N w h call, λ p. fourteen-back N w h call (p .0) (p .1))
+fourteen-exactly N w h call alone = (fourteen-there N w h call alone, λ p. fourteen-back N w h call alone (p .0) (p .1))

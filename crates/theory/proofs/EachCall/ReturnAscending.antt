@@ -79,7 +79,7 @@ module _ (N w : ℕ) (h : Memory) (chosen : ℕ) where
 
     answered : answer N w last (storeRoot n 0) ≡ freeing N last stored (one (storeSticks N w (last .counts) (getD (last .roots) n 0) 0))
     unfolding outcome Passed
-    answered = fit-accepted N w last fit (storeRoot n 0) (l, none-ref N last)
+    answered = fit-accepted N w last fit (storeRoot n 0) refl (l, none-ref N last)
 
     grows : zeros (last .a) ≤ zeros (stored .a)
     grows =

@@ -41,7 +41,7 @@ clear-answered :
     → answer N w g (storeRoot r 0) ≡ freeing N g (storeRootIn N w g r 0) (one (storeSticks N w (g .counts) (getD (g .roots) r 0) 0))
 unfolding outcome Passed
 clear-answered N w g fit none r l =
-    fit-accepted N w g fit (storeRoot r 0) (l, none-ref N g)
+    fit-accepted N w g fit (storeRoot r 0) refl (l, none-ref N g)
     ∙ ap (λ (k : Memory). freeing N g k (one (storeSticks N w (g .counts) (getD (g .roots) r 0) 0))) (store-root-none N w g none r 0)
 
 -- root i stands in the list
@@ -180,7 +180,7 @@ module _ (N w : ℕ) (h : Memory) (fit : Fit N w h) (chosen : ℕ) where
 
   pub return-refused : (answer N w h (returnRoots chosen) .0 .number ≡ 4) ↔ ((r : ℕ) × (length (h .roots) ≤ r) × (bitOf chosen r ≡ 1))
   unfolding ownRefusals firstNumber
-  return-refused = rw (number-is N w h (returnRoots chosen) ∙ fit-number N w h fit (returnRoots chosen)) (there test refl, back test refl)
+  return-refused = rw (number-is N w h (returnRoots chosen) ∙ fit-number N w h fit (returnRoots chosen) refl) (there test refl, back test refl)
     where
       number : Bool → ℕ
       number t = firstNumber ((4, not t) ∷ [])

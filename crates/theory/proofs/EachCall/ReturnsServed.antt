@@ -98,7 +98,7 @@ module _ (N w : ℕ) (h : Memory) (healthy : Healthy N w h) (chosen : ℕ) where
             subst (λ (m : ℕ). Object N (settled N end) b m) is
             (size-object N (settled N end) (sizesOf N (end .a) (end .b)) (all .healthy .represents) b (λ z. was .1 (sym is ∙ z)));
         collects = no-collection (returnRoots chosen) refl;
-        sticks = λ b n was is low top.
+        sticks = λ living b n was is low top.
             let in-heap : b < N = first-facts N (h .a) (h .b) b (was .first) .inside in
             absurd
             (omega (

@@ -11,8 +11,9 @@ use Rattle.rules.specs.Heap.{Memory, withCells, capacity, countOf, isFirst, siz
 use Rattle.rules.specs.Store.{formatted}
 use Rattle.rules.specs.Calls.{Call, format, check, collect, freeBlocks, allocate, storeRoot, storeCell, look, returnRoots, openCollection, takeSteps}
 use Rattle.rules.specs.Calls.{allocateData, writeNumber, readNumber, writeReason, writeShape, Answer}
+use Rattle.rules.specs.Calls.{copyFrom, copyInto}
 use Rattle.rules.specs.Calls.{reply, accepted, refused, settled}
-use Rattle.theory.specs.Words.{Object, Leads, root, cell, written, stored}
+use Rattle.theory.specs.Words.{Object, Leads, root, cell, written, stored, copiedOver}
 use Rattle.theory.specs.Stuck.{Wrote}
 use Rattle.theory.specs.Demand.{NoEarlyFree, Collects}
 use Rattle.types.specs.declared.Reply.{Reply}
@@ -29,10 +30,12 @@ use Rattle.theory.proofs.Memories.Stores.{cell-of}
 use Rattle.theory.proofs.Memories.ViewRelease.{reshaped, graph-is}
 use Rattle.theory.proofs.Memories.Formatted.{zeros-at, no-object, formatted-healthy}
 
--- the count of an object that stands before and after a call comes to the capacity only by a reference that the call writes
+-- the count of an object that stands before and after a call, not made anew by a copy, comes to the capacity only by a reference that the
+-- call writes
 abbrev pub Sticks : ℕ → ℕ → Call → Memory → Reply → Memory → Type 0
 Sticks N w c h x g =
-    (b n : ℕ) → Object N h b n → Object N g b n → countOf N w h b < capacity w → countOf N w g b ≡ capacity w → Wrote N w b c h x
+    copiedOver c x ≡ false → (b n : ℕ) → Object N h b n → Object N g b n → countOf N w h b < capacity w → countOf N w g b ≡ capacity w
+    → Wrote N w b c h x
 
 -- of another call `Collects` says nothing
 abbrev pub collecting : Call → Bool
@@ -52,6 +55,8 @@ collecting (writeReason a room) = false
 collecting (writeShape room) = false
 collecting openCollection = false
 collecting (takeSteps budget) = false
+collecting (copyFrom K u first) = false
+collecting (copyInto M v second) = false
 
 pub no-collection : {A : Type 0} (c : Call) → collecting c ≡ false → c ≡ collect → A
 no-collection c other is = absurd (true≢false (ap collecting (sym is) ∙ other))
@@ -77,7 +82,7 @@ settled-healthy N w h healthy =
     }
 
 -- where all roots are 0 they lead nowhere
-no-roots : (N : ℕ) (h : Memory) → ((r : ℕ) → getD (h .roots) r 0 ≡ 0) → {b : ℕ} → Leads N h b → ⊥
+pub no-roots : (N : ℕ) (h : Memory) → ((r : ℕ) → getD (h .roots) r 0 ≡ 0) → {b : ℕ} → Leads N h b → ⊥
 no-roots N h empty (root b n r object l e) = omega (arith, empty r)
 no-roots N h empty (cell b n a m j object before owner l e) = no-roots N h empty before
 
@@ -90,11 +95,11 @@ module _ (N w : ℕ) (h : Memory) (healthy : Healthy N w h) where
         keep = healthy;
         no-early-free = λ b n object leads. object;
         collects = collects;
-        sticks = λ b n was is low top. absurd (omega arith);
+        sticks = λ living b n was is low top. absurd (omega arith);
       }
 
-  pub refused-served : (c : Call) (number : ℕ) → number ≢ 0 → Served N w c h (refused N w h number)
-  refused-served c number nonzero = unchanged c _ (λ _ accepted. absurd (nonzero accepted))
+  pub refused-served : (c : Call) (kind number : ℕ) → number ≢ 0 → Served N w c h (refused kind h number)
+  refused-served c kind number nonzero = unchanged c _ (λ _ accepted. absurd (nonzero accepted))
 
   -- ---- a number written into cell j of the data at block a (request U6): no reference changes
 
@@ -137,7 +142,7 @@ module _ (N w : ℕ) (h : Memory) (healthy : Healthy N w h) where
           keep = number-healthy;
           no-early-free = λ b n object leads. record { first = object .first; size = object .size };
           collects = no-collection (writeNumber a j x) refl;
-          sticks = λ b n was is low top. absurd (omega arith);
+          sticks = λ living b n was is low top. absurd (omega arith);
         }
 
   -- ---- the format
@@ -150,5 +155,5 @@ module _ (N w : ℕ) (h : Memory) (healthy : Healthy N w h) where
         no-early-free = λ b n object leads.
             absurd (no-roots N (stored h format (reply 0 0 0)) (λ r. zeros-at (length (h .roots)) r) leads);
         collects = no-collection format refl;
-        sticks = λ b n was is low top. absurd (no-object N w h (healthy .shape) b (is .first));
+        sticks = λ living b n was is low top. absurd (no-object N w h (healthy .shape) b (is .first));
       }

@@ -169,7 +169,7 @@ module _ (N w : ℕ) (c : Call) (h : Memory) (x : Reply) (other : collecting c �
         keep = subst (λ (k : Memory). Healthy N w k) (s .is) (healthy-shading N w g g′ s (served .keep));
         no-early-free = λ b n object leads. let is = served .no-early-free b n object leads in record { first = is .first; size = is .size };
         collects = no-collection c other;
-        sticks = λ b n was is low top. served .sticks b n was (record { first = is .first; size = is .size }) low top;
+        sticks = λ living b n was is low top. served .sticks living b n was (record { first = is .first; size = is .size }) low top;
       })
 
   pub settled-beside : (g g′ : Memory) → Shading N g g′ → Served N w c h (x, settled N g) → Served N w c h (x, settled N g′)
@@ -201,7 +201,7 @@ marked-served N w c h g x other healthy s =
       keep = healthy;
       no-early-free = λ b n object leads. object;
       collects = no-collection c other;
-      sticks = λ b n was is low top. absurd (omega arith);
+      sticks = λ living b n was is low top. absurd (omega arith);
     })
 
 pub marked-settled :
@@ -212,5 +212,5 @@ marked-settled N w c h g x other healthy s =
       keep = settled-healthy N w h healthy;
       no-early-free = λ b n object leads. record { first = object .first; size = object .size };
       collects = no-collection c other;
-      sticks = λ b n was is low top. absurd (omega arith);
+      sticks = λ living b n was is low top. absurd (omega arith);
     })

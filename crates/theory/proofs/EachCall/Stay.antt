@@ -20,8 +20,9 @@ use Rattle.rules.specs.Collection.{marked, collected}
 use Rattle.rules.specs.Steps.{withNone, withProgress, opened, Progress, progressOf, stepsFrom, closed, closes, stepped}
 use Rattle.rules.specs.Calls.{Call, format, check, collect, freeBlocks, allocate, storeRoot, storeCell, look, returnRoots, openCollection, takeSteps}
 use Rattle.rules.specs.Calls.{allocateData, writeNumber, readNumber, writeReason, writeShape, settled, freeing, outcome, answer}
+use Rattle.rules.specs.Calls.{copyFrom, copyInto}
 use Rattle.rules.proofs.Replies.{answer-either, Passed, passed}
-use Rattle.theory.specs.Words.{Object}
+use Rattle.theory.specs.Words.{Object, copiedOver}
 use Rattle.theory.specs.Data.{StaysSo}
 use Rattle.theory.proofs.Maps.Extents.{Represents}
 use Rattle.theory.proofs.Maps.Moves.{clear-of}
@@ -268,42 +269,46 @@ module _ (N w : ℕ) (h : Memory) (fit : Fit N w h) where
   sized : Sized N h
   sized = shape-sized N w h (fit .healthy .shape)
 
-  outcome-stays : (c : Call) → Passed N h c → Stay N w h (fit .healthy) c (outcome N w h c .1)
+  -- a copy into the heap is not asked
+  outcome-stays : (c : Call) → Passed N h c → copiedOver c (outcome N w h c .0) ≡ false → Stay N w h (fit .healthy) c (outcome N w h c .1)
   unfolding outcome freeing Passed
-  outcome-stays format p = λ b n was is. absurd (no-object N w h (fit .healthy .shape) b (is .first))
-  outcome-stays check p = stay-same N w h (fit .healthy) check h refl refl
-  outcome-stays collect p = collect-stays N w h (fit .healthy)
-  outcome-stays freeBlocks p = stay-same N w h (fit .healthy) freeBlocks h refl refl
-  outcome-stays (allocate n r) (low, high, place, found) =
+  outcome-stays format p living = λ b n was is. absurd (no-object N w h (fit .healthy .shape) b (is .first))
+  outcome-stays check p living = stay-same N w h (fit .healthy) check h refl refl
+  outcome-stays collect p living = collect-stays N w h (fit .healthy)
+  outcome-stays freeBlocks p living = stay-same N w h (fit .healthy) freeBlocks h refl refl
+  outcome-stays (allocate n r) (low, high, place, found) living =
       stay-shading N w h (fit .healthy) (allocate n r) _ _ (allocate-shading N w h sized false n r _)
       (allocate-stays N w h (fit .healthy) false (allocate n r) n r _ low place found)
-  outcome-stays (storeRoot r v) (place, ref) =
+  outcome-stays (storeRoot r v) (place, ref) living =
       stay-shading N w h (fit .healthy) (storeRoot r v) _ _ (store-root-shading N w h sized r v)
       (store-root-stays N w h (fit .healthy) r v place ref)
-  outcome-stays (storeCell a j v) (first, place, ordinary, ref) =
+  outcome-stays (storeCell a j v) (first, place, ordinary, ref) living =
       stay-shading N w h (fit .healthy) (storeCell a j v) _ _ (store-cell-shading N w h sized a j v)
       (store-cell-stays N w h (fit .healthy) a j v first place ordinary ref)
-  outcome-stays (look a) p = stay-same N w h (fit .healthy) (look a) h refl refl
-  outcome-stays (returnRoots chosen) p =
+  outcome-stays (look a) p living = stay-same N w h (fit .healthy) (look a) h refl refl
+  outcome-stays (returnRoots chosen) p living =
       stay-shading N w h (fit .healthy) (returnRoots chosen) _ _ (return-shading N w h sized chosen (length (h .roots)))
       (return-stays N w h (fit .healthy) chosen)
-  outcome-stays (allocateData n r) (low, high, place, found) =
+  outcome-stays (allocateData n r) (low, high, place, found) living =
       stay-shading N w h (fit .healthy) (allocateData n r) _ _ (allocate-shading N w h sized true n r _)
       (allocate-stays N w h (fit .healthy) true (allocateData n r) n r _ low place found)
-  outcome-stays (writeNumber a j x) (first, place, made) = number-stays N w h (fit .healthy) a j x first place
-  outcome-stays (readNumber a j) p = stay-same N w h (fit .healthy) (readNumber a j) h refl refl
-  outcome-stays (writeReason a room) p = stay-same N w h (fit .healthy) (writeReason a room) h refl refl
-  outcome-stays (writeShape room) p = stay-same N w h (fit .healthy) (writeShape room) h refl refl
-  outcome-stays openCollection p = open-stays N w h (fit .healthy)
-  outcome-stays (takeSteps budget) is-open =
+  outcome-stays (writeNumber a j x) (first, place, made) living = number-stays N w h (fit .healthy) a j x first place
+  outcome-stays (readNumber a j) p living = stay-same N w h (fit .healthy) (readNumber a j) h refl refl
+  outcome-stays (writeReason a room) p living = stay-same N w h (fit .healthy) (writeReason a room) h refl refl
+  outcome-stays (writeShape room) p living = stay-same N w h (fit .healthy) (writeShape room) h refl refl
+  outcome-stays (copyFrom K u first) p living = absurd (true≢false living)
+  outcome-stays (copyInto M v second) p living = stay-same N w h (fit .healthy) (copyInto M v second) h refl refl
+  outcome-stays openCollection p living = open-stays N w h (fit .healthy)
+  outcome-stays (takeSteps budget) is-open living =
       let reached : Progress = (stepsFrom budget N h (progressOf N h)) .reached in
       steps-stay N w h (fit .healthy) budget reached
       (list-empty N w h (fit .healthy) is-open (fit .tidy) budget reached (steps-from-open N w h (fit .healthy) is-open (fit .tidy) budget .tidy))
 
 pub answer-stays :
-    (N w : ℕ) (h : Memory) → Fit N w h → (c : Call) (b n : ℕ) → let g = answer N w h c .1 in
-    Object N h b n → Object N g b n → StaysSo h g c b n
-answer-stays N w h fit c =
-    answer-either N w h c (λ x. (b n : ℕ) → Object N h b n → Object N (x .1) b n → StaysSo h (x .1) c b n)
-    (λ number nonzero. stay-same N w h (fit .healthy) c h refl refl)
-    (λ e. outcome-stays N w h fit c (passed N w h c e))
+    (N w : ℕ) (h : Memory) → Fit N w h → (c : Call) (b n : ℕ) → let x = answer N w h c in
+    copiedOver c (x .0) ≡ false → Object N h b n → Object N (x .1) b n → StaysSo h (x .1) c b n
+answer-stays N w h fit c b n living =
+    answer-either N w h c
+    (λ x. copiedOver c (x .0) ≡ false → (b n : ℕ) → Object N h b n → Object N (x .1) b n → StaysSo h (x .1) c b n)
+    (λ number nonzero living. stay-same N w h (fit .healthy) c h refl refl)
+    (λ e. outcome-stays N w h fit c (passed N w h c e)) living b n

@@ -73,7 +73,7 @@ module _ (N w : ℕ) (h : Memory) (healthy : Healthy N w h) (marks : List Bool)
             (close-reach N w h healthy marks tidy b
             (leads-reach N h (sizesOf N (h .a) (h .b)) (healthy .represents) (rw is at leads)));
         collects = no-collection (takeSteps budget) refl;
-        sticks = λ b n was is low top.
+        sticks = λ living b n was is low top.
             let in-heap : b < N = first-facts N (h .a) (h .b) b (was .first) .inside in
             let same : count (view N w (unmarkedFreed N w marks h)) b ≡ count after b = ap (λ (k : Graph). count k b) (shows .view-is) in
             absurd

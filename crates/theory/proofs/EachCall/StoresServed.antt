@@ -125,7 +125,7 @@ module _ (N w : ℕ) (h : Memory) (healthy : Healthy N w h) where
         keep = settled-healthy N w h healthy;
         no-early-free = λ b n object leads. record { first = object .first; size = object .size };
         collects = no-collection c other;
-        sticks = λ b n was is low top. absurd (omega arith);
+        sticks = λ living b n was is low top. absurd (omega arith);
       }
 
   -- ---- a root
@@ -171,7 +171,7 @@ module _ (N w : ℕ) (h : Memory) (healthy : Healthy N w h) where
               (rw (length-set (h .roots) r v, ← set-append-left (h .roots) (cellRefs N h) r v l)
               at (leads-reach N (withRoots (set (h .roots) r v) h) (sizesOf N (h .a) (h .b)) (healthy .represents) leads));
           collects = no-collection (storeRoot r v) refl;
-          sticks = λ b n was is low top.
+          sticks = λ living b n was is low top.
               let found =
               store-sticks v ref r (inl l) (changeRoot N w h r v) shows (omega (arith, slots-length N w h healthy))
               (λ e. new (sym (root-slot N h r l) ∙ e)) b n was low top in
@@ -231,7 +231,7 @@ module _ (N w : ℕ) (h : Memory) (healthy : Healthy N w h) where
               (rw cell-slots
               at (leads-reach N (withCells (set (h .cells) c v) h) (sizesOf N (h .a) (h .b)) (healthy .represents) leads));
           collects = no-collection (storeCell a j v) refl;
-          sticks = λ b n was is low top.
+          sticks = λ living b n was is low top.
               let found =
               store-sticks v ref i slot-i (changeCell N w h c v) shows (cell-inside N w h healthy a j first l)
               (λ e. new (sym (cell-read N w h healthy a j first l ordinary) ∙ e)) b n was low top in
@@ -310,7 +310,7 @@ module _ (N w : ℕ) (h : Memory) (healthy : Healthy N w h) where
               at (leads-reach N (withRoots (set (h .roots) root (1 + i)) h) (sizesOf N (h .a) (h .b)) (healthy .represents)
               (subst (λ (k : Memory). Leads N k b) (allocation-written asData (reply 0 i second)) leads))));
           collects = no-collection (allocateAs asData n root) (other-call asData);
-          sticks = λ b m was is low top.
+          sticks = λ living b m was is low top.
               let in-heap : b < N = first-facts N (h .a) (h .b) b (was .first) .inside in
               absurd
               (omega (

@@ -17,6 +17,7 @@ use Rattle.rules.specs.Steps.{isOpen, isUntidy, withNone, withProgress, rootNam
 use Rattle.rules.specs.Steps.{shaded, storeRootShading, storeCellShading, allocateShading, clearShading, returnShading}
 use Rattle.rules.specs.Calls.{Call, format, check, collect, freeBlocks, allocate, storeRoot, storeCell, look, returnRoots, openCollection, takeSteps}
 use Rattle.rules.specs.Calls.{allocateData, writeNumber, readNumber, writeReason, writeShape, settled, freeing, outcome, answer}
+use Rattle.rules.specs.Calls.{copyFrom, copyInto}
 use Rattle.rules.proofs.Tests.{test-cases}
 use Rattle.rules.proofs.Replies.{answer-either, Passed, passed}
 use Rattle.rules.proofs.Unread.{Keeps, store-root-keeps, change-cell-keeps, allocate-keeps, return-keeps, collect-keeps}
@@ -26,6 +27,7 @@ use Rattle.theory.proofs.Memories.Fit.{Fit}
 use Rattle.theory.proofs.Memories.TidyHeap.{tidy-passes, settled-untidy, read-untidy, none-passes, closed-passes}
 use Rattle.theory.proofs.Memories.Scanning.{steps-from-open, opened-tidy}
 use Rattle.theory.proofs.EachCall.Served.{number-references}
+use Rattle.theory.proofs.Copies.Accepted.{copy-fit}
 use Rattle.theory.proofs.EachCall.Open.{Open, root-goes, cell-goes, allocate-goes, return-goes}
 
 -- ---- with none open nothing is marked
@@ -127,6 +129,8 @@ module _ (N w : ℕ) (h : Memory) (fit : Fit N w h) where
   outcome-tidy : (c : Call) → Passed N h c → Tidied (outcome N w h c .1)
   unfolding outcome freeing Passed formatted withNone
   outcome-tidy format p = closed-passes N (formatted N w (length (h .roots)))
+  outcome-tidy (copyInto M v second) p = fit .tidy
+  outcome-tidy (copyFrom K u first) p = copy-fit N w h (fit .healthy .shape) K u first p .tidy
   outcome-tidy check p = fit .tidy
   outcome-tidy freeBlocks p = fit .tidy
   outcome-tidy (look a) p = fit .tidy

@@ -7,6 +7,7 @@ use Rattle.rules.specs.Store.{formatted}
 use Rattle.rules.specs.Steps.{withProgress, opened}
 use Rattle.rules.specs.Calls.{Call, format, check, collect, freeBlocks, allocate, storeRoot, storeCell, look, returnRoots, openCollection, takeSteps}
 use Rattle.rules.specs.Calls.{allocateData, writeNumber, readNumber, writeReason, writeShape, Answer}
+use Rattle.rules.specs.Calls.{copyFrom, copyInto}
 use Rattle.rules.specs.Calls.{testsHeap, freeing, outcome, answer}
 use Rattle.rules.proofs.Replies.{answer-either, accepted-outcome}
 use Rattle.theory.specs.Sections.{ListLeftTrue}
@@ -32,6 +33,8 @@ outcome-listed N w h (writeReason a room) listed = listed refl
 outcome-listed N w h (writeShape room) listed = listed refl
 outcome-listed N w h openCollection listed = listed refl
 outcome-listed N w h (takeSteps budget) listed = refl
+outcome-listed N w h (copyFrom K u first) listed = refl
+outcome-listed N w h (copyInto M v second) listed = listed refl
 
 -- a list that was true is true after every call, a refused one too
 pub answer-listed : (N w : ℕ) (h : Memory) → Listed N h → (c : Call) → Listed N (answer N w h c .1)

@@ -7,7 +7,7 @@ use mathlib.Core.Option.{Option, none, some}
 use Prim.Native.Nat.{ℕ, zero, suc, _+_, _*_, _/_, _%_, _^_, _≤_, _<_}
 use native.Mathlib.Nat.{suc-mul, zero-mul, div-add-mod', le-div-iff-mul-le, mul-mod-left, lt-of-mul-lt-mul-right}
 use native.Mathlib.Numerals.{add-one}
-use native.Mathlib.Decide.{ℕ-discrete}
+use native.Mathlib.Decide.{ℕ-discrete, decLt}
 use native.Mathlib.Omega.{arith}
 use lib.Pow.{pow-pos}
 use Rattle.rules.specs.Heap.{exponent, chunkFree, lowestFrom, lowestFree}
@@ -72,6 +72,21 @@ module _ (N k : ℕ) (a : List ℕ) where
   lowest-some i e = elim lowest-cases [
     | inl f ↦ let q : f .0 ≡ i = cc (f .2) in rw q at (f .1)
     | inr m ↦ let z : _≡_ {A = ℕ} 0 1 = cc (m .1) in absurd (omega arith)
+  ]
+
+  -- one chunk is the lowest
+  not-below : (i j : ℕ) → Lowest N k a i → Lowest N k a j → i < j → ⊥
+  not-below i j p q l =
+      let e : i / 2 ^ k * 2 ^ k ≡ i = omega (arith, div-add-mod' i (2 ^ k), p .aligned) in
+      free-not-used a i (2 ^ k) (p .free) (rw e at (q .lowest (i / 2 ^ k) (omega arith)))
+
+  pub some-lowest : (i : ℕ) → Lowest N k a i → lowestFree N k a ≡ some i
+  some-lowest i p = elim lowest-cases [
+    | inl f ↦ f .2 ∙ ap some (elim (ℕ-discrete (f .0) i) [
+      | yes e ↦ e
+      | no d ↦ elim (decLt (f .0) i) [ yes l ↦ absurd (not-below (f .0) i (f .1) p l) | no l ↦ absurd (not-below i (f .0) p (f .1) (omega arith)) ]
+    ])
+    | inr m ↦ absurd (not-none i p (m .0))
   ]
 
   pub lowest-none : lowestFree N k a ≡ none → NoneFree N k a

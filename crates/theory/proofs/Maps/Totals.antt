@@ -25,6 +25,11 @@ unfoldable pub sum : List ℕ → ℕ
 sum [] = 0
 sum (x ∷ l) = x + sum l
 
+pub sum-none : (n : ℕ) → sum (replicate n 0) ≡ 0
+unfolding sum
+sum-none zero = refl
+sum-none (suc n) = omega (arith, sum-none n)
+
 pub sum-set : (l : List ℕ) (i x : ℕ) → i < length l → sum (set l i x) + getD l i 0 ≡ sum l + x
 unfolding sum
 sum-set [] i x h = absurd (omega arith)

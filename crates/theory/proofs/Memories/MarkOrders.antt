@@ -28,7 +28,7 @@ use Rattle.theory.proofs.Memories.ViewRelease.{Releasing, releasing-nex
 use Rattle.theory.proofs.Memories.Orders.{taken-first, one-end}
 
 -- tests that pass together are equal
-alike : (s t : Bool) → (s ≡ true → t ≡ true) → (t ≡ true → s ≡ true) → s ≡ t
+pub alike : (s t : Bool) → (s ≡ true → t ≡ true) → (t ≡ true → s ≡ true) → s ≡ t
 alike s t there back =
     elim (test-cases s) [ inl e ↦ e ∙ sym (there e) | inr e ↦ e ∙ sym (false-unless t (λ f. true≢false (sym (back f) ∙ e))) ]
 

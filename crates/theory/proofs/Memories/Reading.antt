@@ -48,7 +48,7 @@ pub cleared-out : (cells : List ℕ) (i n j : ℕ) → Outside i n j → getD (c
 cleared-out cells i n j o = ap (λ (l : List ℕ). getD l j 0) (clear-cells cells i n) ∙ stretch-out (λ k. 0) i cells n j o
 
 -- a cell outside an object's cells is one of a block outside its blocks
-blocks-outside : (x n j : ℕ) → Outside (4 * x) (4 * n) j → (j / 4 < x) ⊎ (x + n ≤ j / 4)
+pub blocks-outside : (x n j : ℕ) → Outside (4 * x) (4 * n) j → (j / 4 < x) ⊎ (x + n ≤ j / 4)
 blocks-outside x n j (inl l) = inl (omega arith)
 blocks-outside x n j (inr l) = inr (omega arith)
 

@@ -6,7 +6,7 @@ use Rattle.rules.specs.Heap.{Memory}
 use Rattle.rules.specs.Store.{formatted}
 use Rattle.rules.specs.Steps.{opened, withProgress}
 use Rattle.rules.specs.Calls.{Call, format, check, collect, freeBlocks, allocate, storeRoot, storeCell, look, returnRoots, openCollection, takeSteps}
-use Rattle.rules.specs.Calls.{allocateData, writeNumber, readNumber, writeReason, writeShape, Answer, freeing, outcome, answer}
+use Rattle.rules.specs.Calls.{allocateData, writeNumber, readNumber, writeReason, writeShape, copyFrom, copyInto, Answer, freeing, outcome, answer}
 use Rattle.rules.specs.Promise.{Promise}
 use Rattle.types.specs.declared.Reply.{Reply}
 use Rattle.rules.proofs.Replies.{answer-either}
@@ -35,6 +35,8 @@ module _ {N w : ℕ} {h : Memory} (usable : Usable N w h) where
   outcome-idle (takeSteps budget) = refl
   outcome-idle (writeReason a room) = usable .idle
   outcome-idle (writeShape room) = usable .idle
+  outcome-idle (copyFrom K u first) = refl
+  outcome-idle (copyInto M v second) = usable .idle
 
   answer-idle : (c : Call) → Idle (answer N w h c)
   answer-idle c = answer-either N w h c Idle (λ number nonzero. usable .idle) (λ _. outcome-idle c)

@@ -8,7 +8,7 @@ use Rattle.bitmap.specs.Bit.{one, zeros}
 use Rattle.rules.specs.Heap.{Memory}
 use Rattle.rules.specs.Collection.{collected}
 use Rattle.rules.specs.Steps.{isOpen}
-use Rattle.rules.specs.Calls.{Call, collect, Answer, reply, freeing, settled, outcome, answer}
+use Rattle.rules.specs.Calls.{Call, collect, Answer, reply, Alone, freeing, settled, outcome, answer}
 use Rattle.rules.specs.Promise.{Promise}
 use Rattle.types.specs.declared.Reply.{Reply}
 use Rattle.rules.proofs.Replies.{Passed, outcome-accepts, answer-either}
@@ -17,12 +17,12 @@ use Rattle.theory.specs.Balance.{freedBlocks, inUse, allocates, allocate
 use Rattle.theory.specs.Usable.{Usable, outcomeOf, Worked}
 use Rattle.theory.proofs.Memories.Fit.{Fit}
 use Rattle.theory.proofs.EachCall.Accepted.{fit-accepted, refused-plain}
-use Rattle.theory.proofs.EachCall.Balance.{answer-even}
+use Rattle.theory.proofs.EachCall.Balance.{even-alone}
 use Rattle.theory.proofs.Usable.UsableHeap.{usable-fit}
 
 -- ---- the blocks that a call allocates
 
-pub accepted-allocates : (c : Call) (x : Reply) → x .number ≡ 0 → allocatedBy c x ≡ allocates c
+pub accepted-allocates : (c : Call) (x : Reply) → x .number ≡ 0 → allocatedBy c x ≡ allocates c x
 unfolding allocatedBy
 accepted-allocates c x e = rw (eq-eqb (x .number) 0 e, allocatedBy)
 
@@ -30,31 +30,31 @@ pub refused-allocates : (c : Call) (x : Reply) → (x .number ≡ 0 → ⊥) →
 unfolding allocatedBy
 refused-allocates c x refused = rw (ne-eqb (x .number) 0 refused, allocatedBy)
 
-module _ {N w : ℕ} {h : Memory} (usable : Usable N w h) {c : Call} {x : Reply} {g : Memory} (promise : Promise N w c h x g) where
+-- ---- a call on one heap
+
+module _ {N w : ℕ} {h : Memory} (usable : Usable N w h) {c : Call} (alone : Alone c) {x : Reply} {g : Memory} (promise : Promise N w c h x g) where
   pub call-balance : inUse N h + allocatedBy c x ≡ freedBlocks N h g + inUse N g
-  call-balance = rw (promise .reply-is, promise .after-is) (answer-even N w h (usable-fit usable) c .kept)
+  call-balance = rw (promise .reply-is, promise .after-is) (even-alone N w h (usable-fit usable) c alone)
 
   -- a call that is refused changes no buffer, and its values are 0
   pub refused-keeps : (x .number ≡ 0 → ⊥) → (g ≡ h) × (x .value ≡ 0) × (x .second ≡ 0)
   refused-keeps =
       rw (promise .reply-is, promise .after-is)
       (answer-either N w h c (λ y. (y .0 .number ≡ 0 → ⊥) → (y .1 ≡ h) × (y .0 .value ≡ 0) × (y .0 .second ≡ 0))
-      (λ number nonzero _. (refl, ap (λ (y : Answer). y .0 .value) (refused-plain N w h (usable-fit usable) number), refl))
+      (λ number nonzero _. (refl, ap (λ (y : Answer). y .0 .value) (refused-plain N w h (usable-fit usable) c alone number), refl))
       (λ _ refused. absurd (refused (outcome-accepts N w h c))))
 
--- ---- a refused call
-
-module _ {N w : ℕ} {h : Memory} (usable : Usable N w h) {c : Call} {x : Reply} (promise : Promise N w c h x h) where
+module _ {N w : ℕ} {h : Memory} (usable : Usable N w h) {c : Call} (alone : Alone c) {x : Reply} (promise : Promise N w c h x h) where
   pub worked-refused : (x .number ≡ 0 → ⊥) → Worked N w c h (outcomeOf (x .number) 0 0 false) h
   worked-refused refused =
-      let plain = refused-keeps usable promise refused in
+      let plain = refused-keeps usable alone promise refused in
       record {
         promise =
             record {
               reply-is = (λ i. reply (x .number) (sym (plain .1) i) (sym (plain .2) i)) ∙ promise .reply-is;
               after-is = promise .after-is;
             };
-        freed-is = omega (arith, call-balance usable promise, refused-allocates c x refused);
+        freed-is = omega (arith, call-balance usable alone promise, refused-allocates c x refused);
       }
 
 -- ---- a call that frees: its value is the number of blocks freed
@@ -82,4 +82,4 @@ module _ {N w : ℕ} {h : Memory} {c : Call} (frees : let y = answer N w h c in 
 pub collect-answered :
     {N w : ℕ} {h : Memory} → Fit N w h → isOpen N h ≡ false → answer N w h collect ≡ freeing N h (collected N w h) 0
 unfolding outcome Passed
-collect-answered {N} {w} {h} fit shut = fit-accepted N w h fit collect shut
+collect-answered {N} {w} {h} fit shut = fit-accepted N w h fit collect refl shut

@@ -63,7 +63,7 @@ module _ (N : ℕ) (h : Memory) where
           }
     ]
 
-described-sizes :
+pub described-sizes :
     (N M : ℕ) (h g : Memory) (met met′ : List ℕ) (b c : ℕ) → described N h met b ≡ described M g met′ c
     → (sizeAt N h b ≡ sizeAt M g c) × (bitAt (h .d) b ≡ bitAt (g .d) c)
 unfolding described
@@ -100,7 +100,7 @@ module _ (N M : ℕ) (h g : Memory) where
   abbrev each′ : ℕ → List ℕ
   each′ i = described M g met′ (blockAt met′ (suc i))
 
-  equal-alike : shapeOf N h ≡ shapeOf M g → Alike N h M g
+  pub equal-alike : shapeOf N h ≡ shapeOf M g → Alike N h M g
   unfolding shapeOf
   equal-alike same =
       let count : length (h .roots) ≡ length (g .roots) = cc in
@@ -119,7 +119,7 @@ module _ (N M : ℕ) (h g : Memory) where
       cc (alike .number, alike .roots, objects)
 
 -- equal lists of numbers have equal numbers
-maps-at : (f f′ : ℕ → ℕ) (l l′ : List ℕ) → f 0 ≡ 0 → f′ 0 ≡ 0 → map f l ≡ map f′ l′ → (j : ℕ) → f (getD l j 0) ≡ f′ (getD l′ j 0)
+pub maps-at : (f f′ : ℕ → ℕ) (l l′ : List ℕ) → f 0 ≡ 0 → f′ 0 ≡ 0 → map f l ≡ map f′ l′ → (j : ℕ) → f (getD l j 0) ≡ f′ (getD l′ j 0)
 maps-at f f′ l l′ z z′ same j =
     sym (List·getD-map f l j 0)
     ∙ ap (λ (x : ℕ). getD (map f l) j x) (z ∙ sym z′)
