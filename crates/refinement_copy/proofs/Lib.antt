@@ -1,0 +1,4 @@
+pub mod Planned
+pub mod Routes
+pub mod Filled
+pub mod CopyAnswer
