@@ -7,6 +7,7 @@ ghost use Rattle.replay.specs.Replay.{Replayed};
 use types::Ref;
 use types::Reply;
 
+mod copies;
 mod outputs;
 mod runs;
 mod version;

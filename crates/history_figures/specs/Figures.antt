@@ -23,6 +23,8 @@ use Rattle.rules.specs.Calls.{
   takeSteps,
   writeReason,
   writeShape,
+  copyFrom,
+  copyInto,
 }
 use Rattle.types.specs.declared.Reply.{Reply}
 use Rattle.theory.specs.Words.{Made}
@@ -45,6 +47,10 @@ allocated n t = tally (t .allocations + 1) (t .blocks + n) (max (t .largest) n) 
 abbrev pub collected : Tally → Tally
 collected t = tally (t .allocations) (t .blocks) (t .largest) (t .collections + 1) (t .peak) (t .stuck)
 
+-- n blocks more, by no allocation
+abbrev pub copied : (n : ℕ) → Tally → Tally
+copied n t = tally (t .allocations) (t .blocks + n) (t .largest) (t .collections) (t .peak) (t .stuck)
+
 -- "most blocks in use after any record": n are in use after this one
 abbrev pub used : (n : ℕ) → Tally → Tally
 used n t = tally (t .allocations) (t .blocks) (t .largest) (t .collections) (max (t .peak) n) (t .stuck)
@@ -54,23 +60,26 @@ abbrev pub becameStuck : Tally → Tally
 becameStuck t = tally (t .allocations) (t .blocks) (t .largest) (t .collections) (t .peak) (t .stuck + 1)
 
 -- what an accepted call adds; an allocation of data adds what another adds. A collection in small steps is no full one (request U8).
-unfoldable pub countedIn : Call → Tally → Tally
-countedIn (allocate n r) t = allocated n t
-countedIn collect t = collected t
-countedIn format t = t
-countedIn check t = t
-countedIn freeBlocks t = t
-countedIn (storeRoot r v) t = t
-countedIn (storeCell at j v) t = t
-countedIn (look at) t = t
-countedIn (returnRoots chosen) t = t
-countedIn (allocateData n r) t = allocated n t
-countedIn (writeNumber at j x) t = t
-countedIn (readNumber at j) t = t
-countedIn openCollection t = t
-countedIn (takeSteps budget) t = t
-countedIn (writeReason at room) t = t
-countedIn (writeShape room) t = t
+unfoldable pub countedIn : Call → Reply → Tally → Tally
+countedIn (allocate n r) x t = allocated n t
+countedIn collect x t = collected t
+countedIn format x t = t
+countedIn check x t = t
+countedIn freeBlocks x t = t
+countedIn (storeRoot r v) x t = t
+countedIn (storeCell at j v) x t = t
+countedIn (look at) x t = t
+countedIn (returnRoots chosen) x t = t
+countedIn (allocateData n r) x t = allocated n t
+countedIn (writeNumber at j v) x t = t
+countedIn (readNumber at j) x t = t
+countedIn openCollection x t = t
+countedIn (takeSteps budget) x t = t
+countedIn (writeReason at room) x t = t
+countedIn (writeShape room) x t = t
+-- no record makes a copy (request U14), which would allocate the blocks that it tells of
+countedIn (copyFrom K u first) x t = copied (x .value) t
+countedIn (copyInto M v second) x t = t
 
 -- "Every store and allocation passes the fact on": it is their second value
 unfoldable pub toldStuck : Call → Reply → Bool
@@ -90,13 +99,15 @@ toldStuck openCollection x = false
 toldStuck (takeSteps budget) x = false
 toldStuck (writeReason at room) x = false
 toldStuck (writeShape room) x = false
+toldStuck (copyFrom K u first) x = false
+toldStuck (copyInto M v second) x = false
 
 unfoldable pub momentIn : Bool → Tally → Tally
 momentIn moment t = elim moment [ true ↦ becameStuck t | false ↦ t ]
 
 -- what a call as made adds: a refused one nothing
 unfoldable pub noted : Made → Tally → Tally
-noted m t = elim (eqb (m .reply .number) 0) [ true ↦ momentIn (toldStuck (m .call) (m .reply)) (countedIn (m .call) t) | false ↦ t ]
+noted m t = elim (eqb (m .reply .number) 0) [ true ↦ momentIn (toldStuck (m .call) (m .reply)) (countedIn (m .call) (m .reply) t) | false ↦ t ]
 
 unfoldable pub notedAll : List Made → Tally → Tally
 notedAll [] t = t

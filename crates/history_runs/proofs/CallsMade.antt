@@ -27,8 +27,11 @@ use Rattle.rules.specs.Calls.{
   takeSteps,
   writeReason,
   writeShape,
+  copyFrom,
+  copyInto,
 }
 use Rattle.rules.specs.Calls.{answer, lastMemory}
+use Rattle.types.specs.declared.Reply.{Reply}
 use Rattle.rules.proofs.Shape.{shape-facts}
 use Rattle.theory.specs.Words.{Made, leftBy}
 use Rattle.theory.specs.Demand.{Chain}
@@ -65,24 +68,26 @@ noted-append (m ∷ made) more t = noted-append made more (noted m t)
 
 -- ---- figures: the peak is looked at by no call, and blocks are allocated as the calls say
 
-counted-peak : (c : Call) (p : ℕ) (t : Tally) → countedIn c (withPeak p t) ≡ withPeak p (countedIn c t)
+counted-peak : (c : Call) (x : Reply) (p : ℕ) (t : Tally) → countedIn c x (withPeak p t) ≡ withPeak p (countedIn c x t)
 unfolding countedIn
-counted-peak (allocate n r) p t = refl
-counted-peak collect p t = refl
-counted-peak format p t = refl
-counted-peak check p t = refl
-counted-peak freeBlocks p t = refl
-counted-peak (storeRoot r v) p t = refl
-counted-peak (storeCell a j v) p t = refl
-counted-peak (look a) p t = refl
-counted-peak (returnRoots chosen) p t = refl
-counted-peak (allocateData n r) p t = refl
-counted-peak (writeNumber a j x) p t = refl
-counted-peak (readNumber a j) p t = refl
-counted-peak openCollection p t = refl
-counted-peak (takeSteps budget) p t = refl
-counted-peak (writeReason at room) p t = refl
-counted-peak (writeShape room) p t = refl
+counted-peak (allocate n r) x p t = refl
+counted-peak collect x p t = refl
+counted-peak format x p t = refl
+counted-peak check x p t = refl
+counted-peak freeBlocks x p t = refl
+counted-peak (storeRoot r v) x p t = refl
+counted-peak (storeCell a j v) x p t = refl
+counted-peak (look a) x p t = refl
+counted-peak (returnRoots chosen) x p t = refl
+counted-peak (allocateData n r) x p t = refl
+counted-peak (writeNumber a j v) x p t = refl
+counted-peak (readNumber a j) x p t = refl
+counted-peak openCollection x p t = refl
+counted-peak (takeSteps budget) x p t = refl
+counted-peak (writeReason at room) x p t = refl
+counted-peak (writeShape room) x p t = refl
+counted-peak (copyFrom K u first) x p t = refl
+counted-peak (copyInto M v second) x p t = refl
 
 moment-peak : (s : Bool) (p : ℕ) (t : Tally) → momentIn s (withPeak p t) ≡ withPeak p (momentIn s t)
 unfolding momentIn
@@ -96,9 +101,9 @@ noted-peak m p t = go (eqb (m .reply .number) 0)
     stuck : Bool
     stuck = toldStuck (m .call) (m .reply)
 
-    go : (b : Bool) → (elim b [ true ↦ momentIn stuck (countedIn (m .call) (withPeak p t)) | false ↦ withPeak p t ])
-        ≡ withPeak p (elim b [ true ↦ momentIn stuck (countedIn (m .call) t) | false ↦ t ])
-    go true = ap (momentIn stuck) (counted-peak (m .call) p t) ∙ moment-peak stuck p (countedIn (m .call) t)
+    go : (b : Bool) → (elim b [ true ↦ momentIn stuck (countedIn (m .call) (m .reply) (withPeak p t)) | false ↦ withPeak p t ])
+        ≡ withPeak p (elim b [ true ↦ momentIn stuck (countedIn (m .call) (m .reply) t) | false ↦ t ])
+    go true = ap (momentIn stuck) (counted-peak (m .call) (m .reply) p t) ∙ moment-peak stuck p (countedIn (m .call) (m .reply) t)
     go false = refl
 
 noted-all-peak : (made : List Made) (p : ℕ) (t : Tally) → notedAll made (withPeak p t) ≡ withPeak p (notedAll made t)
@@ -106,24 +111,26 @@ unfolding notedAll
 noted-all-peak [] p t = refl
 noted-all-peak (m ∷ made) p t = ap (notedAll made) (noted-peak m p t) ∙ noted-all-peak made p (noted m t)
 
-counted-blocks : (c : Call) (t : Tally) → countedIn c t .blocks ≡ t .blocks + allocates c
+counted-blocks : (c : Call) (x : Reply) (t : Tally) → countedIn c x t .blocks ≡ t .blocks + allocates c x
 unfolding countedIn allocates
-counted-blocks (allocate n r) t = refl
-counted-blocks collect t = omega arith
-counted-blocks format t = omega arith
-counted-blocks check t = omega arith
-counted-blocks freeBlocks t = omega arith
-counted-blocks (storeRoot r v) t = omega arith
-counted-blocks (storeCell a j v) t = omega arith
-counted-blocks (look a) t = omega arith
-counted-blocks (returnRoots chosen) t = omega arith
-counted-blocks (allocateData n r) t = refl
-counted-blocks (writeNumber a j x) t = omega arith
-counted-blocks (readNumber a j) t = omega arith
-counted-blocks openCollection t = omega arith
-counted-blocks (takeSteps budget) t = omega arith
-counted-blocks (writeReason at room) t = omega arith
-counted-blocks (writeShape room) t = omega arith
+counted-blocks (allocate n r) x t = refl
+counted-blocks collect x t = omega arith
+counted-blocks format x t = omega arith
+counted-blocks check x t = omega arith
+counted-blocks freeBlocks x t = omega arith
+counted-blocks (storeRoot r v) x t = omega arith
+counted-blocks (storeCell a j v) x t = omega arith
+counted-blocks (look a) x t = omega arith
+counted-blocks (returnRoots chosen) x t = omega arith
+counted-blocks (allocateData n r) x t = refl
+counted-blocks (writeNumber a j v) x t = omega arith
+counted-blocks (readNumber a j) x t = omega arith
+counted-blocks openCollection x t = omega arith
+counted-blocks (takeSteps budget) x t = omega arith
+counted-blocks (writeReason at room) x t = omega arith
+counted-blocks (writeShape room) x t = omega arith
+counted-blocks (copyFrom K u first) x t = refl
+counted-blocks (copyInto M v second) x t = omega arith
 
 moment-blocks : (s : Bool) (t : Tally) → momentIn s t .blocks ≡ t .blocks
 unfolding momentIn
@@ -134,7 +141,7 @@ noted-blocks : (m : Made) (t : Tally) → noted m t .blocks ≡ t .blocks + allo
 unfolding noted allocatedBy
 noted-blocks m t = elim (ℕ-discrete (m .reply .number) 0) [
   | yes e ↦ rw (eq-eqb (m .reply .number) 0 e, noted, allocatedBy)
-      (moment-blocks (toldStuck (m .call) (m .reply)) (countedIn (m .call) t) ∙ counted-blocks (m .call) t)
+      (moment-blocks (toldStuck (m .call) (m .reply)) (countedIn (m .call) (m .reply) t) ∙ counted-blocks (m .call) (m .reply) t)
   | no e ↦ rw (ne-eqb (m .reply .number) 0 e, noted, allocatedBy) (omega arith)
 ]
 

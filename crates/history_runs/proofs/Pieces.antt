@@ -109,7 +109,7 @@ module _ {N w : ℕ} {h : Memory} {y : Reply} (checked : Promise N w check h y h
 pub undamaged-accepted : {N w : ℕ} {h : Memory} → Undamaged N w h → (r : Run) → inRange r ≡ true → runReply N w h r ≡ reply 0 0 0
 unfolding outcome Passed
 undamaged-accepted {N} {w} {h} undamaged r range =
-    reply-right N w h r (ap (λ (x : Answer). x .0 .number) (fit-accepted N w h (undamaged-fit N w h undamaged) check tt)) range
+    reply-right N w h r (ap (λ (x : Answer). x .0 .number) (fit-accepted N w h (undamaged-fit N w h undamaged) check refl tt)) range
 
 -- what an accepted run of records starts from
 pub record Accepted (N w : ℕ) (h : Memory) (r : Run) : Type 0 where

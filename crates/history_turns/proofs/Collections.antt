@@ -42,7 +42,7 @@ module _ {N w : ℕ} {h : Memory} (usable : Usable N w h) {y : Outcome} {k : Mem
   ]
 
   pub collect-balance : inUse N h ≡ y .freed + inUse N k
-  collect-balance = omega (arith, worked .freed-is, call-balance usable (worked .promise), none-new)
+  collect-balance = omega (arith, worked .freed-is, call-balance usable refl (worked .promise), none-new)
 
   pub acted-collect : Acted N h (turnOf N w h (makes collect)) (done (y .number) 0 (eqb (y .number) 0) (y .freed) false) k
   unfolding notedAll withCollection withAllocation momentIn ownRefusals

@@ -21,7 +21,7 @@ pub noted-refused : (m : Made) (t : Tally) → (m .reply .number ≡ 0 → ⊥) 
 unfolding noted
 noted-refused m t refused = rw (ne-eqb (m .reply .number) 0 refused, noted)
 
-pub noted-accepted : (m : Made) (t : Tally) → m .reply .number ≡ 0 → noted m t ≡ momentIn (toldStuck (m .call) (m .reply)) (countedIn (m .call) t)
+pub noted-accepted : (m : Made) (t : Tally) → m .reply .number ≡ 0 → noted m t ≡ momentIn (toldStuck (m .call) (m .reply)) (countedIn (m .call) (m .reply) t)
 unfolding noted
 noted-accepted m t accepted = rw (eq-eqb (m .reply .number) 0 accepted, noted)
 

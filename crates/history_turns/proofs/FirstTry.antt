@@ -7,7 +7,7 @@ use native.Mathlib.Omega.{arith}
 use lib.Dec.{eqb}
 use borrow.Author.Tests.{eq-eqb, ne-eqb}
 use Rattle.rules.specs.Heap.{Memory}
-use Rattle.rules.specs.Calls.{Call, allocate, allocateData, allocateAs, answer}
+use Rattle.rules.specs.Calls.{Call, allocate, allocateData, allocateAs, Alone, answer}
 use Rattle.types.specs.declared.Reply.{Reply}
 use Rattle.types.specs.declared.Outcome.{Outcome}
 use Rattle.rules.proofs.Replies.{accepted-none, Passed, passed}
@@ -27,9 +27,10 @@ use Rattle.history_turns.proofs.Turns.{acted-as, turn-once, turn-again}
 -- a call that allocates n blocks: it is counted, it tells of what became stuck, and what is accepted has a size
 -- from 1 to N
 pub record Allocation (c : Call) (n : ℕ) : Type 0 where
-  pub counted : (t : Tally) → countedIn c t ≡ allocated n t
+  pub alone : Alone c
+  pub counted : (x : Reply) (t : Tally) → countedIn c x t ≡ allocated n t
   pub told : (x : Reply) → toldStuck c x ≡ eqb (x .second) 1
-  pub new : allocates c ≡ n
+  pub new : (x : Reply) → allocates c x ≡ n
   pub sized : (N w : ℕ) (h : Memory) → answer N w h c .0 .number ≡ 0 → (1 ≤ n) × (n ≤ N)
 
 accepted-size : (N w : ℕ) (h : Memory) (n r : ℕ) → answer N w h (allocate n r) .0 .number ≡ 0 → (1 ≤ n) × (n ≤ N)
@@ -48,9 +49,9 @@ accepted-data-size N w h n r accepted =
 pub allocation : (asData : Bool) (n r : ℕ) → Allocation (allocateAs asData n r) n
 unfolding countedIn toldStuck allocates
 allocation true n r =
-    record { counted = λ t. refl; told = λ x. refl; new = refl; sized = λ N w h. accepted-data-size N w h n r }
+    record { alone = refl; counted = λ x t. refl; told = λ x. refl; new = λ x. refl; sized = λ N w h. accepted-data-size N w h n r }
 allocation false n r =
-    record { counted = λ t. refl; told = λ x. refl; new = refl; sized = λ N w h. accepted-size N w h n r }
+    record { alone = refl; counted = λ x t. refl; told = λ x. refl; new = λ x. refl; sized = λ N w h. accepted-size N w h n r }
 
 module _ {N w : ℕ} {h : Memory} (usable : Usable N w h) {c : Call} {n : ℕ} (new : Allocation c n) {done′ : Outcome} {g : Memory}
     (tried : Worked N w c h done′ g) where
@@ -58,7 +59,7 @@ module _ {N w : ℕ} {h : Memory} (usable : Usable N w h) {c : Call} {n : ℕ} (
   reply-number = ap (λ (y : Reply). y .number) (sym (tried .promise .reply-is))
 
   tried-balance : inUse N h + allocatedBy c (replyOf done′) ≡ done′ .freed + inUse N g
-  tried-balance = omega (arith, call-balance usable (tried .promise), tried .freed-is)
+  tried-balance = omega (arith, call-balance usable (new .alone) (tried .promise), tried .freed-is)
 
   -- it was refused ..
   module _ (refused : done′ .number ≡ 0 → ⊥) where
@@ -77,10 +78,10 @@ module _ {N w : ℕ} {h : Memory} (usable : Usable N w h) {c : Call} {n : ℕ} (
     accepted-noted t =
         let told = new .told (answer N w h c .0) ∙ ap (λ (x : Reply). eqb (x .second) 1) (sym (tried .promise .reply-is)) in
         noted-accepted (madeOn N w h c) t (reply-number ∙ accepted)
-        ∙ ap₂ momentIn (told ∙ told-stuck (done′ .stuck)) (new .counted t)
+        ∙ ap₂ momentIn (told ∙ told-stuck (done′ .stuck)) (new .counted (answer N w h c .0) t)
 
     pub accepted-balance : inUse N h + n ≡ done′ .freed + inUse N g
-    accepted-balance = omega (arith, tried-balance, accepted-allocates c (replyOf done′) accepted, new .new)
+    accepted-balance = omega (arith, tried-balance, accepted-allocates c (replyOf done′) accepted, new .new (replyOf done′))
 
   once : (done′ .number ≡ 5 → ⊥) → answer N w h c .0 .number ≡ 5 → ⊥
   once other e = other (sym reply-number ∙ e)
@@ -142,7 +143,7 @@ module _ {N w : ℕ} {h : Memory} (usable : Usable N w h) {c : Call} {n : ℕ} (
         figures-are = λ t.
             second .figures-are t
             ∙ ap (notedAll (triedAgain N w (answer N w h c .1) c .made)) (sym (refused-noted refused t));
-        balance = omega (arith, acted .balance, ap (λ (m : Memory). inUse N m) (refused-keeps usable (tried .promise) refused .0));
+        balance = omega (arith, acted .balance, ap (λ (m : Memory). inUse N m) (refused-keeps usable (new .alone) (tried .promise) refused .0));
         allocated-few = acted .allocated-few;
         refused-none = acted .refused-none;
       }

@@ -79,7 +79,7 @@ module _ (N w : ℕ) (h : Memory) (fine : Undamaged N w h) (is-open : isOpen N h
 
   refused : answer N w h collect ≡ (reply 14 0 0, h)
   refused =
-      fit-refused N w h (undamaged-fit N w h fine) collect (λ z. omega (arith, found, z))
+      fit-refused N w h (undamaged-fit N w h fine) collect refl (λ z. omega (arith, found, z))
       ∙ ap {B = Answer} (λ k. (reply k 0 0, h)) found
 
   number-is : answer N w h collect .0 .number ≡ 14

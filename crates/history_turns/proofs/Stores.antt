@@ -8,7 +8,7 @@ use lib.Dec.{eqb}
 use borrow.Author.Tests.{ne-eqb}
 use Rattle.bitmap.specs.Bit.{one}
 use Rattle.rules.specs.Heap.{Memory}
-use Rattle.rules.specs.Calls.{Call, storeRoot, storeCell, writeNumber, ownRefusals, outcome, answer}
+use Rattle.rules.specs.Calls.{Call, storeRoot, storeCell, writeNumber, Alone, ownRefusals, outcome, answer}
 use Rattle.rules.proofs.Tests.{also, done as no-more}
 use Rattle.rules.proofs.Replies.{answer-either}
 use Rattle.types.specs.declared.Reply.{Reply}
@@ -40,31 +40,33 @@ acted-stop w =
 
 -- a call that allocates nothing and is counted in no figure but the last
 record Plain (c : Call) : Type 0 where
-  uncounted : (t : Tally) → countedIn c t ≡ t
+  alone : Alone c
+  uncounted : (x : Reply) (t : Tally) → countedIn c x t ≡ t
   told : (N w : ℕ) (h : Memory) → toldStuck c (answer N w h c .0) ≡ eqb (answer N w h c .0 .second) 1
-  none-new : allocates c ≡ 0
+  none-new : (x : Reply) → allocates c x ≡ 0
   not-five : (N w : ℕ) (h : Memory) → answer N w h c .0 .number ≡ 5 → ⊥
 
 store-root-plain : (r v : ℕ) → Plain (storeRoot r v)
 unfolding countedIn toldStuck allocates
 store-root-plain r v =
-    record { uncounted = λ t. refl; told = λ N w h. refl; none-new = refl; not-five = λ N w h. store-root-not-five N w h r v }
+    record { alone = refl; uncounted = λ x t. refl; told = λ N w h. refl; none-new = λ x. refl; not-five = λ N w h. store-root-not-five N w h r v }
 
 store-cell-plain : (a j v : ℕ) → Plain (storeCell a j v)
 unfolding countedIn toldStuck allocates
 store-cell-plain a j v =
-    record { uncounted = λ t. refl; told = λ N w h. refl; none-new = refl; not-five = λ N w h. store-cell-not-five N w h a j v }
+    record { alone = refl; uncounted = λ x t. refl; told = λ N w h. refl; none-new = λ x. refl; not-five = λ N w h. store-cell-not-five N w h a j v }
 
 -- the second value of a number write is 0
 number-plain : (a j v : ℕ) → Plain (writeNumber a j v)
 unfolding countedIn toldStuck allocates ownRefusals outcome
 number-plain a j v =
     record {
-      uncounted = λ t. refl;
+      alone = refl;
+      uncounted = λ x t. refl;
       told = λ N w h.
           sym
           (answer-either N w h (writeNumber a j v) (λ x. eqb (x .0 .second) 1 ≡ false) (λ number nonzero. refl) (λ _. refl));
-      none-new = refl;
+      none-new = λ x. refl;
       not-five = λ N w h.
           not-five N w h (writeNumber a j v) (also (omega arith) (also (omega arith) (also (omega arith) no-more)));
     }
@@ -80,7 +82,7 @@ module _ {N w : ℕ} {h : Memory} (usable : Usable N w h) where
         number-is = number-is;
         after-is = worked .promise .after-is;
         figures-are = λ t. sym (counted t);
-        balance = omega (arith, worked .freed-is, call-balance usable (worked .promise), none-new);
+        balance = omega (arith, worked .freed-is, call-balance usable (plain .alone) (worked .promise), none-new);
         allocated-few = omega arith;
         refused-none = λ refused. (refl, untold refused);
       }
@@ -90,7 +92,7 @@ module _ {N w : ℕ} {h : Memory} (usable : Usable N w h) where
 
       none-new : allocatedBy c (replyOf x) ≡ 0
       none-new = elim (ℕ-discrete (x .number) 0) [
-        | yes e ↦ accepted-allocates c (replyOf x) e ∙ plain .none-new
+        | yes e ↦ accepted-allocates c (replyOf x) e ∙ plain .none-new (replyOf x)
         | no e ↦ refused-allocates c (replyOf x) e
       ]
 
@@ -98,7 +100,7 @@ module _ {N w : ℕ} {h : Memory} (usable : Usable N w h) where
       untold : (x .number ≡ 0 → ⊥) → x .stuck ≡ false
       untold refused =
           sym (told-stuck (x .stuck))
-          ∙ ne-eqb (one (x .stuck)) 1 (λ e. omega (arith, refused-keeps usable (worked .promise) refused .2))
+          ∙ ne-eqb (one (x .stuck)) 1 (λ e. omega (arith, refused-keeps usable (plain .alone) (worked .promise) refused .2))
 
       told : toldStuck c (answer N w h c .0) ≡ x .stuck
       told =
@@ -108,7 +110,7 @@ module _ {N w : ℕ} {h : Memory} (usable : Usable N w h) where
 
       counted : (t : Tally) → noted (madeOn N w h c) t ≡ momentIn (x .stuck) t
       counted t = elim (ℕ-discrete (answer N w h c .0 .number) 0) [
-        | yes e ↦ noted-accepted (madeOn N w h c) t e ∙ ap₂ momentIn told (plain .uncounted t)
+        | yes e ↦ noted-accepted (madeOn N w h c) t e ∙ ap₂ momentIn told (plain .uncounted (answer N w h c .0) t)
         | no e ↦
             noted-refused (madeOn N w h c) t e ∙ sym (ap (λ (s : Bool). momentIn s t) (untold (λ z. e (sym number-is ∙ z))))
       ]

@@ -5,13 +5,13 @@ use mathlib.Core.List.{List}
 use Prim.Native.Nat.{ℕ}
 use borrow.Author.Tests.{ne-eqb}
 use Rattle.rules.specs.Heap.{Memory}
-use Rattle.rules.specs.Calls.{Call, check, testsHeap}
+use Rattle.rules.specs.Calls.{Call, check}
 use Rattle.rules.specs.Promise.{Promise, OutputPromise, outputAfter}
 use Rattle.types.specs.declared.Reply.{Reply}
-use Rattle.public_read.proofs.CheckReply.{refused-alike}
+use Rattle.public_read.proofs.CheckReply.{TestsOne, refused-alike}
 
 pub output-alike :
-    {N w : ℕ} {h : Memory} {call : Call} {text : List ℕ} → testsHeap call ≡ true → {x : Reply} (out : List ℕ) → Promise N w check h x h
+    {N w : ℕ} {h : Memory} {call : Call} {text : List ℕ} → TestsOne call → {x : Reply} (out : List ℕ) → Promise N w check h x h
     → (x .number ≡ 0 → ⊥) → OutputPromise N w call text h out x h out
 unfolding outputAfter
 output-alike {h} tests {x} out checked fails =

@@ -1,6 +1,7 @@
 -- Laws of the check: what its reply says of a heap, and what every call that makes the check first promises by it.
 use mathlib.Core.Path.{_≡_, refl, sym, ap, _∙_}
-use mathlib.Core.Bool.{true, false, not}
+use mathlib.Core.Bool.{Bool, true, false, not}
+use mathlib.Core.Option.{Option, none}
 use mathlib.Core.List.{[]}
 use Prim.Native.Nat.{ℕ}
 use native.Mathlib.Omega.{arith}
@@ -11,17 +12,21 @@ use Rattle.rules.specs.Heap.{Memory, memory, lentMemory, shaped}
 use Rattle.rules.specs.Damage.{damage}
 use Rattle.rules.specs.Sections.{staleFigures}
 use Rattle.rules.specs.Steps.{isUntidy}
-use Rattle.rules.specs.Calls.{Call, check, freeBlocks, look, readNumber, reply, accepted, testsHeap, refusals, refusedWith, outcome, answer}
+use Rattle.rules.specs.Calls.{Call, check, freeBlocks, look, readNumber, reply, accepted, testsHeap, Other, otherHeap, refusals, refusedWith, outcome, answer}
 use Rattle.rules.specs.Promise.{Promise}
 use Rattle.types.specs.declared.Reply.{Reply}
 use Rattle.rules.proofs.Tests.{first-past, first-found}
-use Rattle.rules.proofs.Replies.{refused-with, accepted-none, Passed, undamaged-passed, refused-as-check}
+use Rattle.rules.proofs.Replies.{refused-with, accepted-none, Passed, undamaged-passed, alone-shaped, refused-as-check}
 use Rattle.theory.specs.Statements.{Intact, Undamaged}
 use Rattle.theory.proofs.Memories.Fit.{undamaged-fit}
 use Rattle.theory.proofs.EachCall.Accepted.{fit-accepted}
 use Rattle.rules.proofs.Promised.{promised}
 use Rattle.test_arguments.specs.Replies.{lookReply, readReply}
 use Rattle.test_arguments.proofs.ArgumentTests.{look-answered, read-answered}
+
+-- the call tests the heap, and is lent no other
+abbrev pub TestsOne : Call → Type 0
+TestsOne call = _≡_ {A = Bool × Option Other} (testsHeap call, otherHeap call) (true, none)
 
 module _ {N w : ℕ} {h : Memory} where
   -- ---- the check itself
@@ -61,13 +66,13 @@ module _ {N w : ℕ} {h : Memory} where
       ∙ first-found 13 (isUntidy N h) _ untidy in
       promised N w h check _ (refused-with N w h check 13 (omega arith) thirteen) x h x-is refl
 
-  -- ---- where it refuses, every call that tests the heap is refused alike
+  -- ---- where it refuses, every call that tests the heap, and no other, is refused alike
 
   pub refused-alike :
-      {call : Call} → testsHeap call ≡ true → {x : Reply} → Promise N w check h x h → (x .number ≡ 0 → ⊥) → Promise N w call h x h
+      {call : Call} → TestsOne call → {x : Reply} → Promise N w check h x h → (x .number ≡ 0 → ⊥) → Promise N w call h x h
   refused-alike {call} tests {x} checked fails =
       promised N w h call (answer N w h check)
-      (refused-as-check N w h call tests (λ e. fails (ap (λ (y : Reply). y .number) (checked .reply-is) ∙ e)))
+      (refused-as-check N w h call (ap (λ y. y .0) tests) (alone-shaped h call (ap (λ y. y .1) tests)) (λ e. fails (ap (λ (y : Reply). y .number) (checked .reply-is) ∙ e)))
       x h (checked .reply-is) (checked .after-is)
 
   -- ---- what passes the check
@@ -82,14 +87,14 @@ module _ {N w : ℕ} {h : Memory} where
 
   pub check-passed : {x : Reply} → Undamaged N w h → x ≡ reply 0 0 0 → Promise N w check h x h
   unfolding outcome Passed
-  check-passed {x} fit x-is = promised N w h check (accepted h 0) (fit-accepted N w h (undamaged-fit N w h fit) check tt) x h x-is refl
+  check-passed {x} fit x-is = promised N w h check (accepted h 0) (fit-accepted N w h (undamaged-fit N w h fit) check refl tt) x h x-is refl
 
   module _ {y : Reply} (checked : Promise N w check h y h) (accepts : y .number ≡ 0) where
     pub free-blocks-passed : {x : Reply} {n : ℕ} → x ≡ reply 0 n 0 → n ≡ zeros (h .a) → Promise N w freeBlocks h x h
     unfolding outcome Passed
     free-blocks-passed {x} x-is counted =
         promised N w h freeBlocks (accepted h (zeros (h .a)))
-        (fit-accepted N w h (undamaged-fit N w h (checked-fit checked accepts)) freeBlocks tt)
+        (fit-accepted N w h (undamaged-fit N w h (checked-fit checked accepts)) freeBlocks refl tt)
         x h (x-is ∙ ap (λ (v : ℕ). reply 0 v 0) counted) refl
 
     -- the maps and the counts alone are read

@@ -1,5 +1,5 @@
 -- The answer of steps, and that of the code: where the list has not run out, and where the collection closes.
-use mathlib.Core.Path.{_≡_, sym, ap, _∙_}
+use mathlib.Core.Path.{_≡_, refl, sym, ap, _∙_}
 use mathlib.Core.Bool.{Bool, true, false}
 use mathlib.Core.List.{List, []}
 use Prim.Native.Nat.{ℕ, _+_, _-_, _/_, _<_}
@@ -64,7 +64,7 @@ module _ {N w : ℕ} {h : Memory} (budget : ℕ) (usable : Usable N w h) (is-ope
   answered : answer N w h (takeSteps budget)
       ≡ (reply 0 (all .steps) (zeros ((stepped N w h budget reached) .a) - zeros (h .a)), settled N (stepped N w h budget reached))
   unfolding outcome Passed
-  answered = fit-accepted N w h fit (takeSteps budget) is-open
+  answered = fit-accepted N w h fit (takeSteps budget) refl is-open
 
   module _ {steps : ℕ} {done : Bool} {marks list : List ℕ} (counted : steps ≡ coded .steps) (told : done ≡ closes budget (coded .reached))
       (holds : Holding N (coded .reached) (h .marks) marks list) where

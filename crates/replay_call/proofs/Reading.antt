@@ -18,12 +18,12 @@ use Rattle.theory.proofs.Usable.UsableHeap.{usable-fit}
 module _ {N w : ℕ} {h : Memory} (usable : Usable N w h) where
   pub check-promise : {r : Reply} → r ≡ reply 0 0 0 → Promise N w check h r h
   unfolding outcome Passed
-  check-promise {r} e = promised N w h check (accepted h 0) (fit-accepted N w h (usable-fit usable) check tt) r h e refl
+  check-promise {r} e = promised N w h check (accepted h 0) (fit-accepted N w h (usable-fit usable) check refl tt) r h e refl
 
   pub free-promise : {r : Reply} → r ≡ reply 0 (zeros (h .a)) 0 → Promise N w freeBlocks h r h
   unfolding outcome Passed
   free-promise {r} e =
-      promised N w h freeBlocks (accepted h (zeros (h .a))) (fit-accepted N w h (usable-fit usable) freeBlocks tt) r h e refl
+      promised N w h freeBlocks (accepted h (zeros (h .a))) (fit-accepted N w h (usable-fit usable) freeBlocks refl tt) r h e refl
 
   -- a look reads three buffers alone
   pub look-promise :

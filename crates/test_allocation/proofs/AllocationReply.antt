@@ -10,7 +10,7 @@ use lib.ListN.{length}
 use borrow.Author.Tests.{leb-true, ltb-true}
 use Rattle.rules.specs.Tools.{isSome, firstNumber}
 use Rattle.rules.specs.Heap.{Memory, exponent, lowestFree}
-use Rattle.rules.specs.Calls.{Call, allocate, allocateData, Answer, reply, allocationRefusals, ownRefusals, answer}
+use Rattle.rules.specs.Calls.{Call, allocate, allocateData, Answer, reply, Alone, allocationRefusals, ownRefusals, answer}
 use Rattle.rules.specs.Promise.{Promise}
 use Rattle.types.specs.declared.Reply.{Reply}
 use Rattle.rules.proofs.Tests.{and-true}
@@ -99,7 +99,7 @@ allocate-accepts {N} {a} {roots} {n} {r} tested accepts =
 -- ---- an allocation of either kind
 
 -- a call with an allocation's own numbers
-module _ (N : ℕ) (h : Memory) (c : Call) (n r : ℕ) (own : ownRefusals N h c ≡ allocationRefusals N h n r) where
+module _ (N : ℕ) (h : Memory) (c : Call) (alone : Alone c) (n r : ℕ) (own : ownRefusals N h c ≡ allocationRefusals N h n r) where
   own-number : firstNumber (ownRefusals N h c) ≡ allocateReply N (h .a) (length (h .roots)) n r .number
   unfolding allocateReply
   own-number =
@@ -115,7 +115,7 @@ module _ (N : ℕ) (h : Memory) (c : Call) (n r : ℕ) (own : ownRefusals N h c 
       → answer N w h c ≡ (allocateReply N (h .a) (length (h .roots)) n r, h)
   unfolding allocateReply
   stopped w fit fails =
-      fit-refused N w h fit c (λ e. fails (sym own-number ∙ e)) ∙ ap {B = Answer} (λ k. (reply k 0 0, h)) own-number
+      fit-refused N w h fit c alone (λ e. fails (sym own-number ∙ e)) ∙ ap {B = Answer} (λ k. (reply k 0 0, h)) own-number
       ∙ ap {B = Answer} (λ x. (x, h))
       (tested-plain (leb 1 n && leb n N) (ltb r (length (h .roots))) (lowestFree N (exponent n) (h .a)) fails)
 
@@ -130,22 +130,22 @@ pub allocate-goes-on :
     (h : Memory) {N n r : ℕ} {x : Reply} → Replied N (h .a) (length (h .roots)) n r x → x .number ≡ 0
     → ownTest N h (allocate n r) .number ≡ 0
 unfolding ownRefusals
-allocate-goes-on h {N} {n} {r} = goes-on N h (allocate n r) n r refl
+allocate-goes-on h {N} {n} {r} = goes-on N h (allocate n r) refl n r refl
 
 pub allocate-data-goes-on :
     (h : Memory) {N n r : ℕ} {x : Reply} → Replied N (h .a) (length (h .roots)) n r x → x .number ≡ 0
     → ownTest N h (allocateData n r) .number ≡ 0
 unfolding ownRefusals
-allocate-data-goes-on h {N} {n} {r} = goes-on N h (allocateData n r) n r refl
+allocate-data-goes-on h {N} {n} {r} = goes-on N h (allocateData n r) refl n r refl
 
 pub allocate-refused :
     {N w : ℕ} {h : Memory} {n r : ℕ} {x : Reply} → x ≡ allocateReply N (h .a) (length (h .roots)) n r → Fit N w h → (x .number ≡ 0 → ⊥)
     → Promise N w (allocate n r) h x h
 unfolding ownRefusals
-allocate-refused {N} {w} {h} {n} {r} = refuses N h (allocate n r) n r refl
+allocate-refused {N} {w} {h} {n} {r} = refuses N h (allocate n r) refl n r refl
 
 pub allocate-data-refused :
     {N w : ℕ} {h : Memory} {n r : ℕ} {x : Reply} → x ≡ allocateReply N (h .a) (length (h .roots)) n r → Fit N w h → (x .number ≡ 0 → ⊥)
     → Promise N w (allocateData n r) h x h
 unfolding ownRefusals
-allocate-data-refused {N} {w} {h} {n} {r} = refuses N h (allocateData n r) n r refl
+allocate-data-refused {N} {w} {h} {n} {r} = refuses N h (allocateData n r) refl n r refl

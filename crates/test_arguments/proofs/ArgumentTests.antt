@@ -14,10 +14,10 @@ use Rattle.rules.specs.Tools.{firstNumber}
 use Rattle.rules.specs.Heap.{Memory, memory, lentMemory, countOf, isFirst, sizeAt, isRef, isData}
 use Rattle.rules.specs.Calls.{Call, collect, storeRoot, storeCell, look, returnRoots, writeNumber, readNumber, openCollection, takeSteps, Answer}
 use Rattle.rules.specs.Steps.{isOpen}
-use Rattle.rules.specs.Calls.{reply, cellRefusals, ownRefusals, outcome, answer}
+use Rattle.rules.specs.Calls.{reply, Alone, cellRefusals, ownRefusals, outcome, answer}
 use Rattle.rules.specs.Promise.{Promise}
 use Rattle.types.specs.declared.Reply.{Reply}
-use Rattle.rules.proofs.Replies.{Passed, own-passed}
+use Rattle.rules.proofs.Replies.{Passed, own-passed, alone-shaped}
 use Rattle.rules.proofs.Tests.{test-cases, first-found, first-not}
 use Rattle.rules.proofs.Objects.{first-facts, size-le, ref-facts}
 use Rattle.rules.proofs.Promised.{promised}
@@ -28,13 +28,14 @@ use Rattle.test_arguments.specs.Replies.{returnTest, shutTest, openTest,
 
 -- ---- any call
 
--- x is what the call's own test answers
+-- x is what the own test of a call on one heap answers
 pub record Tested (N : ℕ) (h : Memory) (c : Call) (x : Reply) : Type 0 where
   pub is-test : x ≡ ownTest N h c
+  pub alone : Alone c
 
-test-passed : (N : ℕ) (h : Memory) (c : Call) → ownTest N h c .number ≡ 0 → Passed N h c
+test-passed : (N : ℕ) (h : Memory) (c : Call) → Alone c → ownTest N h c .number ≡ 0 → Passed N h c
 unfolding ownTest
-test-passed = own-passed
+test-passed N h c alone = own-passed N h c (alone-shaped h c alone)
 
 module _ {N : ℕ} {h : Memory} {c : Call} {x : Reply} (tested : Tested N h c x) where
   pub goes-on : x .number ≡ 0 → ownTest N h c .number ≡ 0
@@ -43,7 +44,7 @@ module _ {N : ℕ} {h : Memory} {c : Call} {x : Reply} (tested : Tested N h c x)
   pub own-refused : {w : ℕ} → Fit N w h → (x .number ≡ 0 → ⊥) → Promise N w c h x h
   unfolding ownTest
   own-refused {w} fit fails =
-      promised N w h c (ownTest N h c, h) (fit-refused N w h fit c (λ e. fails (ap (λ (y : Reply). y .number) (tested .is-test) ∙ e)))
+      promised N w h c (ownTest N h c, h) (fit-refused N w h fit c (tested .alone) (λ e. fails (ap (λ (y : Reply). y .number) (tested .is-test) ∙ e)))
       x h (tested .is-test) refl
 
 -- a reference points to a block
@@ -60,7 +61,7 @@ pub record RootPassed (N : ℕ) (h : Memory) (r v : ℕ) : Type 0 where
 pub root-passed : {N : ℕ} {h : Memory} {r v : ℕ} → storeRootTest N h r v .number ≡ 0 → RootPassed N h r v
 unfolding Passed
 root-passed {N} {h} {r} {v} e =
-    let passed = test-passed N h (storeRoot r v) e in
+    let passed = test-passed N h (storeRoot r v) refl e in
     record { place = passed .0; ref = passed .1; inside = ref-inside N h v (passed .1) }
 
 -- the test reads the maps and the roots alone
@@ -68,7 +69,7 @@ pub root-tested :
     {N : ℕ} {h : Memory} {r v : ℕ} {x : Reply} → x ≡ storeRootTest N (memory (h .a) (h .b) [] [] (h .roots) []) r v
     → Tested N h (storeRoot r v) x
 unfolding ownTest ownRefusals
-root-tested tested = record { is-test = tested }
+root-tested tested = record { is-test = tested; alone = refl }
 
 -- ---- a cell
 
@@ -138,7 +139,7 @@ pub record CellPassed (N : ℕ) (h : Memory) (a j v : ℕ) : Type 0 where
 pub cell-passed : {N : ℕ} {h : Memory} {a j v : ℕ} → storeCellTest N h a j v .number ≡ 0 → CellPassed N h a j v
 unfolding Passed
 cell-passed {N} {h} {a} {j} {v} e =
-    let passed = test-passed N h (storeCell a j v) e in
+    let passed = test-passed N h (storeCell a j v) refl e in
     record {
       first = passed .0;
       place = passed .1;
@@ -153,7 +154,7 @@ pub cell-tested :
     {N : ℕ} {h : Memory} {a j v : ℕ} {x : Reply} → x ≡ storeCellTest N (lentMemory (h .a) (h .b) [] [] [] [] [] (h .d) [] []) a j v
     → Tested N h (storeCell a j v) x
 unfolding ownTest ownRefusals
-cell-tested tested = record { is-test = tested }
+cell-tested tested = record { is-test = tested; alone = refl }
 
 -- ---- a number
 
@@ -166,7 +167,7 @@ pub record NumberPassed (N : ℕ) (h : Memory) (a j : ℕ) : Type 0 where
 pub number-passed : {N : ℕ} {h : Memory} {a j : ℕ} → numberTest N h a j .number ≡ 0 → NumberPassed N h a j
 unfolding Passed
 number-passed {N} {h} {a} {j} e =
-    let passed = test-passed N h (readNumber a j) e in
+    let passed = test-passed N h (readNumber a j) refl e in
     record {
       first = passed .0;
       place = passed .1;
@@ -179,15 +180,15 @@ pub number-tested :
     {N : ℕ} {h : Memory} {a j v : ℕ} {x : Reply} → x ≡ numberTest N (lentMemory (h .a) (h .b) [] [] [] [] [] (h .d) [] []) a j
     → Tested N h (writeNumber a j v) x
 unfolding ownTest ownRefusals
-number-tested tested = record { is-test = tested }
+number-tested tested = record { is-test = tested; alone = refl }
 
 -- a read reads the cells too
 module _ (N w : ℕ) (h : Memory) (fit : Fit N w h) (a j : ℕ) where
   pub read-answered : answer N w h (readNumber a j) ≡ (readReply N (lentMemory (h .a) (h .b) [] (h .cells) [] [] [] (h .d) [] []) a j, h)
   unfolding outcome ownTest ownRefusals readReply
   read-answered = elim (ℕ-discrete (firstNumber (ownRefusals N h (readNumber a j))) 0) [
-    | yes e ↦ fit-accepted N w h fit (readNumber a j) (own-passed N h (readNumber a j) e) ∙ ap {B = Answer} (λ t. (read t, h)) (sym (eq-eqb _ 0 e))
-    | no n ↦ fit-refused N w h fit (readNumber a j) n ∙ ap {B = Answer} (λ t. (read t, h)) (sym (ne-eqb _ 0 n))
+    | yes e ↦ fit-accepted N w h fit (readNumber a j) refl (own-passed N h (readNumber a j) refl e) ∙ ap {B = Answer} (λ t. (read t, h)) (sym (eq-eqb _ 0 e))
+    | no n ↦ fit-refused N w h fit (readNumber a j) refl n ∙ ap {B = Answer} (λ t. (read t, h)) (sym (ne-eqb _ 0 n))
   ]
     where
       read : Bool → Reply
@@ -201,31 +202,31 @@ module _ (N w : ℕ) (h : Memory) (fit : Fit N w h) (a j : ℕ) where
 pub return-tested :
     {N : ℕ} {h : Memory} {chosen : ℕ} {x : Reply} → x ≡ returnTest (length (h .roots)) chosen → Tested N h (returnRoots chosen) x
 unfolding ownTest ownRefusals returnTest
-return-tested tested = record { is-test = tested }
+return-tested tested = record { is-test = tested; alone = refl }
 
 -- ---- a collection (request U8)
 
 -- the tests read the second list alone
 pub collect-tested : {N : ℕ} {h : Memory} {x : Reply} → x ≡ shutTest N (h .list) → Tested N h collect x
 unfolding ownTest ownRefusals shutTest
-collect-tested tested = record { is-test = tested }
+collect-tested tested = record { is-test = tested; alone = refl }
 
 pub open-tested : {N : ℕ} {h : Memory} {x : Reply} → x ≡ shutTest N (h .list) → Tested N h openCollection x
 unfolding ownTest ownRefusals shutTest
-open-tested tested = record { is-test = tested }
+open-tested tested = record { is-test = tested; alone = refl }
 
 pub step-tested : {N : ℕ} {h : Memory} {budget : ℕ} {x : Reply} → x ≡ openTest N (h .list) → Tested N h (takeSteps budget) x
 unfolding ownTest ownRefusals openTest
-step-tested tested = record { is-test = tested }
+step-tested tested = record { is-test = tested; alone = refl }
 
 -- past them it is known whether one is open
 pub none-open : {N : ℕ} {h : Memory} {x : Reply} → Tested N h collect x → x .number ≡ 0 → isOpen N h ≡ false
 unfolding Passed
-none-open {N} {h} tested accepts = test-passed N h collect (goes-on tested accepts)
+none-open {N} {h} tested accepts = test-passed N h collect refl (goes-on tested accepts)
 
 pub one-open : {N : ℕ} {h : Memory} {budget : ℕ} {x : Reply} → Tested N h (takeSteps budget) x → x .number ≡ 0 → isOpen N h ≡ true
 unfolding Passed
-one-open {N} {h} {budget} tested accepts = test-passed N h (takeSteps budget) (goes-on tested accepts)
+one-open {N} {h} {budget} tested accepts = test-passed N h (takeSteps budget) refl (goes-on tested accepts)
 
 -- ---- a look
 
@@ -234,10 +235,10 @@ module _ (N w : ℕ) (h : Memory) (fit : Fit N w h) (a : ℕ) where
   pub look-answered : answer N w h (look a) ≡ (lookReply N w (memory (h .a) (h .b) (h .counts) [] [] []) a, h)
   unfolding outcome Passed ownRefusals lookReply
   look-answered = elim (test-cases (isFirst N h a)) [
-    | inl first ↦ fit-accepted N w h fit (look a) first ∙ ap {B = Answer} (λ t. (read t, h)) (sym first)
+    | inl first ↦ fit-accepted N w h fit (look a) refl first ∙ ap {B = Answer} (λ t. (read t, h)) (sym first)
     | inr other ↦
         let six = first-found 6 (not (isFirst N h a)) [] (ap not other) in
-        fit-refused N w h fit (look a) (λ e. absurd (omega (arith, six, e))) ∙ ap {B = Answer} (λ k. (reply k 0 0, h)) six
+        fit-refused N w h fit (look a) refl (λ e. absurd (omega (arith, six, e))) ∙ ap {B = Answer} (λ k. (reply k 0 0, h)) six
         ∙ ap {B = Answer} (λ t. (read t, h)) (sym other)
   ]
     where

@@ -6,13 +6,13 @@ use mathlib.Core.List.{List, []}
 use Prim.Native.Nat.{ℕ}
 use Rattle.rules.specs.Heap.{Memory, lentMemory}
 use Rattle.rules.specs.Steps.{isOpen}
-use Rattle.rules.specs.Calls.{Call, check, testsHeap}
+use Rattle.rules.specs.Calls.{Call, check}
 use Rattle.rules.specs.Promise.{Promise}
 use Rattle.types.specs.declared.Reply.{Reply}
 use Rattle.theory.proofs.Memories.Fit.{Fit, undamaged-fit}
 use Rattle.test_arguments.specs.Replies.{shutTest, openTest}
 use Rattle.test_arguments.proofs.ArgumentTests.{collect-tested, step-tested, none-open, one-open}
-use Rattle.public_read.proofs.CheckReply.{refused-alike, checked-fit}
+use Rattle.public_read.proofs.CheckReply.{TestsOne, refused-alike, checked-fit}
 use Rattle.test_calls.specs.Gated.{Gated}
 
 module _ {N w : ℕ} {h : Memory} {y : Reply} (checked : Promise N w check h y h) where
@@ -21,7 +21,7 @@ module _ {N w : ℕ} {h : Memory} {y : Reply} (checked : Promise N w check h y h
 
   -- the check refuses
   pub gate-shut :
-      (y .number ≡ 0 → ⊥) → {c : Call} → testsHeap c ≡ true → {test : Reply} → Gated N w c h y test
+      (y .number ≡ 0 → ⊥) → {c : Call} → TestsOne c → {test : Reply} → Gated N w c h y test
   gate-shut fails tests =
       record {
         refused = refused-alike tests checked;

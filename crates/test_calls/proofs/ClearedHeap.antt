@@ -5,7 +5,7 @@ use mathlib.Core.List.{List}
 use Prim.Native.Nat.{ℕ}
 use lib.ListN.{length, length-replicate, replicate}
 use Rattle.rules.specs.Heap.{Memory, withWaiting}
-use Rattle.rules.specs.Calls.{Call, Answer, outcome, answer}
+use Rattle.rules.specs.Calls.{Call, Answer, Alone, outcome, answer}
 use Rattle.rules.specs.Promise.{Promise}
 use Rattle.types.specs.declared.Reply.{Reply}
 use Rattle.types.specs.declared.Outcome.{Outcome}
@@ -31,14 +31,14 @@ module _ {N w : ℕ} {h : Memory} (undamaged : Undamaged N w h) {waiting : List 
 
   -- where the call's own test is passed, and it leaves the waiting list cleared
   pub promised-back :
-      {c : Call} → ownTest N h c .number ≡ 0 → (outcome N w h c .1) .waiting ≡ replicate N 0 → {x : Reply} {g : Memory}
+      {c : Call} → Alone c → ownTest N h c .number ≡ 0 → (outcome N w h c .1) .waiting ≡ replicate N 0 → {x : Reply} {g : Memory}
       → Promise N w c (withWaiting waiting h) x g → Promise N w c h x g
   unfolding ownTest
-  promised-back {c} passes clears {x} {g} promise =
+  promised-back {c} alone passes clears {x} {g} promise =
       let same = waiting-unread N w (withWaiting waiting h) h refl (ap length clear ∙ length-replicate (length (h .waiting)) 0) c in
       let heap : heapOf g ≡ heapOf (answer N w h c .1) = ap heapOf (promise .after-is) ∙ same .1 in
       let left : (answer N w h c .1) .waiting ≡ replicate N 0 =
-      ap (λ (y : Answer). y .1 .waiting) (none-applies N w h c (fit-number N w h lent-fit c ∙ passes)) ∙ clears in
+      ap (λ (y : Answer). y .1 .waiting) (none-applies N w h c (fit-number N w h lent-fit c alone ∙ passes)) ∙ clears in
       record {
         reply-is = promise .reply-is ∙ same .0;
         after-is = λ i.
@@ -47,8 +47,8 @@ module _ {N w : ℕ} {h : Memory} (undamaged : Undamaged N w h) {waiting : List 
 
   -- .. and the reply tells what came of the work
   pub worked-back :
-      {c : Call} → ownTest N h c .number ≡ 0 → (outcome N w h c .1) .waiting ≡ replicate N 0 → {done : Outcome} {x : Reply} {g : Memory}
+      {c : Call} → Alone c → ownTest N h c .number ≡ 0 → (outcome N w h c .1) .waiting ≡ replicate N 0 → {done : Outcome} {x : Reply} {g : Memory}
       → Worked N w c (withWaiting waiting h) done g → x ≡ replyOf done → Promise N w c h x g
-  worked-back passes clears worked replied =
+  worked-back alone passes clears worked replied =
       let promise = worked .promise in
-      promised-back passes clears (record { reply-is = replied ∙ promise .reply-is; after-is = promise .after-is })
+      promised-back alone passes clears (record { reply-is = replied ∙ promise .reply-is; after-is = promise .after-is })

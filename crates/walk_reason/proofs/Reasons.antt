@@ -133,7 +133,7 @@ module _ {N w : ℕ} {h : Memory} (u : Undamaged N w h) (at : ℕ) where
   pub refused-six : (out : List ℕ) (r : Reply) → isFirst N h at ≡ false → r ≡ reply 6 0 0 → ReasonPromise N w at h out r h out
   unfolding ownRefusals
   refused-six out r other reply =
-      output-refused N w h u (writeReason at (length out)) (sentenceFor N h at) out r 6 (omega arith)
+      output-refused N w h u (writeReason at (length out)) refl (sentenceFor N h at) out r 6 (omega arith)
       (first-found 6 (not (isFirst N h at)) _ (ap not other)) reply
 
   module _ (first : isFirst N h at ≡ true) {out left : List ℕ} {n : ℕ}
@@ -150,7 +150,7 @@ module _ {N w : ℕ} {h : Memory} (u : Undamaged N w h) (at : ℕ) where
     refused-short r short reply =
         let long : length out < length (sentenceFor N h at) = omega (arith, number-is-length) in
         rw (told .short short)
-        (output-refused N w h u (writeReason at (length out)) (sentenceFor N h at) out r 15 (omega arith)
+        (output-refused N w h u (writeReason at (length out)) refl (sentenceFor N h at) out r 15 (omega arith)
         (first-past 6 (not (isFirst N h at)) _ (ap not first)
         ∙ first-found 15 (ltb (length out) (length (sentenceFor N h at))) [] (lt-ltb (length out) (length (sentenceFor N h at)) long)) reply)
 
@@ -158,5 +158,5 @@ module _ {N w : ℕ} {h : Memory} (u : Undamaged N w h) (at : ℕ) where
     unfolding outcome Passed
     accepted-long r long reply =
         let passed : length (sentenceFor N h at) ≤ length out = omega (arith, number-is-length) in
-        output-accepted N w h u (writeReason at (length out)) (sentenceFor N h at) out r left n (first, passed) refl (put-as made refl (told .long long))
+        output-accepted N w h u (writeReason at (length out)) refl (sentenceFor N h at) out r left n (first, passed) refl (put-as made refl (told .long long))
         reply

@@ -184,11 +184,11 @@ module _ {N w : ℕ} {h : Memory} (u : Undamaged N w h) where
     refused-short r short reply =
         let long : length out < length (shapeOf N h) = omega (arith, number-is-length) in
         rw (shaped .short short)
-        (output-refused N w h u (writeShape (length out)) (shapeOf N h) out r 16 (omega arith)
+        (output-refused N w h u (writeShape (length out)) refl (shapeOf N h) out r 16 (omega arith)
         (first-found 16 (ltb (length out) (length (shapeOf N h))) [] (lt-ltb (length out) (length (shapeOf N h)) long)) reply)
 
     pub accepted-long : (r : Reply) → n ≤ length out → r ≡ reply 0 n 0 → ShapePromise N w h out r h left
     unfolding outcome Passed
     accepted-long r long reply =
         let passed : length (shapeOf N h) ≤ length out = omega (arith, number-is-length) in
-        output-accepted N w h u (writeShape (length out)) (shapeOf N h) out r left n passed refl (put-as same-shape refl (shaped .long long)) reply
+        output-accepted N w h u (writeShape (length out)) refl (shapeOf N h) out r left n passed refl (put-as same-shape refl (shaped .long long)) reply

@@ -1,6 +1,6 @@
 -- The answer of an allocation that found a place, and what came of the code's: memory, number of blocks freed, and whether the object became
 -- stuck.
-use mathlib.Core.Path.{_≡_, sym, ap, _∙_, subst}
+use mathlib.Core.Path.{_≡_, refl, sym, ap, _∙_, subst}
 use mathlib.Core.Bool.{Bool, true, false}
 use mathlib.Core.Option.{Option, some, Option·getD}
 use Prim.Native.Nat.{ℕ, _+_}
@@ -32,8 +32,8 @@ module _ {N w : ℕ} {h : Memory} {n r at : ℕ} (free : AllocationPassed N (h .
   -- on a fit heap the call is accepted, whatever kind is asked for
   kind-answered : Fit N w h → (asData : Bool) → answer N w h (allocateAs asData n r) ≡ allocated N w asData h n r
   unfolding outcome Passed
-  kind-answered fit true = fit-accepted N w h fit (allocateData n r) (free .some-blocks, free .not-more, free .place, found-so (free .lowest))
-  kind-answered fit false = fit-accepted N w h fit (allocate n r) (free .some-blocks, free .not-more, free .place, found-so (free .lowest))
+  kind-answered fit true = fit-accepted N w h fit (allocateData n r) refl (free .some-blocks, free .not-more, free .place, found-so (free .lowest))
+  kind-answered fit false = fit-accepted N w h fit (allocate n r) refl (free .some-blocks, free .not-more, free .place, found-so (free .lowest))
 
   pub allocate-answered :
       Fit N w h → (asData : Bool)

@@ -1,6 +1,6 @@
 -- The answer of a store in a cell whose test is passed, and what came of the code's: memory, number of blocks freed, and whether an object
 -- became stuck.
-use mathlib.Core.Path.{_≡_, sym, ap, _∙_}
+use mathlib.Core.Path.{_≡_, refl, sym, ap, _∙_}
 use mathlib.Core.Bool.{Bool}
 use Prim.Native.Nat.{ℕ, _+_, _-_, _*_}
 use lib.ListN.{getD}
@@ -26,7 +26,7 @@ cellSticks N w h a j v = storeSticks N w (h .counts) (getD (h .cells) (4 * a + j
 module _ {N w : ℕ} {h : Memory} {a j v : ℕ} (passed : CellPassed N h a j v) (usable : Usable N w h) where
   cell-answered : answer N w h (storeCell a j v) ≡ freeing N h (storeCellShading N w h a j v) (one (cellSticks N w h a j v))
   unfolding outcome Passed
-  cell-answered = fit-accepted N w h (usable-fit usable) (storeCell a j v) (passed .first, passed .place, passed .ordinary, passed .ref)
+  cell-answered = fit-accepted N w h (usable-fit usable) (storeCell a j v) refl (passed .first, passed .place, passed .ordinary, passed .ref)
 
   pub cell-worked :
       {freed : ℕ} {stuck : Bool} {g : Memory} → withSections (h .sections) g ≡ storeCellShading N w h a j v

@@ -8,7 +8,7 @@ use lib.ListN.{length, replicate}
 use Rattle.rules.specs.Heap.{Memory, lentMemory, shaped}
 use Rattle.rules.specs.Sections.{figures}
 use Rattle.rules.specs.Store.{formatted}
-use Rattle.rules.specs.Calls.{format, reply, accepted, refusals, refusedWith, refused, outcome}
+use Rattle.rules.specs.Calls.{format, reply, accepted, refusals, refusedWith, outcome}
 use Rattle.rules.specs.Promise.{Promise}
 use Rattle.types.specs.declared.Reply.{Reply}
 use Rattle.rules.proofs.Tests.{first-found}
@@ -20,7 +20,7 @@ module _ {N w : ℕ} {h : Memory} where
   pub format-refused : {x : Reply} → shaped N w h ≡ false → x ≡ reply 1 0 0 → Promise N w format h x h
   unfolding refusedWith refusals
   format-refused {x} fails x-is =
-      promised N w h format (refused N w h 1) (refused-with N w h format 1 (omega arith) (first-found 1 (not (shaped N w h)) _ (ap not fails))) x h x-is refl
+      promised N w h format (reply 1 0 0, h) (refused-with N w h format 1 (omega arith) (first-found 1 (not (shaped N w h)) _ (ap not fails))) x h x-is refl
 
   pub format-done :
       shaped N w h ≡ true → {x : Reply} → x ≡ reply 0 0 0 → {a b counts cells roots waiting sections d marks list : List ℕ}

@@ -14,7 +14,7 @@ use Rattle.theory.specs.Balance.{freedBlocks, inUse, allocates, allocatedBy}
 use Rattle.theory.specs.Usable.{outcomeOf, Worked}
 use Rattle.theory.proofs.Memories.Fit.{Fit, undamaged-fit}
 use Rattle.theory.proofs.EachCall.Accepted.{fit-accepted}
-use Rattle.theory.proofs.EachCall.Balance.{answer-even}
+use Rattle.theory.proofs.EachCall.Balance.{even-alone}
 use Rattle.theory.proofs.Usable.WorkDone.{accepted-allocates}
 use Rattle.test_arguments.specs.Replies.{ownTest}
 use Rattle.work_number.specs.Written.{Written}
@@ -29,14 +29,14 @@ module _ (N w : ℕ) (h : Memory) (fit : Fit N w h) (a j x : ℕ) (passes : ownT
 
   number-answered : answer N w h call ≡ accepted left 0
   unfolding outcome ownTest
-  number-answered = fit-accepted N w h fit call (own-passed N h call passes)
+  number-answered = fit-accepted N w h fit call refl (own-passed N h call refl passes)
 
   number-freed : 0 ≡ freedBlocks N h left
   unfolding allocates
   number-freed =
       let even : inUse N h + allocatedBy call (reply 0 0 0) ≡ freedBlocks N h left + inUse N left =
       subst (λ (y : Answer). inUse N h + allocatedBy call (y .0) ≡ freedBlocks N h (y .1) + inUse N (y .1)) number-answered
-      (answer-even N w h fit call .kept) in
+      (even-alone N w h fit call refl) in
       omega (arith, even, accepted-allocates call (reply 0 0 0) refl)
 
   pub number-worked : Worked N w call h (outcomeOf 0 0 0 false) left

@@ -62,6 +62,6 @@ pub open-promised :
     → Opened N (h .roots) (h .marks) told marks list → Promise N w openCollection h told (withMarks marks (withList list h))
 unfolding opened withProgress rootNames outcome Passed
 open-promised {N} {w} {h} undamaged shut {told} {marks} {list} done =
-    promised N w h openCollection (accepted (opened N h) 0) (fit-accepted N w h (undamaged-fit N w h undamaged) openCollection shut) told
+    promised N w h openCollection (accepted (opened N h) 0) (fit-accepted N w h (undamaged-fit N w h undamaged) openCollection refl shut) told
     (withMarks marks (withList list h)) (done .told-is)
     (ap₂ (λ (m l : List ℕ). withMarks m (withList l h)) (done .marks-are) (done .list-is))

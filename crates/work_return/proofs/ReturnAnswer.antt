@@ -40,7 +40,7 @@ module _ (N w : ℕ) (h : Memory) (fit : Fit N w h) (chosen : ℕ) where
   pub return-answered : test .number ≡ 0 → answer N w h (returnRoots chosen) ≡ freeing N h (returnShading N w h chosen (length (h .roots))) 0
   unfolding outcome Passed returnTest
   return-answered passes =
-      fit-accepted N w h fit (returnRoots chosen) (first-not 4 (chosenBelow chosen (length (h .roots))) [] (omega arith) passes .0)
+      fit-accepted N w h fit (returnRoots chosen) refl (first-not 4 (chosenBelow chosen (length (h .roots))) [] (omega arith) passes .0)
 
 -- ---- one root
 

@@ -1,6 +1,6 @@
 -- The answer of a store in a root whose test is passed, and what came of the code's: memory, number of blocks freed, and whether an object
 -- became stuck.
-use mathlib.Core.Path.{_≡_, sym, ap, _∙_}
+use mathlib.Core.Path.{_≡_, refl, sym, ap, _∙_}
 use mathlib.Core.Bool.{Bool}
 use Prim.Native.Nat.{ℕ, _-_}
 use lib.ListN.{getD}
@@ -27,7 +27,7 @@ rootSticks N w h r v = storeSticks N w (h .counts) (getD (h .roots) r 0) v
 module _ {N w : ℕ} {h : Memory} {r v : ℕ} (passed : RootPassed N h r v) where
   pub root-answered : Fit N w h → answer N w h (storeRoot r v) ≡ freeing N h (storeRootShading N w h r v) (one (rootSticks N w h r v))
   unfolding outcome Passed
-  root-answered fit = fit-accepted N w h fit (storeRoot r v) (passed .place, passed .ref)
+  root-answered fit = fit-accepted N w h fit (storeRoot r v) refl (passed .place, passed .ref)
 
   pub root-worked :
       Usable N w h → {freed : ℕ} {stuck : Bool} {g : Memory} → withSections (h .sections) g ≡ storeRootShading N w h r v

@@ -41,7 +41,7 @@ returns-2 c =
     let clear = cleared (done c .before) in
     let gate = passed clear in
     let facts = gate .before .one-open .ensures 0 in
-    promised-back (facts .fit (gate .if1 .left)) (clear .clear-all .ensures)
+    promised-back (facts .fit (gate .if1 .left)) (clear .clear-all .ensures) refl
     (goes-on (step-tested (facts .tested (gate .if1 .left))) (gate .if1 .left)) refl (done c .take-steps .ensures)
 
 pub step-collection-spec : {M : Type 1} → statement M

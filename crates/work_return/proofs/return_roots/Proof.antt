@@ -1,5 +1,5 @@
 -- `work_return::return_roots` meets its contract.
-use mathlib.Core.Path.{sym, ap, _∙_}
+use mathlib.Core.Path.{refl, sym, ap, _∙_}
 use Rattle.types.specs.declared.Reply.{Reply}
 use Rattle.test_arguments.proofs.ArgumentTests.{own-refused, return-tested}
 use Rattle.theory.proofs.Usable.UsableHeap.{usable-fit, usable-healthy}
@@ -20,7 +20,7 @@ return-test-requires c κs = usable-healthy (entry c .pre) .shape .roots-max
 returns : tie.Need-returns
 returns c =
     let usable = entry (c .before .before) .pre in
-    worked-refused usable (own-refused (return-tested (c .before .return-test .ensures)) (usable-fit usable) (c .if1 .taken))
+    worked-refused usable refl (own-refused (return-tested (c .before .return-test .ensures)) (usable-fit usable) (c .if1 .taken))
     (c .if1 .taken)
 
 clear-roots-requires : tie.Need-clear-roots-requires

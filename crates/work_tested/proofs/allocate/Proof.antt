@@ -7,6 +7,7 @@ use lib.ListN.{length}
 use Rattle.rules.specs.Heap.{Memory}
 use Rattle.rules.specs.Calls.{allocateAs}
 use Rattle.rules.specs.Promise.{Promise}
+use Rattle.rules.proofs.Replies.{allocation-alone}
 use Rattle.types.specs.declared.Reply.{Reply}
 use Rattle.rules.proofs.Shape.{shaped-blocks}
 use Rattle.test_allocation.proofs.AllocationReply.{replied, allocate-accepts, allocate-refused, allocate-data-refused}
@@ -42,7 +43,7 @@ returns : tie.Need-returns
 returns c =
     let start : tie.Start = search in
     let args = start .args in
-    worked-refused (start .pre)
+    worked-refused (start .pre) (allocation-alone (args .as-data) (args .n) (args .r))
     (refused-so (args .as-data) (args .n) (args .r) (c .before .allocate-reply .ensures) (usable-fit (start .pre)) (c .if1 .taken))
     (c .if1 .taken)
 

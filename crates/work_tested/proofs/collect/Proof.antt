@@ -1,4 +1,5 @@
 -- `work_tested::collect` meets its contract.
+use mathlib.Core.Path.{refl}
 use native.Mathlib.Omega.{arith}
 use Rattle.rules.specs.Heap.{Memory, lentMemory}
 use Rattle.test_arguments.proofs.ArgumentTests.{own-refused, collect-tested, none-open}
@@ -26,7 +27,7 @@ shut-test-requires c κs =
 returns : tie.Need-returns
 returns c =
     let start : tie.Start = search in
-    worked-refused (start .pre) (own-refused (collect-tested (c .before .shut-test .ensures)) (usable-fit (start .pre)) (c .if1 .taken))
+    worked-refused (start .pre) refl (own-refused (collect-tested (c .before .shut-test .ensures)) (usable-fit (start .pre)) (c .if1 .taken))
     (c .if1 .taken)
 
 collect-requires : tie.Need-collect-requires

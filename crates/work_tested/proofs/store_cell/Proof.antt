@@ -27,7 +27,7 @@ store-cell-test-requires c κs =
 returns : tie.Need-returns
 returns c =
     let start : tie.Start = search in
-    worked-refused (start .pre) (own-refused (cell-tested (c .before .store-cell-test .ensures)) (usable-fit (start .pre)) (c .if1 .taken))
+    worked-refused (start .pre) refl (own-refused (cell-tested (c .before .store-cell-test .ensures)) (usable-fit (start .pre)) (c .if1 .taken))
     (c .if1 .taken)
 
 store-cell-requires : tie.Need-store-cell-requires

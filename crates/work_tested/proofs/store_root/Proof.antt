@@ -23,7 +23,7 @@ store-root-test-requires c κs =
 returns : tie.Need-returns
 returns c =
     let start : tie.Start = search in
-    worked-refused (start .pre) (own-refused (root-tested (c .before .store-root-test .ensures)) (usable-fit (start .pre)) (c .if1 .taken))
+    worked-refused (start .pre) refl (own-refused (root-tested (c .before .store-root-test .ensures)) (usable-fit (start .pre)) (c .if1 .taken))
     (c .if1 .taken)
 
 store-root-requires : tie.Need-store-root-requires

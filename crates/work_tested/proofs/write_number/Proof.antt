@@ -35,7 +35,7 @@ number-test-requires c κs =
 returns : tie.Need-returns
 returns c =
     let start : tie.Start = search in
-    worked-refused (start .pre) (own-refused (number-tested (c .before .number-test .ensures)) (usable-fit (start .pre)) (c .if1 .taken))
+    worked-refused (start .pre) refl (own-refused (number-tested (c .before .number-test .ensures)) (usable-fit (start .pre)) (c .if1 .taken))
     (c .if1 .taken)
 
 write-number-requires : tie.Need-write-number-requires
