@@ -9,6 +9,7 @@ use model::product::fuzz::fuzz;
 use model::product::met::{
     sizes, Met, AROUND, BY_SIZE, CALLS, KINDS, NUMBERS, READINGS, STOPS, TOO_MANY_BLOCKS,
 };
+use model::rules::copies::{copy, Sizes};
 use model::rules::mark_claims::ILL;
 use model::rules::outputs::{reason, shape};
 use model::rules::reasons::{read_reason, Reading};
@@ -34,6 +35,7 @@ const MODEL: Library = Library {
     reason,
     shape,
     read_reason,
+    copy,
 };
 
 #[test]
@@ -243,6 +245,25 @@ fn lenient_reading(text: &[u8], cells: &mut [u32]) -> Reading {
         Reading { kind: 0, .. } => read_reason(plain.as_bytes(), cells),
         reading => reading,
     }
+}
+
+/// A copy that keeps what stood in the waiting list of the second heap.
+fn unsettled_copy(first: Sizes, memory: &Memory, second: Sizes, into: &mut Memory) -> Reply {
+    let waiting = into.waiting.clone();
+    let reply = copy(first, memory, second, into);
+    into.waiting = waiting;
+    reply
+}
+
+#[test]
+fn wrong_copies_are_found() {
+    let copy_only = Library {
+        copy: unsettled_copy,
+        ..MODEL
+    };
+    let (_, found) = fuzz(0, 1, copy_only);
+    let text = found.expect("a waiting list that is not 0");
+    assert!(text.starts_with("a difference: a copy into"), "{text}");
 }
 
 #[test]

@@ -11,6 +11,7 @@ use crate::lists::spoiling::{Lent, Replay};
 use crate::product::met::{place_of, Met};
 use crate::rules::answers::Reply;
 use crate::rules::calls::apply;
+use crate::rules::copies::{copy, Sizes};
 use crate::rules::heap::Memory;
 use crate::rules::outputs::{
     due_reason, due_shape, reason, shape, write_due, SHORT_REASON, SHORT_SHAPE,
@@ -30,12 +31,16 @@ pub struct Library {
     pub reason: ReasonOf,
     pub shape: ShapeOf,
     pub read_reason: ReadReason,
+    pub copy: Copies,
 }
 
 /// What writes a reason or a shape, and what reads a sentence: the model's, or another.
 pub type ReasonOf = fn(usize, usize, &Memory, usize, &mut [u8]) -> Reply;
 pub type ShapeOf = fn(usize, usize, &Memory, &mut [u32]) -> Reply;
 pub type ReadReason = fn(&[u8], &mut [u32]) -> Reading;
+
+/// What copies a heap into a second one: the model's, or another.
+pub type Copies = fn(Sizes, &Memory, Sizes, &mut Memory) -> Reply;
 
 /// So many places behind an output are looked at, too: they must be as before.
 const BEHIND: usize = 8;
@@ -129,6 +134,23 @@ fn carried_out(
         }
         _ => (bench.carry_out(entry, apply), Vec::new()),
     }
+}
+
+/// Copies what a list left into a second heap, by the model and by the library. Whether they differ, in the reply or in any buffer of the
+/// second heap.
+pub fn differing_copy(
+    other: Library,
+    bench: &Bench,
+    second: Sizes,
+    into: &Memory,
+    met: &mut Met,
+) -> bool {
+    let first = (bench.blocks, bench.width);
+    let (mut model, mut library) = (into.clone(), into.clone());
+    let by_model = copy(first, &bench.memory, second, &mut model);
+    let by_library = (other.copy)(first, &bench.memory, second, &mut library);
+    met.copies[by_model.number] += 1;
+    (by_model, model) != (by_library, library)
 }
 
 /// Asks the library for the reason of a block, or for the shape where there is none, with outputs of these lengths, on what a list

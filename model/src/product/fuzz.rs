@@ -14,7 +14,9 @@ use crate::lists::runs::{some_records, some_run};
 use crate::lists::section_lists::sections;
 use crate::lists::spoiling::{some_replay, spoilt_sentence};
 use crate::product::busy::{busy, chain};
-use crate::product::compare::{call_by_call, differing_output, ran, read_back, replayed, Library};
+use crate::product::compare::{
+    call_by_call, differing_copy, differing_output, ran, read_back, replayed, Library,
+};
 use crate::product::met::{sizes, Met, PAIRS_OF_MAPS, TOO_MANY_BLOCKS};
 use crate::product::shrink::shrink;
 use crate::rules::calls::short::{allocate, cell, chosen, data, root, step, OPEN};
@@ -294,6 +296,10 @@ fn try_list(library: Library, desk: &Desk, met: &mut Met) -> Option<Found> {
     if found.is_some() {
         return found;
     }
+    let found = copies(library, desk, random.clone(), met);
+    if found.is_some() {
+        return found;
+    }
     let calls = calls_of(desk, &mut random);
     let seed = random.word();
     let found = [false, true].into_iter().find_map(|spoilt| {
@@ -312,6 +318,76 @@ fn try_list(library: Library, desk: &Desk, met: &mut Met) -> Option<Found> {
             ran(library, &some_run(seed, &desk.bench, records), met)
         })
     })
+}
+
+/// So many copies of what a list left.
+const COPIES: usize = 6;
+
+/// The model looks for each object's chunk from block 0 on: no copies where that takes more looks.
+const LOOKS: usize = 20_000_000;
+
+/// Copies of what a list left into second heaps of other sizes and widths, of any content.
+fn copies(library: Library, desk: &Desk, mut random: Random, met: &mut Met) -> Option<Found> {
+    let bench = &desk.bench;
+    (0..COPIES).find_map(|_| {
+        let (second, into) = some_second(&mut random, bench);
+        if desk.objects().len() * second.0.min(MAX_BLOCKS) > LOOKS {
+            return None;
+        }
+        differing_copy(library, bench, second, &into, met).then(|| Found {
+            length: desk.entries.len(),
+            text: format!(
+                "a difference: a copy into {second:?}, behind {:?}\n",
+                desk.entries
+            ),
+        })
+    })
+}
+
+/// A second heap: mostly of the right lengths and as many roots, and filled with anything.
+fn some_second(random: &mut Random, bench: &Bench) -> ((usize, usize), Memory) {
+    let near = bench.blocks.next_power_of_two().clamp(8, MAX_BLOCKS);
+    let blocks = match random.below(6) {
+        0 => 8,
+        1 => (near / 2).max(8),
+        2 => (2 * near).min(MAX_BLOCKS),
+        3 => (4 * near).min(MAX_BLOCKS),
+        _ => near,
+    };
+    let width = 1 + random.below(4);
+    let roots = match random.below(20) {
+        0 => 1 + random.below(64),
+        _ => bench.memory.roots.len(),
+    };
+    let mut into = Memory::zeros(blocks, width, roots);
+    let bytes = [
+        &mut into.a,
+        &mut into.b,
+        &mut into.counts,
+        &mut into.data,
+        &mut into.marks,
+    ];
+    for byte in bytes.into_iter().flatten() {
+        *byte = random.word() as u8;
+    }
+    let lists = [
+        &mut into.cells,
+        &mut into.roots,
+        &mut into.waiting,
+        &mut into.sections,
+        &mut into.list,
+    ];
+    for number in lists.into_iter().flatten() {
+        *number = random.word() as u32;
+    }
+    match random.below(40) {
+        0 => into.sections.push(0),
+        1 => drop(into.list.pop()),
+        2 => return ((blocks, 5), into),
+        3 => return ((2 * blocks, width), into),
+        _ => {}
+    }
+    ((blocks, width), into)
 }
 
 /// The shape of what a list left, and the reasons of some blocks, with outputs of every length around the right one; and the sentences

@@ -5,6 +5,7 @@ use crate::history::Run;
 use crate::product::compare::Library;
 use crate::rules::answers::Reply;
 use crate::rules::calls::Call;
+use crate::rules::copies::Sizes;
 use crate::rules::heap::Memory;
 use crate::rules::reasons::Reading;
 use huwekapo::lent::{self, Shared, Unique};
@@ -18,6 +19,7 @@ pub const LIBRARY: Library = Library {
     reason,
     shape,
     read_reason,
+    copy,
 };
 
 /// Carries out one call by the library, as `calls::apply` does by the model.
@@ -73,6 +75,16 @@ pub fn reason(blocks: usize, width: usize, memory: &Memory, a: usize, output: &m
 /// Writes a shape by the library, as `outputs::shape` does by the model.
 pub fn shape(blocks: usize, width: usize, memory: &Memory, output: &mut [u32]) -> Reply {
     reply_of(lent::shape(shared(blocks, width, memory), output))
+}
+
+/// Makes a copy by the library, as `copies::copy` does by the model.
+pub fn copy(first: Sizes, memory: &Memory, second: Sizes, into: &mut Memory) -> Reply {
+    let (blocks, width) = first;
+    let (more_blocks, other_width) = second;
+    reply_of(lent::copy(
+        shared(blocks, width, memory),
+        unique(more_blocks, other_width, into),
+    ))
 }
 
 /// Reads a text by the library, as `reasons::read_reason` does by the model.

@@ -38,7 +38,7 @@ pub const CALLS: [(&str, &[usize]); 16] = [
 ];
 
 /// One more than the largest number that a call can answer.
-pub const NUMBERS: usize = 17;
+pub const NUMBERS: usize = 18;
 
 /// The place of an entry in `CALLS`, where it is a call.
 pub fn place_of(entry: Entry) -> Option<usize> {
@@ -120,6 +120,7 @@ pub struct Met {
     pub full_with_one_open: usize,
     /// Outputs lent for a reason and for a shape on what a list left, of every length around the right one.
     pub outputs: [usize; 2],
+    pub copies: [usize; NUMBERS],
     /// Reasons and shapes by whether the output was shorter than the right length by one, of it, and longer.
     pub around: [[usize; 3]; 2],
     /// The longest chain of a reason, in links, and sentences that no root reaches a block.
@@ -289,7 +290,8 @@ impl Met {
              refusals of replays {}\n\
              runs of records {}, refusals {}, stopped by {}; with a collection open {}, of these stopped by 5 {}\n\
              outputs for reasons and shapes {:?}, one too short, right, longer {:?}; most links {}, no root {}\n\
-             texts read back {}\n",
+             texts read back {}\n\
+             copies into a second heap, by number {}\n",
             self.lists,
             (0..NUMBERS).map(number).sum::<usize>(),
             number(0),
@@ -319,6 +321,7 @@ impl Met {
             self.most_links,
             self.no_root,
             by(0..READINGS.len(), |kind| self.readings[kind]),
+            by([0, 1, 2, 11, 13, 14, 17], |number| self.copies[number]),
         )
     }
 }
