@@ -65,6 +65,13 @@ static void shape(void) {
     made(huwekapo_heap_shape(&heap, output, sizeof output / sizeof *output));
 }
 
+/* Into a heap of the same size. */
+static void copy(void) {
+    static huwekapo_ref other[HUWEKAPO_HEAP_LENGTH(MOST, WIDTH, ROOTS)];
+    struct huwekapo_heap second = huwekapo_heap_in(other, heap.blocks, WIDTH, ROOTS);
+    made(huwekapo_heap_copy(&heap, &second));
+}
+
 static void replay(void) {
     size_t number = CALLS(heap.blocks);
     made(huwekapo_heap_replay(&heap, calls, HUWEKAPO_CALLS_LENGTH(number), replies, HUWEKAPO_REPLIES_LENGTH(number)));
@@ -184,6 +191,7 @@ int main(void) {
     enum { OPEN = 1, CLOSED = 2, FULL = 4, ANY = OPEN | CLOSED | FULL };
     /* The most that a call that tests the heap takes, by its size, and that the walk of a reason or of a shape does. */
 #define A_TEST {19000, 19000, 19000, 77000}
+#define A_COPY {40000, 40000, 400000, 3000000}
 #define A_WALK {18000, 18000, 135000, 1060000}
     static const struct {
         const char *name;
@@ -207,6 +215,7 @@ int main(void) {
         {"step_collection", step_collection, A_TEST, OPEN},
         {"reason", reason, A_WALK, ANY},
         {"shape", shape, A_WALK, ANY},
+        {"copy", copy, A_COPY, CLOSED | FULL},
         {"replay", replay, {19000, 19000, 19000, 19000}, ANY},
         {"run_records", run_records, A_TEST, OPEN | CLOSED},
     };

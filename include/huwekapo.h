@@ -25,7 +25,8 @@
  * number that is written into data is as wide as a cell: any such number is right. Format, both allocations, both stores, the
  * return, collect, steps, replay and runs of records leave `waiting` all 0, and `sections` as it must be, when accepted; the
  * opening of a collection writes `marks` and `list` and nothing else; the write of a number changes one cell and nothing else;
- * check, look, free blocks and the read of a number write nothing; the reason and the shape write nothing but their output.
+ * check, look, free blocks and the read of a number write nothing; the reason and the shape write nothing but their output; a copy
+ * writes nothing but the buffers of its second heap, which it leaves as a collection leaves them.
  *
  * The cells of data are never followed, counted or checked as references, whatever they hold. What roots and cells name may be
  * data. When data is freed, its cells become 0, and its D bit too.
@@ -38,7 +39,8 @@
  * none of those objects of a later store was or led to, is gone at the close. The steps from the opening to the close are at
  * most the objects present at the opening.
  *
- * The buffers, the two lists of replay, the bytes of a run, and the outputs of the reason and of the shape must not overlap, nor
+ * The buffers, those of both heaps of a copy, the two lists of replay, the bytes of a run, and the outputs of the reason and of
+ * the shape must not overlap, nor
  * may the text and the cells of a reason that is read; and each pointer must be good for its length, and not null even where that
  * is 0.
  *
@@ -68,9 +70,9 @@
 /* The version of this header, and of the library that it goes with. What changes an argument, a struct or a buffer raises the
  * minor number, and with it the shared library's name. */
 #define HUWEKAPO_VERSION_MAJOR 0
-#define HUWEKAPO_VERSION_MINOR 7
+#define HUWEKAPO_VERSION_MINOR 8
 #define HUWEKAPO_VERSION_PATCH 0
-#define HUWEKAPO_VERSION "0.7.0"
+#define HUWEKAPO_VERSION "0.8.0"
 #define HUWEKAPO_VERSION_NUMBER (1000000 * HUWEKAPO_VERSION_MAJOR + 1000 * HUWEKAPO_VERSION_MINOR + HUWEKAPO_VERSION_PATCH)
 
 /* The number of buffers that every call takes. */
@@ -173,6 +175,7 @@ enum huwekapo_number {
     HUWEKAPO_OUT_OF_TURN = 14,  /* a step while no collection is open; an opening or a full collection while one is */
     HUWEKAPO_SHORT_REASON = 15, /* the output is shorter than the sentence */
     HUWEKAPO_SHORT_SHAPE = 16,  /* the output is shorter than the list */
+    HUWEKAPO_NO_PLACE = 17,     /* an object of a copy finds no free chunk at its turn */
     HUWEKAPO_SHORT_REPLIES = 18, /* `replies` is too short for the replies of all calls */
     HUWEKAPO_BAD_RUN = 19       /* the run handed in is out of range */
 };
@@ -240,6 +243,20 @@ enum huwekapo_code {
     HUWEKAPO_BUFFERS_(const uint8_t, const huwekapo_ref, const huwekapo_ref, const huwekapo_ref, uint8_t, huwekapo_ref)
 #define HUWEKAPO_CONST_BUFFERS \
     HUWEKAPO_BUFFERS_(const uint8_t, const huwekapo_ref, const huwekapo_ref, const huwekapo_ref, const uint8_t, const huwekapo_ref)
+
+/* The buffers of the second heap of a copy. */
+#define HUWEKAPO_SECOND_BUFFERS \
+    size_t second_blocks, size_t second_width, \
+    uint8_t *second_a, size_t second_a_length, \
+    uint8_t *second_b, size_t second_b_length, \
+    uint8_t *second_counts, size_t second_counts_length, \
+    huwekapo_ref *second_cells, size_t second_cells_length, \
+    huwekapo_ref *second_roots, size_t second_roots_length, \
+    huwekapo_ref *second_waiting, size_t second_waiting_length, \
+    huwekapo_ref *second_sections, size_t second_sections_length, \
+    uint8_t *second_data, size_t second_data_length, \
+    uint8_t *second_marks, size_t second_marks_length, \
+    huwekapo_ref *second_list, size_t second_list_length
 
 /* Makes an empty heap of whatever the buffers held: b is all ones, each number of sections the blocks of a section,
  * every other buffer all 0. The value is 0. Refusals: 1. */
@@ -311,6 +328,15 @@ struct huwekapo_reply huwekapo_reason(HUWEKAPO_CONST_BUFFERS, size_t at, uint8_t
  * paired one to one, keeping roots and their number, sizes, D bits, references and data. The value is how many numbers were written;
  * later ones keep theirs, and nothing else is written, `waiting` neither. A refusal writes nothing. Refusals: 1, 2, 11, 13, 16. */
 struct huwekapo_reply huwekapo_shape(HUWEKAPO_CONST_BUFFERS, uint32_t *output, size_t output_length);
+
+/* Copies what the roots reach into a second heap, whose blocks, width and buffers stand behind those of the first: into a heap as
+ * format leaves it, whatever stood there. Its blocks and width may differ; its roots are as many. Objects are copied in the order of
+ * huwekapo_shape's numbers, each to the lowest free chunk then, with its D bit; references name the copies, and data is as it is.
+ * Counts are those that a collection gives at the second heap's width. Both heaps then have one shape; the first is only read, its
+ * `waiting` too, and of the second nothing but blocks, width and lengths is looked at. The value is the number of blocks in use in
+ * the second heap. A refusal changes no buffer of either. Refusals: 1 (of either heap, or other numbers of roots), 2, 11, 13 and 14
+ * (a collection is open) of the first heap, 17. */
+struct huwekapo_reply huwekapo_copy(HUWEKAPO_CONST_BUFFERS, HUWEKAPO_SECOND_BUFFERS);
 
 /* What a text says. */
 enum huwekapo_reading_kind {

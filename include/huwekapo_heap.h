@@ -140,6 +140,11 @@ static inline struct huwekapo_reply huwekapo_heap_shape(const struct huwekapo_he
     return huwekapo_shape(HUWEKAPO_LEND_(heap), output, output_length);
 }
 
+/* Copies what the roots of the first heap reach into the second. */
+static inline struct huwekapo_reply huwekapo_heap_copy(const struct huwekapo_heap *heap, struct huwekapo_heap *second) {
+    return huwekapo_copy(HUWEKAPO_LEND_(heap), HUWEKAPO_LEND_(second));
+}
+
 /* Whether a collection in small steps is open. */
 static inline int huwekapo_heap_is_open(const struct huwekapo_heap *heap) {
     return heap->list[heap->blocks] == 1;

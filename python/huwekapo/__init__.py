@@ -92,6 +92,7 @@ answers. Nothing is proved of the package itself.
 """
 
 from .unreached import Garbage, Held, Kinds, data, garbage, in_use, kinds, objects, stuck
+from .compact import Compacted, compact, largest_chunk
 from .heap import Heap, Look, Reply, Stepped
 from .history import History, run
 from .library import VERSION, Figures, LibraryMissing
@@ -106,6 +107,7 @@ from .widening import widen, widened
 __version__ = VERSION
 
 __all__ = [
+    "Compacted",
     "CutOff",
     "Damage",
     "Figures",
@@ -125,11 +127,13 @@ __all__ = [
     "Run",
     "Stepped",
     "Stopped",
+    "compact",
     "data",
     "garbage",
     "holds",
     "in_use",
     "kinds",
+    "largest_chunk",
     "objects",
     "read_reason",
     "records",

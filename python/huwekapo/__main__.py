@@ -17,7 +17,7 @@ from .history import History
 from .library import MAX_BLOCKS, MAX_ROOTS, MAX_WIDTH, MIN_BLOCKS, REPORT_BLOCKS, REPORT_ROOTS, REPORT_WIDTH, LibraryMissing
 from .progress import Bar
 from .record import RECORD
-from .refused import Refused
+from .refused import Number, Refused
 from .runs import Run
 from .widening import ADVICE
 
@@ -48,6 +48,7 @@ EXAMPLES = {
     "pauses": ["caches.history --blocks 1024", "caches.history --blocks 1024 --width 2 --budgets 1,10,100,1000 --csv >pauses.csv"],
     "why": ["leak.history 1 --records 100", "leak.history --largest", "leak.history --garbage --blocks 1024"],
     "same": ["caches.history other.history", "caches.history --blocks 1024,4096"],
+    "compact": ["caches.history", "images.history --blocks 1024 --width 2"],
     "sweep": ["histories -o table.csv", "histories -o table.csv --widths 1-4 --blocks 1024,4096 --jobs 2"],
     "verify": ["table.csv histories", "table.csv histories --sample 20 --seed 1"],
     "compare": ["before.csv after.csv", "before.csv after.csv --csv >changes.csv"],
@@ -268,6 +269,11 @@ def arguments() -> argparse.ArgumentParser:
     made.add_argument("--blocks", type=pair(blocks), default=(REPORT_BLOCKS, REPORT_BLOCKS), metavar="N,M", help=f"blocks {words}")
     made.add_argument("--width", type=pair(width), default=(REPORT_WIDTH, REPORT_WIDTH), metavar="W,V", help=f"count width {words}")
     made.add_argument("--roots", type=pair(roots), default=(REPORT_ROOTS, REPORT_ROOTS), metavar="R,S", help=f"number of roots {words}")
+
+    made = command("compact", _compact, "What a copy of the heap behind a history would gain: its largest free chunk before and after.")
+    history(made)
+    shape(made, False, False)
+    made.add_argument("--records", type=positive, metavar="N", help="after so many records (after all)")
 
     made = command("sweep", _sweep, "A table of a whole collection of histories. A sweep that was stopped goes on where it stopped.")
     made.add_argument("folder", metavar="FOLDER", help="the folder of the histories, with those below it")
@@ -585,6 +591,29 @@ def _same(chosen: argparse.Namespace) -> int:
     if stopped:
         return STOPPED
     return ENDED if where is None else FAILED
+
+
+def _compact(chosen: argparse.Namespace) -> int:
+    from .compact import compact, lets_go_on
+
+    _needs_output()
+    heap = Heap(chosen.blocks, chosen.width, chosen.roots)
+    with _history(chosen.file, again=True) as history:
+        if chosen.records is None:
+            run = history.run(heap, may_stop=True)
+        else:
+            run = next(history.runs(heap, chosen.records))
+        gain = compact(heap)
+        print(f"blocks in use:       {gain.used_before:,}; after a copy {gain.used_after:,}")
+        print(f"largest free chunk:  {gain.chunk_before:,} blocks; after a copy {gain.chunk_after:,}")
+        if not run.stopped:
+            return ENDED
+        _say([f"{shown(history.name)}: {run.stop()}: {run.stop_in_words()}: this is the heap before it"])
+        _advise(history, run, chosen.blocks, chosen.width, chosen.roots)
+        if run.number == Number.NO_CHUNK:
+            words = "would have let it go on" if lets_go_on(heap, history, run.records) else "would not have let it go on"
+            print(f"{run.stop()}: a copy at that point {words}")
+    return STOPPED
 
 
 def _sweep(chosen: argparse.Namespace) -> int:

@@ -12,7 +12,7 @@ import os
 from typing import Any, Callable, Iterator, List, NamedTuple
 
 #: The version of the library that this package is for, and its own.
-VERSION = "0.7.0"
+VERSION = "0.8.0"
 
 #: The environment variable that names the library: its file, or the folder that it lies in.
 VARIABLE = "HUWEKAPO_LIBRARY"
@@ -110,6 +110,9 @@ class Reading(ctypes.Structure):
     _fields_ = [("kind", WORD), ("root", WORD), ("links", WORD), ("block", WORD)]
 
 
+#: What lends a heap: blocks, width, and each buffer as a pointer and a length in numbers.
+LENT: list[Any] = [WORD, WORD] + len(BUFFERS) * [ctypes.c_void_p, WORD]
+
 #: Each function: what it takes behind the heap's buffers, and what it answers.
 FUNCTIONS: dict[str, tuple[list[Any], Any]] = {
     "format": ([], Reply),
@@ -128,6 +131,7 @@ FUNCTIONS: dict[str, tuple[list[Any], Any]] = {
     "step_collection": ([WORD], Reply),
     "reason": ([WORD, ctypes.c_void_p, WORD], Reply),
     "shape": ([ctypes.c_void_p, WORD], Reply),
+    "copy": (LENT, Reply),
     "replay": ([ctypes.c_void_p, WORD, ctypes.c_void_p, WORD], Reply),
     "run_records": ([RunSoFar, ctypes.c_void_p, WORD], Ran),
 }
@@ -239,8 +243,7 @@ def path() -> str:
 
 def _declared(library: Any, name: str) -> Any:
     function = getattr(library, f"huwekapo_{name}")
-    # A buffer is a pointer and a length in numbers.
-    buffers = [WORD, WORD] + len(BUFFERS) * [ctypes.c_void_p, WORD] if name in FUNCTIONS else []
+    buffers = LENT if name in FUNCTIONS else []
     arguments, answer = FUNCTIONS[name] if name in FUNCTIONS else READERS[name]
     function.argtypes = buffers + arguments
     function.restype = answer

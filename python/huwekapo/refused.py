@@ -26,6 +26,7 @@ class Number(enum.IntEnum):
     OUT_OF_TURN = 14
     SHORT_REASON = 15
     SHORT_SHAPE = 16
+    NO_PLACE = 17
     SHORT_REPLIES = 18
     BAD_RUN = 19
 
@@ -61,6 +62,7 @@ _CALL_WORDS: Dict[int, str] = {
     Number.OUT_OF_TURN: "a step while no collection is open; an opening or a full collection while one is",
     Number.SHORT_REASON: "the output is shorter than the sentence",
     Number.SHORT_SHAPE: "the output is shorter than the list",
+    Number.NO_PLACE: "an object of the copy finds no free chunk at its turn",
     Number.SHORT_REPLIES: "`replies` is too short for the replies of all calls",
     Number.BAD_RUN: "no run leaves these numbers",
 }

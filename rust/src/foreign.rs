@@ -73,6 +73,31 @@ declared! {
         output_length: usize
     ) -> Reply;
     huwekapo_shape(const, const, const, output: *mut u32, output_length: usize) -> Reply;
+    huwekapo_copy(
+        const, const, const,
+        second_blocks: usize,
+        second_width: usize,
+        second_a: *mut u8,
+        second_a_length: usize,
+        second_b: *mut u8,
+        second_b_length: usize,
+        second_counts: *mut u8,
+        second_counts_length: usize,
+        second_cells: *mut Ref,
+        second_cells_length: usize,
+        second_roots: *mut Ref,
+        second_roots_length: usize,
+        second_waiting: *mut Ref,
+        second_waiting_length: usize,
+        second_sections: *mut Ref,
+        second_sections_length: usize,
+        second_data: *mut u8,
+        second_data_length: usize,
+        second_marks: *mut u8,
+        second_marks_length: usize,
+        second_list: *mut Ref,
+        second_list_length: usize
+    ) -> Reply;
     huwekapo_replay(
         mut, mut, mut,
         calls: *const u64,

@@ -389,6 +389,45 @@ pub fn shape(heap: Shared, output: &mut [u32]) -> Reply {
     )
 }
 
+/// Copies what the roots reach into a second heap: into a heap as [`format`] leaves it, whatever stood there. Its blocks and
+/// width may differ; its roots are as many. Objects are copied in the order of [`shape`]'s numbers, each to the lowest free
+/// chunk then, with its D bit; references name the copies, and data is as it is. Counts are those that a collection gives at
+/// the second heap's width. Both heaps then have one shape; the first is only read, and of the second nothing but blocks, width
+/// and lengths is looked at. The value is the number of blocks in use in the second heap. A refusal changes no buffer of
+/// either. Refusals: 1 (of either heap, or other numbers of roots), 2, 11, 13 and 14 (a collection is open) of the first heap,
+/// 17.
+pub fn copy(heap: Shared, second: Unique) -> Reply {
+    lend!(
+        huwekapo_copy,
+        heap,
+        as_ptr,
+        as_ptr,
+        as_ptr,
+        second.blocks,
+        second.width,
+        second.a.as_mut_ptr(),
+        second.a.len(),
+        second.b.as_mut_ptr(),
+        second.b.len(),
+        second.counts.as_mut_ptr(),
+        second.counts.len(),
+        second.cells.as_mut_ptr(),
+        second.cells.len(),
+        second.roots.as_mut_ptr(),
+        second.roots.len(),
+        second.waiting.as_mut_ptr(),
+        second.waiting.len(),
+        second.sections.as_mut_ptr(),
+        second.sections.len(),
+        second.data.as_mut_ptr(),
+        second.data.len(),
+        second.marks.as_mut_ptr(),
+        second.marks.len(),
+        second.list.as_mut_ptr(),
+        second.list.len()
+    )
+}
+
 /// Formats the heap and runs a list of calls, each an entry of four words, a code and arguments:
 ///
 /// ```text

@@ -40,6 +40,8 @@ pub enum Refusal {
     ShortReason,
     /// 16: the output is shorter than the list of a shape.
     ShortShape,
+    /// 17: an object of a copy finds no free chunk at its turn.
+    NoPlace,
     /// 18: a replay's `replies` is too short.
     ShortReplies,
     /// 19: a run of records is out of range.
@@ -86,6 +88,7 @@ impl Refusal {
             14 => Some(Refusal::OutOfTurn),
             15 => Some(Refusal::ShortReason),
             16 => Some(Refusal::ShortShape),
+            17 => Some(Refusal::NoPlace),
             18 => Some(Refusal::ShortReplies),
             19 => Some(Refusal::BadRun),
             number => unreachable!("the library has no refusal {number}"),
@@ -112,6 +115,7 @@ impl Refusal {
             Refusal::OutOfTurn => 14,
             Refusal::ShortReason => 15,
             Refusal::ShortShape => 16,
+            Refusal::NoPlace => 17,
             Refusal::ShortReplies => 18,
             Refusal::BadRun => 19,
         }
@@ -184,6 +188,7 @@ impl fmt::Display for Refusal {
             }
             Refusal::ShortReason => "the output is shorter than the sentence",
             Refusal::ShortShape => "the output is shorter than the list",
+            Refusal::NoPlace => "an object of the copy finds no free chunk at its turn",
             Refusal::ShortReplies => "`replies` is too short for the replies of all calls",
             Refusal::BadRun => {
                 "the run has more records than there can be, or more allocations, blocks, collections or stuck objects \
