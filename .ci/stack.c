@@ -189,9 +189,9 @@ static size_t measure(void (*call)(void)) {
 int main(void) {
     /* On which heaps a call is accepted: with a collection open, with none, and on the full one, with none. */
     enum { OPEN = 1, CLOSED = 2, FULL = 4, ANY = OPEN | CLOSED | FULL };
-    /* The most that a call that tests the heap takes, by its size, and that the walk of a reason or of a shape does. */
+    /* The most that a call that tests the heap takes, by its size, and that the walk of a reason or of a shape and that a copy do. */
 #define A_TEST {19000, 19000, 19000, 77000}
-#define A_COPY {40000, 40000, 400000, 3000000}
+#define A_COPY {27000, 27000, 145000, 1070000}
 #define A_WALK {18000, 18000, 135000, 1060000}
     static const struct {
         const char *name;

@@ -31,11 +31,12 @@ OTHERS: Dict[str, Call] = {
     "step_collection": lambda heap: heap.step_collection(1),
     "reason": lambda heap: heap.reason(0),
     "shape": lambda heap: heap.shape(),
+    "copy": lambda heap: heap.copy_into(Heap(8, 2, 4)),
     "run_records": lambda heap: heap.run_records(Run(), COLLECT),
 }
 
 #: The calls that are refused 14 while a collection is open, and while none is.
-OUT_OF_TURN = {True: {"collect", "open_collection"}, False: {"step_collection"}}
+OUT_OF_TURN = {True: {"collect", "open_collection", "copy"}, False: {"step_collection"}}
 
 
 def buffers(heap: Heap) -> Dict[str, List[int]]:

@@ -403,6 +403,11 @@ class Header(unittest.TestCase):
             if name in library.FUNCTIONS:
                 self.assertIn(others.pop(0).strip(), lending, name)
             expected, answered = library.FUNCTIONS[name] if name in library.FUNCTIONS else library.READERS[name]
+            if others[-1:] and others[-1].strip() == "HUWEKAPO_SECOND_BUFFERS":
+                # The second heap of a copy is lent as the first is.
+                others.pop()
+                self.assertEqual(expected, library.LENT)
+                expected = []
             words = [re.fullmatch(r"\s*(.*?)(\w+)\s*", argument).groups() for argument in others]  # type: ignore[union-attr]
             rest = [kinds[kind.strip()] for kind, _ in words]
             self.assertEqual(rest, [declared[kind] for kind in expected], name)

@@ -5,6 +5,7 @@ use Prim.Native.Nat.{ℕ, zero, suc, _/_, _≤_}
 use native.Mathlib.Omega.{arith}
 use lib.ListN.{length, take, replicate, length-replicate}
 use borrow.Author.Needs.{needs}
+use Rattle.rules.specs.Heap.{maxBlocks}
 use Rattle.rules.proofs.Shape.{blocks-le}
 use Rattle.copy_plan.proofs.plan.Statement.{statement}
 use Rattle.copy_plan.proofs.plan.Tie as tie
@@ -15,7 +16,7 @@ zeros-front (suc m) zero l = absurd (omega arith)
 zeros-front (suc m) (suc n) l = ap (λ (l : List ℕ). 0 ∷ l) (zeros-front m n (omega arith))
 
 -- the map has room for the largest heap
-room : (c : tie.Start) → c .args .blocks2 / 8 ≤ 8192
+room : (c : tie.Start) → c .args .blocks2 / 8 ≤ maxBlocks / 8
 room c = omega (arith, blocks-le (c .args .blocks2) (c .pre .2))
 
 array-borrow-prefix-map : tie.Need-array-borrow-prefix-map
@@ -24,12 +25,12 @@ array-borrow-prefix-map c = room (c .before .before .before .before)
 slice-aggregate-lay-each : tie.Need-slice-aggregate-lay-each
 slice-aggregate-lay-each c =
     let s = c .before .before .before .before .before in
-    sym (ap length (zeros-front (s .args .blocks2 / 8) 8192 (room s)) ∙ length-replicate (s .args .blocks2 / 8) 0)
+    sym (ap length (zeros-front (s .args .blocks2 / 8) (maxBlocks / 8) (room s)) ∙ length-replicate (s .args .blocks2 / 8) 0)
 
 lay-each-requires : tie.Need-lay-each-requires
 lay-each-requires c κs =
     let s = c .before .before .before .before .before in
-    (s .pre .0, s .pre .1, s .pre .2, zeros-front (s .args .blocks2 / 8) 8192 (room s))
+    (s .pre .0, s .pre .1, s .pre .2, zeros-front (s .args .blocks2 / 8) (maxBlocks / 8) (room s))
 
 same-length : tie.Need-same-length
 same-length c = search needs
