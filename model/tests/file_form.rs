@@ -263,7 +263,7 @@ fn the_large_file() {
     assert_eq!(file, vectors(1));
     let (out, tally) = expect(&file);
     // No call answers 9 or 10.
-    for number in (0..=8).chain(11..=16) {
+    for number in (0..=8).chain(11..=17) {
         assert!(tally.numbers[number] >= 100, "{number}: {tally:?}");
     }
     for kind in [1, 2, 3, 4, 5, 7] {
@@ -280,7 +280,7 @@ fn the_large_file() {
     ] {
         assert!(out.contains(line), "{line}");
     }
-    assert!(file.len() < 4_800_000 && out.len() < 5_700_000);
+    assert!(file.len() < 4_950_000 && out.len() < 6_000_000);
     say(&format!(
         "the large file, {} bytes, printing {} bytes: {tally:?}",
         file.len(),

@@ -1,6 +1,5 @@
 // The run over the whole input, on buffers of the largest lengths, of which parts are lent.
-ghost use Rattle.calls.specs.Within.{Within};
-use crate::lent;
+ghost use Rattle.calls_lent.specs.Within.{Within};
 use crate::reading;
 use calls_entries::Entry;
 use types::MAX_BLOCKS;
@@ -20,7 +19,7 @@ fn say_wrong(call: usize, text: &[u8]) -> bool {
 }
 
 // Entry number k. A length is set here, and what is wrong with an entry is said here: then nothing is left to do, as of a length.
-fn next_entry(lengths: &mut [usize; lent::BUFFERS], k: usize) -> Entry
+fn next_entry(lengths: &mut [usize; calls_lent::BUFFERS], k: usize) -> Entry
     requires { ⌜ Within (now lengths) ⌝ }
     ensures { λ _. ⌜ Within (now (lengths .exit)) ⌝ }
 {
@@ -32,10 +31,12 @@ fn next_entry(lengths: &mut [usize; lent::BUFFERS], k: usize) -> Entry
         }
         e.kind = calls_entries::END;
     } else if kind == calls_entries::LENGTH {
-        if !lent::set_length(lengths, e.x, e.y) {
+        if !calls_lent::set_length(lengths, e.x, e.y) {
             say_wrong(k, b"length out of range\n");
         }
-    } else if kind == calls_entries::NEW && lent::is_too_large(e) {
+    } else if (kind == calls_entries::NEW || kind == calls_entries::COPY)
+        && calls_lent::is_too_large(e.x, e.y, e.z)
+    {
         say_wrong(k, b"too large\n");
         e.kind = calls_entries::LENGTH;
     } else if kind == calls_entries::WRITE_NUMBER && e.z > MAX_NUMBER {
@@ -49,6 +50,7 @@ fn next_entry(lengths: &mut [usize; lent::BUFFERS], k: usize) -> Entry
     } else if kind > calls_entries::LAST_CALL
         && kind != calls_entries::REASON
         && kind != calls_entries::SHAPE
+        && kind != calls_entries::COPY
         && kind != calls_entries::LOAD
         && kind != calls_entries::NEW
     {
@@ -74,17 +76,17 @@ fn say_outcome(kind: usize, reply: Reply, k: usize) -> bool {
 // The entries of all heaps, each of which starts with zeros.
 pub fn run(first: Entry) {
     let mut heap = first;
-    let mut a = [0u8; lent::MAX_BYTES];
-    let mut b = [0u8; lent::MAX_BYTES];
-    let mut counts = [0u8; lent::MAX_COUNTS];
-    let mut cells = [0 as Ref; lent::MAX_CELLS];
-    let mut roots = [0 as Ref; lent::MAX_ROOTS];
+    let mut a = [0u8; calls_lent::MAX_BYTES];
+    let mut b = [0u8; calls_lent::MAX_BYTES];
+    let mut counts = [0u8; calls_lent::MAX_COUNTS];
+    let mut cells = [0 as Ref; calls_lent::MAX_CELLS];
+    let mut roots = [0 as Ref; calls_lent::MAX_ROOTS];
     let mut waiting = [0 as Ref; MAX_BLOCKS];
-    let mut sections = [0 as Ref; lent::MAX_SECTIONS];
-    let mut d = [0u8; lent::MAX_BYTES];
-    let mut marks = [0u8; lent::MAX_BYTES];
-    let mut list = [0 as Ref; lent::MAX_LIST];
-    let mut lengths = lent::lengths(heap);
+    let mut sections = [0 as Ref; calls_lent::MAX_SECTIONS];
+    let mut d = [0u8; calls_lent::MAX_BYTES];
+    let mut marks = [0u8; calls_lent::MAX_BYTES];
+    let mut list = [0 as Ref; calls_lent::MAX_LIST];
+    let mut lengths = calls_lent::lengths(heap.x, heap.y, heap.z);
     let mut k = 0;
     while k < MOST {
         let e = next_entry(&mut lengths, k);
@@ -118,17 +120,17 @@ pub fn run(first: Entry) {
         k += 1;
         if e.kind == calls_entries::NEW {
             heap = e;
-            a = [0u8; lent::MAX_BYTES];
-            b = [0u8; lent::MAX_BYTES];
-            counts = [0u8; lent::MAX_COUNTS];
-            cells = [0 as Ref; lent::MAX_CELLS];
-            roots = [0 as Ref; lent::MAX_ROOTS];
+            a = [0u8; calls_lent::MAX_BYTES];
+            b = [0u8; calls_lent::MAX_BYTES];
+            counts = [0u8; calls_lent::MAX_COUNTS];
+            cells = [0 as Ref; calls_lent::MAX_CELLS];
+            roots = [0 as Ref; calls_lent::MAX_ROOTS];
             waiting = [0 as Ref; MAX_BLOCKS];
-            sections = [0 as Ref; lent::MAX_SECTIONS];
-            d = [0u8; lent::MAX_BYTES];
-            marks = [0u8; lent::MAX_BYTES];
-            list = [0 as Ref; lent::MAX_LIST];
-            lengths = lent::lengths(e);
+            sections = [0 as Ref; calls_lent::MAX_SECTIONS];
+            d = [0u8; calls_lent::MAX_BYTES];
+            marks = [0u8; calls_lent::MAX_BYTES];
+            list = [0 as Ref; calls_lent::MAX_LIST];
+            lengths = calls_lent::lengths(e.x, e.y, e.z);
         }
     }
 }

@@ -5,7 +5,7 @@ use types::MAX_ROOTS;
 mod outputs;
 pub mod perform;
 
-// The kinds of entries: calls, from 0 to LAST_CALL, those that have an output from REASON on; and, at the end of a byte's numbers, out of
+// The kinds of entries: calls, from 0 to LAST_CALL, those that have an output and the copy from REASON on; and, at the end of a byte's numbers, out of
 // the way of calls to come, what is none.
 pub const LAST_CALL: usize = 13;
 
@@ -21,6 +21,9 @@ pub const SHAPE: usize = 241;
 pub const MAX_SENTENCE: usize = 12 * MAX_BLOCKS + 8;
 
 pub const MAX_SHAPE: usize = 1 + MAX_ROOTS + 6 * MAX_BLOCKS;
+
+// The copy into a second heap, whose blocks, width and roots are its numbers.
+pub const COPY: usize = 242;
 
 pub const LOAD: usize = 253;
 

@@ -14,8 +14,8 @@ fn outcome(done: bool) -> Reply {
     replies::refusal(1)
 }
 
-// What only reads the buffers: check, look, free blocks, the read of a number, and what writes an output; of a length nothing is left to do; at
-// the end of a heap its buffers, a line each.
+// What only reads the buffers: check, look, free blocks, the read of a number, what writes an output, and the copy into a second heap; of a
+// length nothing is left to do; at the end of a heap its buffers, a line each.
 fn read(
     n: usize,
     w: usize,
@@ -123,19 +123,36 @@ fn read(
             list,
             e.x,
         )),
+        242 => outcome(calls_copy::copy(
+            n,
+            w,
+            a,
+            b,
+            counts,
+            cells,
+            roots,
+            waiting,
+            sections,
+            d,
+            marks,
+            list,
+            e.x,
+            e.y,
+            e.z,
+        )),
         254 => outcome(true),
-        _ => {
-            calls_output::say_bytes(a);
-            calls_output::say_bytes(b);
-            calls_output::say_bytes(counts);
-            calls_output::say_refs(cells);
-            calls_output::say_refs(roots);
-            calls_output::say_refs(waiting);
-            calls_output::say_refs(sections);
-            calls_output::say_bytes(d);
-            calls_output::say_bytes(marks);
-            outcome(calls_output::say_refs(list))
-        }
+        _ => outcome(calls_copy::say_heap(
+            a,
+            b,
+            counts,
+            cells,
+            roots,
+            waiting,
+            sections,
+            d,
+            marks,
+            list,
+        )),
     }
 }
 

@@ -2,6 +2,7 @@
 
 use crate::rules::answers::Reply;
 use crate::rules::calls::{apply, Call};
+use crate::rules::copies::{copy, Copies};
 use crate::rules::heap::{section_count, Memory, Ref, MAX_BLOCKS};
 use crate::rules::outputs::{reason, shape};
 
@@ -35,6 +36,9 @@ pub const MOST_LENGTHS: [u64; BUFFERS] = {
 pub const REASON: u64 = 240;
 pub const SHAPE: u64 = 241;
 
+/// Word 0 of the copy into a second heap, which has no code in a replay either.
+pub const COPY: u64 = 242;
+
 /// The largest length of an output, which is enough for every heap: of a reason in bytes, of a shape in numbers.
 pub const MOST_REASON: u64 = 12 * MOST_BLOCKS + 8;
 pub const MOST_SHAPE: u64 = 65 + 6 * MOST_BLOCKS;
@@ -60,6 +64,12 @@ pub enum Entry {
     /// U13, with an output of so many numbers.
     Shape {
         length: u64,
+    },
+    /// U14, into a heap of these numbers all of whose bits are 1.
+    Copy {
+        blocks: u64,
+        width: u64,
+        roots: u64,
     },
     Load {
         buffer: u64,
@@ -112,6 +122,11 @@ impl Entry {
             13 => Entry::Call(Call::StepCollection { budget: p }),
             REASON => Entry::Reason { a: x, length: y },
             SHAPE => Entry::Shape { length: x },
+            COPY => Entry::Copy {
+                blocks: x,
+                width: y,
+                roots: z,
+            },
             LOAD => Entry::Load {
                 buffer: x,
                 index: y,
@@ -205,6 +220,14 @@ impl Bench {
             }
             Entry::Reason { a, length } => return self.reason(a, length).map(|(reply, _)| reply),
             Entry::Shape { length } => return self.shape(length).map(|(reply, _)| reply),
+            Entry::Copy {
+                blocks,
+                width,
+                roots,
+            } => {
+                let copied = self.copy([blocks, width, roots], copy);
+                return copied.map(|(reply, _)| reply);
+            }
             Entry::NumberOutOfRange | Entry::Unknown(_) => {}
         }
         None
@@ -234,6 +257,25 @@ impl Bench {
         let mut output = vec![UNWRITTEN_NUMBER; length as usize];
         let reply = shape(self.blocks, self.width, &self.memory, &mut output);
         Some((reply, output))
+    }
+
+    /// The copy of an entry by the given function, with the second heap as it is then; none where that is too large for a file.
+    pub fn copy(
+        &self,
+        [blocks, width, roots]: [u64; 3],
+        copies: Copies,
+    ) -> Option<(Reply, Memory)> {
+        let second = Bench::new(blocks, width, roots)?;
+        let mut into = second.memory;
+        into.fill(u8::MAX, Ref::MAX);
+        let first = (self.blocks, self.width);
+        let reply = copies(
+            first,
+            &self.memory,
+            (second.blocks, second.width),
+            &mut into,
+        );
+        Some((reply, into))
     }
 
     /// Whether a collection is open: not where the list has another length.

@@ -1,7 +1,7 @@
 //! The desk at which lists are written: it carries out each entry on the model as it writes it, so that the
 //! next one can be chosen to fit the heap. Most calls are chosen to be accepted; some are chosen not to be.
 
-use crate::lists::file::{bytes, Bench, Entry, BUFFERS, LENGTH, LOAD, NEW, REASON, SHAPE};
+use crate::lists::file::{bytes, Bench, Entry, BUFFERS, COPY, LENGTH, LOAD, NEW, REASON, SHAPE};
 use crate::lists::random::Random;
 use crate::rules::answers::Reply;
 use crate::rules::calls::{apply, Call};
@@ -74,6 +74,12 @@ impl Desk {
     pub fn shape(&mut self, length: usize) -> Reply {
         let words = [SHAPE, length as u64, 0, 0];
         self.words(words).expect("a length in range")
+    }
+
+    /// The copy into a heap of so many blocks, of this width and with so many roots.
+    pub fn copy(&mut self, [blocks, width, roots]: [u64; 3]) -> Reply {
+        let words = [COPY, blocks, width, roots];
+        self.words(words).expect("a heap that is not too large")
     }
 
     pub fn load(&mut self, buffer: u64, index: usize, value: u64) {

@@ -1,10 +1,11 @@
 //! The one large file of lists that the program `calls` is tested with: the paper cases, all families on
 //! many small heaps, a few large heaps, and every complaint that a file can meet.
 
+use crate::lists::copy_vectors::{copies, large_copy};
 use crate::lists::families::{some_shape, FAMILIES};
 use crate::lists::file::{
-    LENGTH, LOAD, MOST_BLOCKS, MOST_LENGTHS, MOST_REASON, MOST_ROOTS, MOST_SHAPE, MOST_WIDTH, NEW,
-    REASON, SHAPE,
+    COPY, LENGTH, LOAD, MOST_BLOCKS, MOST_LENGTHS, MOST_REASON, MOST_ROOTS, MOST_SHAPE, MOST_WIDTH,
+    NEW, REASON, SHAPE,
 };
 use crate::lists::generate::Desk;
 use crate::lists::large_vectors::large;
@@ -66,6 +67,7 @@ pub fn vectors(seed: u64) -> Vec<u8> {
     numbers(&mut desk);
     steps(&mut desk);
     with_outputs(&mut desk);
+    with_copies(&mut desk);
     for round in 0..16 {
         for (_, write) in FAMILIES {
             let shape = some_shape(round, &mut desk.random);
@@ -75,6 +77,7 @@ pub fn vectors(seed: u64) -> Vec<u8> {
     }
     large_heaps(&mut desk);
     large(&mut desk);
+    large_copy(&mut desk);
     let mut file = desk.file();
     file.extend(Call::FreeBlocks.words()[0].to_le_bytes());
     file.extend([0; 5]);
@@ -100,13 +103,31 @@ fn with_outputs(desk: &mut Desk) {
     desk.words([SHAPE, 9, m, m]);
 }
 
+/// The lists of copies, and what is wrong with their entries.
+fn with_copies(desk: &mut Desk) {
+    let own = copies();
+    desk.new_heap(own.header);
+    for words in own.entries {
+        desk.words(words);
+    }
+    let m = u64::MAX;
+    for second in [
+        [MOST_BLOCKS + 1, 2, 4],
+        [8, MOST_WIDTH + 1, 4],
+        [8, 2, MOST_ROOTS + 1],
+        [m, m, m],
+    ] {
+        desk.words([COPY, second[0], second[1], second[2]]);
+    }
+}
+
 /// Every line that says what is wrong with an entry, but for the last one's "cut off".
 fn complaints(desk: &mut Desk) {
     let m = u64::MAX;
     desk.new_heap([8, 2, 4]);
     desk.call(Call::Format);
     desk.call(Call::Allocate { n: 2, r: 0 });
-    for unknown in [14, 15, 252, 256, 268, 269, 1 << 32, (1 << 32) + 8, m] {
+    for unknown in [14, 15, 243, 252, 256, 268, 269, 1 << 32, (1 << 32) + 8, m] {
         desk.words([unknown, 1, 2, 3]);
     }
     // A number write whose number no cell can hold is no call, wherever it would go.

@@ -8,7 +8,7 @@ use crate::product::library::unique;
 use crate::product::pause_bench::{pauses, SETUP};
 use crate::product::port::{self, lend};
 use crate::product::timing::{by_turns, compared};
-use crate::product::{growth_bench, search_bench, size_bench};
+use crate::product::{copy_bench, growth_bench, search_bench, size_bench};
 use crate::rules::heap::{first_blocks, free_count, size, Memory};
 use huwekapo::lent;
 use std::fmt::Write;
@@ -44,6 +44,7 @@ pub fn sizes() -> String {
     let mut out = String::new();
     size_bench::single_calls(&mut out);
     growth_bench::growth(&mut out);
+    copy_bench::copies(&mut out);
     out
 }
 

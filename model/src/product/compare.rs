@@ -11,7 +11,7 @@ use crate::lists::spoiling::{Lent, Replay};
 use crate::product::met::{place_of, Met};
 use crate::rules::answers::Reply;
 use crate::rules::calls::apply;
-use crate::rules::copies::{copy, Sizes};
+use crate::rules::copies::{copy, Copies, Sizes};
 use crate::rules::heap::Memory;
 use crate::rules::outputs::{
     due_reason, due_shape, reason, shape, write_due, SHORT_REASON, SHORT_SHAPE,
@@ -39,9 +39,6 @@ pub type ReasonOf = fn(usize, usize, &Memory, usize, &mut [u8]) -> Reply;
 pub type ShapeOf = fn(usize, usize, &Memory, &mut [u32]) -> Reply;
 pub type ReadReason = fn(&[u8], &mut [u32]) -> Reading;
 
-/// What copies a heap into a second one: the model's, or another.
-pub type Copies = fn(Sizes, &Memory, Sizes, &mut Memory) -> Reply;
-
 /// So many places behind an output are looked at, too: they must be as before.
 const BEHIND: usize = 8;
 
@@ -53,7 +50,7 @@ struct Outcome<'a> {
     memory: &'a Memory,
     replies: &'a [u64],
     run: Option<Run>,
-    /// The output of a reason or a shape, and what lies behind it.
+    /// The output of a reason or a shape, and what lies behind it; of a copy the second heap.
     output: Vec<u32>,
 }
 
@@ -70,12 +67,12 @@ pub fn call_by_call(
     for (k, words) in entries.iter().enumerate() {
         let entry = Entry::from_words(*words);
         let open = model.has_one_open();
-        let (by_model, output) = carried_out(entry, &mut model, apply, (reason, shape));
+        let (by_model, output) = carried_out(entry, &mut model, apply, (reason, shape, copy));
         let (by_library, library_output) = carried_out(
             entry,
             &mut library,
             other.apply,
-            (other.reason, other.shape),
+            (other.reason, other.shape, other.copy),
         );
         if let (Some(code), Some(reply)) = (place_of(entry), by_model) {
             met.call(model.blocks, code, reply);
@@ -110,12 +107,13 @@ fn title(start: &Bench) -> String {
     format!("{blocks} blocks, width {width}, {roots} roots{given}")
 }
 
-/// Carries out an entry on one side. A reason and a shape have an output, and some places behind it that aren't lent.
+/// Carries out an entry on one side. A reason and a shape have an output, and some places behind it that aren't lent; a copy has the
+/// second heap.
 fn carried_out(
     entry: Entry,
     bench: &mut Bench,
     apply: Apply,
-    (reason, shape): (ReasonOf, ShapeOf),
+    (reason, shape, copies): (ReasonOf, ShapeOf, Copies),
 ) -> (Option<Reply>, Vec<u32>) {
     let (blocks, width) = (bench.blocks, bench.width);
     match entry {
@@ -132,8 +130,36 @@ fn carried_out(
             let reply = shape(blocks, width, &bench.memory, &mut output[..length]);
             (Some(reply), output)
         }
+        Entry::Copy {
+            blocks,
+            width,
+            roots,
+        } => match bench.copy([blocks, width, roots], copies) {
+            Some((reply, second)) => (Some(reply), numbers_of(&second)),
+            None => (None, Vec::new()),
+        },
         _ => (bench.carry_out(entry, apply), Vec::new()),
     }
+}
+
+/// Every number of a heap, buffer by buffer.
+fn numbers_of(memory: &Memory) -> Vec<u32> {
+    let maps = [
+        &memory.a,
+        &memory.b,
+        &memory.counts,
+        &memory.data,
+        &memory.marks,
+    ];
+    let lists = [
+        &memory.cells,
+        &memory.roots,
+        &memory.waiting,
+        &memory.sections,
+        &memory.list,
+    ];
+    let bytes = maps.into_iter().flatten().map(|byte| u32::from(*byte));
+    bytes.chain(lists.into_iter().flatten().copied()).collect()
 }
 
 /// Copies what a list left into a second heap, by the model and by the library. Whether they differ, in the reply or in any buffer of the

@@ -1,5 +1,5 @@
 //! Against the product: its library beside the model (library, compare, fuzz, shrink, met), and its library and its
-//! program `report` beside the same algorithms in plain Rust (bench, check_bench, data_bench, pause_bench, search_bench,
+//! program `report` beside the same algorithms in plain Rust (bench, check_bench, copy_bench, data_bench, pause_bench, search_bench,
 //! history_bench, timing, port); its library by sizes of heaps (size_bench, growth_bench). Heaps for all: busy.
 
 #[cfg(feature = "library")]
@@ -8,6 +8,8 @@ pub mod busy;
 #[cfg(feature = "library")]
 pub mod check_bench;
 pub mod compare;
+#[cfg(feature = "library")]
+pub mod copy_bench;
 #[cfg(feature = "library")]
 pub mod data_bench;
 pub mod fuzz;

@@ -16,6 +16,9 @@ use std::collections::BTreeMap;
 /// One of the two heaps: its blocks and its count width.
 pub type Sizes = (usize, usize);
 
+/// What copies a heap into a second one: the model's `copy`, or another.
+pub type Copies = fn(Sizes, &Memory, Sizes, &mut Memory) -> Reply;
+
 /// "its N and w may differ, its roots are as many": 1 for either heap, and where the numbers of roots differ. Then the first heap's
 /// refusals; "with a collection open it gives 14." "17, an object finds no chunk at its turn, after all others." The first heap "is only
 /// read", and of the second nothing is tested but its shape. A refusal changes neither.

@@ -56,6 +56,28 @@ impl Memory {
         }
     }
 
+    /// The same byte and the same number everywhere.
+    pub fn fill(&mut self, byte: u8, number: Ref) {
+        for map in [
+            &mut self.a,
+            &mut self.b,
+            &mut self.counts,
+            &mut self.data,
+            &mut self.marks,
+        ] {
+            map.fill(byte);
+        }
+        for list in [
+            &mut self.cells,
+            &mut self.roots,
+            &mut self.waiting,
+            &mut self.sections,
+            &mut self.list,
+        ] {
+            list.fill(number);
+        }
+    }
+
     /// "Where two heaps or two outcomes are compared, the waiting list is left out."
     pub fn same_but_for_waiting(&self, other: &Memory) -> bool {
         self.a == other.a

@@ -1,6 +1,6 @@
 //! Lists of calls as text, one entry a line. docs/FILES.md states the form.
 
-use crate::lists::file::{bytes, BUFFERS, LENGTH, LOAD, NEW, REASON, SHAPE};
+use crate::lists::file::{bytes, BUFFERS, COPY, LENGTH, LOAD, NEW, REASON, SHAPE};
 use crate::texts::expect::numbers;
 use crate::texts::show::{buffer_name, entry_in_words};
 
@@ -93,6 +93,10 @@ fn entry(words: &[&str]) -> Option<[u64; 4]> {
         ["step", "collection", budget] => [13, number(budget)?, 0, 0],
         ["reason", "of", a, "into", length, "bytes"] => [REASON, number(a)?, number(length)?, 0],
         ["shape", "into", length, "numbers"] => [SHAPE, number(length)?, 0, 0],
+        ["copy", "into", heap @ ..] => {
+            let [blocks, width, roots] = header(heap)?;
+            [COPY, blocks, width, roots]
+        }
         ["load", value, "at", index, "of", name @ ..] => {
             [LOAD, buffer(name)?, number(index)?, number(value)?]
         }

@@ -3,6 +3,7 @@
 
 use crate::lists::file::{Bench, Entry, BUFFERS};
 use crate::rules::answers::Reply;
+use crate::rules::copies::copy;
 use crate::rules::heap::Memory;
 use std::fmt::{Display, Write};
 
@@ -11,8 +12,8 @@ use std::fmt::{Display, Write};
 pub struct Tally {
     pub heaps: usize,
     pub calls: usize,
-    /// Replies by number, 0 to 8 and 11 to 16.
-    pub numbers: [usize; 17],
+    /// Replies by number, 0 to 8 and 11 to 17.
+    pub numbers: [usize; 18],
     /// Damage kinds reported, by kind, 1 to 5 and 7.
     pub kinds: [usize; 8],
     /// Lines that say what is wrong with an entry.
@@ -86,6 +87,18 @@ pub fn expect(file: &[u8]) -> (String, Tally) {
                     tally.call(reply);
                 }
                 None => complain("length out of range"),
+            },
+            Entry::Copy {
+                blocks,
+                width,
+                roots,
+            } => match bench.copy([blocks, width, roots], copy) {
+                Some((reply, second)) => {
+                    out += &reply_line(reply);
+                    print_buffers(&mut out, &second);
+                    tally.call(reply);
+                }
+                None => complain("too large"),
             },
             Entry::Load {
                 buffer,

@@ -12,6 +12,11 @@ pub fn entry_in_words(words: [u64; 4]) -> String {
         Entry::Call(call) => call_in_words(call),
         Entry::Reason { a, length } => format!("reason of {a} into {length} bytes"),
         Entry::Shape { length } => format!("shape into {length} numbers"),
+        Entry::Copy {
+            blocks,
+            width,
+            roots,
+        } => format!("copy into heap: {blocks} blocks, width {width}, {roots} roots"),
         Entry::Load {
             buffer,
             index,

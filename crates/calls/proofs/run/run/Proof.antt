@@ -5,7 +5,7 @@ use native.Mathlib.Omega.{arith}
 use lib.ListN.{length, getD}
 use lib.Seq.{length-front, length-take-le}
 use borrow.Author.Needs.{needs}
-use Rattle.calls.proofs.Lengths.{Held}
+use Rattle.calls.proofs.Held.{Held}
 use Rattle.calls.proofs.run.run.Statement.{statement}
 use Rattle.calls.proofs.run.run.Tie as tie
 

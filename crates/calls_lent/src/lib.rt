@@ -1,10 +1,9 @@
-// How much of each buffer is lent. Wrong lengths are allowed, within the largest, so that each refusal can be met.
+// How much of each buffer the program `calls` lends. Wrong lengths are allowed, within the largest, so that each refusal can be met.
 ghost use mathlib.Core.Path.{_≡_};
 ghost use mathlib.Core.Bool.{false};
 ghost use Prim.Native.Nat.{_/_, _≤_};
 ghost use Rattle.rules.specs.Heap.{maxBlocks};
-ghost use Rattle.calls.specs.Within.{Within};
-use calls_entries::Entry;
+ghost use Rattle.calls_lent.specs.Within.{Within};
 use types::MAX_BLOCKS;
 
 // The largest width and number of roots, one more than a heap may have; the longest section; the largest length of each buffer.
@@ -40,16 +39,16 @@ const LARGEST: [usize; BUFFERS] = [
 ];
 
 // Whether a heap asks for more than the largest.
-pub fn is_too_large(heap: Entry) -> bool
-    ensures { λ r. ⌜ (r ≡ false → (heap .x ≤ maxBlocks) × (heap .y ≤ 5) × (heap .z ≤ 65)) ⌝ }
+pub fn is_too_large(blocks: usize, width: usize, roots: usize) -> bool
+    ensures { λ r. ⌜ (r ≡ false → (blocks ≤ maxBlocks) × (width ≤ 5) × (roots ≤ 65)) ⌝ }
 {
-    if MAX_BLOCKS < heap.x {
+    if MAX_BLOCKS < blocks {
         return true;
     }
-    if MAX_WIDTH < heap.y {
+    if MAX_WIDTH < width {
         return true;
     }
-    MAX_ROOTS < heap.z
+    MAX_ROOTS < roots
 }
 
 // The number of sections: one where there are fewer blocks than in the longest.
@@ -64,25 +63,24 @@ fn section_count(blocks: usize) -> usize
 }
 
 // The lengths that belong to a heap's numbers; none where it is too large.
-pub fn lengths(heap: Entry) -> [usize; BUFFERS]
+pub fn lengths(blocks: usize, width: usize, roots: usize) -> [usize; BUFFERS]
     ensures { λ r. ⌜ Within r ⌝ }
 {
-    if is_too_large(heap) {
+    if is_too_large(blocks, width, roots) {
         return [0; BUFFERS];
     }
-    let n = heap.x;
-    let sections = section_count(n);
+    let sections = section_count(blocks);
     [
-        n / 8,
-        n / 8,
-        heap.y * n / 8,
-        4 * n,
-        heap.z,
-        n,
+        blocks / 8,
+        blocks / 8,
+        width * blocks / 8,
+        4 * blocks,
+        roots,
+        blocks,
         sections,
-        n / 8,
-        n / 8,
-        n + 1,
+        blocks / 8,
+        blocks / 8,
+        blocks + 1,
     ]
 }
 

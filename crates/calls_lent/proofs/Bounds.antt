@@ -1,12 +1,11 @@
 -- Laws of lists of lengths that are within the largest ones.
-use mathlib.Core.Path.{_≡_}
 use mathlib.Core.List.{List, [], _∷_}
 use Prim.Native.Nat.{ℕ, zero, suc, _+_, _≤_, _*_, _/_}
 use native.Mathlib.Nat.{mul-le-mul}
 use native.Mathlib.Omega.{arith}
-use lib.ListN.{length, getD, set, replicate}
+use lib.ListN.{getD, set, replicate}
 use Rattle.rules.specs.Heap.{maxBlocks}
-use Rattle.calls.specs.Within.{Within}
+use Rattle.calls_lent.specs.Within.{Within}
 
 -- the one product is at most that of the largest numbers
 pub product : (width blocks : ℕ) → width ≤ 5 → blocks ≤ maxBlocks → width * blocks ≤ 5 * maxBlocks
@@ -47,17 +46,3 @@ within-set (x ∷ xs) ys zero v b l (suc i) = b (suc i)
 within-set (x ∷ xs) ys (suc k) v b l zero = b zero
 within-set (x ∷ xs) [] (suc k) v b l (suc i) = within-set xs [] k v (λ j. b (suc j)) l i
 within-set (x ∷ xs) (y ∷ ys) (suc k) v b l (suc i) = within-set xs ys k v (λ j. b (suc j)) l i
-
--- the buffers are of the largest lengths, and the lent lengths within them
-pub record Held (a b counts cells roots waiting sections d marks list lengths : List ℕ) : Type 0 where
-  pub length-a : length a ≡ maxBlocks / 8
-  pub length-b : length b ≡ maxBlocks / 8
-  pub length-counts : length counts ≡ 5 * (maxBlocks / 8)
-  pub length-cells : length cells ≡ 4 * maxBlocks
-  pub length-roots : length roots ≡ 65
-  pub length-waiting : length waiting ≡ maxBlocks
-  pub length-sections : length sections ≡ maxBlocks / 256
-  pub length-d : length d ≡ maxBlocks / 8
-  pub length-marks : length marks ≡ maxBlocks / 8
-  pub length-list : length list ≡ maxBlocks + 1
-  pub within : Within lengths

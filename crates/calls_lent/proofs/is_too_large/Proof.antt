@@ -1,8 +1,8 @@
 -- Where the last test says no, all three do.
 use borrow.Author.Needs.{needs}
 use mathlib.Core.Bool.{true≢false}
-use Rattle.calls.proofs.lent.is_too_large.Statement.{statement}
-use Rattle.calls.proofs.lent.is_too_large.Tie as tie
+use Rattle.calls_lent.proofs.is_too_large.Statement.{statement}
+use Rattle.calls_lent.proofs.is_too_large.Tie as tie
 
 returns : tie.Need-returns
 returns c = λ e. absurd (true≢false e)

@@ -1,9 +1,9 @@
 -- The length that is set is at most its buffer's largest.
 use borrow.Author.Needs.{needs}
-use Rattle.calls.specs.Within.{largest}
-use Rattle.calls.proofs.Lengths.{within-set}
-use Rattle.calls.proofs.lent.set_length.Statement.{statement}
-use Rattle.calls.proofs.lent.set_length.Tie as tie
+use Rattle.calls_lent.specs.Within.{largest}
+use Rattle.calls_lent.proofs.Bounds.{within-set}
+use Rattle.calls_lent.proofs.set_length.Statement.{statement}
+use Rattle.calls_lent.proofs.set_length.Tie as tie
 
 returns : tie.Need-returns
 returns c = search needs
