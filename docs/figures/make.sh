@@ -1,6 +1,6 @@
 #!/bin/bash
-# Makes the tables and pictures of this folder, and puts the tables into README.md: four example histories by count width, on 1,024
-# blocks. Needs libhuwekapo.so (`bash install.sh`) and, for the pictures, matplotlib.
+# Makes the tables and pictures of this folder, and puts the tables into README.md: the histories of examples/real by count width, on
+# 8,192 blocks, and four of the invented ones, on 1,024. Needs libhuwekapo.so (`bash install.sh`) and, for the pictures, matplotlib.
 set -eu
 cd "$(dirname "$0")/../.."
 export PYTHONPATH=$PWD/python
@@ -16,10 +16,16 @@ put_table() {
     cp target/README.md README.md
 }
 
+# NAME HISTORY BLOCKS
+figures() {
+    "$python" -m huwekapo widths "$2" --blocks "$3" >docs/figures/"$1".txt
+    put_table "$1"
+    "$python" -m huwekapo plot "$2" --blocks "$3" --step 500 --title "$1" -o docs/figures/"$1".svg
+}
+for name in jlex jdepend htmlparser; do
+    figures "$name" examples/real/"$name".history 8192
+done
 for name in calls caches lists trees; do
-    history=target/$name.history
-    "$python" -m huwekapo example "$name" --records 100000 -o "$history"
-    "$python" -m huwekapo widths "$history" --blocks 1024 >docs/figures/"$name".txt
-    put_table "$name"
-    "$python" -m huwekapo plot "$history" --blocks 1024 --step 500 --title "$name" -o docs/figures/"$name".svg
+    "$python" -m huwekapo example "$name" --records 100000 -o target/"$name".history
+    figures "$name" target/"$name".history 1024
 done

@@ -465,7 +465,8 @@ def _plot_table(chosen: argparse.Namespace) -> int:
     from .sweep import SweepError
 
     try:
-        found = groups(chosen.file)
+        with Bar("rows", None) as bar:
+            found = groups(chosen.file, bar.done_of)
     except SweepError as error:
         return _failed(error)
     title = None if chosen.no_title else chosen.title or os.path.basename(chosen.file)
@@ -540,11 +541,8 @@ def _why(chosen: argparse.Namespace) -> int:
 
     _needs_output()
     heap = Heap(chosen.blocks, chosen.width, chosen.roots)
-    with _history(chosen.file) as history:
-        if chosen.records is None:
-            run = history.run(heap, may_stop=True)
-        else:
-            run = next(history.runs(heap, chosen.records))
+    with _history(chosen.file) as history, Bar("records", history.size()) as bar:
+        run = history.run_to(heap, chosen.records, bar.done)
     if run.stopped:
         _say([f"{shown(history.name)}: {run.stop()}: {run.stop_in_words()}: this is the heap before it"])
         _advise(history, run, chosen.blocks, chosen.width, chosen.roots)
@@ -576,7 +574,8 @@ def _same(chosen: argparse.Namespace) -> int:
         with _history(chosen.second) if chosen.second is not None else nullcontext(first) as second:
             for history, *sizes in zip((first, second), chosen.blocks, chosen.width, chosen.roots):
                 heap = Heap(*sizes)
-                run = history.run(heap, may_stop=True)
+                with Bar("records", history.size()) as bar:
+                    run = history.run(heap, bar.done, may_stop=True)
                 if run.stopped:
                     _say([f"{shown(history.name)}: {run.stop()}: {run.stop_in_words()}: held is the heap before it"])
                     _advise(history, run, *sizes)
@@ -599,10 +598,8 @@ def _compact(chosen: argparse.Namespace) -> int:
     _needs_output()
     heap = Heap(chosen.blocks, chosen.width, chosen.roots)
     with _history(chosen.file, again=True) as history:
-        if chosen.records is None:
-            run = history.run(heap, may_stop=True)
-        else:
-            run = next(history.runs(heap, chosen.records))
+        with Bar("records", history.size()) as bar:
+            run = history.run_to(heap, chosen.records, bar.done)
         gain = compact(heap)
         print(f"blocks in use:       {gain.used_before:,}; after a copy {gain.used_after:,}")
         print(f"largest free chunk:  {gain.chunk_before:,} blocks; after a copy {gain.chunk_after:,}")
@@ -693,7 +690,8 @@ def _compare(chosen: argparse.Namespace) -> int:
 
     _needs_output()
     try:
-        found = compare(chosen.first, chosen.second)
+        with Bar("rows", None) as bar:
+            found = compare(chosen.first, chosen.second, bar.done_of)
     except SweepError as error:
         return _failed(error)
     if chosen.csv:
@@ -712,7 +710,8 @@ def _example(chosen: argparse.Namespace) -> int:
     from .examples import example
 
     _output_is_there(chosen.output)
-    history = example(chosen.name, chosen.records, chosen.seed)
+    with Bar("records", RECORD * chosen.records) as bar:
+        history = example(chosen.name, chosen.records, chosen.seed, bar.done)
     with _output(chosen.output) as file:
         file.write(history)
     return ENDED

@@ -6,7 +6,7 @@ from typing import Any, Callable, Dict, List, NamedTuple, Optional, Sequence, Tu
 
 from .files import Place, shown
 from .plot import BREADTHS, pictures, saved
-from .sweep import Row, SweepError, cell, whole_rows
+from .sweep import Progress, Row, SweepError, cell, whole_rows
 
 #: The figures that are shown: their names, and how each is read off a row, whose heap has so many blocks.
 MEASURES: Dict[str, Tuple[str, Callable[[Row], float]]] = {
@@ -51,10 +51,10 @@ class Group(NamedTuple):
     numbers: Dict[str, List[float]]
 
 
-def groups(table: Place) -> List[Group]:
+def groups(table: Place, progress: Optional[Progress] = None) -> List[Group]:
     """The groups of a table, by size and width."""
     with open(table, "rb") as file:
-        rows, _ = whole_rows(file.read(), table)
+        rows, _ = whole_rows(file.read(), table, progress)
     if not rows:
         raise SweepError(f"{shown(table)} has no row")
     by_shape: Dict[Tuple[int, int], List[Row]] = {}

@@ -2,11 +2,11 @@
 
 from __future__ import annotations
 
-from typing import Dict, List, NamedTuple, Sequence
+from typing import Dict, List, NamedTuple, Optional, Sequence
 
 from .files import Place, shown
 from .measures import FIGURE_COLUMNS
-from .sweep import Row, SweepError, Task, cell, task_of, whole_rows
+from .sweep import Progress, Row, SweepError, Task, cell, task_of, whole_rows
 
 #: The differences that are named one by one for reading, at most.
 NAMED = 20
@@ -48,9 +48,9 @@ class Compared(NamedTuple):
         return bool(self.only_first or self.only_second or self.other_bytes or self.changes)
 
 
-def compare(first: Place, second: Place) -> Compared:
+def compare(first: Place, second: Place, progress: Optional[Progress] = None) -> Compared:
     """Two tables of sweeps, row by row."""
-    tables = [_rows(first), _rows(second)]
+    tables = [_rows(first, progress), _rows(second, progress)]
     both = [task for task in tables[0] if task in tables[1]]
     changes: List[Change] = []
     other: Dict[str, None] = {}
@@ -71,9 +71,9 @@ def compare(first: Place, second: Place) -> Compared:
     )
 
 
-def _rows(table: Place) -> Dict[Task, Row]:
+def _rows(table: Place, progress: Optional[Progress]) -> Dict[Task, Row]:
     with open(table, "rb") as file:
-        rows, torn = whole_rows(file.read(), table)
+        rows, torn = whole_rows(file.read(), table, progress)
     if torn:
         raise SweepError(f"{shown(table)}: row {len(rows) + 1}, the last, is not whole: the same sweep goes on from there")
     if not rows:

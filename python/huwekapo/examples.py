@@ -14,6 +14,9 @@ from .record import ALLOCATE, ALLOCATE_DATA, CLEAR, COPY, READ, RECORD, WRITE, W
 #: Variables of a program, as many as the program `report` has roots.
 _ROOTS = REPORT_ROOTS
 
+#: Is told how many bytes are written.
+Progress = Callable[[int], object]
+
 #: The colours of a pixel.
 _COLOURS = 256 * 256
 
@@ -319,14 +322,15 @@ PROGRAMS: Dict[str, Callable[[_Program], Iterator[None]]] = {
 }
 
 
-def example(name: str, records: int, seed: int = 1) -> bytes:
-    """A history of so many records. The same name, number and seed give the same bytes."""
+def example(name: str, records: int, seed: int = 1, progress: Optional[Progress] = None) -> bytes:
+    """A history of so many records. The same name, number and seed give the same bytes. `progress` is told how many there are."""
     program = _Program(seed, records)
     if records == 0:
         return b""
     try:
         for _ in PROGRAMS[name](program):
-            pass
+            if progress:
+                progress(len(program.history))
     except _Full:
         pass
     return bytes(program.history)

@@ -38,6 +38,9 @@ TABLE_COLUMNS = ["history", "sha256", *COLUMNS]
 #: A row, as the table has it.
 Row = List[str]
 
+#: Is told how many rows are done, and of how many.
+Progress = Callable[[int, int], object]
+
 
 class Task(NamedTuple):
     """A history to run on a heap: the key of its row."""
@@ -83,7 +86,7 @@ def sweep(
     pattern: str = "*.history",
     jobs: int = 1,
     dask: Optional[str] = None,
-    progress: Optional[Callable[[int, int], object]] = None,
+    progress: Optional[Progress] = None,
     prune: bool = False,
 ) -> Swept:
     """Runs every history below a folder whose name matches, in so many processes, or on the Dask cluster at an address, whose
@@ -270,7 +273,7 @@ def standing(table: Place) -> int:
         return 0
 
 
-def whole_rows(content: bytes, path: Place) -> tuple[list[Row], bool]:
+def whole_rows(content: bytes, path: Place, progress: Optional[Progress] = None) -> tuple[list[Row], bool]:
     """The rows of a table, and whether a last one behind them is torn, as a sweep that is killed may leave it. A spreadsheet's line
     ends and byte order mark are read over."""
     text = content.decode("utf-8", "surrogateescape")
@@ -288,6 +291,8 @@ def whole_rows(content: bytes, path: Place) -> tuple[list[Row], bool]:
     if torn:
         rows.pop()
     for number, row in enumerate(rows, 1):
+        if progress and number % 1024 == 1:
+            progress(number, len(rows))
         if not _is_whole(row):
             raise SweepError(f"{shown(path)}: row {number}, `{shown(','.join(row))}`, is none of a sweep: put it right, or take it out")
     return rows, torn

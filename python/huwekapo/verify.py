@@ -15,7 +15,7 @@ from .heap import Heap
 from .library import REPORT_BLOCKS, REPORT_ROOTS, REPORT_WIDTH
 from .measures import LINE_COLUMNS
 from .refused import Refused
-from .sweep import TABLE_COLUMNS, Row, SweepError, Task, cell, finished, histories, task_of, whole_rows, workers_for
+from .sweep import TABLE_COLUMNS, Progress, Row, SweepError, Task, cell, finished, histories, task_of, whole_rows, workers_for
 
 #: The environment variable that names the program `report`.
 VARIABLE = "HUWEKAPO_REPORT"
@@ -54,12 +54,12 @@ def verify(
     pattern: str = "*.history",
     jobs: int = 1,
     report: Optional[str] = None,
-    progress: Optional[Callable[[int, int], object]] = None,
+    progress: Optional[Progress] = None,
 ) -> Verified:
     """Runs the rows of a table again, or so many of them, taken by the seed, and compares every column but the library's. Rows of the
     shape of the program `report` are held against it too, where one is named."""
     with open(table, "rb") as file:
-        rows, torn = whole_rows(file.read(), table)
+        rows, torn = whole_rows(file.read(), table, progress)
     if not rows:
         raise SweepError(f"{shown(table)} has no row")
     paths, differences = histories(folder, pattern, table)

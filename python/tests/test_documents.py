@@ -9,10 +9,12 @@ import re
 import tempfile
 import unittest
 from pathlib import Path
+from typing import Iterator, Tuple
 
 import huwekapo
 from huwekapo import Number, examples, refused
 from huwekapo.__main__ import EXAMPLES
+from huwekapo.record import ALLOCATE, ALLOCATE_DATA
 from huwekapo.sweep import TABLE_COLUMNS
 from huwekapo.widths import text, widths
 
@@ -20,23 +22,47 @@ TOP = Path(__file__).resolve().parent.parent.parent
 README = (TOP / "README.md").read_text()
 
 
+def drawn() -> Iterator[Tuple[str, bytes, int]]:
+    """The histories that README.md has tables and pictures of, with their heaps: the real ones first."""
+    for name in ["jlex", "jdepend", "htmlparser"]:
+        yield name, (TOP / "examples/real" / f"{name}.history").read_bytes(), 8192
+    for name in ["caches", "calls", "lists", "trees"]:
+        yield name, examples.example(name, 100_000), 1024
+
+
 class Figures(unittest.TestCase):
     def test_tables(self) -> None:
         # `bash docs/figures/make.sh` makes them anew.
-        for name in ["caches", "calls", "lists", "trees"]:
+        before = 0
+        for name, history, blocks in drawn():
             with self.subTest(name=name):
-                table = text(widths(examples.example(name, 100_000), [1024], [1, 2, 3, 4], 64))
+                table = text(widths(history, [blocks], [1, 2, 3, 4], 64))
                 self.assertEqual((TOP / "docs/figures" / f"{name}.txt").read_text(), table)
                 self.assertTrue("".join(f"    {line}\n" for line in table.splitlines()) in README, name)
                 self.assertTrue(f"(docs/figures/{name}.svg)" in README, name)
+                # In this order.
+                at = README.index(f"<!-- docs/figures/{name}.txt -->")
+                self.assertGreater(at, before)
+                before = at
 
     def test_pictures(self) -> None:
-        for name in ["caches", "calls", "lists", "trees"]:
-            drawn = (TOP / "docs/figures" / f"{name}.svg").read_text()
+        for name, history, blocks in drawn():
+            picture = (TOP / "docs/figures" / f"{name}.svg").read_text()
             for width in range(1, 5):
-                run = huwekapo.run(examples.example(name, 100_000), 1024, width)
+                run = huwekapo.run(history, blocks, width)
                 words = f"width {width}: {run.figures.collections} full collection{'s' * (run.figures.collections != 1)}"
-                self.assertTrue(f"{words}, most blocks in use {run.figures.peak:,}" in drawn, (name, width))
+                self.assertTrue(f"{words}, most blocks in use {run.figures.peak:,}" in picture, (name, width))
+
+    def test_real(self) -> None:
+        # What examples/real/README.md says of each; a megabyte at most.
+        page = (TOP / "examples/real/README.md").read_text()
+        for name, history, _ in list(drawn())[:3]:
+            found = list(huwekapo.records(history))
+            made = sum(one.operation in (ALLOCATE, ALLOCATE_DATA) for one in found)
+            self.assertLess(len(history), 1_000_000)
+            row = next(line for line in page.splitlines() if line.startswith(f"| `{name}.history` |"))
+            added = int(row.split("|")[-2])
+            self.assertIn(f"| {made - added:,} | {len(found):,} | {added} |", row)
 
 
 class Leak(unittest.TestCase):

@@ -3,6 +3,8 @@
 from __future__ import annotations
 
 import csv
+import importlib.util
+import io
 import json
 import os
 import pty
@@ -20,6 +22,7 @@ import huwekapo
 from huwekapo import examples, measures
 from huwekapo.__main__ import EXAMPLES, STATUSES, arguments, blocks, main, several, widths
 from huwekapo.files import written
+from huwekapo.progress import Bar
 from huwekapo.record import RECORD
 
 from .records import allocate, clear, write
@@ -332,6 +335,54 @@ class Commands(unittest.TestCase):
         # .. and nowhere else.
         self.assertEqual(self.slowly(*os.pipe(), until=b"never"), b"")
 
+    def test_each_command_has_a_bar(self) -> None:
+        # Which is told how far it is; on a terminal alone it shows that.
+        told: list[str] = []
+
+        class Told(Bar):
+            def done(self, amount: int) -> None:
+                told.append(self._label)
+                super().done(amount)
+
+        table, text, events, made = (self.folder / name for name in ("table.csv", "text", "own.events", "made"))
+        text.write_text("allocate 2 into 0\n", encoding="ascii")
+        events.write_text("C 1 Node\nA 1 1 o 8\nE\nL 0 1\nX\n", encoding="ascii")
+        old = self.folder / "old"
+        old.write_bytes(bytes([1, 0, 0, 0, 0, 0, 2, 0]))
+        given = {
+            "report": [self.three],
+            "widths": [self.three],
+            "plot": [self.three, "-o", self.folder / "figure.svg"],
+            "pauses": [self.three],
+            "why": [self.three, 0],
+            "same": [self.three, self.three],
+            "compact": [self.three],
+            "sweep": [self.folder, "-o", table, "--jobs", 1],
+            "verify": [table, self.folder, "--jobs", 1],
+            "compare": [table, table],
+            "example": ["trees", "--records", 50, "-o", made],
+            "assemble": [text, "-o", made],
+            "convert": [events, "-o", made, "--table"],
+            "page": [self.three, "-o", made],
+            "show": [self.three],
+            "words": [self.three],
+            "widen": [old, "-o", made],
+        }
+        self.assertEqual(given.keys(), EXAMPLES.keys())
+        with mock.patch("huwekapo.__main__.Bar", Told), mock.patch("sys.stdout", new_callable=io.StringIO):
+            for name, words in given.items():
+                if name == "plot" and not _has_matplotlib():
+                    continue
+                told.clear()
+                with mock.patch("sys.stderr", new_callable=io.StringIO) as said:
+                    self.assertEqual(main([name, *map(str, words)]), 0, name)
+                self.assertNotEqual(told, [], name)
+                self.assertNotIn("\r", said.getvalue())
+            if _has_matplotlib():
+                told.clear()
+                self.assertEqual(main(["plot", str(table), "-o", str(self.folder / "figure.svg")]), 0)
+                self.assertEqual(set(told), {"rows"})
+
     def slowly(self, reading: int, writing: int, until: bytes) -> bytes:
         """Reports a history that comes for a second, or until this is on standard error. All that is there in the end."""
         given, giving = os.pipe()
@@ -359,6 +410,10 @@ class Commands(unittest.TestCase):
             pass
         os.close(reading)
         return shown
+
+
+def _has_matplotlib() -> bool:
+    return importlib.util.find_spec("matplotlib") is not None
 
 
 def _readable(file: int, seconds: float) -> bool:
