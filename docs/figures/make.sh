@@ -1,6 +1,6 @@
 #!/bin/bash
 # Makes the tables and pictures of this folder, and puts the tables into README.md: the histories of examples/real by count width, on
-# 8,192 blocks, and four of the invented ones, on 1,024. Needs libhuwekapo.so (`bash install.sh`) and, for the pictures, matplotlib.
+# 4,096 blocks or 16,384, and four of the invented ones, on 1,024. Needs libhuwekapo.so (`bash install.sh`) and, for the pictures, matplotlib.
 set -eu
 cd "$(dirname "$0")/../.."
 export PYTHONPATH=$PWD/python
@@ -22,9 +22,9 @@ figures() {
     put_table "$1"
     "$python" -m huwekapo plot "$2" --blocks "$3" --step 500 --title "$1" -o docs/figures/"$1".svg
 }
-for name in jlex jdepend htmlparser; do
-    figures "$name" examples/real/"$name".history 8192
-done
+figures jlex examples/real/jlex.history 4096
+figures jdepend examples/real/jdepend.history 4096
+figures htmlparser examples/real/htmlparser.history 16384
 for name in calls caches lists trees; do
     "$python" -m huwekapo example "$name" --records 100000 -o target/"$name".history
     figures "$name" target/"$name".history 1024

@@ -1,7 +1,7 @@
 #!/usr/bin/env bash
 # Makes the histories of this folder anew: fetches three packages of Debian 12, runs their programs on small inputs under the tracer of
-# examples/java, converts what was recorded by the rule `uses`, and checks the conversion. Needs a network, apt-get and a JDK 17; where a
-# history comes out other than it stands, git shows it.
+# examples/java, converts what was recorded by the rule `uses`, and checks the conversion. rules.txt has both rules by count width. Needs
+# libhuwekapo.so (`bash install.sh`), a network, apt-get and a JDK 17; where a history comes out other than it stands, git shows it.
 set -euo pipefail
 here=$(cd "$(dirname "$0")" && pwd)
 top=$(cd "$here/../.." && pwd)
@@ -25,14 +25,19 @@ mkdir classes
 (cd classes && jar --extract --file ../$java/jdepend-2.10.jar jdepend/framework)
 (cd classes && find jdepend -name '*.class' | sort | xargs jar --create --no-manifest --file ../framework.jar)
 
-# NAME MAIN JAR ARGUMENT..
+# NAME BLOCKS MAIN JAR ARGUMENT..
 history() {
-    local name=$1 main=$2 jar=$3
-    shift 3
+    local name=$1 blocks=$2 main=$3 jar=$4
+    shift 4
     echo "== $name"
     bash "$top/examples/java/trace.sh" --events -o "$name" --main "$main" "$jar" "$@" >"$name.printed"
-    "${PYTHON:-python3}" -m huwekapo convert "$name.events" -o "$here/$name.history" --stack uses --check
+    "${PYTHON:-python3}" -m huwekapo convert "$name.events" -o "$here/$name.history" --stack uses --check --table --blocks "$blocks" | tee converted
+    {
+        echo "$name"
+        sed -n '/^both rules/,$p' converted | tail -n +2
+    } >>"$here/rules.txt"
 }
-history jlex JLex.Main $java/JLex-1.2.6.jar sample.lex
-history jdepend jdepend.textui.JDepend $java/jdepend-2.10.jar framework.jar
-history htmlparser org.htmlparser.Parser $java/libhtmlparser-1.6.20060610.jar page.html
+: >"$here/rules.txt"
+history jlex 4096 JLex.Main $java/JLex-1.2.6.jar sample.lex
+history jdepend 4096 jdepend.textui.JDepend $java/jdepend-2.10.jar framework.jar
+history htmlparser 16384 org.htmlparser.Parser $java/libhtmlparser-1.6.20060610.jar page.html

@@ -1,5 +1,5 @@
-"""The commands: python3 -m huwekapo report, widths, plot, why, same, sweep, verify, example, assemble, words, convert, show, widen, page, pauses,
-compare."""
+"""The commands: python3 -m huwekapo report, widths, plot, pauses, page, why, same, compact, sweep, verify, compare, example, assemble, words,
+show, convert, widen."""
 
 from __future__ import annotations
 

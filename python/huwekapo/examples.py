@@ -323,7 +323,7 @@ PROGRAMS: Dict[str, Callable[[_Program], Iterator[None]]] = {
 
 
 def example(name: str, records: int, seed: int = 1, progress: Optional[Progress] = None) -> bytes:
-    """A history of so many records. The same name, number and seed give the same bytes. `progress` is told how many there are."""
+    """A history of so many records. The same name, number and seed give the same bytes."""
     program = _Program(seed, records)
     if records == 0:
         return b""

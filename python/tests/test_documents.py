@@ -24,8 +24,8 @@ README = (TOP / "README.md").read_text()
 
 def drawn() -> Iterator[Tuple[str, bytes, int]]:
     """The histories that README.md has tables and pictures of, with their heaps: the real ones first."""
-    for name in ["jlex", "jdepend", "htmlparser"]:
-        yield name, (TOP / "examples/real" / f"{name}.history").read_bytes(), 8192
+    for name, blocks in [("jlex", 4096), ("jdepend", 4096), ("htmlparser", 16384)]:
+        yield name, (TOP / "examples/real" / f"{name}.history").read_bytes(), blocks
     for name in ["caches", "calls", "lists", "trees"]:
         yield name, examples.example(name, 100_000), 1024
 
@@ -63,6 +63,13 @@ class Figures(unittest.TestCase):
             row = next(line for line in page.splitlines() if line.startswith(f"| `{name}.history` |"))
             added = int(row.split("|")[-2])
             self.assertIn(f"| {made - added:,} | {len(found):,} | {added} |", row)
+        # And both rules by width: those of the rule `uses` are the tables of README.md.
+        rules = (TOP / "examples/real/rules.txt").read_text().splitlines()
+        for name, _, _ in list(drawn())[:3]:
+            rows = rules[rules.index(name) + 3 : rules.index(name) + 11]
+            self.assertEqual([row.split()[0] for row in rows], 4 * ["slots"] + 4 * ["uses"])
+            table = (TOP / "docs/figures" / f"{name}.txt").read_text().splitlines()[2:]
+            self.assertEqual([row.split()[1:] for row in rows[4:]], [row.split() for row in table])
 
 
 class Leak(unittest.TestCase):
