@@ -6,12 +6,13 @@ use Prim.Native.Nat.{ℕ, zero, suc, _+_, _*_, _/_, _%_, _^_, _-_, _≤_, _<_}
 use native.Mathlib.Nat.{pow-suc}
 use native.Mathlib.Decide.{decLt, ℕ-discrete}
 use native.Mathlib.Omega.{arith}
-use lib.Pow.{pow-pos, pow-mono, pow-lt, pow-add}
+use lib.Pow.{pow-pos, pow-mono, pow-add}
 use borrow.Author.Tests.{lt-ltb, le-ltb, eq-eqb, ne-eqb}
 use Rattle.bitmap.specs.Bit.{bitAt}
 use Rattle.rules.specs.Heap.{chunkFree}
 use Rattle.rules.specs.Sections.{largestFree}
 use Rattle.rules.proofs.Figures.{figure-free, figure-of-halves, figure-le}
+use Rattle.section_words.proofs.Words.{same-exponent}
 use Rattle.section_halves.specs.Figures.{ofHalves}
 
 -- ---- one block
@@ -56,13 +57,6 @@ whole-bytes size k e large =
     let least : 3 ≤ k = elim (decLt k 3) [ yes l ↦ absurd (omega (arith, pow-mono {i = k} {j = 2} (omega arith))) | no l ↦ omega arith ] in
     let sum : k ≡ 3 + (k - 3) = omega arith in
     (k - 3, sum, e ∙ ap (λ (x : ℕ). 2 ^ x) sum ∙ pow-add 2 3 (k - 3))
-
--- one power of two has one exponent
-pub same-exponent : (j k : ℕ) → 2 ^ j ≡ 2 ^ k → j ≡ k
-same-exponent j k e =
-    let up = elim (decLt j k) as (λ _. k ≤ j) [ yes l ↦ absurd (omega (arith, pow-lt {i = j} {j = k} l)) | no l ↦ omega arith ] in
-    let down = elim (decLt k j) as (λ _. j ≤ k) [ yes l ↦ absurd (omega (arith, pow-lt {i = k} {j = j} l)) | no l ↦ omega arith ] in
-    omega arith
 
 -- a figure of 2 ^ j blocks, as a function that takes a size answers it
 pub of-size : (j : ℕ) (a : List ℕ) (at size r : ℕ) → size ≡ 2 ^ j → r ≡ largestFree j a at → (k : ℕ) → size ≡ 2 ^ k → r ≡ largestFree k a at

@@ -23,8 +23,8 @@ begins zero k a i e = subst (λ (x : ℕ). chunkFree x a i ≡ true) (zero-add k
 begins (suc d) k a i e = begins d k a i (halves-free (d + k) a i (subst (λ (x : ℕ). chunkFree x a i ≡ true) (suc-add d k) e) .0)
 
 -- two powers of two in order
-exponents : (j k : ℕ) → 2 ^ j ≤ 2 ^ k → j ≤ k
-exponents j k l = elim (decLe j k) [ yes m ↦ m | no m ↦ absurd (omega (arith, pow-lt {i = k} {j = j} (omega arith))) ]
+pub exponent-le : (j k : ℕ) → 2 ^ j ≤ 2 ^ k → j ≤ k
+exponent-le j k l = elim (decLe j k) [ yes m ↦ m | no m ↦ absurd (omega (arith, pow-lt {i = k} {j = j} (omega arith))) ]
 
 module _ (k : ℕ) (a : List ℕ) (i w : ℕ) (small : k ≤ 6) (f : FreeChunks k a i w) where
   -- a figure of 2 ^ k or more has its digit in the word
@@ -33,7 +33,7 @@ module _ (k : ℕ) (a : List ℕ) (i w : ℕ) (small : k ≤ 6) (f : FreeChunks 
       let among = there-is 6 a i (λ z. omega (arith, pow-pos k)) in
       let e : ℕ = among .exponent in
       let d : ℕ = e - k in
-      let larger : e ≡ d + k = omega (arith, exponents k e (omega (arith, among .figure-is))) in
+      let larger : e ≡ d + k = omega (arith, exponent-le k e (omega (arith, among .figure-is))) in
       let parts : 2 ^ e ≡ 2 ^ d * 2 ^ k = ap (λ (x : ℕ). 2 ^ x) larger ∙ pow-add 2 d k in
       let n : ℕ = among .number * 2 ^ e in
       let all : 2 ^ (among .smaller) * 2 ^ e ≡ 64 = sym (pow-add 2 (among .smaller) e) ∙ ap (λ (x : ℕ). 2 ^ x) (among .sum) in
@@ -81,7 +81,7 @@ exact k a i v w small here above s z =
     let high = none (suc k) a i w small above z in
     let among = there-is 6 a i (λ y. omega (arith, pow-pos k)) in
     let e : ℕ = among .exponent in
-    let at-least = exponents k e (omega (arith, among .figure-is)) in
+    let at-least = exponent-le k e (omega (arith, among .figure-is)) in
     let same : e ≡ k =
     elim (decLe e k) [
       | yes l ↦ omega arith

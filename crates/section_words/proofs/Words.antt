@@ -1,5 +1,6 @@
 -- Blocks as digits of a word: bytes put together, free chunks found by `and` of a word and itself shifted.
-use mathlib.Core.Path.{_≡_, refl, sym, ap, ap₂, _∙_}
+use mathlib.Core.Path.{_≡_, refl, sym, ap, ap₂, subst, _∙_}
+use mathlib.Core.Logic.{_≢_}
 use mathlib.Core.Bool.{Bool, true, false, not}
 use mathlib.Core.List.{List}
 use Prim.Native.Nat.{ℕ, zero, suc, _+_, _-_, _*_, _/_, _%_, _^_, _≤_, _<_, min}
@@ -9,7 +10,7 @@ use native.Mathlib.Omega.{arith}
 use lib.Bits.{bitAnd, and-shr, and-step, and-le-l}
 use lib.Dec.{eqb}
 use lib.ListN.{getD}
-use lib.Pow.{pow-pos, pow-add, split, high}
+use lib.Pow.{pow-pos, pow-add, pow-lt, split, high}
 use borrow.Author.Tests.{eqb-true, not-false, eq-eqb, ne-eqb}
 use Rattle.bitmap.specs.Bit.{bitOf, bitAt, one}
 use Rattle.bitmap.proofs.Bits.{bit-suc, bit-below, bit-from}
@@ -196,3 +197,25 @@ thirty-twos = starts-by 5 0x0000_0001_0000_0001 refl
 pub whole : Starts 6 1
 unfolding someBelow wrong
 whole = starts-by 6 1 refl
+
+-- ---- .. by the size
+
+-- one power of two has one exponent
+pub same-exponent : (j k : ℕ) → 2 ^ j ≡ 2 ^ k → j ≡ k
+same-exponent j k e =
+    let up = elim (decLt j k) as (λ _. k ≤ j) [ yes l ↦ absurd (omega (arith, pow-lt {i = j} {j = k} l)) | no l ↦ omega arith ] in
+    let down = elim (decLt k j) as (λ _. j ≤ k) [ yes l ↦ absurd (omega (arith, pow-lt {i = k} {j = j} l)) | no l ↦ omega arith ] in
+    omega arith
+
+pub starts-at : (j k size w : ℕ) → Starts (suc j) w → size ≡ 2 ^ j → size ≡ 2 ^ k → Starts (suc k) w
+starts-at j k size w s is e = subst (λ (x : ℕ). Starts (suc x) w) (same-exponent j k (sym is ∙ e)) s
+
+-- less than 64 blocks, and no size below 32
+pub last-size : (k size : ℕ) → k < 6 → size ≡ 2 ^ k → size ≢ 1 → size ≢ 2 → size ≢ 4 → size ≢ 8 → size ≢ 16 → size ≡ 32
+last-size zero size l is a b c d e = absurd (a is)
+last-size (suc zero) size l is a b c d e = absurd (b is)
+last-size (suc (suc zero)) size l is a b c d e = absurd (c is)
+last-size (suc (suc (suc zero))) size l is a b c d e = absurd (d is)
+last-size (suc (suc (suc (suc zero)))) size l is a b c d e = absurd (e is)
+last-size (suc (suc (suc (suc (suc zero))))) size l is a b c d e = is
+last-size (suc (suc (suc (suc (suc (suc k)))))) size l is a b c d e = absurd (omega arith)

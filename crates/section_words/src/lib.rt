@@ -58,6 +58,29 @@ fn joined(free: u64, size: u64, starts: u64) -> u64
     free & (free >> size) & starts
 }
 
+// A 1 at the first block of each chunk of twice `size` blocks.
+fn starts_of_twice(size: usize) -> u64
+    ensures { λ r. ⌜ ((k : ℕ) → k < 6 → size ≡ 2 ^ k → Starts (suc k) r) ⌝ }
+{
+    match size {
+        1 => TWOS,
+        2 => FOURS,
+        4 => EIGHTS,
+        8 => SIXTEENS,
+        16 => HALVES,
+        _ => WHOLE,
+    }
+}
+
+// The same for any size of less than 64 blocks.
+pub fn twice(free: u64, size: usize) -> u64
+    requires { ⌜ size < 64 ⌝ }
+    ensures { λ r.
+        ⌜ ((k : ℕ) (a : List ℕ) (i : ℕ) → k < 6 → size ≡ 2 ^ k → FreeChunks k a i free → FreeChunks (suc k) a i r) ⌝ }
+{
+    joined(free, size as u64, starts_of_twice(size))
+}
+
 // The largest free chunk of 64 blocks, from their free chunks of eight, of which there are some.
 fn of_eights(eights: u64) -> usize
     ensures { λ r. ⌜ ((a : List ℕ) (i : ℕ) → FreeChunks 3 a i eights → eights ≢ 0 → r ≡ largestFree 6 a i) ⌝ }
