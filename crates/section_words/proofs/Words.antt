@@ -65,6 +65,10 @@ append m k map i j x y next low upper = record {
     room : (y + 1) * 2 ^ m ≤ 2 ^ k * 2 ^ m
     room = mul-le-mul-right (2 ^ m) (omega (arith, upper .below))
 
+-- .. at another name of their first block
+pub digits-at : (m : ℕ) (map : List ℕ) (i j w : ℕ) → i ≡ j → Digits m map i w → Digits m map j w
+digits-at m map i j w same d = subst (λ (n : ℕ). Digits m map n w) same d
+
 -- ---- the free blocks
 
 as-test : (b : ℕ) → b < 2 → 1 - b ≡ one (eqb b 0)

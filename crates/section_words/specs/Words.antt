@@ -21,3 +21,14 @@ pub record FreeChunks (k : ℕ) (a : List ℕ) (i w : ℕ) : Type 0 where
   pub below : w < 2 ^ 64
   pub chunk : (n : ℕ) → n < 64 → n % 2 ^ k ≡ 0 → bitOf w n ≡ one (chunkFree k a (i + n))
   pub other : (n : ℕ) → n < 64 → n % 2 ^ k ≢ 0 → bitOf w n ≡ 0
+
+-- the same for the 256 digits of four words
+pub record FourChunks (k : ℕ) (a : List ℕ) (i w x y z : ℕ) : Type 0 where
+  pub first : FreeChunks k a i w
+  pub second : FreeChunks k a (i + 64) x
+  pub third : FreeChunks k a (i + 128) y
+  pub fourth : FreeChunks k a (i + 192) z
+
+-- no digit of four words is 1
+abbrev pub NoneOfFour : ℕ → ℕ → ℕ → ℕ → Type 0
+NoneOfFour w x y z = (w ≡ 0) × (x ≡ 0) × (y ≡ 0) × (z ≡ 0)

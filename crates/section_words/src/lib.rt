@@ -1,11 +1,12 @@
-// The figure of 64 blocks, found in one word: block n of them is its bit n.
+// The figure of 64 blocks, found in one word: block n of them is its bit n; and that of 256, in four.
 ghost use mathlib.Core.Path.{_≡_};
+ghost use mathlib.Core.Bool.{true, false};
 ghost use mathlib.Core.Logic.{_≢_};
 ghost use mathlib.Core.List.{List};
 ghost use Prim.Native.Nat.{ℕ, suc, _+_, _*_, _^_, _<_, _≤_};
 ghost use lib.ListN.{length};
 ghost use Rattle.rules.specs.Sections.{largestFree};
-ghost use Rattle.section_words.specs.Words.{Digits, Starts, FreeChunks};
+ghost use Rattle.section_words.specs.Words.{Digits, Starts, FreeChunks, FourChunks, NoneOfFour};
 
 // A 1 at the first block of each chunk of 2, 4, 8, 16, 32 and 64 blocks.
 const TWOS: u64 = 0x5555_5555_5555_5555;
@@ -121,4 +122,116 @@ pub fn figure(used: u64) -> usize
         return 4;
     }
     of_eights(eights)
+}
+
+// Four words, of 256 blocks one behind the other.
+pub struct Four {
+    pub first: u64,
+    pub second: u64,
+    pub third: u64,
+    pub fourth: u64,
+}
+
+// The free blocks of the 256 from byte i of the map on.
+pub fn free_of_four(a: &[u8], i: usize) -> Four
+    requires { ⌜ (i + 32 ≤ length (now a)) × (i + 32 < 2 ^ 64) ⌝ }
+    ensures { λ r. ⌜ FourChunks 0 (now (a .entry)) (8 * i) (r .first) (r .second) (r .third) (r .fourth) ⌝ }
+{
+    let first = !eight_bytes(a, i);
+    let second = !eight_bytes(a, i + 8);
+    let third = !eight_bytes(a, i + 16);
+    let fourth = !eight_bytes(a, i + 24);
+    Four {
+        first: first,
+        second: second,
+        third: third,
+        fourth: fourth,
+    }
+}
+
+// From the free chunks of `size` blocks of four words those of twice the size.
+fn twice_each(free: Four, size: usize) -> Four
+    requires { ⌜ size < 64 ⌝ }
+    ensures { λ r.
+        ⌜ ((k : ℕ) (a : List ℕ) (i : ℕ) → k < 6 → size ≡ 2 ^ k
+        → FourChunks k a i (free .first) (free .second) (free .third) (free .fourth)
+        → FourChunks (suc k) a i (r .first) (r .second) (r .third) (r .fourth)) ⌝ }
+{
+    let first = twice(free.first, size);
+    let second = twice(free.second, size);
+    let third = twice(free.third, size);
+    let fourth = twice(free.fourth, size);
+    Four {
+        first: first,
+        second: second,
+        third: third,
+        fourth: fourth,
+    }
+}
+
+// Whether none of four words has a chunk.
+fn is_none(free: Four) -> bool
+    ensures { λ r.
+        ⌜ (r ≡ true → NoneOfFour (free .first) (free .second) (free .third) (free .fourth))
+        × (r ≡ false → NoneOfFour (free .first) (free .second) (free .third) (free .fourth) → ⊥) ⌝ }
+{
+    free.first | free.second | free.third | free.fourth == 0
+}
+
+// Whether two words are both free throughout: a chunk of 128 blocks.
+fn are_whole(lower: u64, upper: u64) -> bool
+    ensures { λ r.
+        ⌜ ((a : List ℕ) (i : ℕ) → FreeChunks 6 a i lower → FreeChunks 6 a (i + 64) upper
+        → (r ≡ true → largestFree 7 a i ≡ 128) × (r ≡ false → largestFree 7 a i ≤ 64)) ⌝ }
+{
+    if lower == 0 {
+        return false;
+    }
+    if upper == 0 {
+        return false;
+    }
+    true
+}
+
+// The largest free chunk of 256 blocks, from those of their four words that are free throughout, of which there are some.
+fn of_whole(free: Four) -> usize
+    ensures { λ r.
+        ⌜ ((a : List ℕ) (i : ℕ) → FourChunks 6 a i (free .first) (free .second) (free .third) (free .fourth)
+        → 64 ≤ largestFree 8 a i → r ≡ largestFree 8 a i) ⌝ }
+{
+    let lower = are_whole(free.first, free.second);
+    let upper = are_whole(free.third, free.fourth);
+    if lower {
+        if upper {
+            return 256;
+        }
+        return 128;
+    }
+    if upper {
+        return 128;
+    }
+    64
+}
+
+// The largest free chunk of 256 blocks, of which those are free whose bit is 1. The sizes go up for all four words together: what one
+// word's figure is decides nothing, so that there is one test for each size.
+pub fn figure_of_four(free: Four) -> usize
+    ensures { λ r.
+        ⌜ ((a : List ℕ) (i : ℕ) → FourChunks 0 a i (free .first) (free .second) (free .third) (free .fourth)
+        → r ≡ largestFree 8 a i) ⌝ }
+{
+    if is_none(free) {
+        return 0;
+    }
+    let mut chunks = free;
+    let mut size = 1;
+    while size < 64 {
+        let larger = twice_each(chunks, size);
+        if is_none(larger) {
+            return size;
+        }
+        chunks = larger;
+        size += size;
+    }
+    of_whole(chunks)
 }
