@@ -13,12 +13,12 @@ use Rattle.bitmap.specs.Bit.{bitOf, one}
 use Rattle.bitmap.proofs.Bits.{bit-zero}
 use Rattle.bitmap.proofs.Digits.{Lowest, trailing-lowest}
 use Rattle.rules.specs.Heap.{chunkFree}
-use Rattle.rules.proofs.Tests.{test-cases}
-use Rattle.rules.proofs.Chunks.{Used, chunk-free, chunk-used}
+use Rattle.rules.proofs.Tests.{test-cases, false-unless}
+use Rattle.rules.proofs.Chunks.{Used, chunk-free, chunk-used, free-chunk, free-not-used}
 use Rattle.search_size.proofs.Powers.{exponent-lt}
-use Rattle.search_walk.specs.Search.{Part, lowestIn, Search}
+use Rattle.search_walk.specs.Search.{judgedFree, Part, lowestIn, Search}
 use Rattle.search_walk.proofs.LowestChunk.{Missed, multiples-apart, sum-multiple, multiple-lower, search-found, search-none}
-use Rattle.search_walk.proofs.Walk.{size-positive}
+use Rattle.search_walk.proofs.Walk.{Walked, size-positive, judged-true, judged-false}
 use Rattle.section_words.specs.Words.{Digits, FreeChunks}
 use Rattle.section_words.proofs.Words.{free-blocks, same-exponent}
 use Rattle.section_words.proofs.FigureOfWord.{exponent-le}
@@ -172,3 +172,32 @@ module _ (from to : ℕ) (a : List ℕ) (size looks w : ℕ) (part : Part from t
         | no v ↦ used end (omega arith) (omega arith) m
       ])
       (λ i l u. chunk-free k a (p + t) free i (omega arith) (omega arith)))
+
+-- ---- request U3: "keep the length of the free stretch that ends here, and judge each chunk from that figure"
+
+free-judged : (end size stretch : ℕ) → size ≤ stretch → end % size ≡ 0 → judgedFree end size stretch ≡ true
+free-judged end size stretch enough ends = elim (test-cases (judgedFree end size stretch)) [
+  | inl t ↦ t
+  | inr t ↦ absurd (judged-false end size stretch t enough ends)
+]
+
+used-judged : (end size stretch : ℕ) → stretch < size → judgedFree end size stretch ≡ false
+used-judged end size stretch l = false-unless (judgedFree end size stretch) (λ t. omega (arith, judged-true end size stretch t .0))
+
+-- the digit of a chunk's first block is that judgement, where the walk has come to the chunk's end: a word has it for all of its chunks
+pub digit-judges : (from to : ℕ) (a : List ℕ) (k looks stretch judged p w n : ℕ) → Walked from to a (2 ^ k) looks stretch judged → FreeChunks k a p w
+    → n < 64 → n % 2 ^ k ≡ 0 → k ≤ 6 → p % 64 ≡ 0 → from ≤ p → from + looks ≡ p + n + 2 ^ k → bitOf w n ≡ one (judgedFree (from + looks) (2 ^ k) stretch)
+digit-judges from to a k looks stretch judged p w n walk f l m small starts above ends =
+    let start : p % 2 ^ k ≡ 0 = multiple-lower k 6 p small starts in
+    let end : (from + looks) % 2 ^ k ≡ 0 =
+    ap (λ (x : ℕ). x % 2 ^ k) ends ∙ sum-multiple (2 ^ k) (p + n) (2 ^ k) (sum-multiple (2 ^ k) p n start m) (mod-self (2 ^ k)) in
+    elim (decLt stretch (2 ^ k)) [
+      | no v ↦
+          let free = free-chunk k a (p + n) (λ j low high. walk .free j (omega arith) (omega arith)) in
+          f .chunk n l m ∙ ap one (free ∙ sym (free-judged (from + looks) (2 ^ k) stretch (omega arith) end))
+      | yes v ↦
+          let used : Used a (p + n) (2 ^ k) = (from + looks - stretch - 1, omega (arith, walk .within), omega (arith, walk .within), walk .used (omega arith)) in
+          let not-free : chunkFree k a (p + n) ≡ false =
+          false-unless (chunkFree k a (p + n)) (λ e. free-not-used a (p + n) (2 ^ k) (chunk-free k a (p + n) e) used) in
+          f .chunk n l m ∙ ap one (not-free ∙ sym (used-judged (from + looks) (2 ^ k) stretch v))
+    ]

@@ -78,7 +78,7 @@ fn walk_words(a: &[u8], from: usize, to: usize, size: usize) -> Searched
     let mut looks = 0;
     let at = 'words: loop {
         if from + looks == to {
-            break to;
+            break 'words to;
         }
         let mut free = !section_words::eight_bytes(a, (from + looks) / 8);
         let mut s = 1;

@@ -1,5 +1,6 @@
 //! Bits, counts, first blocks, sizes, data, chunks and extents: by bytes where the library goes by bytes.
 
+use super::words::{eight_bytes, twice};
 use crate::rules::heap::Ref;
 
 pub fn get_bit(map: &[u8], i: usize) -> u8 {
@@ -195,7 +196,8 @@ fn is_judged_free(end: usize, size: usize, stretch: usize) -> bool {
     size <= stretch && end & (size - 1) == 0
 }
 
-pub fn lowest_chunk(a: &[u8], from: usize, to: usize, size: usize) -> Searched {
+/// The search by bytes, chunk by chunk where chunks have less than eight blocks.
+fn walk_bytes(a: &[u8], from: usize, to: usize, size: usize) -> Searched {
     let mut looks = 0;
     let mut stretch = 0;
     let at = 'bytes: loop {
@@ -231,6 +233,38 @@ pub fn lowest_chunk(a: &[u8], from: usize, to: usize, size: usize) -> Searched {
         }
     };
     Searched { at, looks }
+}
+
+/// The search by words, for chunks of at most 64 blocks: the free chunks of a word are found at once.
+fn walk_words(a: &[u8], from: usize, to: usize, size: usize) -> Searched {
+    let mut looks = 0;
+    let at = 'words: loop {
+        if from + looks == to {
+            break to;
+        }
+        let mut free = !eight_bytes(a, (from + looks) / 8);
+        let mut s = 1;
+        loop {
+            if free == 0 {
+                looks += 64;
+                continue 'words;
+            }
+            if s == size {
+                looks += free.trailing_zeros() as usize + size;
+                break 'words from + looks - size;
+            }
+            free = twice(free, s);
+            s += s;
+        }
+    };
+    Searched { at, looks }
+}
+
+pub fn lowest_chunk(a: &[u8], from: usize, to: usize, size: usize) -> Searched {
+    if size <= 64 && from % 64 == 0 && to % 64 == 0 {
+        return walk_words(a, from, to, size);
+    }
+    walk_bytes(a, from, to, size)
 }
 
 pub fn mark_extent(a: &mut [u8], b: &mut [u8], i: usize, n: usize) {

@@ -10,6 +10,7 @@ mod replay;
 mod sections;
 mod steps;
 mod two_passes;
+mod words;
 
 use crate::rules::heap::{Memory, Ref};
 

@@ -1,6 +1,7 @@
 //! Sections: their figures, the marks on those that have to be found anew, and the search by them.
 
 use super::blocks::{get_bit, lowest_chunk, Searched};
+use super::words::{eight_bytes, figure_of_four, free_of_four, word_figure};
 use crate::rules::heap::{Ref, MAX_NUMBER};
 
 const MAX_SECTION: usize = 256;
@@ -26,63 +27,12 @@ fn of_halves(lower: usize, upper: usize, half: usize) -> usize {
     lower
 }
 
-/// A 1 at the first block of each chunk of 2, 4, 8, 16, 32 and 64 blocks.
-const TWOS: u64 = 0x5555_5555_5555_5555;
-const FOURS: u64 = 0x1111_1111_1111_1111;
-const EIGHTS: u64 = 0x0101_0101_0101_0101;
-const SIXTEENS: u64 = 0x0001_0001_0001_0001;
-const HALVES: u64 = 0x0000_0001_0000_0001;
-const WHOLE: u64 = 1;
-
-fn eight_bytes(a: &[u8], i: usize) -> u64 {
-    let b = &a[i..i + 8];
-    u64::from_le_bytes([b[0], b[1], b[2], b[3], b[4], b[5], b[6], b[7]])
-}
-
-/// From the free chunks of `size` blocks those of twice the size.
-fn joined(free: u64, size: u64, starts: u64) -> u64 {
-    free & (free >> size) & starts
-}
-
-fn of_eights(eights: u64) -> usize {
-    let sixteens = joined(eights, 8, SIXTEENS);
-    if sixteens == 0 {
-        return 8;
-    }
-    let halves = joined(sixteens, 16, HALVES);
-    if halves == 0 {
-        return 16;
-    }
-    let whole = joined(halves, 32, WHOLE);
-    if whole == 0 {
-        return 32;
-    }
-    64
-}
-
-/// The figure of 64 blocks, of which those are used whose bit is 1.
-fn word_figure(used: u64) -> usize {
-    let free = !used;
-    if free == 0 {
-        return 0;
-    }
-    let twos = joined(free, 1, TWOS);
-    if twos == 0 {
-        return 1;
-    }
-    let fours = joined(twos, 2, FOURS);
-    if fours == 0 {
-        return 2;
-    }
-    let eights = joined(fours, 4, EIGHTS);
-    if eights == 0 {
-        return 4;
-    }
-    of_eights(eights)
-}
-
 fn of_word(a: &[u8], at: usize) -> usize {
     word_figure(eight_bytes(a, at / 8))
+}
+
+fn of_four_words(a: &[u8], at: usize) -> usize {
+    figure_of_four(free_of_four(a, at / 8))
 }
 
 fn of_block(a: &[u8], at: usize) -> usize {
@@ -92,8 +42,11 @@ fn of_block(a: &[u8], at: usize) -> usize {
     0
 }
 
-/// By halves, down to one block, or to 64 blocks at once.
+/// By halves, down to one block, or to 64 or 256 blocks at once.
 fn largest_free(a: &[u8], at: usize, size: usize) -> usize {
+    if size == 256 {
+        return of_four_words(a, at);
+    }
     if size == 64 {
         return of_word(a, at);
     }
