@@ -120,4 +120,5 @@ module _ {N w : ℕ} {start : Memory} {words before : List ℕ} where
             ∙ ap (λ (k : ℕ). take (3 * i) replies ++ (replyWords (run N w h (callsFrom words i k)) ++ drop (3 * n) replies)) none
             ∙ ap (λ (k : ℕ). take (3 * k) replies ++ drop (3 * n) replies) all
             ∙ take-append-drop (3 * n) replies);
+        usable = p .usable;
       }

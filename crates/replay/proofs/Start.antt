@@ -1,4 +1,5 @@
--- A replay starts from a heap as format leaves it: the inner calls can use it, and demand 3 holds of every list that is run from it.
+-- A replay starts from a heap as format leaves it: the inner calls can use it. And demand 3 holds of every list that is run from an undamaged
+-- heap.
 use mathlib.Core.Path.{_≡_, refl, sym, ap, _∙_, subst}
 use mathlib.Core.Bool.{true}
 use mathlib.Core.List.{List, [], _∷_, _++_}
@@ -14,7 +15,7 @@ use Rattle.theory.specs.Statements.{Undamaged}
 use Rattle.types.specs.declared.Reply.{Reply}
 use Rattle.rules.proofs.Replies.{format-accepted}
 use Rattle.rules.proofs.Shape.{shape-facts}
-use Rattle.theory.proofs.Theorems.{calls-keep-undamaged, format-makes-undamaged, demand-3}
+use Rattle.theory.proofs.Theorems.{calls-keep-undamaged, format-makes-undamaged, claim-from-undamaged}
 use Rattle.theory.specs.Usable.{Usable}
 use Rattle.replay_words.specs.Encoding.{callsIn, replyWords}
 use Rattle.replay.specs.Run.{AsRun}
@@ -63,28 +64,33 @@ made-chain N w h fine (c ∷ calls) =
     (record { reply-is = refl; after-is = refl })
     (made-chain N w (answer N w h c .1) (calls-keep-undamaged N w h fine c) calls)
 
+-- calls that were run from an undamaged heap
+pub ran-from :
+    {N w : ℕ} {start : Memory} {words replies : List ℕ} {after : Memory} {replies′ : List ℕ} → Undamaged N w start
+    → AsRun N w start words replies after replies′ → Ran N w start words replies after replies′
+ran-from {N} {w} {start} {words} {replies} fine as-run =
+    let all : List Made = madeBy N w start (callsIn words) in
+    let chain : Chain N w start all = made-chain N w start fine (callsIn words) in
+    let machine : run N w start (callsIn words) ≡ answersOf all = made-answers N w start (callsIn words) in
+    record {
+      made = all;
+      calls-are = made-calls N w start (callsIn words);
+      chain = chain;
+      left-is = as-run .after-is ∙ ap (lastMemory start) machine;
+      after-is = as-run .after-is;
+      replies-are =
+          as-run .replies-are ∙ ap (λ (l : List Answer). replyWords l ++ drop (3 * (length words / 4)) replies) machine;
+      claim = claim-from-undamaged N w start fine all chain;
+    }
+
 -- an accepted replay, from what its format and its run promise
 pub replayed :
     {N w : ℕ} {lent : Memory} {words replies : List ℕ} {x : Reply} {start after : Memory} {replies′ : List ℕ} → shaped N w lent ≡ true
     → Promise N w format lent x start → AsRun N w start words replies after replies′
     → Ran N w (formatted N w (length (lent .roots))) words replies after replies′
 replayed {N} {w} {lent} {words} {replies} {x} {start} {after} {replies′} fits promise done =
-    let from : Memory = formatted N w (length (lent .roots)) in
-    let as-run : AsRun N w from words replies after replies′ =
-    subst (λ (g : Memory). AsRun N w g words replies after replies′) (format-leaves N w lent fits promise) done in
-    let all : List Made = madeBy N w from (callsIn words) in
-    let chain : Chain N w from all = made-chain N w from (format-makes-undamaged N w lent fits) (callsIn words) in
-    let machine : run N w from (callsIn words) ≡ answersOf all = made-answers N w from (callsIn words) in
-    record {
-      made = all;
-      calls-are = made-calls N w from (callsIn words);
-      chain = chain;
-      left-is = as-run .after-is ∙ ap (lastMemory from) machine;
-      after-is = as-run .after-is;
-      replies-are =
-          as-run .replies-are ∙ ap (λ (l : List Answer). replyWords l ++ drop (3 * (length words / 4)) replies) machine;
-      claim = demand-3 N w lent fits all chain;
-    }
+    ran-from (format-makes-undamaged N w lent fits)
+    (subst (λ (g : Memory). AsRun N w g words replies after replies′) (format-leaves N w lent fits promise) done)
 
 -- ---- a replay in a list of public calls
 

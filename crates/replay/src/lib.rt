@@ -6,7 +6,7 @@ use replay_words::tests;
 use types::Ref;
 use types::Reply;
 
-mod run;
+pub mod run;
 
 // Formats the heap and runs the calls: four words each, the replies three words each. The value is the number of calls. Refused lists, and
 // their numbers, are those of `replayReply`: nothing is written then.

@@ -1,4 +1,4 @@
-// The loop over the calls.
+// The loop over the calls, on an undamaged heap with a cleared waiting list.
 ghost use mathlib.Core.Path.{_≡_};
 ghost use mathlib.Core.Bool.{true};
 ghost use Prim.Native.Nat.{_*_, _/_, _≤_};
@@ -11,7 +11,7 @@ use replay_words::words;
 use types::Ref;
 
 // Makes every call, and writes every reply.
-pub(crate) fn run_all(
+pub fn run_all(
     blocks: usize,
     width: usize,
     a: &mut [u8],
