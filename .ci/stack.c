@@ -12,8 +12,8 @@ enum { WIDTH = 4, ROOTS = 64, STACK = 1 << 22, PAINT = 0xA5, SIZES = 4, MOST = H
 
 static const size_t sizes[SIZES] = {64, 512, 8192, MOST};
 
-/* The calls of a list that makes a chain of all blocks, and the records of a history that makes one of a quarter of them. */
-#define CALLS(blocks) (3 * (blocks) + 4)
+/* The calls of a list that makes a chain of all blocks and lets go of it, and the records of a history that makes one of a quarter of them. */
+#define CALLS(blocks) (3 * (blocks) + 5)
 #define LINKS(blocks) ((blocks) / 8)
 #define RECORDS(blocks) (3 * LINKS(blocks) + 3)
 
@@ -80,6 +80,16 @@ static void replay(void) {
     }
 }
 
+/* The end of the same list; where a collection is open already, without its opening. */
+static void make_calls(void) {
+    size_t from = 3 * heap.blocks + (huwekapo_heap_is_open(&heap) ? 1 : 0), number = CALLS(heap.blocks) - from;
+    made(huwekapo_heap_make_calls(&heap, calls + HUWEKAPO_CALLS_LENGTH(from), HUWEKAPO_CALLS_LENGTH(number), replies,
+                                  HUWEKAPO_REPLIES_LENGTH(number)));
+    for (size_t i = 0; i < number; i++) {
+        failures += replies[3 * i] != HUWEKAPO_ACCEPTED;
+    }
+}
+
 /* The last record collects, which stops the run while a collection in steps is open. */
 static void run_records(void) {
     size_t number = RECORDS(heap.blocks), due = huwekapo_heap_is_open(&heap) ? number - 1 : number;
@@ -96,7 +106,7 @@ static void put_call(size_t i, uint64_t code, uint64_t x, uint64_t y, uint64_t z
 }
 
 /* A list for replay: objects of one block until the heap is full, each naming the one before it, the last in root 0; then a collection
- * in steps, while which the chain is let go of, and a full one. */
+ * in steps, while which the chain is let go of, a full one, and an allocation. */
 static void write_calls(size_t blocks) {
     for (size_t i = 0; i < blocks; i++) {
         put_call(3 * i, HUWEKAPO_CODE_ALLOCATE, 1, 1, 0);
@@ -107,6 +117,7 @@ static void write_calls(size_t blocks) {
     put_call(3 * blocks + 1, HUWEKAPO_CODE_RETURN_ROOTS, 3, 0, 0);
     put_call(3 * blocks + 2, HUWEKAPO_CODE_STEP_COLLECTION, blocks, 0, 0);
     put_call(3 * blocks + 3, HUWEKAPO_CODE_COLLECT, 0, 0, 0);
+    put_call(3 * blocks + 4, HUWEKAPO_CODE_ALLOCATE, 3, 5, 0);
 }
 
 /* Records that make a chain of objects of two blocks in root 0, let go of it at once, and collect. */
@@ -217,6 +228,7 @@ int main(void) {
         {"shape", shape, A_WALK, ANY},
         {"copy", copy, A_COPY, CLOSED | FULL},
         {"replay", replay, {19000, 19000, 19000, 19000}, ANY},
+        {"make_calls", make_calls, A_TEST, ANY},
         {"run_records", run_records, A_TEST, OPEN | CLOSED},
     };
     enum { EACH = sizeof each / sizeof *each };

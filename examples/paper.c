@@ -235,6 +235,26 @@ static void replay_steps(void) {
     expect("  5 steps, none open", replied(5), HUWEKAPO_OUT_OF_TURN, 0, 0);
 }
 
+/* A list on the heap as it stands, P1's: what it left is there, and is let go of; and on one with a count of 0. */
+static const uint64_t more[] = {6, 4, 0, 0, 2, 2, 3, 0, 8, 4, 0, 0, 7, 0, 0, 0};
+
+static void make_calls(void) {
+    huwekapo_replay(HEAP, p1, 16, replies, 13);
+    replies[12] = 7;
+    expect("make calls", huwekapo_make_calls(HEAP, more, 16, replies, 13), HUWEKAPO_ACCEPTED, 4, 0);
+    expect("  look at 4", replied(0), HUWEKAPO_ACCEPTED, 3, 1);
+    expect("  allocate 2 into root 3", replied(1), HUWEKAPO_NO_CHUNK, 0, 0);
+    expect("  return root 2", replied(2), HUWEKAPO_ACCEPTED, 3, 0);
+    expect("  free blocks", replied(3), HUWEKAPO_ACCEPTED, 5, 0);
+    uint8_t kept = counts[0];
+    counts[0] = 0;
+    expect("make calls, a count of 0", huwekapo_make_calls(HEAP, more, 15, replies, 13), HUWEKAPO_DAMAGED, HUWEKAPO_WRONG_COUNT, 0);
+    counts[0] = kept;
+    expect("make calls, cut off", huwekapo_make_calls(HEAP, more, 15, replies, 13), HUWEKAPO_CUT_OFF, 0, 0);
+    printf("behind the replies  %d  ", (int)replies[12]);
+    verdict(replies[12] == 7);
+}
+
 int main(void) {
     expect("format", huwekapo_format(HEAP), HUWEKAPO_ACCEPTED, 0, 0);
     expect_section(BLOCKS);
@@ -267,6 +287,7 @@ int main(void) {
     replay_wide();
     replay_numbers();
     replay_steps();
+    make_calls();
     puts(failures == 0 ? "paper: ok" : "paper: DIFFERENT");
     return failures != 0;
 }

@@ -23,8 +23,8 @@
  * Every call may be made with any arguments and any content of the buffers: what is wrong is refused by a number, and a
  * refusal changes no buffer. Arguments are whole words, and nothing of them is cut off: a v of 2^32 + 1 is refused 8. Only the
  * number that is written into data is as wide as a cell: any such number is right. Format, both allocations, both stores, the
- * return, collect, steps, replay and runs of records leave `waiting` all 0, and `sections` as it must be, when accepted; the
- * opening of a collection writes `marks` and `list` and nothing else; the write of a number changes one cell and nothing else;
+ * return, collect, steps, both lists of calls and runs of records leave `waiting` all 0, and `sections` as it must be, when
+ * accepted; the opening of a collection writes `marks` and `list` and nothing else; the write of a number changes one cell and nothing else;
  * check, look, free blocks and the read of a number write nothing; the reason and the shape write nothing but their output; a copy
  * writes nothing but the buffers of its second heap, which it leaves as a collection leaves them.
  *
@@ -39,7 +39,7 @@
  * none of those objects of a later store was or led to, is gone at the close. The steps from the opening to the close are at
  * most the objects present at the opening.
  *
- * The buffers, those of both heaps of a copy, the two lists of replay, the bytes of a run, and the outputs of the reason and of
+ * The buffers, those of both heaps of a copy, the two lists of replay and of make_calls, the bytes of a run, and the outputs of the reason and of
  * the shape must not overlap, nor
  * may the text and the cells of a reason that is read; and each pointer must be good for its length, and not null even where that
  * is 0.
@@ -55,10 +55,11 @@
  *     2,000 and replay less than 19,000, whatever the size. The reason and the shape take less than 18,000 bytes up to 1,024
  *     blocks, 135,000 up to 8,192, and 1,060,000 on larger heaps; a copy less than 27,000, 145,000 and 1,070,000. Recursion
  *     goes six deep at most, over the halves of a section.
- *   - Time: every call but format and replay tests the whole heap before it does anything, steps too, and a run of records tests
- *     it once for each piece. Many calls at a time are therefore best made by replay, or by a run of records in long pieces.
+ *   - Time: every call but format and replay tests the whole heap before it does anything, steps too; make_calls tests it once for
+ *     all its calls, and a run of records once for each piece. Many calls at a time are therefore best made by make_calls, by
+ *     replay, or by a run of records in long pieces.
  *   - Alignment: the numbers of cells, roots, waiting, sections, list and a shape, and the cells of a reason that is read, are
- *     aligned as uint32_t is, those of replay's lists as uint64_t is.
+ *     aligned as uint32_t is, those of lists of calls and of their replies as uint64_t is.
  */
 #ifndef HUWEKAPO_H
 #define HUWEKAPO_H
@@ -110,7 +111,7 @@ typedef uint32_t huwekapo_ref;
 /* The blocks of a section. */
 #define HUWEKAPO_SECTION_BLOCKS(blocks) ((blocks) / HUWEKAPO_SECTIONS_LENGTH(blocks))
 
-/* The lengths of replay's lists, for so many calls. */
+/* The lengths of the lists of replay and of make_calls, for so many calls. */
 #define HUWEKAPO_CALLS_LENGTH(calls) (4 * (calls))
 #define HUWEKAPO_REPLIES_LENGTH(calls) (3 * (calls))
 
@@ -195,7 +196,7 @@ enum huwekapo_damage {
     HUWEKAPO_STRAY_DATA = 7           /* a D bit where no object starts */
 };
 
-/* The codes of replay's list. */
+/* The codes of a list of calls. */
 enum huwekapo_code {
     HUWEKAPO_CODE_FORMAT = 0,
     HUWEKAPO_CODE_CHECK = 1,
@@ -383,6 +384,12 @@ struct huwekapo_reading huwekapo_read_reason(const uint8_t *text, size_t text_le
  * nothing: 1, 10, 9, 18. */
 struct huwekapo_reply huwekapo_replay(HUWEKAPO_BUFFERS, const uint64_t *calls, size_t calls_length,
                                       uint64_t *replies, size_t replies_length);
+
+/* Makes a list of calls, in replay's form, on the heap as it stands: it is tested once, and no call of the list tests it again. What
+ * each call answers and does is what it would by itself, and one that is refused does not end the list. Replies and value are as in
+ * replay. Refusals, which write nothing: 1, 2, 11, 13, 10, 9, 18. */
+struct huwekapo_reply huwekapo_make_calls(HUWEKAPO_BUFFERS, const uint64_t *calls, size_t calls_length,
+                                          uint64_t *replies, size_t replies_length);
 
 /* The figures of a run, in the order of the printed line. */
 struct huwekapo_tally {

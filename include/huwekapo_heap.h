@@ -155,6 +155,11 @@ static inline struct huwekapo_reply huwekapo_heap_replay(struct huwekapo_heap *h
     return huwekapo_replay(HUWEKAPO_LEND_(heap), calls, calls_length, replies, replies_length);
 }
 
+static inline struct huwekapo_reply huwekapo_heap_make_calls(struct huwekapo_heap *heap, const uint64_t *calls, size_t calls_length,
+                                                             uint64_t *replies, size_t replies_length) {
+    return huwekapo_make_calls(HUWEKAPO_LEND_(heap), calls, calls_length, replies, replies_length);
+}
+
 static inline struct huwekapo_ran huwekapo_heap_run_records(struct huwekapo_heap *heap, struct huwekapo_run run,
                                                             const uint8_t *bytes, size_t bytes_length) {
     return huwekapo_run_records(HUWEKAPO_LEND_(heap), run, bytes, bytes_length);

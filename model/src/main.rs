@@ -46,8 +46,8 @@ const USAGE: &str = "usage:
   model history port < FILE          the line once more, by the product's algorithms in plain Rust
   model history bench FILE PROGRAM ..  times of a program on a history against these; its memory
 with the product's library, `--features library`:
-  model fuzz SECONDS SEED            all pairs of maps of 8 blocks, random lists, damaged memories, replays and runs
-                                     of records, model against library
+  model fuzz SECONDS SEED            all pairs of maps of 8 blocks, random lists, damaged memories, replays, lists of
+                                     calls and runs of records on any heap, model against library
   model bench                        times of the library against plain Rust, of the searches for a chunk, of the check by
                                      bytes, with data, in small steps, and by sizes of heaps (build it with --release)
   model bench sizes                  the last of these alone: single calls of the library by the number of blocks, and how they

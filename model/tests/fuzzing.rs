@@ -13,7 +13,7 @@ use model::rules::copies::{copy, Sizes};
 use model::rules::mark_claims::ILL;
 use model::rules::outputs::{reason, shape};
 use model::rules::reasons::{read_reason, Reading};
-use model::rules::replay::replay;
+use model::rules::replay::{make_calls, replay};
 use model::{apply, Call, Memory, Reply};
 use std::sync::OnceLock;
 
@@ -31,6 +31,7 @@ fn met_always() -> &'static Met {
 const MODEL: Library = Library {
     apply,
     replay,
+    make_calls,
     run_records,
     reason,
     shape,
@@ -84,6 +85,18 @@ fn what_was_not_met_is_named() {
         let what = format!("replay, number {number}");
         without(&|met| met.replay_numbers[number] = 0, what);
     }
+    for number in [0, 1, 2, 11, 13, 10, 9, 18] {
+        let what = format!("a list of calls, number {number}");
+        without(&|met| met.batch_numbers[number] = 0, what);
+    }
+    for kind in KINDS {
+        let what = format!("a list of calls, damage {kind}");
+        without(&|met| met.batch_kinds[kind] = 0, what);
+    }
+    without(
+        &|met| met.batched_with_one_open = 0,
+        "a list of calls with one open".to_string(),
+    );
     for number in [0, 1, 2, 11, 13, 19] {
         let what = format!("run, number {number}");
         without(&|met| met.run_numbers[number] = 0, what);
@@ -166,6 +179,60 @@ fn wrong_replay(
         *last = 0;
     }
     reply
+}
+
+/// Keeps what stands in the waiting list where no call of the list writes it.
+fn uncleared(
+    blocks: usize,
+    width: usize,
+    memory: &mut Memory,
+    words: &[u64],
+    replies: &mut [u64],
+) -> Reply {
+    let waiting = memory.waiting.clone();
+    let reply = make_calls(blocks, width, memory, words, replies);
+    if (reply.number, reply.value) == (0, 0) {
+        memory.waiting = waiting;
+    }
+    reply
+}
+
+/// Looks at the list before the heap.
+fn list_first(
+    blocks: usize,
+    width: usize,
+    memory: &mut Memory,
+    words: &[u64],
+    replies: &mut [u64],
+) -> Reply {
+    let listed = replay(
+        blocks,
+        width,
+        &mut memory.clone(),
+        words,
+        &mut replies.to_vec(),
+    );
+    match listed.number {
+        0 => make_calls(blocks, width, memory, words, replies),
+        _ => listed,
+    }
+}
+
+#[test]
+fn wrong_lists_of_calls_are_found() {
+    // The last: from a formatted heap.
+    for make_calls in [uncleared, list_first, replay] {
+        let list_only = Library {
+            make_calls,
+            ..MODEL
+        };
+        let (_, found) = fuzz(0, 1, list_only);
+        let text = found.expect("a list of calls that is made otherwise");
+        assert!(
+            text.starts_with("a difference: a list of calls of"),
+            "{text}"
+        );
+    }
 }
 
 /// Answers the run that was handed in where the list of sections is untrue.

@@ -1,8 +1,8 @@
-//! The model's replay of a list: P1, and each refusal before those that come after it.
+//! The model's replay of a list, and a list of calls on a heap as it stands: P1, and each refusal before those that come after it.
 
 mod common;
 use common::{fresh, say};
-use model::rules::replay::replay;
+use model::rules::replay::{make_calls, replay};
 use model::{Call, Memory};
 
 /// The words of calls, one after another.
@@ -144,4 +144,89 @@ fn any_list_of_sections() {
         let reply = replay(512, 2, &mut memory, &list, &mut replies);
         assert_eq!((reply.number, memory), (1, before));
     }
+}
+
+/// Every set of the faults of a list of calls on a heap as it stands, in the order in which they are refused. Each fault of the heap
+/// is one that the others leave as it is.
+#[test]
+fn refusals_of_a_list_on_a_heap() {
+    let numbers = [1, 2, 11, 13, 10, 9, 18];
+    for faults in 0..1 << numbers.len() {
+        let has = |k: usize| faults >> k & 1 == 1;
+        let mut given = fresh(8, 2, 4);
+        given.waiting.fill(9);
+        let blocks = if has(0) { 16 } else { 8 };
+        given.cells[0] = if has(1) { 7 } else { 0 };
+        given.sections[0] = if has(2) { 4 } else { 8 };
+        given.list[0] = if has(3) { 1 } else { 0 };
+        let mut list = words(&[Call::Check, Call::Allocate { n: 1, r: 0 }]);
+        if has(4) {
+            list.push(0);
+        }
+        if has(5) {
+            list[4] = 14;
+        }
+        let mut replies = vec![7; if has(6) { 5 } else { 6 }];
+        let mut memory = given.clone();
+        let reply = make_calls(blocks, 2, &mut memory, &list, &mut replies);
+        let due = (0..numbers.len()).find(|k| has(*k));
+        let value = match due {
+            None => 2,
+            // A cell of a free block that isn't 0.
+            Some(1) => 4,
+            Some(_) => 0,
+        };
+        let number = due.map_or(0, |k| numbers[k]);
+        assert_eq!(
+            (reply.number, reply.value, reply.second),
+            (number, value, 0)
+        );
+        if due.is_some() {
+            assert_eq!(memory, given);
+            assert!(replies.iter().all(|word| *word == 7));
+        } else {
+            assert_eq!(replies, [0; 6]);
+            assert_eq!(memory.waiting, [0; 8]);
+            assert_eq!(memory.roots, [1, 0, 0, 0]);
+        }
+    }
+    say("a list of calls with each set of its seven faults");
+}
+
+/// Behind the calls of a list, the others are made as by themselves; an empty list leaves all but the waiting list.
+#[test]
+fn a_list_goes_on_where_the_heap_stands() {
+    let front = [Call::Allocate { n: 2, r: 0 }, Call::OpenCollection];
+    let behind = [
+        Call::StoreCell { a: 0, j: 7, v: 1 },
+        Call::AllocateData { n: 1, r: 1 },
+        Call::OpenCollection,
+        Call::StepCollection { budget: 9 },
+    ];
+    let mut whole = fresh(8, 2, 4);
+    let mut parts = whole.clone();
+    let mut replies = [7; 18];
+    let all = [&front[..], &behind[..]].concat();
+    assert_eq!(
+        make_calls(8, 2, &mut whole, &words(&all), &mut replies).value,
+        6
+    );
+    let (first, rest) = (&mut [7; 6], &mut [7; 12]);
+    assert_eq!(make_calls(8, 2, &mut parts, &words(&front), first).value, 2);
+    parts.waiting.fill(3);
+    let before = parts.clone();
+    assert_eq!(make_calls(8, 2, &mut parts, &[], &mut []).number, 0);
+    assert_eq!(parts.waiting, [0; 8]);
+    assert_eq!(
+        Memory {
+            waiting: before.waiting.clone(),
+            ..parts.clone()
+        },
+        before
+    );
+    assert_eq!(make_calls(8, 2, &mut parts, &words(&behind), rest).value, 4);
+    assert_eq!(whole, parts);
+    assert_eq!(replies[..6], first[..]);
+    assert_eq!(replies[6..], rest[..]);
+    assert_eq!(replies[12..], [14, 0, 0, 0, 1, 0]);
 }

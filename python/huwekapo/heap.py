@@ -335,6 +335,14 @@ class Heap:
     def replay(self, calls: Iterable[Sequence[int]]) -> List[Reply]:
         """Formats the heap and makes a list of calls, each a code and its arguments, as include/huwekapo.h has them: `(2, n, r)` is an
         allocation. Answers a reply for each; a refused call of the list raises nothing. Refusals: 1, 9."""
+        return self._listed("replay", calls)
+
+    def make_calls(self, calls: Iterable[Sequence[int]]) -> List[Reply]:
+        """Makes a list of calls, in the form of `replay`, on the heap as it stands. The heap is tested once for all of them, where calls
+        one by one test it each time. Answers a reply for each; a refused call of the list raises nothing. Refusals: 1, 2, 11, 13, 9."""
+        return self._listed("make_calls", calls)
+
+    def _listed(self, name: str, calls: Iterable[Sequence[int]]) -> List[Reply]:
         words: list[int] = []
         for call in calls:
             if len(call) > 4:
@@ -344,7 +352,7 @@ class Heap:
         replies = (ctypes.c_uint64 * (len(words) // 4 * 3))()
         # An empty array has an address too.
         lists = [ctypes.addressof(entries), len(entries), ctypes.addressof(replies), len(replies)]
-        made = _accepted(self._call("replay", *lists)).value
+        made = _accepted(self._call(name, *lists)).value
         return [Reply(*replies[3 * call : 3 * call + 3]) for call in range(made)]
 
     def run_records(self, run: Run, piece: Bytes) -> Run:

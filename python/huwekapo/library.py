@@ -133,6 +133,7 @@ FUNCTIONS: dict[str, tuple[list[Any], Any]] = {
     "shape": ([ctypes.c_void_p, WORD], Reply),
     "copy": (LENT, Reply),
     "replay": ([ctypes.c_void_p, WORD, ctypes.c_void_p, WORD], Reply),
+    "make_calls": ([ctypes.c_void_p, WORD, ctypes.c_void_p, WORD], Reply),
     "run_records": ([RunSoFar, ctypes.c_void_p, WORD], Ran),
 }
 

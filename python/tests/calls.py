@@ -32,6 +32,7 @@ OTHERS: Dict[str, Call] = {
     "reason": lambda heap: heap.reason(0),
     "shape": lambda heap: heap.shape(),
     "copy": lambda heap: heap.copy_into(Heap(8, 2, 4)),
+    "make_calls": lambda heap: heap.make_calls([(6, 0), (7,)]),
     "run_records": lambda heap: heap.run_records(Run(), COLLECT),
 }
 

@@ -19,6 +19,8 @@ from pathlib import Path
 import huwekapo
 from huwekapo import Damage, Heap, Look, Number, Refused, Reply, library
 
+from .calls import buffers
+
 PYTHON = Path(__file__).resolve().parent.parent
 HEADERS = PYTHON.parent / "include"
 
@@ -156,6 +158,31 @@ class Calls(unittest.TestCase):
         self.assertEqual(heap.replay([(9, 1, 0), (10, 0, 3, 2**32 - 1), (11, 0, 3)]), due)
         with self.assertRaises(ValueError):
             heap.replay([(2, 2, 0, 0, 0)])
+
+    def test_make_calls(self) -> None:
+        calls = [(2, 2, 0), (9, 1, 1), (12,), (4, 0, 7, 3), (10, 2, 0, 2**32 - 1), (13, 1), (8, 2), (6, 5), (13, 9)]
+        heap, other = Heap(8, 2, 4), Heap(8, 2, 4)
+        heap.allocate(1, 3)
+        other.allocate(1, 3)
+        numbers = []
+        replies = heap.make_calls(calls)
+        for call in calls:
+            numbers += other.make_calls([call])
+        self.assertEqual(replies, numbers)
+        self.assertEqual(heap, other)
+        self.assertEqual([reply.number for reply in replies], [0, 0, 0, 8, 12, 0, 0, 6, 0])
+        # Not formatted: what stood lives on.
+        self.assertEqual((heap.look(0), heap.is_open), (Look(1, 1), False))
+        self.assertEqual((heap.make_calls([]), heap), ([], other))
+        for wrong in [[(14,)], [(7,), (10, 0, 0, 2**32)]]:
+            with self.refused(9, 0, "NO_CALL"):
+                heap.make_calls(wrong)
+        with self.assertRaises(ValueError):
+            heap.make_calls([(2, 2, 0, 0, 0)])
+        with self.assertRaises(OverflowError):
+            heap.make_calls([(3, 0, -1)])
+        with self.refused(2, 5, "WRONG_COUNT"):
+            Heap.from_buffers(8, 2, **{**buffers(heap), "counts": [0, 0]}).make_calls([(14,)])
 
     def test_refusals(self) -> None:
         for shape in [(4, 2, 4), (12, 2, 4), (24576, 2, 4), (131072, 2, 4), (8, 0, 4), (8, 5, 4), (8, 2, 0), (8, 2, 65), (2**64 - 1, 2, 4)]:

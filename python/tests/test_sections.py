@@ -87,6 +87,7 @@ class Sections(unittest.TestCase):
             "return_roots": lambda heap: heap.return_roots(2**64 - 1),
             "look": lambda heap: heap.look(99),
             "step_collection": lambda heap: heap.step_collection(1),
+            "make_calls": lambda heap: heap.make_calls([(14,)]),
             "run_records": lambda heap: heap.run_records(Run(records=2**40), b""),
         }.items():
             self.refused(name, call, 8, given, Number.STALE_SECTIONS)

@@ -105,5 +105,12 @@ declared! {
         replies: *mut u64,
         replies_length: usize
     ) -> Reply;
+    huwekapo_make_calls(
+        mut, mut, mut,
+        calls: *const u64,
+        calls_length: usize,
+        replies: *mut u64,
+        replies_length: usize
+    ) -> Reply;
     huwekapo_run_records(mut, mut, mut, run: SoFar, bytes: *const u8, bytes_length: usize) -> Ran;
 }

@@ -64,9 +64,9 @@ impl PartialEq for Buffers {
 impl Eq for Buffers {}
 
 /// A heap of some number of blocks, with counts of some width. Format, both allocations, both stores, the return, collect,
-/// steps, replay and runs of records leave `waiting` all 0, and `sections` as it must be, when accepted; the opening of a
-/// collection writes `marks` and `list` and nothing else; the write of a number changes one cell and nothing else; check, look,
-/// free blocks, the read of a number, the reason and the shape write nothing. Two heaps are equal where blocks, width and all
+/// steps, both lists of calls and runs of records leave `waiting` all 0, and `sections` as it must be, when accepted; the opening
+/// of a collection writes `marks` and `list` and nothing else; the write of a number changes one cell and nothing else; check,
+/// look, free blocks, the read of a number, the reason and the shape write nothing. Two heaps are equal where blocks, width and all
 /// buffers but the waiting lists are; what the roots of both reach is the same, wherever it lies, where their shapes are equal.
 #[derive(Clone, Debug, PartialEq, Eq)]
 #[must_use = "a heap does nothing by itself"]
@@ -336,6 +336,13 @@ impl Heap {
     /// three words each. The value is the number of calls. Refusals, which write nothing: 1, 10, 9, 18.
     pub fn replay(&mut self, calls: &[u64], replies: &mut [u64]) -> Result<usize, Refusal> {
         value(lent::replay(self.unique(), calls, replies))
+    }
+
+    /// Makes a list of calls, in the form that [`lent::replay`] states, on the heap as it stands, which is tested once; their
+    /// replies go to `replies`, three words each. The value is the number of calls. Refusals, which write nothing: 1, 2, 11, 13,
+    /// 10, 9, 18.
+    pub fn make_calls(&mut self, calls: &[u64], replies: &mut [u64]) -> Result<usize, Refusal> {
+        value(lent::make_calls(self.unique(), calls, replies))
     }
 
     /// Runs the records of a history, or of a piece of it, from where `run` stands, and answers where it stands then:

@@ -22,8 +22,8 @@
 //! Every call may be made with any arguments and any content of the buffers: what is wrong is refused by a number,
 //! and a refusal changes no buffer. Arguments are whole words, and nothing of them is cut off: a v of 2^32 + 1 is
 //! refused 8. Only the number that is written into data is as wide as a cell: any such number is right. Format, both
-//! allocations, both stores, the return, collect, steps, replay and runs of records leave `waiting` all 0, and `sections` as
-//! it must be, when accepted; the opening of a collection writes `marks` and `list` and nothing else; the write of a number
+//! allocations, both stores, the return, collect, steps, both lists of calls and runs of records leave `waiting` all 0, and
+//! `sections` as it must be, when accepted; the opening of a collection writes `marks` and `list` and nothing else; the write of a number
 //! changes one cell and nothing else; check, look, free blocks and the read of a number write nothing; the reason and the
 //! shape write nothing but their output.
 //!
@@ -458,6 +458,24 @@ pub fn replay(heap: Unique, calls: &[u64], replies: &mut [u64]) -> Reply {
     let (list, replies_at) = (calls.as_ptr(), replies.as_mut_ptr());
     lend!(
         huwekapo_replay,
+        heap,
+        as_mut_ptr,
+        as_mut_ptr,
+        as_mut_ptr,
+        list,
+        calls.len(),
+        replies_at,
+        replies.len()
+    )
+}
+
+/// Makes a list of calls, in the form of [`replay`], on the heap as it stands: it is tested once, and no call of the list tests
+/// it again. What each call answers and does is what it would by itself, and one that is refused does not end the list. Replies
+/// and value are as in [`replay`]. Refusals, which write nothing: 1, 2, 11, 13, 10, 9, 18.
+pub fn make_calls(heap: Unique, calls: &[u64], replies: &mut [u64]) -> Reply {
+    let (list, replies_at) = (calls.as_ptr(), replies.as_mut_ptr());
+    lend!(
+        huwekapo_make_calls,
         heap,
         as_mut_ptr,
         as_mut_ptr,

@@ -24,9 +24,9 @@ pub enum Refusal {
     BadCell,
     /// 8: v is neither 0 nor 1 + a first block.
     BadReference,
-    /// 9: an entry of a replay's list is no call.
+    /// 9: an entry of a list of calls is no call.
     NoCall,
-    /// 10: a replay's list ends inside a call.
+    /// 10: a list of calls ends inside a call.
     CutOff,
     /// 11: a number of `sections` is not the size of the largest free chunk of its section.
     StaleSections,
@@ -42,7 +42,7 @@ pub enum Refusal {
     ShortShape,
     /// 17: an object of a copy finds no free chunk at its turn.
     NoPlace,
-    /// 18: a replay's `replies` is too short.
+    /// 18: `replies` is too short for the replies of a list of calls.
     ShortReplies,
     /// 19: a run of records is out of range.
     BadRun,

@@ -4,6 +4,7 @@ ghost use Rattle.rules.specs.Lent.{before, after};
 ghost use Rattle.rules.specs.Calls.{Call};
 ghost use Rattle.rules.specs.Promise.{Promise};
 ghost use Rattle.replay.specs.Replay.{Replayed};
+ghost use Rattle.replay_batch.specs.Batch.{Batch};
 use types::Ref;
 use types::Reply;
 
@@ -561,6 +562,48 @@ pub extern "C" fn huwekapo_replay(
         (now (replies .exit)) ⌝ }
 {
     replay::replay(
+        blocks,
+        width,
+        a,
+        b,
+        counts,
+        cells,
+        roots,
+        waiting,
+        sections,
+        d,
+        marks,
+        list,
+        calls,
+        replies,
+    )
+}
+
+#[no_mangle]
+pub extern "C" fn huwekapo_make_calls(
+    blocks: usize,
+    width: usize,
+    a: &mut [u8],
+    b: &mut [u8],
+    counts: &mut [u8],
+    cells: &mut [Ref],
+    roots: &mut [Ref],
+    waiting: &mut [Ref],
+    sections: &mut [Ref],
+    d: &mut [u8],
+    marks: &mut [u8],
+    list: &mut [Ref],
+    calls: &[u64],
+    replies: &mut [u64],
+) -> Reply
+    ensures { λ reply.
+        ⌜ Batch blocks width
+        (before a b counts cells roots waiting sections d marks list)
+        (now (calls .entry)) (now (replies .entry)) reply
+        (after a b counts cells roots waiting sections d marks list)
+        (now (replies .exit)) ⌝ }
+{
+    replay_batch::make_calls(
         blocks,
         width,
         a,

@@ -56,7 +56,7 @@ pub fn some_run(seed: u64, bench: &Bench, records: &[[u8; RECORD]]) -> Handed {
 }
 
 /// Damage of any aim, an untrue list of sections among them; or a buffer of another length.
-fn spoil_heap(random: &mut Random, bench: &mut Bench) {
+pub fn spoil_heap(random: &mut Random, bench: &mut Bench) {
     if misshapen(bench.blocks, bench.width, &bench.memory) {
         return;
     }

@@ -1,12 +1,13 @@
-//! Replays to be made of a list of calls, and ways to spoil them.
+//! Replays to be made of a list of calls, lists to be made on a heap as it stands, and ways to spoil them.
 
 use crate::lists::file::{Bench, Entry, BUFFERS};
 use crate::lists::random::Random;
+use crate::lists::runs::spoil_heap;
 use crate::lists::wrong_families::{wrong_length, BAD_SHAPES};
 use crate::rules::answers::Reply;
 use crate::rules::heap::{Memory, Ref, MAX_BLOCKS, MAX_NUMBER};
 
-/// What a replay is lent: a heap, the words of the list, and a list for the replies.
+/// What a list of calls is lent: a heap, the words of the list, and a list for the replies.
 #[derive(Clone, Debug)]
 pub struct Lent {
     pub bench: Bench,
@@ -14,11 +15,11 @@ pub struct Lent {
     pub replies: Vec<u64>,
 }
 
-/// What makes a replay: the model's `replay`, or another.
+/// What makes a list of calls: the model's `replay` or `make_calls`, or another.
 pub type Replay = fn(usize, usize, &mut Memory, &[u64], &mut [u64]) -> Reply;
 
 impl Lent {
-    /// Makes the replay by the given function.
+    /// Makes the calls by the given function.
     pub fn replay(&mut self, replay: Replay) -> Reply {
         let Bench {
             blocks,
@@ -46,6 +47,30 @@ pub fn some_replay(seed: u64, shape: [u64; 3], calls: &[[u64; 4]], spoilt: bool)
         spoil(&mut random, &mut lent);
     }
     fill(&mut rubbish, &mut lent.bench.memory);
+    lent.replies.fill_with(|| rubbish.word());
+    lent
+}
+
+/// A list of calls on a heap as it stands, with anything in the waiting list; some on one that is damaged, or spoilt as a replay is.
+/// The same seed spoils a shorter list in the same ways.
+pub fn some_batch(seed: u64, bench: &Bench, calls: &[[u64; 4]]) -> Lent {
+    let mut random = Random::new(seed);
+    let mut rubbish = Random::new(random.word());
+    let behind = random.below(5);
+    let mut lent = Lent {
+        bench: bench.clone(),
+        words: calls.concat(),
+        replies: vec![0; 3 * calls.len() + behind],
+    };
+    fill_unnamed(&mut rubbish, &mut lent.words);
+    if random.percent(40) {
+        spoil_heap(&mut random, &mut lent.bench);
+    }
+    if random.percent(30) {
+        spoil(&mut random, &mut lent);
+    }
+    let waiting = &mut lent.bench.memory.waiting;
+    waiting.fill_with(|| rubbish.word() as Ref);
     lent.replies.fill_with(|| rubbish.word());
     lent
 }
@@ -85,7 +110,7 @@ fn fill(random: &mut Random, memory: &mut Memory) {
     }
 }
 
-/// Spoils a replay in one way or several.
+/// Spoils what is lent in one way or several.
 fn spoil(random: &mut Random, lent: &mut Lent) {
     // Cut off last: the others go by whole calls.
     let ways = [wrong_shape, no_call, short_replies, cut_off];

@@ -1,14 +1,16 @@
 //! Times of the product's library against the port in plain safe Rust: one run, same input, buffers warm. And those of the
 //! port's searches against each other (search_bench), and of its check by bytes against that by blocks (check_bench).
 
+use crate::lists::file::Entry;
 use crate::lists::random::Random;
 use crate::product::check_bench::{by_bytes, check_times, collect_times};
 use crate::product::data_bench::half_data;
-use crate::product::library::unique;
+use crate::product::library::{apply, unique};
 use crate::product::pause_bench::{pauses, SETUP};
 use crate::product::port::{self, lend};
 use crate::product::timing::{by_turns, compared};
 use crate::product::{copy_bench, growth_bench, search_bench, size_bench};
+use crate::rules::calls::Call;
 use crate::rules::heap::{first_blocks, free_count, size, Memory};
 use huwekapo::lent;
 use std::fmt::Write;
@@ -20,6 +22,7 @@ const ROOTS: usize = 64;
 const BLOCKS: usize = 8192;
 const CALLS: usize = 200_000;
 const MANY_CALLS: usize = 1_000_000;
+const BATCH: usize = 1000;
 
 /// All figures, as text.
 pub fn bench() -> String {
@@ -28,6 +31,7 @@ pub fn bench() -> String {
     say_what(&mut out, &list);
     calls(&mut out, &list);
     calls(&mut out, &mixed_calls(BLOCKS, MANY_CALLS, 3));
+    batch(&mut out, &mixed_calls(BLOCKS, SETUP + BATCH, 1));
     search_bench::lists(&mut out, WIDTH, ROOTS, &list);
     search_bench::searches(&mut out);
     search_bench::growth(&mut out);
@@ -149,6 +153,44 @@ fn calls(out: &mut String, list: &[u64]) {
     )
     .unwrap();
     writeln!(out, "  {rate:.0} calls a second by the library").unwrap();
+}
+
+/// The last calls of a list on the heap that the others leave: as one list, which checks the heap once, and one by one. The heap is
+/// copied in both times. Replies and buffers must be equal.
+fn batch(out: &mut String, list: &[u64]) {
+    let (front, list) = list.split_at(4 * SETUP);
+    let start = used(BLOCKS, front);
+    let single: Vec<Call> = list
+        .chunks(4)
+        .filter_map(|words| Entry::from_words(words.try_into().unwrap()).call())
+        .collect();
+    assert_eq!(single.len(), BATCH);
+    let mut memories = [start.clone(), start.clone()];
+    let mut replies = [0, 1].map(|_| vec![0u64; 3 * BATCH]);
+    let [first, second] = &mut memories;
+    let [by_list, by_calls] = &mut replies;
+    let times = by_turns(
+        || {
+            *first = start.clone();
+            let reply = lent::make_calls(unique(BLOCKS, WIDTH, first), black_box(list), by_list);
+            assert_eq!((reply.number, reply.value), (0, BATCH));
+        },
+        || {
+            *second = start.clone();
+            for (call, numbers) in single.iter().zip(by_calls.chunks_mut(3)) {
+                let reply = apply(BLOCKS, WIDTH, second, black_box(*call));
+                let words = [reply.number, reply.value, reply.second];
+                numbers.copy_from_slice(&words.map(|number| number as u64));
+            }
+        },
+    );
+    assert!(memories[0] == memories[1] && replies[0] == replies[1]);
+    writeln!(
+        out,
+        "{BATCH} mixed calls in one list, N = {BLOCKS}, w = {WIDTH}: {}",
+        compared(["make_calls", "one by one"], times)
+    )
+    .unwrap();
 }
 
 /// A heap as a list of calls leaves it.

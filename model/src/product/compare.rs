@@ -17,7 +17,7 @@ use crate::rules::outputs::{
     due_reason, due_shape, reason, shape, write_due, SHORT_REASON, SHORT_SHAPE,
 };
 use crate::rules::reasons::{read, read_reason, Reading};
-use crate::rules::replay::replay;
+use crate::rules::replay::{make_calls, replay};
 use crate::texts::expect::{buffer_lines, numbers};
 use crate::texts::show::{buffer_name, entry_in_words};
 use std::fmt::Write;
@@ -27,6 +27,7 @@ use std::fmt::Write;
 pub struct Library {
     pub apply: Apply,
     pub replay: Replay,
+    pub make_calls: Replay,
     pub run_records: RunRecords,
     pub reason: ReasonOf,
     pub shape: ShapeOf,
@@ -42,8 +43,8 @@ pub type ReadReason = fn(&[u8], &mut [u32]) -> Reading;
 /// So many places behind an output are looked at, too: they must be as before.
 const BEHIND: usize = 8;
 
-/// What one side answered and left. An entry that is no call has no reply; only a replay has replies, and only a run stands
-/// somewhere.
+/// What one side answered and left. An entry that is no call has no reply; only a list of calls has replies, and only a run
+/// stands somewhere.
 #[derive(PartialEq, Eq)]
 struct Outcome<'a> {
     reply: Option<Reply>,
@@ -259,19 +260,37 @@ pub fn read_back(other: Library, text: &[u8], room: usize, met: &mut Met) -> Opt
 
 /// Makes a replay on both, comparing the reply, every buffer and every word of the list of replies.
 pub fn replayed(other: Library, lent: &Lent, met: &mut Met) -> Option<String> {
-    let (mut model, mut library) = (lent.clone(), lent.clone());
-    let by_model = model.replay(replay);
-    let by_library = library.replay(other.replay);
+    let (by_model, difference) = listed("a replay", [replay, other.replay], lent);
     met.replay(by_model);
-    let sides = [(by_model, &model), (by_library, &library)].map(|(reply, lent)| Outcome {
-        reply: Some(reply),
-        memory: &lent.bench.memory,
-        replies: &lent.replies,
+    difference
+}
+
+/// The same of a list of calls on a heap as it stands.
+pub fn batched(other: Library, lent: &Lent, met: &mut Met) -> Option<String> {
+    let (by_model, difference) = listed("a list of calls", [make_calls, other.make_calls], lent);
+    met.batch(by_model, lent.bench.has_one_open());
+    difference
+}
+
+/// Makes a list of calls on both. The model's reply, and a difference.
+fn listed(name: &str, ways: [Replay; 2], lent: &Lent) -> (Reply, Option<String>) {
+    let mut sides = [lent.clone(), lent.clone()];
+    let replies = [0, 1].map(|side| sides[side].replay(ways[side]));
+    let outcomes = [0, 1].map(|side| Outcome {
+        reply: Some(replies[side]),
+        memory: &sides[side].bench.memory,
+        replies: &sides[side].replies,
         run: None,
         output: Vec::new(),
     });
-    (sides[0] != sides[1])
-        .then(|| difference(&replay_title(lent), &entry_lines(&lent.words), sides))
+    let difference = (outcomes[0] != outcomes[1]).then(|| {
+        difference(
+            &listed_title(name, lent),
+            &entry_lines(&lent.words),
+            outcomes,
+        )
+    });
+    (replies[0], difference)
 }
 
 /// Makes a run of records on both, comparing the reply, where the run stands, and every buffer.
@@ -303,13 +322,13 @@ pub fn ran(other: Library, handed: &Handed, met: &mut Met) -> Option<String> {
     })
 }
 
-/// The shape of a replay in words.
-fn replay_title(lent: &Lent) -> String {
+/// The shape of a list of calls in words.
+fn listed_title(name: &str, lent: &Lent) -> String {
     let bench = &lent.bench;
     let buffers = 0..BUFFERS as u64;
     let lengths: Vec<usize> = buffers.map(|buffer| bench.length(buffer)).collect();
     format!(
-        "a replay of {} words with room for {} words of replies, {} blocks, width {}, buffers of {}",
+        "{name} of {} words with room for {} words of replies, {} blocks, width {}, buffers of {}",
         lent.words.len(),
         lent.replies.len(),
         bench.blocks,

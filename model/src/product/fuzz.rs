@@ -1,5 +1,5 @@
 //! Random lists and damaged memories, on the model and on the product's library side by side: call by call, then the calls
-//! of the list as one replay, as they are and spoilt, then runs of records on what the list left. On that, too, the shape and reasons with outputs of
+//! of the list as one replay, as they are and spoilt, then calls in lists and runs of records on what the list left. On that, too, the shape and reasons with outputs of
 //! every length around the right one, and the sentences read back. First come the check of
 //! every pair of maps of eight blocks, of every A-map of eight blocks with every figure, of every sound pair of maps with every
 //! D-map, of every mark map with every short list, and lists that are always the same, which meet all that can be met; then fresh ones.
@@ -12,10 +12,10 @@ use crate::lists::output_vectors;
 use crate::lists::random::Random;
 use crate::lists::runs::{some_records, some_run};
 use crate::lists::section_lists::sections;
-use crate::lists::spoiling::{some_replay, spoilt_sentence};
+use crate::lists::spoiling::{some_batch, some_replay, spoilt_sentence};
 use crate::product::busy::{busy, chain};
 use crate::product::compare::{
-    call_by_call, differing_copy, differing_output, ran, read_back, replayed, Library,
+    batched, call_by_call, differing_copy, differing_output, ran, read_back, replayed, Library,
 };
 use crate::product::met::{sizes, Met, PAIRS_OF_MAPS, TOO_MANY_BLOCKS};
 use crate::product::shrink::shrink;
@@ -31,8 +31,13 @@ use std::time::{Duration, Instant};
 /// After the first difference the search goes on for so many seconds, for a shorter list that shows one.
 const FURTHER: Duration = Duration::from_secs(5);
 
-/// So many runs of records on what a list left.
+/// So many lists of calls on what a list left, and so many runs of records.
+const BATCHES: usize = 4;
 const RUNS: usize = 6;
+
+/// On heaps of more blocks, where the model is slow, so many calls in a list at most.
+const LARGE: usize = 1024;
+const FEW: usize = 3;
 
 /// The reasons of so many objects of what a list left, and so many spoilt texts of each.
 const REASONS: usize = 8;
@@ -282,7 +287,7 @@ fn chains() -> impl Iterator<Item = Desk> {
     })
 }
 
-/// A list call by call, its calls replayed, as they are and spoilt, and runs of records on what it left.
+/// A list call by call, its calls replayed, as they are and spoilt, and calls in lists and runs of records on what it left.
 fn try_list(library: Library, desk: &Desk, met: &mut Met) -> Option<Found> {
     let found = cut_down(&desk.entries, met, |entries, met| {
         call_by_call(library, desk.start(), entries, met)
@@ -311,11 +316,30 @@ fn try_list(library: Library, desk: &Desk, met: &mut Met) -> Option<Found> {
     if found.is_some() {
         return found;
     }
+    let found = batches(library, desk, &mut random, met);
+    if found.is_some() {
+        return found;
+    }
     (0..RUNS).find_map(|_| {
         let records = some_records(&mut random, desk.blocks(), desk.roots().max(1));
         let seed = random.word();
         cut_down(&records, met, |records, met| {
             ran(library, &some_run(seed, &desk.bench, records), met)
+        })
+    })
+}
+
+/// The calls of a list, some of them or all, made once more on what it left.
+fn batches(library: Library, desk: &Desk, random: &mut Random, met: &mut Met) -> Option<Found> {
+    let calls = calls_of(desk, &mut Random::new(random.word()));
+    (0..BATCHES).find_map(|_| {
+        let from = random.below(calls.len() + 1);
+        let many = desk.blocks() <= LARGE && random.percent(70);
+        let most = if many { usize::MAX } else { FEW };
+        let some: Vec<[u64; 4]> = calls[from..].iter().take(most).copied().collect();
+        let seed = random.word();
+        cut_down(&some, met, |calls, met| {
+            batched(library, &some_batch(seed, &desk.bench, calls), met)
         })
     })
 }

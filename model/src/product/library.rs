@@ -15,6 +15,7 @@ use huwekapo::{SoFar, Tally};
 pub const LIBRARY: Library = Library {
     apply,
     replay,
+    make_calls,
     run_records,
     reason,
     shape,
@@ -53,6 +54,18 @@ pub fn replay(
     replies: &mut [u64],
 ) -> Reply {
     reply_of(lent::replay(unique(blocks, width, memory), words, replies))
+}
+
+/// Makes a list of calls by the library, as `replay::make_calls` does by the model.
+pub fn make_calls(
+    blocks: usize,
+    width: usize,
+    memory: &mut Memory,
+    words: &[u64],
+    replies: &mut [u64],
+) -> Reply {
+    let heap = unique(blocks, width, memory);
+    reply_of(lent::make_calls(heap, words, replies))
 }
 
 /// Makes a run by the library, as `run::run_records` does by the model.

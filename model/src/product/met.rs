@@ -56,6 +56,9 @@ pub const KINDS: [usize; 6] = [1, 2, 3, 4, 5, 7];
 /// The numbers that a replay can answer, in docs/DECISIONS.md's order.
 pub const REPLAY: [usize; 5] = [0, 1, 10, 9, 18];
 
+/// The numbers that a list of calls on a heap as it stands can answer, in docs/DECISIONS.md's order.
+pub const BATCH: [usize; 8] = [0, 1, 2, 11, 13, 10, 9, 18];
+
 /// The numbers that a run of records can answer, in docs/DECISIONS.md's order with U4's and U8's; and those that can stop one.
 pub const RUN: [usize; 6] = [0, 1, 2, 11, 13, 19];
 pub const STOPS: [usize; 10] = [0, 10, 9, 3, 4, 5, 6, 7, 12, 14];
@@ -100,6 +103,12 @@ pub struct Met {
     pub replayed_calls: usize,
     /// Replies to replays by number, 0 to 18.
     pub replay_numbers: [usize; 19],
+    /// Lists of calls on a heap as it stands: replies by number, 0 to 18, damage by kind, and the calls of those that were accepted, and
+    /// of these those that found a collection open.
+    pub batch_numbers: [usize; 19],
+    pub batch_kinds: [usize; 8],
+    pub batched_calls: usize,
+    pub batched_with_one_open: usize,
     /// A-maps whose figure was checked, with each figure.
     pub maps_with_figures: usize,
     /// Pairs of maps that were checked with each D-map.
@@ -156,6 +165,19 @@ impl Met {
         self.replayed_calls += reply.value;
     }
 
+    /// Counts the reply to a list of calls on a heap as it stands, and whether a collection is open there.
+    pub fn batch(&mut self, reply: Reply, open: bool) {
+        self.batch_numbers[reply.number] += 1;
+        match reply.number {
+            0 => {
+                self.batched_calls += reply.value;
+                self.batched_with_one_open += if open { reply.value } else { 0 };
+            }
+            2 => self.batch_kinds[reply.value] += 1,
+            _ => {}
+        }
+    }
+
     /// Counts a call that is refused 11 or 13 by what is wrong with the marks.
     pub fn refused(&mut self, blocks: usize, memory: &Memory, reply: Reply) {
         if let 11 | 13 = reply.number {
@@ -204,7 +226,7 @@ impl Met {
 
     /// What can be met and was not: each number of each call, each damage kind in each call that has number 2, each
     /// call on too many blocks, each clause of 13, before 11 and behind it, each pair of maps, each map with each figure and with each D-map, each mark map with each list, each
-    /// number of a replay and of a run, and each that stops one. And a collection is open in half of the calls.
+    /// number of a replay, of a list of calls and of a run, and each that stops one. And a collection is open in half of the calls.
     pub fn unmet(&self) -> Vec<String> {
         let mut unmet = Vec::new();
         let mut expect = |count: usize, what: String| {
@@ -227,6 +249,16 @@ impl Met {
             let count = self.replay_numbers[number];
             expect(count, format!("replay, number {number}"));
         }
+        for number in BATCH {
+            let count = self.batch_numbers[number];
+            expect(count, format!("a list of calls, number {number}"));
+        }
+        for kind in KINDS {
+            let count = self.batch_kinds[kind];
+            expect(count, format!("a list of calls, damage {kind}"));
+        }
+        let open = self.batched_with_one_open;
+        expect(open, "a list of calls with one open".to_string());
         for number in RUN {
             let count = self.run_numbers[number];
             expect(count, format!("run, number {number}"));
@@ -288,6 +320,8 @@ impl Met {
              calls on {TOO_MANY_BLOCKS} blocks  {}; accepted and damaged, by size {:?}\n\
              replays {}, accepted {}, calls in those {}\n\
              refusals of replays {}\n\
+             lists of calls on a heap as it stands {}, calls in those accepted {}, with a collection open {}\n\
+             refusals of these {}\n\
              runs of records {}, refusals {}, stopped by {}; with a collection open {}, of these stopped by 5 {}\n\
              outputs for reasons and shapes {:?}, one too short, right, longer {:?}; most links {}, no root {}\n\
              texts read back {}\n\
@@ -310,6 +344,11 @@ impl Met {
             self.replay_numbers[0],
             self.replayed_calls,
             by(REPLAY.into_iter().skip(1), |number| self.replay_numbers
+                [number]),
+            self.batch_numbers.iter().sum::<usize>(),
+            self.batched_calls,
+            self.batched_with_one_open,
+            by(BATCH.into_iter().skip(1), |number| self.batch_numbers
                 [number]),
             self.run_numbers.iter().sum::<usize>(),
             by(RUN.into_iter().skip(1), |number| self.run_numbers[number]),

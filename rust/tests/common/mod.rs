@@ -82,7 +82,7 @@ pub fn show(blocks: usize, width: usize, buffers: &Buffers) -> Shared<'_> {
 
 /// The calls that format the heap, and so look at no content, and all others.
 pub const FORMATTING: [&str; 2] = ["format", "replay"];
-pub const OTHERS: [&str; 16] = [
+pub const OTHERS: [&str; 17] = [
     "check",
     "allocate",
     "store_root",
@@ -98,6 +98,7 @@ pub const OTHERS: [&str; 16] = [
     "step_collection",
     "reason",
     "shape",
+    "make_calls",
     "run_records",
 ];
 
@@ -146,6 +147,18 @@ fn writing_call(name: &str, heap: Unique) -> Reply {
         "write_number" => lent::write_number(heap, 1, 3, Ref::MAX),
         "open_collection" => lent::open_collection(heap),
         "step_collection" => lent::step_collection(heap, 1),
+        "make_calls" => {
+            // The object at block 0, and the number of free blocks.
+            let mut replies = [7; 7];
+            let reply = lent::make_calls(heap, &[6, 0, 9, 9, 7, 9, 9, 9], &mut replies);
+            let accepted = replies[0] == 0 && replies[1..3] == [1, 1] && replies[6] == 7;
+            assert!(if reply.number == 0 {
+                accepted
+            } else {
+                replies == [7; 7]
+            });
+            reply
+        }
         "run_records" => {
             let ran = lent::run_records(heap, SoFar::default(), &collect());
             assert!(ran.reply.number == 0 || ran.run == SoFar::default());
