@@ -1,2 +1,5 @@
-pub mod Blocks
+pub mod Counting
+pub mod Tallies
+pub mod Wilds
+pub mod Visited
 pub mod Eights
