@@ -1,4 +1,3 @@
-pub mod Counting
-pub mod Tallies
+pub mod Packs
 pub mod Eights
-pub mod Visited
+pub mod Late

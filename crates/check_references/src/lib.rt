@@ -117,7 +117,15 @@ fn is_wild(blocks: usize, used: u8, j: usize, v: usize) -> bool
 }
 
 // Tallies those of the 32 cells of byte k that are the bits of `these`; the others are 0.
-fn tally_among(blocks: usize, used: u8, made: u8, cells: &[Ref], k: usize, these: u32, at: &mut [u8]) -> bool
+fn tally_among(
+    blocks: usize,
+    used: u8,
+    made: u8,
+    cells: &[Ref],
+    k: usize,
+    these: u32,
+    at: &mut [u8],
+) -> bool
     requires { ⌜ (32 * (k + 1) ≤ length (now cells)) × (length (now cells) ≤ 4 * maxBlocks) × (blocks ≤ length (now at))
         × FilledCells (now cells) k these × Room (now at) ⌝ }
     ensures { λ r.
@@ -154,7 +162,14 @@ fn tally_byte(blocks: usize, used: u8, made: u8, cells: &[Ref], k: usize, at: &m
 }
 
 // Tallies what the cells name, eight blocks at a time; whether one of them is wild. Those of data name nothing (request U6).
-pub fn tally_cells(blocks: usize, a: &[u8], b: &[u8], cells: &[Ref], d: &[u8], at: &mut [u8]) -> bool
+pub fn tally_cells(
+    blocks: usize,
+    a: &[u8],
+    b: &[u8],
+    cells: &[Ref],
+    d: &[u8],
+    at: &mut [u8],
+) -> bool
     requires { ⌜ (blocks ≤ 8 * length (now a)) × (blocks ≤ 8 * length (now b)) × (length (now cells) ≡ 4 * blocks)
         × (blocks ≤ 8 * length (now d)) × (blocks ≤ maxBlocks) × (blocks ≡ 8 * (blocks / 8)) × (blocks ≤ length (now at))
         × Room (now at) ⌝ }

@@ -32,15 +32,16 @@ double n = ap (λ (x : ℕ). 2 ^ x) (add-one n) ∙ pow-suc 2 n
 raised : (test : ℕ → Bool) (from made n : ℕ) → n < 8 → test (from + n) ≡ true → MadeBelow test from made n
     → MadeBelow test from (made + 1 * 2 ^ n % 256) (n + 1)
 raised test from made n inside e h =
-    rw (shift-exact 1 n (omega arith) inside)
-    (omega (arith, h .0, double n),
+    rw (shift-exact 1 n (omega arith) inside) (
+      omega (arith, h .0, double n),
       λ t l. elim (ℕ-discrete t n) [
         | yes q ↦
             ap (λ (x : ℕ). test (from + x)) q ∙ e
             ∙ sym (ap (λ (x : ℕ). not (eqb (bitOf (made + 1 * 2 ^ n) x) 0)) q
             ∙ ap not (ne-eqb (bitOf (made + 1 * 2 ^ n) n) 0 (λ z. omega (arith, z, bit-top made 1 n (h .0) (omega arith)))))
         | no q ↦ h .1 t (omega arith) ∙ ap (λ (x : ℕ). not (eqb x 0)) (sym (bit-below made 1 n t (omega arith)))
-      ])
+      ],
+    )
 
 -- bit n left
 left : (test : ℕ → Bool) (from made n : ℕ) → test (from + n) ≡ false → MadeBelow test from made n → MadeBelow test from made (n + 1)

@@ -7,7 +7,6 @@ use Rattle.check_references.proofs.Wilds.{read-made, read-plain}
 use Rattle.check_references.proofs.read_cell.Statement.{statement}
 use Rattle.check_references.proofs.read_cell.Tie as tie
 
-
 cast-if1 : tie.Need-cast-if1
 cast-if1 c = search needs
 

@@ -14,7 +14,6 @@ use Rattle.check_references.proofs.Wilds.{wild-zero, read-made}
 use Rattle.check_references.proofs.tally_byte.Statement.{statement}
 use Rattle.check_references.proofs.tally_byte.Tie as tie
 
-
 returns : tie.Need-returns
 returns c =
     let s : tie.Start = search in

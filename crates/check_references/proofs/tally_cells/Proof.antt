@@ -117,13 +117,15 @@ loop-again c =
     let none = sym (called .tally-byte .ensures .told) ∙ c .if1 .left in (
       omega (arith, turn .loop-test .taken),
       last-before N a b d k inside made (omega arith) (byte .data-byte .ensures),
-      (omega (arith, inside),
-          none-further (wilds s) (32 * k) (32 * (k + 1)) (l .loop .inv .2 .1)
-          (λ i from to.
-          let place : i ≡ 32 * k + (i - 32 * k) = omega arith in
-          ap (wilds s) place
-          ∙ eight-wild N a b d k inside cells made (byte .data-byte .ensures) (i - 32 * k) (omega arith)
-          ∙ some-false (wildIn N (getD a k 0) made cells k) 32 none (i - 32 * k) (omega arith))),
+      (
+        omega (arith, inside),
+        none-further (wilds s) (32 * k) (32 * (k + 1)) (l .loop .inv .2 .1)
+            (λ i from to.
+            let place : i ≡ 32 * k + (i - 32 * k) = omega arith in
+            ap (wilds s) place
+            ∙ eight-wild N a b d k inside cells made (byte .data-byte .ensures) (i - 32 * k) (omega arith)
+            ∙ some-false (wildIn N (getD a k 0) made cells k) 32 none (i - 32 * k) (omega arith)),
+      ),
       byte-more (reads s) (readIn made cells k) (s .args .at .now) (l .loop .at) _ k
           (eight-read N a b d k inside cells made (byte .data-byte .ensures)) (l .loop .inv .3)
           (called .tally-byte .ensures .tallied (c .if1 .left)),
