@@ -37,14 +37,9 @@ pub fn damage_kind(
     if check_maps::has_unaligned(blocks, a, b) {
         return 3;
     }
-    if check_references::has_bad_cell(blocks, a, b, cells, d) {
-        return 4;
-    }
-    if check_references::has_bad_root(blocks, a, b, roots) {
-        return 4;
-    }
-    if check_counts::has_bad_count(blocks, width, a, b, counts, cells, roots, d) {
-        return 5;
+    let kind = check_counts::reference_kind(blocks, width, a, b, counts, cells, roots, d);
+    if kind != 0 {
+        return kind;
     }
     if check_maps::has_stray_data(blocks, a, b, d) {
         return 7;

@@ -19,10 +19,10 @@ use types::Ref;
 fn one_more(n: u8) -> u8
     ensures { λ r. ⌜ r ≡ min 255 (n + 1) ⌝ }
 {
-    if n == 255 {
-        return 255;
+    if n < 255 {
+        return n + 1;
     }
-    n + 1
+    255
 }
 
 // How many cells are looked at together: those of eight blocks.

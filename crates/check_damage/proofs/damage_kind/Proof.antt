@@ -1,19 +1,20 @@
 -- `check_damage::damage_kind` meets its contract: a kind is reported where its test passes and those before it fail.
-use mathlib.Core.Path.{_≡_, sym, _∙_}
-use mathlib.Core.Bool.{Bool, false}
-use mathlib.Core.List.{List}
+use mathlib.Core.Path.{_≡_, refl, sym, _∙_}
+use mathlib.Core.Logic.{_≢_}
+use mathlib.Core.Bool.{Bool, true, false, _||_}
+use mathlib.Core.List.{List, [], _∷_}
 use Prim.Native.Nat.{ℕ, _*_}
 use native.Mathlib.Omega.{arith}
 use lib.ListN.{length}
 use Rattle.rules.specs.Heap.{Memory, lentMemory}
 use Rattle.rules.specs.Tools.{someBelow, firstNumber}
 use Rattle.rules.specs.Damage.{endOnFree, openEnd, unaligned, badCell, badRoot, badCount, strayData, damage}
-use Rattle.check_damage.proofs.References.{cells-within, roots-within}
+use Rattle.rules.proofs.Tests.{first-no}
 use Rattle.rules.proofs.Shape.{Shaped, shape-facts}
 use Rattle.check_damage.proofs.damage_kind.Statement.{statement}
 use Rattle.check_damage.proofs.damage_kind.Tie as tie
 
--- ---- the seven tests, in the code's order; kind 4 has two. No test reads the waiting list, the sections,
+-- ---- the seven tests, in the rule's order; kind 4 has two, and the code makes them with kind 5's in one. No test reads the waiting list, the sections,
 -- the marks or the second list.
 
 module _ (waiting sections marks list : List ℕ) where
@@ -65,17 +66,19 @@ start-2 c = start-1 (c .before .before)
 abbrev start-3 : tie.After-has-unaligned → tie.Start
 start-3 c = start-2 (c .before .before)
 
-abbrev start-4 : tie.After-has-bad-cell → tie.Start
+abbrev start-4 : tie.After-reference-kind → tie.Start
 start-4 c = start-3 (c .before .before)
 
-abbrev start-5 : tie.After-has-bad-root → tie.Start
-start-5 c = start-4 (c .before .before)
-
-abbrev start-6 : tie.After-has-bad-count → tie.Start
-start-6 c = start-5 (c .before .before)
-
 abbrev start-7 : tie.After-has-stray-data → tie.Start
-start-7 c = start-6 (c .before .before)
+start-7 c = start-4 (c .before .before)
+
+-- a number found before the last test
+first-short : (x y z : Bool) → firstNumber ((4, x) ∷ (5, y) ∷ []) ≢ 0
+    → firstNumber ((4, x) ∷ (5, y) ∷ []) ≡ firstNumber ((4, x) ∷ (5, y) ∷ (7, z) ∷ [])
+unfolding firstNumber
+first-short true y z n = refl
+first-short false true z n = refl
+first-short false false z n = absurd (n refl)
 
 module _ (waiting sections marks list : List ℕ) where
   -- what each call returns
@@ -91,17 +94,12 @@ module _ (waiting sections marks list : List ℕ) where
   unfolding unaligned
   test-3 c = c .has-unaligned .ensures
 
-  test-4 : (c : tie.After-has-bad-cell) → c .has-bad-cell .result ≡ rule-4 waiting sections marks list (start-4 c)
-  unfolding badCell
-  test-4 c = c .has-bad-cell .ensures
-
-  test-5 : (c : tie.After-has-bad-root) → c .has-bad-root .result ≡ rule-5 waiting sections marks list (start-5 c)
-  unfolding badRoot
-  test-5 c = c .has-bad-root .ensures
-
-  test-6 : (c : tie.After-has-bad-count) → c .has-bad-count .result ≡ rule-6 waiting sections marks list (start-6 c)
-  unfolding badCount
-  test-6 c = c .has-bad-count .ensures
+  test-4 : (c : tie.After-reference-kind) → let s = start-4 c in
+      c .reference-kind .result
+      ≡ firstNumber
+      ((4, rule-4 waiting sections marks list s || rule-5 waiting sections marks list s) ∷ (5, rule-6 waiting sections marks list s) ∷ [])
+  unfolding badCell badRoot badCount
+  test-4 c = c .reference-kind .ensures
 
   test-7 : (c : tie.After-has-stray-data) → c .has-stray-data .result ≡ rule-7 waiting sections marks list (start-7 c)
   unfolding strayData
@@ -117,17 +115,17 @@ module _ (waiting sections marks list : List ℕ) where
   fails-3 : (c : tie.Else3) → rule-3 waiting sections marks list (start-3 (c .before)) ≡ false
   fails-3 c = sym (test-3 (c .before)) ∙ c .if3 .left
 
-  fails-4 : (c : tie.Else4) → rule-4 waiting sections marks list (start-4 (c .before)) ≡ false
-  fails-4 c = sym (test-4 (c .before)) ∙ c .if4 .left
+  fails-4 : (c : tie.Else4) → let s = start-4 (c .before) in
+      ((rule-4 waiting sections marks list s || rule-5 waiting sections marks list s) ≡ false) × (rule-6 waiting sections marks list s ≡ false)
+  fails-4 c =
+      let s = start-4 (c .before) in
+      let first =
+      first-no 4 (rule-4 waiting sections marks list s || rule-5 waiting sections marks list s) _ (λ e. omega arith)
+      (sym (test-4 (c .before)) ∙ c .if4 .left) in
+      (first .0, first-no 5 (rule-6 waiting sections marks list s) _ (λ e. omega arith) (first .1) .0)
 
-  fails-5 : (c : tie.Else5) → rule-5 waiting sections marks list (start-5 (c .before)) ≡ false
-  fails-5 c = sym (test-5 (c .before)) ∙ c .if5 .left
-
-  fails-6 : (c : tie.Else6) → rule-6 waiting sections marks list (start-6 (c .before)) ≡ false
-  fails-6 c = sym (test-6 (c .before)) ∙ c .if6 .left
-
-  fails-7 : (c : tie.Else7) → rule-7 waiting sections marks list (start-7 (c .before)) ≡ false
-  fails-7 c = sym (test-7 (c .before)) ∙ c .if7 .left
+  fails-5 : (c : tie.Else5) → rule-7 waiting sections marks list (start-7 (c .before)) ≡ false
+  fails-5 c = sym (test-7 (c .before)) ∙ c .if5 .left
 
 -- ---- the needs
 
@@ -158,8 +156,21 @@ returns-3 c = λ w x m l.
     let c1 = c2 .before .before in
     rw (fails-1 w x m l c1, fails-2 w x m l c2, sym (test-3 w x m l (c .before)) ∙ c .if3 .taken, damage, firstNumber)
 
-has-bad-cell-requires : tie.Need-has-bad-cell-requires
-has-bad-cell-requires c κs = let len = right (start-3 (c .before)) in omega arith
+reference-kind-requires : tie.Need-reference-kind-requires
+reference-kind-requires c κs =
+    let len = right (start-3 (c .before)) in
+    record {
+      blocks-max = len .blocks-max;
+      whole-bytes = sym (len .whole-bytes);
+      a-covers = omega arith;
+      b-covers = omega arith;
+      d-covers = omega arith;
+      length-cells = len .length-cells;
+      width-min = len .width-min;
+      width-max = len .width-max;
+      length-counts = len .length-counts;
+      roots-max = len .roots-max;
+    }
 
 returns-4 : tie.Need-returns-4
 unfolding damage firstNumber
@@ -167,10 +178,14 @@ returns-4 c = λ w x m l.
     let c3 = c .before .before in
     let c2 = c3 .before .before in
     let c1 = c2 .before .before in
-    rw (fails-1 w x m l c1, fails-2 w x m l c2, fails-3 w x m l c3, sym (test-4 w x m l (c .before)) ∙ c .if4 .taken, damage, firstNumber)
+    let s = start-4 (c .before) in
+    rw (fails-1 w x m l c1, fails-2 w x m l c2, fails-3 w x m l c3, damage)
+    (test-4 w x m l (c .before)
+    ∙ first-short (rule-4 w x m l s || rule-5 w x m l s) (rule-6 w x m l s) (rule-7 w x m l s)
+    (λ e. c .if4 .taken (test-4 w x m l (c .before) ∙ e)))
 
-has-bad-root-requires : tie.Need-has-bad-root-requires
-has-bad-root-requires c κs = let len = right (start-4 (c .before)) in omega arith
+has-stray-data-requires : tie.Need-has-stray-data-requires
+has-stray-data-requires c κs = let len = right (start-4 (c .before)) in omega arith
 
 returns-5 : tie.Need-returns-5
 unfolding damage firstNumber
@@ -179,70 +194,21 @@ returns-5 c = λ w x m l.
     let c3 = c4 .before .before in
     let c2 = c3 .before .before in
     let c1 = c2 .before .before in
-    rw (fails-1 w x m l c1, fails-2 w x m l c2, fails-3 w x m l c3, fails-4 w x m l c4, sym (test-5 w x m l (c .before)) ∙ c .if5 .taken, damage, firstNumber)
-
-has-bad-count-requires : tie.Need-has-bad-count-requires
-has-bad-count-requires c κs =
-    let s = start-5 (c .before) in
-    let len = right s in
-    let cells = cells-within (s .args .blocks) (found s) (omega arith) (fails-4 (s .pre .0) (s .pre .1) (s .pre .2) (s .pre .3) (c .before .before)) in
-    record {
-      maps = record {
-        blocks-max = len .blocks-max;
-        a-covers = omega arith;
-        b-covers = omega arith;
-        d-covers = omega arith;
-        length-cells = len .length-cells;
-        cells-within = cells;
-        whole-bytes = sym (len .whole-bytes);
-      };
-      width-min = len .width-min;
-      width-max = len .width-max;
-      length-counts = len .length-counts;
-      roots-max = len .roots-max;
-      roots-within = roots-within (s .args .blocks) (found s) (fails-5 (s .pre .0) (s .pre .1) (s .pre .2) (s .pre .3) c);
-    }
-
-returns-6 : tie.Need-returns-6
-unfolding damage firstNumber
-returns-6 c = λ w x m l.
-    let c5 = c .before .before in
-    let c4 = c5 .before .before in
-    let c3 = c4 .before .before in
-    let c2 = c3 .before .before in
-    let c1 = c2 .before .before in
-    rw (fails-1 w x m l c1, fails-2 w x m l c2, fails-3 w x m l c3, fails-4 w x m l c4, fails-5 w x m l c5, sym (test-6 w x m l (c .before)) ∙ c .if6 .taken, damage, firstNumber)
-
-has-stray-data-requires : tie.Need-has-stray-data-requires
-has-stray-data-requires c κs = let len = right (start-6 (c .before)) in omega arith
-
-returns-7 : tie.Need-returns-7
-unfolding damage firstNumber
-returns-7 c = λ w x m l.
-    let c6 = c .before .before in
-    let c5 = c6 .before .before in
-    let c4 = c5 .before .before in
-    let c3 = c4 .before .before in
-    let c2 = c3 .before .before in
-    let c1 = c2 .before .before in
     rw (
       fails-1 w x m l c1,
       fails-2 w x m l c2,
       fails-3 w x m l c3,
-      fails-4 w x m l c4,
-      fails-5 w x m l c5,
-      fails-6 w x m l c6,
-      sym (test-7 w x m l (c .before)) ∙ c .if7 .taken,
+      fails-4 w x m l c4 .0,
+      fails-4 w x m l c4 .1,
+      sym (test-7 w x m l (c .before)) ∙ c .if5 .taken,
       damage,
       firstNumber,
     )
 
-returns-8 : tie.Need-returns-8
+returns-6 : tie.Need-returns-6
 unfolding damage firstNumber
-returns-8 c = λ w x m l.
-    let c6 = c .before .before in
-    let c5 = c6 .before .before in
-    let c4 = c5 .before .before in
+returns-6 c = λ w x m l.
+    let c4 = c .before .before in
     let c3 = c4 .before .before in
     let c2 = c3 .before .before in
     let c1 = c2 .before .before in
@@ -250,10 +216,9 @@ returns-8 c = λ w x m l.
       fails-1 w x m l c1,
       fails-2 w x m l c2,
       fails-3 w x m l c3,
-      fails-4 w x m l c4,
-      fails-5 w x m l c5,
-      fails-6 w x m l c6,
-      fails-7 w x m l c,
+      fails-4 w x m l c4 .0,
+      fails-4 w x m l c4 .1,
+      fails-5 w x m l c,
       damage,
       firstNumber,
     )
@@ -268,12 +233,8 @@ damage-kind-spec =
     returns-2
     has-unaligned-requires
     returns-3
-    has-bad-cell-requires
+    reference-kind-requires
     returns-4
-    has-bad-root-requires
-    returns-5
-    has-bad-count-requires
-    returns-6
     has-stray-data-requires
-    returns-7
-    returns-8)
+    returns-5
+    returns-6)
