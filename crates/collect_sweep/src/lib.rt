@@ -1,12 +1,14 @@
 // Objects of count 0 are freed, with no count-downs. The figures of sections in which blocks become free are left unknown.
 ghost use mathlib.Core.Path.{_≡_};
+ghost use mathlib.Core.Bool.{true, not};
 ghost use mathlib.Core.List.{[]};
-ghost use Prim.Native.Nat.{_*_, _<_, _≤_};
+ghost use Prim.Native.Nat.{ℕ, _+_, _*_, _/_, _<_, _≤_};
+ghost use lib.Dec.{eqb};
 ghost use lib.ListN.{length};
-ghost use Rattle.bitmap.specs.Bit.{setBit};
+ghost use Rattle.bitmap.specs.Bit.{bitOf, setBit};
 ghost use Rattle.section_figures.specs.Figures.{Coherent};
 ghost use Rattle.count_up.specs.Ready.{Planes, Extents, partMemory};
-ghost use Rattle.collect_sweep.specs.Sweep.{sweepOne, sweepOneBlocks, sweep, sweepBlocks};
+ghost use Rattle.collect_sweep.specs.Sweep.{isUnmarked, NextUnmarked, sweepOne, sweepOneBlocks, sweep, sweepBlocks};
 use types::Ref;
 
 // The D bit of block i becomes 0. Where its byte is 0, as in a heap with no data, nothing is written.
@@ -19,7 +21,37 @@ fn clear_kind(d: &mut [u8], i: usize)
     }
 }
 
-// Frees the object that starts at block i, if one does and its count is 0: so the count is not written. The number of blocks freed.
+// The blocks among the eight of byte k at which an object of count 0 starts, as the bits of a byte.
+fn unmarked_byte(blocks: usize, width: usize, a: &[u8], b: &[u8], counts: &[u8], k: usize) -> u8
+    requires { ⌜ Planes blocks width (now counts) × (length (now a) ≡ blocks / 8) × (length (now b) ≡ blocks / 8) × (k < blocks / 8) ⌝ }
+    ensures { λ r.
+        ⌜ ((s : ℕ) → s < 8
+        → isUnmarked blocks width (partMemory (now (a .entry)) (now (b .entry)) (now (counts .entry)) [] [] []) (8 * k + s)
+        ≡ not (eqb (bitOf r s) 0)) ⌝ }
+{
+    let first = map_objects::objects::first_byte(a, b, k);
+    first & !planes::some_byte(counts, blocks / 8, width, k)
+}
+
+// The lowest block from block i on at which an object of count 0 starts, or the number of blocks where none does. Most bytes have no such
+// block, and are passed over at once.
+fn next_unmarked(blocks: usize, width: usize, a: &[u8], b: &[u8], counts: &[u8], i: usize) -> usize
+    requires { ⌜ Planes blocks width (now counts) × (length (now a) ≡ blocks / 8) × (length (now b) ≡ blocks / 8) × (i ≤ blocks) ⌝ }
+    ensures { λ r.
+        ⌜ NextUnmarked blocks width (partMemory (now (a .entry)) (now (b .entry)) (now (counts .entry)) [] [] []) i r ⌝ }
+{
+    let mut at = i;
+    while at < blocks {
+        let rest = unmarked_byte(blocks, width, a, b, counts, at / 8) >> (at % 8);
+        if rest != 0 {
+            return at + u8::trailing_zeros(rest) as usize;
+        }
+        at += 8 - at % 8;
+    }
+    blocks
+}
+
+// Frees the object of count 0 that starts at block i: so the count is not written. The number of blocks freed.
 fn sweep_one(
     blocks: usize,
     width: usize,
@@ -32,7 +64,8 @@ fn sweep_one(
     i: usize,
 ) -> usize
     requires { ⌜ Planes blocks width (now counts) × Extents blocks (now a) (now b) (now cells) (now d)
-        × (i < blocks) × Coherent blocks (now a) (now sections) ⌝ }
+        × (i < blocks) × Coherent blocks (now a) (now sections)
+        × (isUnmarked blocks width (partMemory (now a) (now b) (now counts) [] [] []) i ≡ true) ⌝ }
     ensures { λ r.
         ⌜ (partMemory (now (a .exit)) (now (b .exit)) (now (counts .entry)) (now (cells .exit)) [] (now (d .exit))
         ≡ sweepOne blocks width
@@ -43,12 +76,6 @@ fn sweep_one(
         × (r ≤ blocks)
         × Coherent blocks (now (a .exit)) (now (sections .exit)) ⌝ }
 {
-    if !map_objects::objects::is_first(blocks, a, b, i) {
-        return 0;
-    }
-    if planes::get_count(counts, blocks / 8, width, i) != 0 {
-        return 0;
-    }
     let n = map_objects::objects::object_size(blocks, b, i);
     section_extents::clear_extent(blocks, a, b, sections, i, n);
     map_extents::clear_cells(cells, 4 * i, 4 * n);
@@ -79,10 +106,10 @@ pub fn sweep(
         × Coherent blocks (now (a .exit)) (now (sections .exit)) ⌝ }
 {
     let mut freed: usize = 0;
-    let mut i = 0;
+    let mut i = next_unmarked(blocks, width, a, b, counts, 0);
     while i < blocks {
         freed += sweep_one(blocks, width, a, b, counts, cells, sections, d, i);
-        i += 1;
+        i = next_unmarked(blocks, width, a, b, counts, i + 1);
     }
     freed
 }
