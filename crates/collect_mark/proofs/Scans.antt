@@ -7,9 +7,11 @@ use lib.ListN.{length, getD, set, replicate}
 use Rattle.rules.specs.Heap.{Memory, withB, withCells, withRoots, withD, sizeAt}
 use Rattle.rules.specs.Store.{Work, work, namingCells}
 use Rattle.count_up.specs.Stack.{topFirst, uncounted, remaining, Stack, Worked}
-use Rattle.count_up.proofs.Stack.{top-first-kept, top-first-pop}
-use Rattle.collect_visit.specs.Visit.{visitEach}
-use Rattle.collect_mark.specs.Mark.{scan, markCounts}
+use Rattle.count_up.proofs.Stack.{top-first-kept, top-first-pop, stack-pop, stack-empty}
+use Rattle.count_up.proofs.Shapes.{planes-same}
+use Rattle.collect_counts.proofs.Counts.{maps-length, counting-none}
+use Rattle.collect_visit.specs.Visit.{visitEach, Counted}
+use Rattle.collect_mark.specs.Mark.{scan, markCounts, Markable}
 
 -- a scan with an empty stack is at its end
 scan-empty : (steps N w : ℕ) (h : Memory) (counts : List ℕ) → scan steps N w h counts [] ≡ counts
@@ -24,6 +26,11 @@ unfolding scan
 scan-next steps N w h counts i rest some =
     let one-more : steps ≡ suc (steps - 1) = omega arith in
     ap (λ (f : ℕ). scan f N w h counts (i ∷ rest)) one-more
+
+-- the object on top of the stack taken off
+pub counted-pop : {N w : ℕ} {at waiting : List ℕ} {top : ℕ} → 0 < top → Counted N w at waiting top
+    → Counted N w at (set waiting (top - 1) 0) (top - 1)
+counted-pop some c = record { planes = c .planes; counting = c .counting; stack = stack-pop some (c .stack) }
 
 -- Counts and stack lead to the result, in `steps` steps, which are enough.
 pub record Leading (N w : ℕ) (h : Memory) (result counts waiting : List ℕ) (top : ℕ) : Type 0 where
@@ -87,3 +94,18 @@ mark-parts N w h e visited =
     scan-reads N N w (withRoots [] h) h _ _
     ∙ ap (λ (s : Work). scan N N w h (s .counts) (s .stack))
     (visited ∙ ap (λ (c : List ℕ). visitEach N w (work c []) (h .roots) 0 (length (h .roots))) e)
+
+-- ---- the start, with every count 0
+
+pub zero-places : (n i : ℕ) → _≡_ {A = ℕ} (getD (replicate n 0) i 0) 0
+zero-places zero i = refl
+zero-places (suc n) zero = refl
+zero-places (suc n) (suc i) = zero-places n i
+
+pub counted-none : {N w : ℕ} {b counts cells waiting d : List ℕ} (at : List ℕ) → Markable N w b counts cells waiting d → N ≤ length at
+    → ((i : ℕ) → getD at i 0 ≡ 0) → Counted N w at waiting 0
+counted-none {N} {w} at m long none = record {
+  planes = planes-same (m .planes) (maps-length N w at ∙ sym (m .planes .length-is));
+  counting = counting-none N w at long none;
+  stack = stack-empty (m .idle);
+}

@@ -15,10 +15,12 @@ use Rattle.rules.specs.Store.{Work, work, countUp}
 use Rattle.count_up.specs.Ready.{Planes}
 use Rattle.count_up.specs.Stack.{topFirst, uncounted, remaining, Stack, Worked}
 use Rattle.count_up.proofs.Worked.{unchanged, kept, push-room, pushed, worked-next}
-use Rattle.collect_visit.specs.Visit.{visit, visitEach}
+use Rattle.collect_counts.specs.Counts.{countMaps}
+use Rattle.collect_counts.proofs.Counts.{maps-count, maps-set, counting-set}
+use Rattle.collect_visit.specs.Visit.{visit, visitEach, Counted, VisitedTo}
 
 -- what a visit of v has to leave
-abbrev Visited : (N w : ℕ) → (counts waiting : List ℕ) → (top v : ℕ) → (counts′ waiting′ : List ℕ) → (top′ : ℕ) → Type 0
+abbrev pub Visited : (N w : ℕ) → (counts waiting : List ℕ) → (top v : ℕ) → (counts′ waiting′ : List ℕ) → (top′ : ℕ) → Type 0
 Visited N w counts waiting top v counts′ waiting′ top′ =
     Worked uncounted N w (visit N w (work counts (topFirst waiting top)) v) (remaining uncounted N w counts top) counts′ waiting′ top′
 
@@ -88,3 +90,62 @@ unfolding visitEach
 marking-more {N} {w} s refs j n =
     worked-next (λ x. visit N w x (getD refs (j + n) 0))
     (sym (ap (λ (k : ℕ). visitEach N w s refs j k) (add-one n)))
+
+-- ---- with the counts in a list
+
+-- what visits lead to can be visited on
+pub visited-counted : {N w left top : ℕ} {s : Work} {at waiting : List ℕ} → VisitedTo N w s left at waiting top → Counted N w at waiting top
+visited-counted v = record { planes = v .worked .planes; counting = v .counting; stack = v .worked .stack }
+
+-- what a visit of v has to leave
+abbrev To : (N w : ℕ) → (at waiting : List ℕ) → (top v : ℕ) → (at′ waiting′ : List ℕ) → (top′ : ℕ) → Type 0
+To N w at waiting top v at′ waiting′ top′ =
+    VisitedTo N w (visit N w (work (countMaps N w at) (topFirst waiting top)) v) (remaining uncounted N w (countMaps N w at) top) at′ waiting′ top′
+
+module _ {N w : ℕ} {at waiting : List ℕ} {top v : ℕ} (c : Counted N w at waiting top) where
+  pub to-none : v ≡ 0 → To N w at waiting top v at waiting top
+  to-none e = record { worked = visit-none (c .planes) (c .stack) e; counting = c .counting }
+
+  pub to-past : v ≢ 0 → N < v → To N w at waiting top v at waiting top
+  to-past named past = record { worked = visit-past (c .planes) (c .stack) named past; counting = c .counting }
+
+  module _ (within : v ≤ N) (named : v ≢ 0) {count : ℕ} (reads : count ≡ getD at (v - 1) 0) where
+    counted : count ≡ countAt (N / 8) w (countMaps N w at) (v - 1)
+    counted = reads ∙ maps-count (c .planes .eighths) (c .counting) (v - 1) (omega arith)
+
+    pub to-room : count ≡ 0 → top < N
+    to-room z = room-to-push (c .planes) (c .stack) within named counted z
+
+    pub to-first : count ≡ 0 → To N w at waiting top v (set at (v - 1) 1) (set waiting top (v - 1)) (top + 1)
+    to-first z =
+        let fits : 1 < 2 ^ w = omega (arith, pow-mono {i = 1} {j = w} (c .planes .some)) in
+        record {
+          worked = visit-first (c .planes) (c .stack) within named counted z (maps-set (c .planes .eighths) (c .counting) (v - 1) 1 (omega arith) fits);
+          counting = counting-set (c .planes .eighths) (c .counting) (v - 1) 1 (omega arith) fits;
+        }
+
+    pub to-again : count ≢ 0 → {most : ℕ} → most ≡ capacity w → count < most → To N w at waiting top v (set at (v - 1) (count + 1)) waiting top
+    to-again n most-is below =
+        let fits : count + 1 < 2 ^ w = omega arith in
+        record {
+          worked =
+              visit-again (c .planes) (c .stack) within named counted n most-is below
+              (maps-set (c .planes .eighths) (c .counting) (v - 1) (count + 1) (omega arith) fits);
+          counting = counting-set (c .planes .eighths) (c .counting) (v - 1) (count + 1) (omega arith) fits;
+        }
+
+    pub to-stuck : count ≢ 0 → {most : ℕ} → most ≡ capacity w → most ≤ count → To N w at waiting top v at waiting top
+    to-stuck n most-is full = record {
+      worked = visit-stuck (c .planes) (c .stack) within named counted n most-is full (omega (arith, c .counting .fits (v - 1)));
+      counting = c .counting;
+    }
+
+-- one visit more
+pub visited-more : {N w left top top′ : ℕ} {at waiting at′ waiting′ : List ℕ} (s : Work) (refs : List ℕ) (j n : ℕ)
+    → VisitedTo N w (visitEach N w s refs j n) left at waiting top
+    → To N w at waiting top (getD refs (j + n) 0) at′ waiting′ top′
+    → VisitedTo N w (visitEach N w s refs j (n + 1)) left at′ waiting′ top′
+visited-more s refs j n before next = record {
+  worked = marking-more s refs j n (before .worked) (next .worked);
+  counting = next .counting;
+}

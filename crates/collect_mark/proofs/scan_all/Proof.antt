@@ -1,31 +1,35 @@
 -- `collect_mark::scan_all` meets its contract: after each turn what counts and stack lead to is what they led to at first. The measure
 -- is the number of blocks that can still be scanned.
-use mathlib.Core.Path.{_≡_}
+use mathlib.Core.Path.{_≡_, refl}
 use mathlib.Core.List.{[]}
 use Prim.Native.Nat.{_-_}
 use native.Mathlib.Omega.{arith}
+use lib.ListN.{length}
 use Rattle.rules.specs.Heap.{lentMemory}
-use Rattle.count_up.specs.Ready.{Planes}
-use Rattle.count_up.specs.Stack.{topFirst, uncounted, remaining, Stack}
-use Rattle.count_up.proofs.Stack.{stack-pop, stack-emptied}
+use Rattle.count_up.specs.Stack.{topFirst, uncounted, remaining}
+use Rattle.count_up.proofs.Stack.{stack-emptied}
+use Rattle.collect_counts.specs.Counts.{countMaps}
+use Rattle.collect_visit.specs.Visit.{Counted}
+use Rattle.collect_visit.proofs.Visits.{visited-counted}
 use Rattle.collect_mark.specs.Mark.{scan}
-use Rattle.collect_mark.proofs.Scans.{Leading, leading-start, leading-next, leading-done}
+use Rattle.collect_mark.proofs.Scans.{counted-pop, Leading, leading-start, leading-next, leading-done}
 use Rattle.collect_mark.proofs.scan_all.Statement.{statement}
 use Rattle.collect_mark.proofs.scan_all.Tie as tie
 
 abbrev Inv-loop : tie.InvT-loop
-Inv-loop blocks width b counts₀ cells waiting₀ d top t₀ counts waiting t =
-    Planes blocks width counts × Stack uncounted blocks width counts waiting t
+Inv-loop blocks width b at₀ cells waiting₀ d top t₀ at waiting t =
+    (length at ≡ length at₀) × Counted blocks width at waiting t
     × Leading blocks width (lentMemory [] b [] cells [] [] [] d [] [])
-    (scan blocks blocks width (lentMemory [] b [] cells [] [] [] d [] []) counts₀ (topFirst waiting₀ top)) counts waiting t
+    (scan blocks blocks width (lentMemory [] b [] cells [] [] [] d [] []) (countMaps blocks width at₀) (topFirst waiting₀ top))
+    (countMaps blocks width at) waiting t
 
 abbrev μ-loop : tie.MeasureT-loop
-μ-loop blocks width b counts₀ cells waiting₀ d top t₀ counts waiting t = remaining uncounted blocks width counts t
+μ-loop blocks width b at₀ cells waiting₀ d top t₀ at waiting t = remaining uncounted blocks width (countMaps blocks width at) t
 
 loop-holds : tie.Need-loop-holds Inv-loop μ-loop
 loop-holds c =
     let s = c .before .before .before .before .before in
-    (s .pre .0, s .pre .1, leading-start (s .pre .1))
+    (refl, s .pre .0, leading-start (s .pre .0 .stack))
 
 sub-t : tie.Need-sub-t Inv-loop μ-loop
 sub-t c = omega arith
@@ -48,7 +52,7 @@ slice-write-waiting c = omega arith
 object-size-requires : tie.Need-object-size-requires Inv-loop μ-loop
 object-size-requires c κs =
     let l = c .before .before in
-    (omega arith, l .loop .inv .1 .blocks (l .loop .t - 1) (omega arith))
+    (omega arith, l .loop .inv .1 .stack .blocks (l .loop .t - 1) (omega arith))
 
 naming-cells-requires : tie.Need-naming-cells-requires Inv-loop μ-loop
 naming-cells-requires c κs = omega arith
@@ -59,11 +63,11 @@ mul-visit-each c = omega arith
 visit-each-requires : tie.Need-visit-each-requires Inv-loop μ-loop
 visit-each-requires c κs =
     let l = c .before .before .before .before .before .before in
-    (l .loop .inv .0, stack-pop (omega arith) (l .loop .inv .1), omega arith)
+    (counted-pop (omega arith) (l .loop .inv .1), omega arith)
 
 loop-less : tie.Need-loop-less Inv-loop μ-loop
 loop-less c =
-    omega (arith, c .before .before .before .before .visit-each .ensures .left-is)
+    omega (arith, c .before .before .before .before .visit-each .ensures .worked .left-is)
 
 loop-again : tie.Need-loop-again Inv-loop μ-loop
 loop-again c =
@@ -71,7 +75,7 @@ loop-again c =
     let l = r .before .before .before .before .before .before .before in
     let m = r .visit-each .ensures in
     let named = r .before .before .before in
-    (m .planes, m .stack, leading-next (l .loop .inv .2) (omega arith) (named .before .object-size .ensures .0) (named .naming-cells .ensures .0) m)
+    (omega arith, visited-counted m, leading-next (l .loop .inv .2) (omega arith) (named .before .object-size .ensures .0) (named .naming-cells .ensures .0) (m .worked))
 
 same-length : tie.Need-same-length Inv-loop μ-loop
 same-length c = omega arith
@@ -83,7 +87,7 @@ returns : tie.Need-returns Inv-loop μ-loop
 returns c =
     let l = c .before in
     let empty : l .loop .t ≡ 0 = omega arith in
-    (leading-done (l .loop .inv .2) empty, stack-emptied (rw empty at (l .loop .inv .1)))
+    (leading-done (l .loop .inv .2) empty, stack-emptied (rw empty at (l .loop .inv .1 .stack)), l .loop .inv .1 .counting)
 
 pub scan-all-spec : {M : Type 1} → statement M
 scan-all-spec =

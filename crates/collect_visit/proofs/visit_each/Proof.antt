@@ -3,21 +3,24 @@
 use mathlib.Core.Path.{_≡_, refl}
 use Prim.Native.Nat.{_≤_, _-_}
 use native.Mathlib.Omega.{arith}
+use lib.ListN.{length}
 use Rattle.rules.specs.Store.{work}
-use Rattle.count_up.specs.Stack.{topFirst, uncounted, remaining, Worked}
-use Rattle.collect_visit.specs.Visit.{visitEach}
-use Rattle.collect_visit.proofs.Visits.{marking-more}
+use Rattle.count_up.specs.Stack.{topFirst, uncounted, remaining}
+use Rattle.count_up.proofs.Worked.{unchanged}
+use Rattle.collect_counts.specs.Counts.{countMaps}
+use Rattle.collect_visit.specs.Visit.{visitEach, VisitedTo}
+use Rattle.collect_visit.proofs.Visits.{visited-counted, visited-more}
 use Rattle.collect_visit.proofs.visit_each.Statement.{statement}
 use Rattle.collect_visit.proofs.visit_each.Tie as tie
 
 abbrev Inv-loop : tie.InvT-loop
-Inv-loop blocks width counts₀ refs waiting₀ j n top t₀ i₀ counts waiting t i =
-    (i ≤ n)
-    × Worked uncounted blocks width (visitEach blocks width (work counts₀ (topFirst waiting₀ top)) refs j i) (remaining uncounted blocks width counts₀ top)
-    counts waiting t
+Inv-loop blocks width at₀ refs waiting₀ j n top t₀ i₀ at waiting t i =
+    (i ≤ n) × (length at ≡ length at₀)
+    × VisitedTo blocks width (visitEach blocks width (work (countMaps blocks width at₀) (topFirst waiting₀ top)) refs j i)
+    (remaining uncounted blocks width (countMaps blocks width at₀) top) at waiting t
 
 abbrev μ-loop : tie.MeasureT-loop
-μ-loop blocks width counts₀ refs waiting₀ j n top t₀ i₀ counts waiting t i = n - i
+μ-loop blocks width at₀ refs waiting₀ j n top t₀ i₀ at waiting t i = n - i
 
 -- the places: the entry, and a turn's beginning
 abbrev start : tie.After-slice-known2 Inv-loop μ-loop → tie.Start Inv-loop μ-loop
@@ -30,7 +33,7 @@ loop-holds : tie.Need-loop-holds Inv-loop μ-loop
 unfolding visitEach
 loop-holds c =
     let pre = start c .pre in
-    (omega arith, record { result = refl; planes = pre .0; stack = pre .1; left-is = refl })
+    (omega arith, refl, record { worked = unchanged (pre .0 .planes) (pre .0 .stack) refl; counting = pre .0 .counting })
 
 add-visit-one : tie.Need-add-visit-one Inv-loop μ-loop
 add-visit-one c = omega arith
@@ -43,8 +46,7 @@ shared-slice-read-visit-one c = omega arith
 
 visit-one-requires : tie.Need-visit-one-requires Inv-loop μ-loop
 visit-one-requires c κs =
-    let worked = turn c .loop .inv .1 in
-    (worked .planes, worked .stack)
+    visited-counted (turn c .loop .inv .2)
 
 add-i : tie.Need-add-i Inv-loop μ-loop
 add-i c = omega arith
@@ -56,7 +58,7 @@ loop-again : tie.Need-loop-again Inv-loop μ-loop
 loop-again c =
     let r = c .before .before .before .before in
     let l = turn (r .before) in
-    (omega arith, marking-more _ _ _ _ (l .loop .inv .1) (r .visit-one .ensures))
+    (omega arith, omega arith, visited-more _ _ _ _ (l .loop .inv .2) (r .visit-one .ensures))
 
 same-length : tie.Need-same-length Inv-loop μ-loop
 same-length c = omega arith
@@ -67,7 +69,7 @@ same-length-2 c = omega arith
 returns : tie.Need-returns Inv-loop μ-loop
 returns c =
     let done : c .before .loop .i ≡ start (c .before .before) .args .n = omega arith in
-    rw (← done) (c .before .loop .inv .1)
+    rw (← done) (c .before .loop .inv .2)
 
 pub visit-each-spec : {M : Type 1} → statement M
 visit-each-spec =
