@@ -1,10 +1,11 @@
 -- Laws of `scan`: what is left of one as its loop goes on, and which buffers it reads.
 use mathlib.Core.Path.{_≡_, refl, sym, ap, ap₂, _∙_}
+use mathlib.Core.Bool.{Bool, true, false}
 use mathlib.Core.List.{List, [], _∷_}
 use Prim.Native.Nat.{ℕ, zero, suc, _-_, _*_, _/_, _≤_, _<_}
 use native.Mathlib.Omega.{arith}
 use lib.ListN.{length, getD, set, replicate}
-use Rattle.rules.specs.Heap.{Memory, withB, withCells, withRoots, withD, sizeAt}
+use Rattle.rules.specs.Heap.{Memory, withB, withCells, withRoots, withD, sizeAt, isData}
 use Rattle.rules.specs.Store.{Work, work, namingCells}
 use Rattle.count_up.specs.Stack.{topFirst, uncounted, remaining, Stack, Worked}
 use Rattle.count_up.proofs.Stack.{top-first-kept, top-first-pop, stack-pop, stack-empty}
@@ -26,6 +27,15 @@ unfolding scan
 scan-next steps N w h counts i rest some =
     let one-more : steps ≡ suc (steps - 1) = omega arith in
     ap (λ (f : ℕ). scan f N w h counts (i ∷ rest)) one-more
+
+-- the cells that name others are those of whole blocks
+pub naming-whole : (d : List ℕ) (i n : ℕ) → 4 * (namingCells d i n / 4) ≡ namingCells d i n
+unfolding namingCells
+naming-whole d i n = whole (isData d i)
+  where
+    whole : (t : Bool) → 4 * ((elim t [ true ↦ 0 | false ↦ 4 * n ]) / 4) ≡ elim t [ true ↦ 0 | false ↦ 4 * n ]
+    whole true = refl
+    whole false = omega arith
 
 -- the object on top of the stack taken off
 pub counted-pop : {N w : ℕ} {at waiting : List ℕ} {top : ℕ} → 0 < top → Counted N w at waiting top

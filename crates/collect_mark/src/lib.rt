@@ -47,7 +47,7 @@ fn scan_all(
         waiting[t] = 0;
         let n = map_objects::objects::object_size(blocks, b, i);
         let named = map_objects::objects::naming_cells(d, i, n);
-        t = collect_visit::visit_each(blocks, width, at, cells, waiting, 4 * i, named, t);
+        t = collect_visit::visit_blocks(blocks, width, at, cells, waiting, i, named / 4, t);
     }
 }
 

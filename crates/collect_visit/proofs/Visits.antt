@@ -1,9 +1,9 @@
 -- What `visit` gives on each way through the code, and a run of visits.
-use mathlib.Core.Path.{_≡_, refl, sym, ap, _∙_}
+use mathlib.Core.Path.{_≡_, refl, sym, ap, ap₂, _∙_}
 use mathlib.Core.Logic.{_≢_}
 use mathlib.Core.Bool.{true}
 use mathlib.Core.List.{List, _∷_}
-use Prim.Native.Nat.{ℕ, _+_, _-_, _/_, _^_, _≤_, _<_}
+use Prim.Native.Nat.{ℕ, zero, suc, _+_, _-_, _*_, _/_, _^_, _≤_, _<_}
 use native.Mathlib.Numerals.{add-one}
 use native.Mathlib.Omega.{arith}
 use lib.ListN.{getD, set}
@@ -149,3 +149,51 @@ visited-more s refs j n before next = record {
   worked = marking-more s refs j n (before .worked) (next .worked);
   counting = next .counting;
 }
+
+-- ---- a block at a time
+
+-- references that are all 0 change nothing
+pub visits-none : (N w : ℕ) (s : Work) (refs : List ℕ) (j n : ℕ) → ((c : ℕ) → c < n → getD refs (j + c) 0 ≡ 0) → visitEach N w s refs j n ≡ s
+unfolding visitEach visit
+visits-none N w s refs j zero none = refl
+visits-none N w s refs j (suc n) none =
+    ap (visit N w (visitEach N w s refs j n)) (none n (omega arith)) ∙ visits-none N w s refs j n (λ c l. none c (omega arith))
+
+pub to-nothing : {N w top : ℕ} {at waiting : List ℕ} (refs : List ℕ) (j n : ℕ) → Counted N w at waiting top
+    → ((c : ℕ) → c < n → getD refs (j + c) 0 ≡ 0)
+    → VisitedTo N w (visitEach N w (work (countMaps N w at) (topFirst waiting top)) refs j n) (remaining uncounted N w (countMaps N w at) top) at waiting top
+to-nothing {N} {w} refs j n c none = record {
+  worked = unchanged (c .planes) (c .stack) (sym (visits-none N w _ refs j n none));
+  counting = c .counting;
+}
+
+-- those from place j + m on come after the first m
+visits-append : (N w : ℕ) (s : Work) (refs : List ℕ) (j m n : ℕ)
+    → visitEach N w (visitEach N w s refs j m) refs (j + m) n ≡ visitEach N w s refs j (m + n)
+unfolding visitEach
+visits-append N w s refs j m zero =
+    let none : m ≡ m + 0 = omega arith in
+    ap (visitEach N w s refs j) none
+visits-append N w s refs j m (suc n) =
+    let place : j + m + n ≡ j + (m + n) = omega arith in
+    let more : suc (m + n) ≡ m + suc n = omega arith in
+    ap₂ (λ (x : Work) (v : ℕ). visit N w x v) (visits-append N w s refs j m n) (ap (λ (k : ℕ). getD refs k 0) place)
+    ∙ ap (visitEach N w s refs j) more
+
+-- one block more
+pub visited-block : {N w left top top′ : ℕ} {at waiting at′ waiting′ : List ℕ} (s : Work) (refs : List ℕ) (i k : ℕ)
+    → VisitedTo N w (visitEach N w s refs (4 * i) (4 * k)) left at waiting top
+    → VisitedTo N w (visitEach N w (work (countMaps N w at) (topFirst waiting top)) refs (4 * (i + k)) 4)
+    (remaining uncounted N w (countMaps N w at) top) at′ waiting′ top′
+    → VisitedTo N w (visitEach N w s refs (4 * i) (4 * (k + 1))) left at′ waiting′ top′
+visited-block {N} {w} s refs i k before next =
+    let place : 4 * (i + k) ≡ 4 * i + 4 * k = omega arith in
+    let more : 4 * k + 4 ≡ 4 * (k + 1) = omega arith in
+    record {
+      worked =
+          worked-next (λ x. visitEach N w x refs (4 * (i + k)) 4)
+          (ap (λ (j : ℕ). visitEach N w (visitEach N w s refs (4 * i) (4 * k)) refs j 4) place
+          ∙ visits-append N w s refs (4 * i) (4 * k) 4 ∙ ap (visitEach N w s refs (4 * i)) more)
+          (before .worked) (next .worked);
+      counting = next .counting;
+    }

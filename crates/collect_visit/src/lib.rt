@@ -1,7 +1,8 @@
 // References visited, as marking does: what they name is counted up, in a list with a byte for each block. The waiting list is the stack of
 // objects whose count left 0.
-ghost use Prim.Native.Nat.{_+_, _≤_};
+ghost use Prim.Native.Nat.{_+_, _*_, _<_, _≤_};
 ghost use lib.ListN.{length};
+ghost use Rattle.rules.specs.Heap.{maxBlocks};
 ghost use Rattle.rules.specs.Store.{work};
 ghost use Rattle.count_up.specs.Stack.{topFirst, uncounted, remaining};
 ghost use Rattle.collect_counts.specs.Counts.{countMaps};
@@ -64,6 +65,54 @@ pub fn visit_each(
     while i < n {
         t = visit_one(blocks, width, at, waiting, refs[j + i], t);
         i += 1;
+    }
+    t
+}
+
+// Visits what the four cells of block i name. Most blocks have none that is not 0, and are passed over.
+fn visit_block(
+    blocks: usize,
+    width: usize,
+    at: &mut [u8],
+    cells: &[Ref],
+    waiting: &mut [Ref],
+    i: usize,
+    top: usize,
+) -> usize
+    requires { ⌜ Counted blocks width (now at) (now waiting) top × (4 * (i + 1) ≤ length (now cells)) × (i < maxBlocks) ⌝ }
+    ensures { λ r.
+        ⌜ VisitedTo blocks width
+        (visitEach blocks width (work (countMaps blocks width (now (at .entry))) (topFirst (now (waiting .entry)) top)) (now (cells .entry)) (4 * i) 4)
+        (remaining uncounted blocks width (countMaps blocks width (now (at .entry))) top) (now (at .exit)) (now (waiting .exit)) r ⌝ }
+{
+    if map_objects::lists::any_of_four(cells, 4 * i) == 0 {
+        return top;
+    }
+    visit_each(blocks, width, at, cells, waiting, 4 * i, 4, top)
+}
+
+// Visits what the cells of the n blocks from block i on name.
+pub fn visit_blocks(
+    blocks: usize,
+    width: usize,
+    at: &mut [u8],
+    cells: &[Ref],
+    waiting: &mut [Ref],
+    i: usize,
+    n: usize,
+    top: usize,
+) -> usize
+    requires { ⌜ Counted blocks width (now at) (now waiting) top × (4 * (i + n) ≤ length (now cells)) × (i + n ≤ maxBlocks) ⌝ }
+    ensures { λ r.
+        ⌜ VisitedTo blocks width
+        (visitEach blocks width (work (countMaps blocks width (now (at .entry))) (topFirst (now (waiting .entry)) top)) (now (cells .entry)) (4 * i) (4 * n))
+        (remaining uncounted blocks width (countMaps blocks width (now (at .entry))) top) (now (at .exit)) (now (waiting .exit)) r ⌝ }
+{
+    let mut t = top;
+    let mut k = 0;
+    while k < n {
+        t = visit_block(blocks, width, at, cells, waiting, i + k, t);
+        k += 1;
     }
     t
 }

@@ -34,7 +34,7 @@ fn any_of(refs: &[Ref], from: usize) -> Ref
 }
 
 // 0 only where the four numbers from `from` on are all 0.
-fn any_of_four(refs: &[Ref], from: usize) -> Ref
+pub fn any_of_four(refs: &[Ref], from: usize) -> Ref
     requires { ⌜ from + 4 ≤ length (now refs) ⌝ }
     ensures { λ r. ⌜ (r ≡ 0 → (c : ℕ) → c < 4 → getD (now (refs .entry)) (from + c) 0 ≡ 0) ⌝ }
 {

@@ -1,8 +1,8 @@
 -- `collect_mark::scan_all` meets its contract: after each turn what counts and stack lead to is what they led to at first. The measure
 -- is the number of blocks that can still be scanned.
-use mathlib.Core.Path.{_≡_, refl}
+use mathlib.Core.Path.{_≡_, refl, ap, _∙_}
 use mathlib.Core.List.{[]}
-use Prim.Native.Nat.{_-_}
+use Prim.Native.Nat.{ℕ, _-_, _*_, _/_}
 use native.Mathlib.Omega.{arith}
 use lib.ListN.{length}
 use Rattle.rules.specs.Heap.{lentMemory}
@@ -12,7 +12,7 @@ use Rattle.collect_counts.specs.Counts.{countMaps}
 use Rattle.collect_visit.specs.Visit.{Counted}
 use Rattle.collect_visit.proofs.Visits.{visited-counted}
 use Rattle.collect_mark.specs.Mark.{scan}
-use Rattle.collect_mark.proofs.Scans.{counted-pop, Leading, leading-start, leading-next, leading-done}
+use Rattle.collect_mark.proofs.Scans.{naming-whole, counted-pop, Leading, leading-start, leading-next, leading-done}
 use Rattle.collect_mark.proofs.scan_all.Statement.{statement}
 use Rattle.collect_mark.proofs.scan_all.Tie as tie
 
@@ -57,25 +57,31 @@ object-size-requires c κs =
 naming-cells-requires : tie.Need-naming-cells-requires Inv-loop μ-loop
 naming-cells-requires c κs = omega arith
 
-mul-visit-each : tie.Need-mul-visit-each Inv-loop μ-loop
-mul-visit-each c = omega arith
-
-visit-each-requires : tie.Need-visit-each-requires Inv-loop μ-loop
-visit-each-requires c κs =
-    let l = c .before .before .before .before .before .before in
-    (counted-pop (omega arith) (l .loop .inv .1), omega arith)
+visit-blocks-requires : tie.Need-visit-blocks-requires Inv-loop μ-loop
+visit-blocks-requires c κs =
+    let s : tie.Start Inv-loop μ-loop = search in
+    let l : tie.At-loop Inv-loop μ-loop = search in
+    let size : tie.After-object-size Inv-loop μ-loop = search in
+    let named : tie.After-naming-cells Inv-loop μ-loop = search in
+    let inside = size .object-size .ensures .2 in
+    let most = named .naming-cells .ensures .1 in
+    (counted-pop (omega arith) (l .loop .inv .1), omega (arith, s .pre .2), omega (arith, s .pre .0 .planes .most))
 
 loop-less : tie.Need-loop-less Inv-loop μ-loop
 loop-less c =
-    omega (arith, c .before .before .before .before .visit-each .ensures .worked .left-is)
+    let v : tie.After-visit-blocks Inv-loop μ-loop = search in
+    omega (arith, v .visit-blocks .ensures .worked .left-is)
 
 loop-again : tie.Need-loop-again Inv-loop μ-loop
 loop-again c =
-    let r = c .before .before .before .before in
-    let l = r .before .before .before .before .before .before .before in
-    let m = r .visit-each .ensures in
-    let named = r .before .before .before in
-    (omega arith, visited-counted m, leading-next (l .loop .inv .2) (omega arith) (named .before .object-size .ensures .0) (named .naming-cells .ensures .0) (m .worked))
+    let s : tie.Start Inv-loop μ-loop = search in
+    let l : tie.At-loop Inv-loop μ-loop = search in
+    let size : tie.After-object-size Inv-loop μ-loop = search in
+    let named : tie.After-naming-cells Inv-loop μ-loop = search in
+    let v : tie.After-visit-blocks Inv-loop μ-loop = search in
+    let m = v .visit-blocks .ensures in
+    let whole = ap (λ (k : ℕ). 4 * (k / 4)) (named .naming-cells .ensures .0) ∙ naming-whole (s .args .d .now) _ _ in
+    (omega arith, visited-counted m, leading-next (l .loop .inv .2) (omega arith) (size .object-size .ensures .0) whole (m .worked))
 
 same-length : tie.Need-same-length Inv-loop μ-loop
 same-length c = omega arith
@@ -104,8 +110,7 @@ scan-all-spec =
     slice-write-waiting
     object-size-requires
     naming-cells-requires
-    mul-visit-each
-    visit-each-requires
+    visit-blocks-requires
     loop-less
     loop-again
     same-length
