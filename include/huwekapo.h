@@ -72,9 +72,9 @@
 /* The version of this header, and of the library that it goes with. What changes an argument, a struct or a buffer raises the
  * minor number, and with it the shared library's name. */
 #define HUWEKAPO_VERSION_MAJOR 0
-#define HUWEKAPO_VERSION_MINOR 8
+#define HUWEKAPO_VERSION_MINOR 9
 #define HUWEKAPO_VERSION_PATCH 0
-#define HUWEKAPO_VERSION "0.8.0"
+#define HUWEKAPO_VERSION "0.9.0"
 #define HUWEKAPO_VERSION_NUMBER (1000000 * HUWEKAPO_VERSION_MAJOR + 1000 * HUWEKAPO_VERSION_MINOR + HUWEKAPO_VERSION_PATCH)
 
 /* The number of buffers that every call takes. */

@@ -12,7 +12,7 @@ import os
 from typing import Any, Callable, Iterator, List, NamedTuple
 
 #: The version of the library that this package is for, and its own.
-VERSION = "0.8.0"
+VERSION = "0.9.0"
 
 #: The environment variable that names the library: its file, or the folder that it lies in.
 VARIABLE = "HUWEKAPO_LIBRARY"

@@ -2,14 +2,14 @@
 ghost use mathlib.Core.Path.{_≡_};
 
 // The version as one number: 1,000,000 for each major, 1,000 for each minor one, and the patch.
-const VERSION: usize = 8000;
+const VERSION: usize = 9000;
 
 // The buffers that every call takes.
 const BUFFERS: usize = 10;
 
 #[no_mangle]
 pub extern "C" fn huwekapo_version() -> usize
-    ensures { λ r. ⌜ r ≡ 8000 ⌝ }
+    ensures { λ r. ⌜ r ≡ 9000 ⌝ }
 {
     VERSION
 }
