@@ -121,6 +121,22 @@ fn has_unaligned_of(blocks: usize, b: &[u8], k: usize, these: u8) -> bool
     false
 }
 
+// Whether one of the objects that start in byte k is not aligned, where the first blocks are the bits of `first`. Two blocks from an odd
+// block on, and three from block 2 on, are not. Of those that leave the byte, or have more than four blocks, the size is found; the others
+// are aligned.
+fn has_unaligned_byte(blocks: usize, b: &[u8], k: usize, first: u8) -> bool
+    requires { ⌜ (blocks ≤ 8 * length (now b)) × (8 * (k + 1) ≤ blocks) × (blocks ≤ maxBlocks) ⌝ }
+    ensures { λ r. ⌜ r ≡ someBelow (offChunk first k blocks (now (b .entry))) 8 ⌝ }
+{
+    let two = first & b[k];
+    let three = two & (b[k] >> 1);
+    if (two & 42) | (three & 4) != 0 {
+        return true;
+    }
+    let five = three & (b[k] >> 2) & (b[k] >> 3);
+    has_unaligned_of(blocks, b, k, five | (three & 64) | (two & 128))
+}
+
 // Kind 3 among the blocks of the first `bytes` bytes, by their first blocks.
 fn has_unaligned_in(blocks: usize, bytes: usize, a: &[u8], b: &[u8]) -> bool
     requires { ⌜ (blocks ≤ 8 * length (now a)) × (blocks ≤ 8 * length (now b)) × (blocks ≤ maxBlocks) × (8 * bytes ≤ blocks) ⌝ }
@@ -128,8 +144,8 @@ fn has_unaligned_in(blocks: usize, bytes: usize, a: &[u8], b: &[u8]) -> bool
 {
     let mut k = 0;
     while k < bytes {
-        let these = map_objects::objects::first_byte(a, b, k);
-        if has_unaligned_of(blocks, b, k, these) {
+        let first = map_objects::objects::first_byte(a, b, k);
+        if has_unaligned_byte(blocks, b, k, first) {
             return true;
         }
         k += 1;

@@ -1,4 +1,4 @@
--- `map_damage::has_unaligned_in` meets its contract: the test fails at every block below 8 k. The measure is what is left of the bytes.
+-- `check_maps::has_unaligned_in` meets its contract: the test fails at every block below 8 k. The measure is what is left of the bytes.
 use mathlib.Core.Path.{_≡_, refl, sym, ap, _∙_}
 use mathlib.Core.Bool.{Bool, false}
 use mathlib.Core.List.{[]}
@@ -24,7 +24,7 @@ abbrev test : tie.Start Inv-loop μ-loop → ℕ → Bool
 test s = unaligned (s .args .blocks) (memory (s .args .a .now) (s .args .b .now) [] [] [] [])
 
 -- at the eight blocks of byte k it is the test that the callee makes
-alike : (c : tie.After-has-unaligned-of Inv-loop μ-loop)
+alike : (c : tie.After-has-unaligned-byte Inv-loop μ-loop)
     → let l = c .before .before .before in
     let s = l .before .before .before in
     (d : ℕ) → d < 8
@@ -42,8 +42,8 @@ loop-holds c = (omega arith, refl)
 first-byte-requires : tie.Need-first-byte-requires Inv-loop μ-loop
 first-byte-requires c κs = omega arith
 
-has-unaligned-of-requires : tie.Need-has-unaligned-of-requires Inv-loop μ-loop
-has-unaligned-of-requires c κs = omega arith
+has-unaligned-byte-requires : tie.Need-has-unaligned-byte-requires Inv-loop μ-loop
+has-unaligned-byte-requires c κs = omega arith
 
 returns : tie.Need-returns Inv-loop μ-loop
 returns c =
@@ -51,7 +51,7 @@ returns c =
     let s = l .before .before .before in
     sym
     (some-further (test s) (8 * (l .loop .k + 1)) (8 * s .args .bytes) (omega arith)
-    (eight-hit (test s) _ (l .loop .k) (alike (c .before)) (sym (c .before .has-unaligned-of .ensures) ∙ c .if1 .taken)))
+    (eight-hit (test s) _ (l .loop .k) (alike (c .before)) (sym (c .before .has-unaligned-byte .ensures) ∙ c .if1 .taken)))
 
 add-k : tie.Need-add-k Inv-loop μ-loop
 add-k c = omega arith
@@ -64,7 +64,7 @@ loop-again c =
     let l = c .before .before .before .before in
     let s = l .before .before .before in (
       omega arith,
-      eight-past (test s) _ (l .loop .k) (alike (c .before)) (sym (c .before .has-unaligned-of .ensures) ∙ c .if1 .left) (l .loop .inv .1),
+      eight-past (test s) _ (l .loop .k) (alike (c .before)) (sym (c .before .has-unaligned-byte .ensures) ∙ c .if1 .left) (l .loop .inv .1),
     )
 
 returns-2 : tie.Need-returns-2 Inv-loop μ-loop
@@ -82,7 +82,7 @@ has-unaligned-in-spec =
     μ-loop
     loop-holds
     first-byte-requires
-    has-unaligned-of-requires
+    has-unaligned-byte-requires
     returns
     add-k
     loop-less

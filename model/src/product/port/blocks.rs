@@ -1,7 +1,6 @@
 //! Bits, counts, first blocks, sizes, data, chunks and extents: by bytes where the library goes by bytes.
 
 use super::words::{eight_bytes, twice};
-use crate::rules::heap::Ref;
 
 pub fn get_bit(map: &[u8], i: usize) -> u8 {
     (map[i / 8] >> (i % 8)) % 2
@@ -124,37 +123,6 @@ pub fn naming_cells(data: &[u8], i: usize, n: usize) -> usize {
         return 0;
     }
     4 * n
-}
-
-/// Whether the D-map has a bit. Where it has none, a walk needs not look for data.
-pub fn has_data(data: &[u8]) -> bool {
-    let mut any = 0;
-    for byte in data {
-        any |= byte;
-    }
-    any != 0
-}
-
-/// How many cells are looked at together: those of eight blocks.
-const STRETCH: usize = 32;
-
-/// Which of the eight blocks of byte k have a cell that is not 0, as the bits of a byte.
-pub fn filled_byte(cells: &[Ref], k: usize) -> u8 {
-    let stretch = &cells[STRETCH * k..STRETCH * (k + 1)];
-    let mut any = 0;
-    for v in stretch {
-        any |= v;
-    }
-    if any == 0 {
-        return 0;
-    }
-    let mut filled = 0;
-    for (s, four) in stretch.chunks_exact(4).enumerate() {
-        if four[0] | four[1] | four[2] | four[3] != 0 {
-            filled |= 1 << s;
-        }
-    }
-    filled
 }
 
 /// Whether block i is a block of data, in a walk from block 0 upwards: `before` says it of the block before it.

@@ -1,8 +1,10 @@
 //! The check as it was before it went by bytes, kept to be compared with: kinds 1 to 5 and 7 block by block, a tally of whole
 //! numbers, a size and a run of bits bit by bit; and the collection with that size and those runs.
 
-use super::blocks::{chunk_size, get_bit, get_count, is_first, is_in_data, set_bit};
-use super::damage::{check_with, has_bad_cell_in, has_bad_root, is_free_or_past};
+use super::blocks::{
+    chunk_size, get_bit, get_count, is_first, is_in_data, is_reference, set_bit,
+};
+use super::damage::{check_with, is_free_or_past};
 use super::references::collect_with;
 use super::sections::renew;
 use super::{Answer, Lent};
@@ -60,6 +62,27 @@ fn has_open_end(blocks: usize, a: &[u8], b: &[u8]) -> bool {
 fn has_unaligned(blocks: usize, a: &[u8], b: &[u8]) -> bool {
     for i in 0..blocks {
         if is_first(blocks, a, b, i) && i % chunk_size(object_size(blocks, b, i)) != 0 {
+            return true;
+        }
+    }
+    false
+}
+
+/// The n cells from cell `from` on, none of them of data.
+fn has_bad_cell_in(blocks: usize, m: &Lent, from: usize, n: usize) -> bool {
+    for (k, v) in m.cells[from..from + n].iter().enumerate() {
+        if *v != 0
+            && (get_bit(m.a, (from + k) / 4) == 0 || !is_reference(blocks, m.a, m.b, *v as usize))
+        {
+            return true;
+        }
+    }
+    false
+}
+
+fn has_bad_root(blocks: usize, a: &[u8], b: &[u8], roots: &[Ref]) -> bool {
+    for v in roots {
+        if !is_reference(blocks, a, b, *v as usize) {
             return true;
         }
     }

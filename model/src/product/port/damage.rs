@@ -2,8 +2,7 @@
 //! last whole byte have no turn there, and are left out.
 
 use super::blocks::{
-    chunk_size, filled_byte, first_byte, full_byte, get_bit, get_count, has_data, is_in_data,
-    is_reference, object_size, some_byte,
+    chunk_size, first_byte, full_byte, get_bit, is_in_data, object_size, some_byte,
 };
 use super::sections::{is_stale, section_length};
 use super::steps::is_untidy;
@@ -78,147 +77,184 @@ fn has_unaligned_of(blocks: usize, b: &[u8], k: usize, these: u8) -> bool {
     false
 }
 
+/// Kind 3 of the objects that start in byte k, where the first blocks are the bits of `first`. Those of up to four blocks within the
+/// byte are told by its bits; what has more, or leaves the byte, is measured.
+fn has_unaligned_byte(blocks: usize, b: &[u8], k: usize, first: u8) -> bool {
+    let two = first & b[k];
+    let three = two & (b[k] >> 1);
+    if (two & 42) | (three & 4) != 0 {
+        return true;
+    }
+    let five = three & (b[k] >> 2) & (b[k] >> 3);
+    has_unaligned_of(blocks, b, k, five | (three & 64) | (two & 128))
+}
+
 /// Kind 3, by first blocks.
 fn has_unaligned(blocks: usize, a: &[u8], b: &[u8]) -> bool {
     for k in 0..blocks / 8 {
-        if has_unaligned_of(blocks, b, k, first_byte(a, b, k)) {
+        if has_unaligned_byte(blocks, b, k, first_byte(a, b, k)) {
             return true;
         }
     }
     false
 }
 
-/// Kind 4 of the cells; on a heap with data block by block.
-fn has_bad_cell(blocks: usize, m: &Lent) -> bool {
-    if !has_data(m.data) {
-        return has_bad_reference(blocks, m);
+/// Which of the 32 cells of the eight blocks of byte k are not 0, as the bits of a word.
+fn filled_cells(cells: &[Ref], k: usize) -> u32 {
+    let stretch = &cells[32 * k..32 * k + 32];
+    if stretch.iter().fold(0, |any, v| any | v) == 0 {
+        return 0;
     }
-    let mut in_data = false;
-    for i in 0..blocks {
-        in_data = is_in_data(blocks, m.a, m.b, m.data, i, in_data);
-        if !in_data && has_bad_cell_in(blocks, m, 4 * i, 4) {
-            return true;
+    let mut filled = 0;
+    for (j, v) in stretch.iter().enumerate() {
+        if *v != 0 {
+            filled |= 1 << j;
         }
     }
-    false
+    filled
 }
 
-/// Without data: by the blocks that have a cell other than 0, eight blocks at a time.
-fn has_bad_reference(blocks: usize, m: &Lent) -> bool {
-    for k in 0..blocks / 8 {
-        if has_bad_among(blocks, m, k, filled_byte(m.cells, k)) {
-            return true;
+/// The blocks of data among the eight of byte k, as the bits of a byte; `before` says it of the block before them.
+fn data_byte(blocks: usize, m: &Lent, k: usize, before: bool) -> u8 {
+    if m.data[k] == 0 {
+        if !before {
+            return 0;
+        }
+        if m.a[k] == 255 && first_byte(m.a, m.b, k) == 0 {
+            return 255;
         }
     }
-    false
-}
-
-fn has_bad_among(blocks: usize, m: &Lent, k: usize, these: u8) -> bool {
-    let mut left = these;
-    while left != 0 {
-        let i = 8 * k + left.trailing_zeros() as usize;
-        if has_bad_cell_in(blocks, m, 4 * i, 4) {
-            return true;
-        }
-        left &= left - 1;
+    let mut in_data = before;
+    let mut made = 0;
+    for s in 0..8 {
+        in_data = is_in_data(blocks, m.a, m.b, m.data, 8 * k + s, in_data);
+        made += u8::from(in_data) << s;
     }
-    false
-}
-
-/// The n cells from cell `from` on, none of them of data.
-pub fn has_bad_cell_in(blocks: usize, m: &Lent, from: usize, n: usize) -> bool {
-    for (k, v) in m.cells[from..from + n].iter().enumerate() {
-        if *v != 0
-            && (get_bit(m.a, (from + k) / 4) == 0 || !is_reference(blocks, m.a, m.b, *v as usize))
-        {
-            return true;
-        }
-    }
-    false
-}
-
-pub fn has_bad_root(blocks: usize, a: &[u8], b: &[u8], roots: &[Ref]) -> bool {
-    for v in roots {
-        if !is_reference(blocks, a, b, *v as usize) {
-            return true;
-        }
-    }
-    false
+    made
 }
 
 /// One more, to 255 at most.
 fn one_more(n: u8) -> u8 {
-    if n == 255 {
-        return 255;
+    if n < 255 {
+        return n + 1;
     }
-    n + 1
+    255
 }
 
-fn tally(refs: &[Ref], at: &mut [u8]) {
-    for v in refs {
+/// Tallies the cells of byte k, those of data excepted. Whether one stands in a free block or names none.
+fn tally_byte(blocks: usize, m: &Lent, k: usize, made: u8, at: &mut [u8]) -> bool {
+    if made == 255 {
+        return false;
+    }
+    let mut left = filled_cells(m.cells, k);
+    while left != 0 {
+        let j = left.trailing_zeros() as usize;
+        if (made >> (j / 4)) % 2 == 0 {
+            let v = m.cells[32 * k + j] as usize;
+            if (m.a[k] >> (j / 4)) % 2 == 0 || blocks < v {
+                return true;
+            }
+            at[v - 1] = one_more(at[v - 1]);
+        }
+        left &= left - 1;
+    }
+    false
+}
+
+fn tally_cells(blocks: usize, m: &Lent, at: &mut [u8]) -> bool {
+    let mut before = false;
+    for k in 0..blocks / 8 {
+        let made = data_byte(blocks, m, k, before);
+        if tally_byte(blocks, m, k, made, at) {
+            return true;
+        }
+        before = 127 < made;
+    }
+    false
+}
+
+fn tally_roots(blocks: usize, roots: &[Ref], at: &mut [u8]) -> bool {
+    for v in roots {
         let v = *v as usize;
         if v != 0 {
+            if blocks < v {
+                return true;
+            }
             at[v - 1] = one_more(at[v - 1]);
         }
     }
-}
-
-fn tally_among(cells: &[Ref], k: usize, these: u8, at: &mut [u8]) {
-    let mut left = these;
-    while left != 0 {
-        let from = 32 * k + 4 * left.trailing_zeros() as usize;
-        tally(&cells[from..from + 4], at);
-        left &= left - 1;
-    }
-}
-
-fn tally_cells(blocks: usize, m: &Lent, at: &mut [u8]) {
-    if !has_data(m.data) {
-        for k in 0..blocks / 8 {
-            tally_among(m.cells, k, filled_byte(m.cells, k), at);
-        }
-        return;
-    }
-    let mut in_data = false;
-    for i in 0..blocks {
-        in_data = is_in_data(blocks, m.a, m.b, m.data, i, in_data);
-        if !in_data {
-            tally(&m.cells[4 * i..4 * i + 4], at);
-        }
-    }
-}
-
-/// Whether one of the blocks of byte k that are the bits of `these` has a count that is not the tally's.
-fn is_off_tally(these: u8, k: usize, bytes: usize, width: usize, counts: &[u8], at: &[u8]) -> bool {
-    let mut left = these;
-    while left != 0 {
-        let i = 8 * k + left.trailing_zeros() as usize;
-        if get_count(counts, bytes, width, i) != at[i] {
-            return true;
-        }
-        left &= left - 1;
-    }
     false
 }
 
-/// Kind 5, eight blocks at a time: where an object starts and where a count is not 0 must be the same, and a count below
-/// capacity must be the tally's.
-fn has_bad_count(blocks: usize, width: usize, m: &Lent) -> bool {
+/// A 1 in each byte of a word; bit n in byte n; and all bits but the highest of each byte.
+const ONES: u64 = 0x0101_0101_0101_0101;
+const DIAGONAL: u64 = 0x8040_2010_0804_0201;
+const LOW_BITS: u64 = 0x7f7f_7f7f_7f7f_7f7f;
+
+/// The bits of a byte as the bytes of a word.
+fn lanes(x: u8) -> u64 {
+    let kept = (x as u64 * ONES) & DIAGONAL;
+    ((kept + LOW_BITS) >> 7) & ONES
+}
+
+fn mask(x: u8) -> u64 {
+    lanes(x) * 255
+}
+
+/// The tallies of the eight blocks of byte k as the bytes of a word.
+fn tallies(at: &[u8], k: usize) -> u64 {
+    let b = &at[8 * k..8 * k + 8];
+    u64::from_le_bytes([b[0], b[1], b[2], b[3], b[4], b[5], b[6], b[7]])
+}
+
+/// Byte k of a map of the counts; 0 where there are fewer maps.
+fn plane_byte(counts: &[u8], bytes: usize, width: usize, plane: usize, k: usize) -> u8 {
+    if plane < width {
+        return counts[plane * bytes + k];
+    }
+    0
+}
+
+/// The counts of the eight blocks of byte k as the bytes of a word.
+fn count_lanes(counts: &[u8], bytes: usize, width: usize, k: usize) -> u64 {
+    let lane = |plane| lanes(plane_byte(counts, bytes, width, plane, k));
+    lane(0) + lane(1) * 2 + lane(2) * 4 + lane(3) * 8
+}
+
+/// Whether one of the eight blocks of byte k has a count that is damage: where an object starts and where a count is not 0 must be
+/// the same, and a count below capacity must be the tally's.
+fn is_off(first: u8, counts: &[u8], bytes: usize, width: usize, k: usize, at: &[u8]) -> bool {
+    if some_byte(counts, bytes, width, k) != first {
+        return true;
+    }
+    if first == 0 {
+        return false;
+    }
+    let kept = mask(first & !full_byte(counts, bytes, width, k));
+    tallies(at, k) & kept != count_lanes(counts, bytes, width, k) & kept
+}
+
+/// Kinds 4 and 5, or 0: all references are tallied, and a tally where no object starts tells one that names none.
+fn reference_kind(blocks: usize, width: usize, m: &Lent) -> usize {
     let mut at = vec![0; blocks];
-    tally(m.roots, &mut at);
-    tally_cells(blocks, m, &mut at);
+    if tally_cells(blocks, m, &mut at) || tally_roots(blocks, m.roots, &mut at) {
+        return 4;
+    }
     let bytes = blocks / 8;
+    let mut off = false;
     for k in 0..bytes {
         let first = first_byte(m.a, m.b, k);
-        if some_byte(m.counts, bytes, width, k) != first {
-            return true;
+        if tallies(&at, k) & mask(!first) != 0 {
+            return 4;
         }
-        let these = first & !full_byte(m.counts, bytes, width, k);
-        if is_off_tally(these, k, bytes, width, m.counts, &at) {
-            return true;
+        if is_off(first, m.counts, bytes, width, k, &at) {
+            off = true;
         }
     }
-    false
+    if off {
+        return 5;
+    }
+    0
 }
 
 /// Kind 7, eight blocks at a time.
@@ -233,20 +269,22 @@ fn has_stray_data(blocks: usize, a: &[u8], b: &[u8], data: &[u8]) -> bool {
 /// The first damage kind that applies, or 0.
 fn damage_kind(blocks: usize, width: usize, m: &Lent) -> usize {
     if has_end_on_free(m.a, m.b) {
-        1
-    } else if has_open_end(blocks, m.a, m.b) {
-        2
-    } else if has_unaligned(blocks, m.a, m.b) {
-        3
-    } else if has_bad_cell(blocks, m) || has_bad_root(blocks, m.a, m.b, m.roots) {
-        4
-    } else if has_bad_count(blocks, width, m) {
-        5
-    } else if has_stray_data(blocks, m.a, m.b, m.data) {
-        7
-    } else {
-        0
+        return 1;
     }
+    if has_open_end(blocks, m.a, m.b) {
+        return 2;
+    }
+    if has_unaligned(blocks, m.a, m.b) {
+        return 3;
+    }
+    let kind = reference_kind(blocks, width, m);
+    if kind != 0 {
+        return kind;
+    }
+    if has_stray_data(blocks, m.a, m.b, m.data) {
+        return 7;
+    }
+    0
 }
 
 /// Numbers 1, 2, 11 and 13.
