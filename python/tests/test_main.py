@@ -115,6 +115,25 @@ class Commands(unittest.TestCase):
         self.start("same", "-", "-", status=2)
         self.start("same", self.three, "--blocks", "8,9", status=2)
 
+    def test_compact(self) -> None:
+        # Every second block is free, and so are four that lie together in a copy.
+        small = ["--blocks", 8, "--width", 2, "--roots", 8]
+        scattered = b"".join(allocate(1, root) for root in range(8)) + b"".join(clear(root) for root in range(0, 8, 2))
+        self.three.write_bytes(scattered)
+        said = "blocks in use:       4; after a copy 4\nlargest free chunk:  1 blocks; after a copy 4\n"
+        self.assertEqual(self.start("compact", self.three, *small), (said, ""))
+        self.assertEqual(self.start("compact", "-", *small, given=scattered), (said, ""))
+        full = "blocks in use:       8; after a copy 8\nlargest free chunk:  0 blocks; after a copy 0\n"
+        self.assertEqual(self.start("compact", self.three, *small, "--records", 8), (full, ""))
+        for size, words in [(4, "would have let it go on"), (8, "would not have let it go on")]:
+            self.three.write_bytes(scattered + allocate(size, 0))
+            out, told = self.start("compact", self.three, *small, status=3)
+            self.assertEqual(out, f"{said}refused 5 at record 12: a copy at that point {words}\n")
+            self.assertIn("this is the heap before it", told)
+        self.three.write_bytes(scattered + b"...")
+        self.assertEqual(self.start("compact", self.three, *small, status=3)[0], said)
+        self.start("compact", self.three, "--records", 0, status=2)
+
     def test_report_of_sections(self) -> None:
         named = self.start("report", self.three)[0]
         shown = self.start("report", "--sections", self.three)[0]
