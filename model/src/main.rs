@@ -52,6 +52,7 @@ with the product's library, `--features library`:
                                      bytes, with data, in small steps, and by sizes of heaps (build it with --release)
   model bench sizes                  the last of these alone: single calls of the library by the number of blocks, and how they
                                      grow to 65,536
+  model bench pauses                 those in small steps alone
 ";
 
 fn main() {
@@ -101,8 +102,8 @@ fn main() {
         }
         ["history", ref words @ ..] => history(words),
         ["fuzz", seconds, seed] => fuzz(number(seconds), number(seed)),
-        ["bench"] => bench(false),
-        ["bench", "sizes"] => bench(true),
+        ["bench"] => bench("all"),
+        ["bench", part @ ("sizes" | "pauses")] => bench(part),
         _ => stop(USAGE),
     }
 }
@@ -203,9 +204,14 @@ fn fuzz(seconds: u64, seed: u64) {
 }
 
 #[cfg(feature = "library")]
-fn bench(only_sizes: bool) {
-    use model::product::bench::{bench, sizes};
-    print(if only_sizes { sizes() } else { bench() }.as_bytes());
+fn bench(part: &str) {
+    use model::product::bench::{bench, pauses, sizes};
+    let figures = match part {
+        "sizes" => sizes(),
+        "pauses" => pauses(),
+        _ => bench(),
+    };
+    print(figures.as_bytes());
 }
 
 #[cfg(not(feature = "library"))]
@@ -214,7 +220,7 @@ fn fuzz(_seconds: u64, _seed: u64) {
 }
 
 #[cfg(not(feature = "library"))]
-fn bench(_only_sizes: bool) {
+fn bench(_part: &str) {
     stop("built without the library: use --features library\n");
 }
 

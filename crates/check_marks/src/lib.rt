@@ -16,78 +16,49 @@ ghost use Rattle.check_marks.specs.Tidy.{badNextIn, badPlaceIn, strayMar
 use types::MAX_BLOCKS;
 use types::Ref;
 
-// Two numbers of the list that stand one behind the other.
-fn is_bad_next(v: Ref, next: Ref) -> bool
-    ensures { λ r. ⌜ r ≡ (not (eqb next 0) && (eqb v 0 || leb next v)) ⌝ }
+// Whether one of the numbers from place `from` on and below `end` is not 0. All are looked at, so that the loop has no way out.
+fn has_number(list: &[Ref], from: usize, end: usize) -> bool
 {
-    if next == 0 {
-        return false;
-    }
-    if v == 0 {
-        return true;
-    }
-    next <= v
-}
-
-fn has_bad_next(blocks: usize, list: &[Ref]) -> bool
-    requires { ⌜ (length (now list) ≡ blocks + 1) × (1 ≤ blocks) ⌝ }
-    ensures { λ r. ⌜ r ≡ someBelow (badNextIn (now (list .entry))) (blocks - 1) ⌝ }
-{
-    let mut k = 0;
-    while k < blocks - 1 {
-        if is_bad_next(list[k], list[k + 1]) {
-            return true;
-        }
+    let mut any: Ref = 0;
+    let mut k = from;
+    while k < end {
+        any = any | list[k];
         k += 1;
     }
-    false
+    any != 0
 }
 
-// A number of the list.
-fn is_bad_place(blocks: usize, a: &[u8], b: &[u8], marks: &[u8], v: Ref) -> bool
-    requires { ⌜ (blocks ≤ 8 * length (now a)) × (blocks ≤ 8 * length (now b)) × (blocks ≤ 8 * length (now marks)) ⌝ }
-    ensures { λ r.
-        ⌜ r ≡ (not (eqb v 0) && not (firstIn blocks (now (a .entry)) (now (b .entry)) (v - 1) && isSet (now (marks .entry)) (v - 1))) ⌝ }
+// The list read into a map of 0s. Whether it is strictly rising, then 0, and names blocks only.
+fn read_list(blocks: usize, list: &[Ref], map: &mut [u8]) -> bool
 {
-    if v == 0 {
-        return false;
-    }
-    let i = v as usize - 1;
-    if !map_objects::objects::is_first(blocks, a, b, i) {
-        return true;
-    }
-    bitmap::get_bit(marks, i) != 1
-}
-
-fn has_bad_place(blocks: usize, a: &[u8], b: &[u8], marks: &[u8], list: &[Ref]) -> bool
-    requires { ⌜ (blocks ≤ 8 * length (now a)) × (blocks ≤ 8 * length (now b)) × (blocks ≤ 8 * length (now marks))
-        × (length (now list) ≡ blocks + 1) ⌝ }
-    ensures { λ r.
-        ⌜ r ≡ someBelow (badPlaceIn blocks (now (a .entry)) (now (b .entry)) (now (marks .entry)) (now (list .entry))) blocks ⌝ }
-{
+    let mut before: Ref = 0;
     let mut k = 0;
     while k < blocks {
-        if is_bad_place(blocks, a, b, marks, list[k]) {
-            return true;
+        let v = list[k];
+        if v <= before {
+            if v != 0 { return false; }
+            return !has_number(list, k, blocks);
         }
+        if blocks < v as usize {
+            return false;
+        }
+        step_marks::set_mark(map, v as usize - 1);
+        before = v;
         k += 1;
     }
-    false
+    true
 }
 
-fn has_stray_mark(blocks: usize, a: &[u8], b: &[u8], marks: &[u8]) -> bool
-    requires { ⌜ (blocks ≡ 8 * (blocks / 8)) × (blocks ≤ maxBlocks) × (blocks ≤ 8 * length (now a)) × (blocks ≤ 8 * length (now b))
-        × (blocks ≤ 8 * length (now marks)) ⌝ }
-    ensures { λ r. ⌜ r ≡ someBelow (strayMarkIn blocks (now (a .entry)) (now (b .entry)) (now (marks .entry))) blocks ⌝ }
+// Whether a block of the map is not marked.
+fn has_unmarked(blocks: usize, marks: &[u8], map: &[u8]) -> bool
 {
-    let mut i = step_list::next_bit(marks, 0, blocks);
-    while i < blocks {
-        if !map_objects::objects::is_first(blocks, a, b, i) {
-            return true;
-        }
-        i = step_list::next_bit(marks, i + 1, blocks);
+    let mut found: u8 = 0;
+    let mut k = 0;
+    while k < blocks / 8 {
+        found = found | (map[k] & !marks[k]);
+        k += 1;
     }
-    false
+    found != 0
 }
 
 // What a root holds names an unmarked object. (No bit past the end of the map is 1.)
@@ -148,59 +119,31 @@ fn misses_any(blocks: usize, cells: &[Ref], marks: &[u8], j: usize, n: usize) ->
     false
 }
 
-// The marked object at block x, if one starts there, is unlisted and names an unmarked one; `map` has what is
-// listed.
-fn misses_at(
-    blocks: usize,
-    a: &[u8],
-    b: &[u8],
-    d: &[u8],
-    cells: &[Ref],
-    marks: &[u8],
-    map: &[u8],
-    x: usize,
-) -> bool
-    requires { ⌜ (blocks ≤ 8 * length (now a)) × (blocks ≤ 8 * length (now b)) × (length (now cells) ≡ 4 * blocks) × (blocks ≤ maxBlocks)
-        × (blocks ≤ 8 * length (now marks)) × (blocks ≤ 8 * length (now map)) × (x < blocks)
-        × (blocks ≤ 8 * length (now d)) ⌝ }
-    ensures { λ r.
-        ⌜ r ≡ (firstIn blocks (now (a .entry)) (now (b .entry)) x && (not (isSet (now (map .entry)) x)
-        && someBelow (λ i. cellNames blocks (now (b .entry)) (now (d .entry)) (now (cells .entry)) x i && not (isSet (now (marks .entry)) i)) blocks)) ⌝ }
+// One of the objects at the blocks of byte k that are the bits of `these` names an unmarked one.
+fn misses_of(blocks: usize, b: &[u8], d: &[u8], cells: &[Ref], marks: &[u8], k: usize, these: u8) -> bool
 {
-    if !map_objects::objects::is_first(blocks, a, b, x) {
-        return false;
-    }
-    if bitmap::get_bit(map, x) == 1 {
-        return false;
-    }
-    let n = map_objects::objects::object_size(blocks, b, x);
-    let named = map_objects::objects::naming_cells(d, x, n);
-    misses_any(blocks, cells, marks, 4 * x, named)
-}
-
-fn has_missed_cell(
-    blocks: usize,
-    a: &[u8],
-    b: &[u8],
-    d: &[u8],
-    cells: &[Ref],
-    marks: &[u8],
-    list: &[Ref],
-) -> bool
-    requires { ⌜ (blocks ≡ 8 * (blocks / 8)) × (blocks ≤ maxBlocks) × (blocks ≤ 8 * length (now a)) × (blocks ≤ 8 * length (now b))
-        × (length (now cells) ≡ 4 * blocks) × (blocks ≤ 8 * length (now marks)) × (length (now list) ≡ blocks + 1)
-        × (blocks ≤ 8 * length (now d)) ⌝ }
-    ensures { λ r.
-        ⌜ r ≡ someBelow (cellMissedIn blocks (now (a .entry)) (now (b .entry)) (now (d .entry)) (now (cells .entry)) (now (marks .entry)) (now (list .entry))) blocks ⌝ }
-{
-    let mut map = [0u8; MAX_BLOCKS / 8];
-    step_list::name_all(blocks, list, blocks, &mut map);
-    let mut x = step_list::next_bit(marks, 0, blocks);
-    while x < blocks {
-        if misses_at(blocks, a, b, d, cells, marks, &map, x) {
+    let mut left = these;
+    while left != 0 {
+        let x = 8 * k + u8::trailing_zeros(left) as usize;
+        let n = map_objects::objects::object_size(blocks, b, x);
+        let named = map_objects::objects::naming_cells(d, x, n);
+        if misses_any(blocks, cells, marks, 4 * x, named) {
             return true;
         }
-        x = step_list::next_bit(marks, x + 1, blocks);
+        left = left & (left - 1);
+    }
+    false
+}
+
+// A marked object that is not in the map names an unmarked one.
+fn has_missed_cell(blocks: usize, b: &[u8], d: &[u8], cells: &[Ref], marks: &[u8], map: &[u8]) -> bool
+{
+    let mut k = 0;
+    while k < blocks / 8 {
+        if misses_of(blocks, b, d, cells, marks, k, marks[k] & !map[k]) {
+            return true;
+        }
+        k += 1;
     }
     false
 }
@@ -247,17 +190,18 @@ pub fn is_untidy(
         }
         return has_entry(list);
     }
-    if has_bad_next(blocks, list) {
+    let mut map = [0u8; MAX_BLOCKS / 8];
+    if !read_list(blocks, list, &mut map) {
         return true;
     }
-    if has_bad_place(blocks, a, b, marks, list) {
+    if check_maps::has_stray_data(blocks, a, b, marks) {
         return true;
     }
-    if has_stray_mark(blocks, a, b, marks) {
+    if has_unmarked(blocks, marks, &map) {
         return true;
     }
     if has_missed_root(blocks, roots, marks) {
         return true;
     }
-    has_missed_cell(blocks, a, b, d, cells, marks, list)
+    has_missed_cell(blocks, b, d, cells, marks, &map)
 }

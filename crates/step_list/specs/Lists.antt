@@ -1,14 +1,14 @@
 -- Request U8, the mark map and the second list over plain lists: a set of blocks as a map's bits, and as the
 -- list's numbers.
-use Prim.Native.Nat.{ℕ, _+_, _≤_, _<_}
+use Prim.Native.Nat.{ℕ, _+_, _-_, _≤_, _<_}
 use mathlib.Core.Path.{_≡_}
 use mathlib.Core.Bool.{Bool, true, false, not, _&&_, _||_}
-use mathlib.Core.List.{List}
-use lib.ListN.{getD}
+use mathlib.Core.List.{List, [], _∷_, _++_}
+use lib.ListN.{length, getD, replicate}
 use lib.Dec.{eqb}
 use Rattle.bitmap.specs.Bit.{bitAt}
 use Rattle.rules.specs.Tools.{someBelow}
-use Rattle.rules.specs.Steps.{listOf}
+use Rattle.rules.specs.Steps.{rising, listOf}
 
 -- bit i of a map is 1
 abbrev pub isSet : List ℕ → ℕ → Bool
@@ -40,6 +40,13 @@ pub record NextBit (map : List ℕ) (from end r : ℕ) : Type 0 where
   pub end-le : r ≤ end
   pub clear : (i : ℕ) → from ≤ i → i < r → isSet map i ≡ false
   pub found : r < end → isSet map r ≡ true
+
+-- the blocks below i whose bits are 1 are written, at the first k places; behind them 0s, and the last place
+pub record Written (N : ℕ) (map : List ℕ) (i k : ℕ) (list : List ℕ) : Type 0 where
+  pub within : i ≤ N
+  pub few : k ≤ i
+  pub count : length (rising (isSet map) i []) ≡ k
+  pub list-is : list ≡ rising (isSet map) i [] ++ replicate (N - k) 0 ++ 1 ∷ []
 
 -- bit i of the map has become what it is to be, and no other has changed
 pub record Mixed (N i : ℕ) (old marks map after : List ℕ) : Type 0 where

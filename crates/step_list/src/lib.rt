@@ -6,7 +6,7 @@ ghost use Prim.Native.Nat.{ℕ, _+_, _*_, _/_, _<_, _≤_};
 ghost use lib.ListN.{length, getD};
 ghost use Rattle.rules.specs.Heap.{maxBlocks};
 ghost use Rattle.rules.specs.Steps.{listOf};
-ghost use Rattle.step_list.specs.Lists.{isSet, listedIn, relisted, Shows, NextBit, Mixed, Listing};
+ghost use Rattle.step_list.specs.Lists.{isSet, listedIn, relisted, Shows, NextBit, Written, Mixed, Listing};
 use types::MAX_BLOCKS;
 use types::Ref;
 
@@ -44,6 +44,21 @@ pub fn name_all(blocks: usize, list: &[Ref], n: usize, map: &mut [u8])
     }
 }
 
+// 1 + each block of byte j whose bit is 1, rising, from place `at` of the list on. The place behind them.
+fn write_byte(blocks: usize, map: &[u8], list: &mut [Ref], j: usize, at: usize) -> usize
+    requires { ⌜ (8 * (j + 1) ≤ blocks) × (blocks ≤ maxBlocks) × (blocks ≤ 8 * length (now map)) × Written blocks (now map) (8 * j) at (now list) ⌝ }
+    ensures { λ r. ⌜ Written blocks (now (map .entry)) (8 * (j + 1)) r (now (list .exit)) ⌝ }
+{
+    let mut place = at;
+    let mut left = map[j];
+    while left != 0 {
+        list[place] = (8 * j + u8::trailing_zeros(left) as usize + 1) as Ref;
+        place += 1;
+        left = left & (left - 1);
+    }
+    place
+}
+
 // The second list of an open collection, from the bits of the blocks that stand on it.
 pub fn write_list(blocks: usize, map: &[u8], list: &mut [Ref])
     requires { ⌜ (blocks ≡ 8 * (blocks / 8)) × (blocks ≤ maxBlocks) × (blocks ≤ 8 * length (now map))
@@ -52,12 +67,11 @@ pub fn write_list(blocks: usize, map: &[u8], list: &mut [Ref])
 {
     map_objects::lists::clear_all(list);
     list[blocks] = 1;
-    let mut k = 0;
-    let mut i = next_bit(map, 0, blocks);
-    while i < blocks {
-        list[k] = (i + 1) as Ref;
-        k += 1;
-        i = next_bit(map, i + 1, blocks);
+    let mut place = 0;
+    let mut j = 0;
+    while j < blocks / 8 {
+        place = write_byte(blocks, map, list, j, place);
+        j += 1;
     }
 }
 

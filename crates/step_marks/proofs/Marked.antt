@@ -3,14 +3,40 @@ use mathlib.Core.Path.{_≡_, refl, sym, ap, _∙_}
 use mathlib.Core.Logic.{_≢_}
 use mathlib.Core.Bool.{Bool, true, false, _||_}
 use mathlib.Core.List.{List}
-use Prim.Native.Nat.{ℕ, zero, suc, _+_, _-_, _*_, _≤_, _<_}
+use Prim.Native.Nat.{ℕ, zero, suc, _+_, _-_, _*_, _/_, _%_, _^_, _≤_, _<_}
+use native.Mathlib.Nat.{pow-suc}
 use native.Mathlib.Numerals.{add-one}
+use native.Mathlib.Omega.{arith}
+use lib.Bits.{bitOr, or-step, or-add-and, and-le-r}
 use lib.Dec.{ltb, eqb}
-use lib.ListN.{length, getD}
+use lib.ListN.{length, getD, set}
+use lib.Pow.{pow-lt}
 use borrow.Author.Tests.{eq-eqb, ne-eqb, lt-ltb, le-ltb}
-use Rattle.bitmap.specs.Bit.{setBit}
+use Rattle.bitmap.specs.Bit.{putBit, setBit}
+use Rattle.bitmap.proofs.Bits.{put-zero, put-suc}
 use Rattle.bitmap.proofs.Maps.{length-set-bit}
 use Rattle.step_marks.specs.Marks.{markOne, markNamed, freedMarks, markTouched}
+
+-- ---- a 1 written by an or
+
+or-put : (b k : ℕ) → bitOr b (2 ^ k) ≡ putBit b k 1
+or-put b zero =
+    let none : bitOr (b / 2) (2 ^ zero / 2) ≡ b / 2 = omega (arith, or-add-and (b / 2) (2 ^ zero / 2), and-le-r (b / 2) (2 ^ zero / 2)) in
+    omega (arith, or-step b (2 ^ zero), none, put-zero b 1)
+or-put b (suc k) =
+    let half : 2 ^ suc k / 2 ≡ 2 ^ k = omega (arith, pow-suc 2 k) in
+    let even : 2 ^ suc k % 2 ≡ 0 = omega (arith, pow-suc 2 k) in
+    let up : bitOr (b / 2) (2 ^ suc k / 2) ≡ putBit (b / 2) k 1 = ap (bitOr (b / 2)) half ∙ or-put (b / 2) k in
+    omega (arith, or-step b (2 ^ suc k), up, even, put-suc b k 1)
+
+pub set-or : (map : List ℕ) (i : ℕ) → set map (i / 8) (bitOr (getD map (i / 8) 0) (1 * 2 ^ (i % 8) % 256)) ≡ setBit map i 1
+unfolding setBit
+set-or map i =
+    let less = pow-lt {i = i % 8} {j = 8} (omega arith) in
+    let weight : 1 * 2 ^ (i % 8) % 256 ≡ 2 ^ (i % 8) = omega (arith, less) in
+    ap (set map (i / 8)) (ap (bitOr (getD map (i / 8) 0)) weight ∙ or-put (getD map (i / 8) 0) (i % 8))
+
+-- ---- marks
 
 module _ (N : ℕ) (map : List ℕ) {v : ℕ} where
   pub mark-none : v ≡ 0 → map ≡ markOne N map v

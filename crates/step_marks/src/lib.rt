@@ -3,8 +3,17 @@
 ghost use mathlib.Core.Path.{_≡_};
 ghost use Prim.Native.Nat.{_+_, _*_, _<_, _≤_};
 ghost use lib.ListN.{length};
+ghost use Rattle.bitmap.specs.Bit.{setBit};
 ghost use Rattle.step_marks.specs.Marks.{markOne, markNamed, freedMarks, markTouched};
 use types::Ref;
+
+// Bit i of the map becomes 1.
+pub fn set_mark(marks: &mut [u8], i: usize)
+    requires { ⌜ i < 8 * length (now marks) ⌝ }
+    ensures { λ _. ⌜ now (marks .exit) ≡ setBit (now (marks .entry)) i 1 ⌝ }
+{
+    marks[i / 8] = marks[i / 8] | (1u8 << (i % 8));
+}
 
 // The object that v names, if any, is marked.
 pub fn mark_one(blocks: usize, marks: &mut [u8], v: Ref)
@@ -18,7 +27,7 @@ pub fn mark_one(blocks: usize, marks: &mut [u8], v: Ref)
     if blocks < v as usize {
         return;
     }
-    bitmap::set_bit(marks, v as usize - 1, 1);
+    set_mark(marks, v as usize - 1);
 }
 
 // What the n cells from cell j on name is marked.

@@ -6,7 +6,7 @@ use crate::lists::random::Random;
 use crate::product::check_bench::{by_bytes, check_times, collect_times};
 use crate::product::data_bench::half_data;
 use crate::product::library::{apply, unique};
-use crate::product::pause_bench::{pauses, SETUP};
+use crate::product::pause_bench::{self, SETUP};
 use crate::product::port::{self, lend};
 use crate::product::timing::{by_turns, compared};
 use crate::product::{copy_bench, growth_bench, search_bench, size_bench};
@@ -38,9 +38,16 @@ pub fn bench() -> String {
     check(&mut out, &list);
     by_bytes(&mut out);
     half_data(&mut out);
-    pauses(&mut out, &mixed_calls(BLOCKS, SETUP, 1));
+    out += &pauses();
     growth(&mut out);
     out + &sizes()
+}
+
+/// Collections in small steps.
+pub fn pauses() -> String {
+    let mut out = String::new();
+    pause_bench::pauses(&mut out, &mixed_calls(BLOCKS, SETUP, 1));
+    out
 }
 
 /// What depends on the number of blocks: single calls, and how they grow.

@@ -1,6 +1,6 @@
 //! Against the product: its library beside the model (library, compare, fuzz, shrink, met), and its library and its
 //! program `report` beside the same algorithms in plain Rust (bench, check_bench, copy_bench, data_bench, pause_bench, search_bench,
-//! history_bench, timing, port); its library by sizes of heaps (size_bench, growth_bench). Heaps for all: busy.
+//! history_bench, timing, port); its library by sizes of heaps (size_bench, growth_bench). Heaps for all: busy, long_lists.
 
 #[cfg(feature = "library")]
 pub mod bench;
@@ -18,6 +18,7 @@ pub mod growth_bench;
 pub mod history_bench;
 #[cfg(feature = "library")]
 pub mod library;
+pub mod long_lists;
 pub mod met;
 #[cfg(feature = "library")]
 pub mod pause_bench;

@@ -2,6 +2,7 @@
 //! by replays; and the longest single call, with the check that every public call makes.
 
 use crate::product::library::{shared, unique};
+use crate::product::long_lists::{at_random, wide_tree, zigzag};
 use crate::product::port::{self, lend};
 use crate::rules::heap::{first_blocks, Memory};
 use huwekapo::lent;
@@ -134,8 +135,16 @@ fn check_once(memory: &mut Memory) {
     assert_eq!(lent::check(shared(BLOCKS, WIDTH, memory)).number, 0);
 }
 
+/// All figures, on a heap of mixed calls and on heaps with long lists.
+pub fn pauses(out: &mut String, mixed: &[u64]) {
+    pauses_on(out, "mixed calls", mixed);
+    pauses_on(out, "a wide tree", &wide_tree(BLOCKS));
+    pauses_on(out, "references at random", &at_random(BLOCKS));
+    pauses_on(out, "a zigzag", &zigzag(BLOCKS));
+}
+
 /// All figures, on the heap that a list leaves.
-pub fn pauses(out: &mut String, list: &[u64]) {
+fn pauses_on(out: &mut String, heap: &str, list: &[u64]) {
     let mut memory = Memory::zeros(BLOCKS, WIDTH, ROOTS);
     let mut replies = vec![0; list.len() / 4 * 3];
     // What a round leaves, so that every later one is alike.
@@ -149,7 +158,7 @@ pub fn pauses(out: &mut String, list: &[u64]) {
     );
     writeln!(
         out,
-        "pauses: {all} objects, of which {live} are reached, N = {BLOCKS}, w = {WIDTH}"
+        "pauses, {heap}: {all} objects, of which {live} are reached, N = {BLOCKS}, w = {WIDTH}"
     )
     .unwrap();
     for (name, budget, rounds) in [

@@ -12,20 +12,20 @@ returns c = mark-none _ _ (c .if1 .taken)
 returns-2 : tie.Need-returns-2
 returns-2 c = mark-past _ _ (c .before .if1 .left) (c .if2 .taken)
 
-sub-set-bit : tie.Need-sub-set-bit
-sub-set-bit c = search needs
+sub-set-mark : tie.Need-sub-set-mark
+sub-set-mark c = search needs
 
-set-bit-requires : tie.Need-set-bit-requires
-set-bit-requires c κs = search needs
+set-mark-requires : tie.Need-set-mark-requires
+set-mark-requires c κs = search needs
 
 same-length : tie.Need-same-length
 same-length c = search needs
 
 returns-3 : tie.Need-returns-3
 returns-3 c =
-    let called : tie.After-set-bit = search in
-    called .set-bit .ensures ∙ mark-some _ _ (called .before .before .before .if1 .left) (omega arith)
+    let called : tie.After-set-mark = search in
+    called .set-mark .ensures ∙ mark-some _ _ (called .before .before .before .if1 .left) (omega arith)
 
 pub mark-one-spec : {M : Type 1} → statement M
 mark-one-spec =
-    tie.close (tie.spec returns returns-2 sub-set-bit set-bit-requires same-length returns-3)
+    tie.close (tie.spec returns returns-2 sub-set-mark set-mark-requires same-length returns-3)
