@@ -1,3 +1,4 @@
 pub mod Misses
 pub mod Tests
 pub mod TidySame
+pub mod Reading

@@ -1,9 +1,9 @@
--- Searches over marked blocks, and over the cells of an object.
+-- A search over the cells of an object.
 use mathlib.Core.Path.{_≡_, sym, ap, _∙_}
 use mathlib.Core.Logic.{_⊎_, inl, inr}
 use mathlib.Core.Bool.{Bool, true, false, not, _&&_}
 use mathlib.Core.List.{List}
-use Prim.Native.Nat.{ℕ, _+_, _-_, _≤_, _<_}
+use Prim.Native.Nat.{ℕ, _+_, _-_, _*_, _≤_, _<_}
 use native.Mathlib.Decide.{decLt}
 use native.Mathlib.Omega.{arith}
 use lib.Dec.{eqb, leb}
@@ -11,48 +11,11 @@ use lib.ListN.{getD}
 use borrow.Author.Tests.{eqb-true, eqb-false, leb-true, eq-eqb, ne-eqb, le-leb, not-true}
 use Rattle.rules.specs.Tools.{someBelow}
 use Rattle.rules.proofs.Tests.{test-cases, and-true, and-false, true-and, false-and, some-true, some-false, true-some, false-some}
-use Rattle.step_list.specs.Lists.{isSet, NextBit}
-use Rattle.step_list.specs.Naming.{namedFrom}
-
--- ---- marked blocks
-
--- a search over the marked blocks has come to i: it is marked, or i is N, and the test fails at each block
--- before it
-pub record Swept (test : ℕ → Bool) (N : ℕ) (marks : List ℕ) (i : ℕ) : Type 0 where
-  pub within : i ≤ N
-  pub fails : someBelow test i ≡ false
-  pub next : i < N → isSet marks i ≡ true
-
-module _ (test : ℕ → Bool) (N : ℕ) (marks : List ℕ) (unmarked : (i : ℕ) → isSet marks i ≡ false → test i ≡ false) where
-  pub swept-start : {r : ℕ} → NextBit marks 0 N r → Swept test N marks r
-  swept-start {r} n = record {
-    within = n .end-le;
-    fails = false-some test r (λ i l. unmarked i (n .clear i (omega arith) l));
-    next = n .found;
-  }
-
-  module _ {i : ℕ} (s : Swept test N marks i) where
-    pub swept-next : test i ≡ false → {r : ℕ} → NextBit marks (i + 1) N r → Swept test N marks r
-    swept-next e {r} n = record {
-      within = n .end-le;
-      fails = false-some test r (λ j l. elim (decLt j i) [
-        | yes u ↦ some-false test i (s .fails) j u
-        | no u ↦ elim (decLt i j) [
-          | yes v ↦ unmarked j (n .clear j (omega arith) l)
-          | no v ↦
-              let at : j ≡ i = omega arith in
-              ap test at ∙ e
-        ]
-      ]);
-      next = n .found;
-    }
-
-    pub swept-all : N ≤ i → false ≡ someBelow test N
-    swept-all l =
-        let end : i ≡ N = omega (arith, s .within) in
-        sym (s .fails) ∙ ap (someBelow test) end
-
--- ---- cells
+use Rattle.step_list.specs.Lists.{isSet}
+use Rattle.rules.specs.Heap.{sizeFrom}
+use Rattle.rules.specs.Store.{namingCells}
+use Rattle.step_list.specs.Naming.{namedFrom, cellNames}
+use Rattle.check_marks.specs.Tidy.{missedAt}
 
 -- what a cell holds names an unmarked block
 abbrev pub missed : ℕ → List ℕ → ℕ → Bool
@@ -98,3 +61,10 @@ missed-any N cells marks j n = go (test-cases (someBelow test n))
         let last = and-false (leb v N) (not (isSet marks (v - 1))) later (le-leb v N (omega arith)) in
         let same : v - 1 ≡ i = omega arith in
         ap (λ (k : ℕ). not (isSet marks k)) (sym same) ∙ last)))
+
+-- the cells of the object at block x, its kind being looked at once
+pub missed-read : (N : ℕ) (b d cells marks : List ℕ) (x : ℕ) {n named : ℕ} → n ≡ sizeFrom (N - x) b x → named ≡ namingCells d x n
+    → someBelow (λ i. namedFrom cells (4 * x) named i && not (isSet marks i)) N ≡ missedAt N b d cells marks x
+unfolding missedAt cellNames
+missed-read N b d cells marks x size naming =
+    ap (λ (m : ℕ). someBelow (λ i. namedFrom cells (4 * x) m i && not (isSet marks i)) N) (naming ∙ ap (namingCells d x) size)

@@ -1,43 +1,49 @@
 // Number 13 of request U8: whether the mark map and the second list are as they have to be. All lists are
 // only read.
 ghost use mathlib.Core.Path.{_≡_};
-ghost use mathlib.Core.Bool.{not, _&&_, _||_};
+ghost use mathlib.Core.Bool.{not, _&&_};
 ghost use mathlib.Core.List.{List};
 ghost use Prim.Native.Nat.{ℕ, _+_, _*_, _/_, _<_, _≤_, _-_};
 ghost use lib.Dec.{eqb, leb};
 ghost use lib.ListN.{length, getD};
 ghost use Rattle.rules.specs.Tools.{someBelow};
-ghost use Rattle.rules.specs.Heap.{maxBlocks, firstIn, lentMemory};
+ghost use Rattle.rules.specs.Heap.{maxBlocks, lentMemory};
 ghost use Rattle.rules.specs.Steps.{isUntidy};
 ghost use Rattle.theory.specs.Statements.{Intact};
-ghost use Rattle.step_list.specs.Lists.{isSet};
-ghost use Rattle.step_list.specs.Naming.{namedFrom, cellNames};
-ghost use Rattle.check_marks.specs.Tidy.{badNextIn, badPlaceIn, strayMarkIn, rootMissedIn, cellMissedIn};
+ghost use Rattle.step_list.specs.Lists.{isSet, listedIn, Shows};
+ghost use Rattle.step_list.specs.Naming.{namedFrom};
+ghost use Rattle.check_marks.specs.Tidy.{rootMissedIn, Read, missedOf, missedApart};
 use types::MAX_BLOCKS;
 use types::Ref;
 
-// Whether one of the numbers from place `from` on and below `end` is not 0. All are looked at, so that the loop has no way out.
-fn has_number(list: &[Ref], from: usize, end: usize) -> bool
+// Whether one of the n numbers from place `from` on is not 0. All are looked at, so that the loop has no way out.
+fn has_number(list: &[Ref], from: usize, n: usize) -> bool
+    requires { ⌜ from + n ≤ length (now list) ⌝ }
+    ensures { λ r. ⌜ r ≡ someBelow (λ k. not (eqb (getD (now (list .entry)) (from + k) 0) 0)) n ⌝ }
 {
     let mut any: Ref = 0;
-    let mut k = from;
-    while k < end {
-        any = any | list[k];
+    let mut k = 0;
+    while k < n {
+        any = any | list[from + k];
         k += 1;
     }
     any != 0
 }
 
-// The list read into a map of 0s. Whether it is strictly rising, then 0, and names blocks only.
+// The list read, up to its first 0, into a map that has no 1 yet. Whether it is strictly rising, then 0, and names blocks alone.
 fn read_list(blocks: usize, list: &[Ref], map: &mut [u8]) -> bool
+    requires { ⌜ (length (now list) ≡ blocks + 1) × (blocks ≤ 8 * length (now map)) × Shows blocks (listedIn 0 (now list)) (now map) ⌝ }
+    ensures { λ r. ⌜ Read blocks (now (list .entry)) (now (map .exit)) r ⌝ }
 {
     let mut before: Ref = 0;
     let mut k = 0;
     while k < blocks {
         let v = list[k];
+        if v == 0 {
+            return !has_number(list, k, blocks - k);
+        }
         if v <= before {
-            if v != 0 { return false; }
-            return !has_number(list, k, blocks);
+            return false;
         }
         if blocks < v as usize {
             return false;
@@ -49,8 +55,10 @@ fn read_list(blocks: usize, list: &[Ref], map: &mut [u8]) -> bool
     true
 }
 
-// Whether a block of the map is not marked.
+// Whether a block of the map is not marked. Eight blocks at a time.
 fn has_unmarked(blocks: usize, marks: &[u8], map: &[u8]) -> bool
+    requires { ⌜ (blocks ≡ 8 * (blocks / 8)) × (blocks ≤ 8 * length (now marks)) × (blocks ≤ 8 * length (now map)) ⌝ }
+    ensures { λ r. ⌜ r ≡ someBelow (λ i. isSet (now (map .entry)) i && not (isSet (now (marks .entry)) i)) blocks ⌝ }
 {
     let mut found: u8 = 0;
     let mut k = 0;
@@ -119,8 +127,20 @@ fn misses_any(blocks: usize, cells: &[Ref], marks: &[u8], j: usize, n: usize) ->
     false
 }
 
-// One of the objects at the blocks of byte k that are the bits of `these` names an unmarked one.
-fn misses_of(blocks: usize, b: &[u8], d: &[u8], cells: &[Ref], marks: &[u8], k: usize, these: u8) -> bool
+// One of the objects that start at the blocks of byte k which are the bits of `these` names an unmarked one.
+fn misses_of(
+    blocks: usize,
+    b: &[u8],
+    d: &[u8],
+    cells: &[Ref],
+    marks: &[u8],
+    k: usize,
+    these: u8,
+) -> bool
+    requires { ⌜ (blocks ≤ 8 * length (now b)) × (blocks ≤ 8 * length (now d)) × (length (now cells) ≡ 4 * blocks) × (blocks ≤ maxBlocks)
+        × (blocks ≤ 8 * length (now marks)) × (8 * (k + 1) ≤ blocks) ⌝ }
+    ensures { λ r.
+        ⌜ r ≡ someBelow (missedOf these k blocks (now (b .entry)) (now (d .entry)) (now (cells .entry)) (now (marks .entry))) 8 ⌝ }
 {
     let mut left = these;
     while left != 0 {
@@ -135,8 +155,20 @@ fn misses_of(blocks: usize, b: &[u8], d: &[u8], cells: &[Ref], marks: &[u8], k: 
     false
 }
 
-// A marked object that is not in the map names an unmarked one.
-fn has_missed_cell(blocks: usize, b: &[u8], d: &[u8], cells: &[Ref], marks: &[u8], map: &[u8]) -> bool
+// A marked object that is not in the map names an unmarked one; each mark stands on a first block.
+fn has_missed_cell(
+    blocks: usize,
+    b: &[u8],
+    d: &[u8],
+    cells: &[Ref],
+    marks: &[u8],
+    map: &[u8],
+) -> bool
+    requires { ⌜ (blocks ≡ 8 * (blocks / 8)) × (blocks ≤ maxBlocks) × (blocks ≤ 8 * length (now b)) × (blocks ≤ 8 * length (now d))
+        × (length (now cells) ≡ 4 * blocks) × (blocks ≤ 8 * length (now marks)) × (blocks ≤ 8 * length (now map)) ⌝ }
+    ensures { λ r.
+        ⌜ r ≡ someBelow
+        (missedApart blocks (now (b .entry)) (now (d .entry)) (now (cells .entry)) (now (marks .entry)) (now (map .entry))) blocks ⌝ }
 {
     let mut k = 0;
     while k < blocks / 8 {
@@ -146,21 +178,6 @@ fn has_missed_cell(blocks: usize, b: &[u8], d: &[u8], cells: &[Ref], marks: &[u8
         k += 1;
     }
     false
-}
-
-// Whether a number of the list is not 0. All are looked at, so that the loop has no way out.
-fn has_entry(list: &[Ref]) -> bool
-    requires { ⌜ length (now list) ≤ maxBlocks + 1 ⌝ }
-    ensures { λ r.
-        ⌜ r ≡ someBelow (λ k. not (eqb (getD (now (list .entry)) k 0) 0)) (length (now (list .entry))) ⌝ }
-{
-    let mut sum: usize = 0;
-    let mut k = 0;
-    while k < list.len() {
-        sum += list[k] as usize;
-        k += 1;
-    }
-    sum != 0
 }
 
 // Number 13, on a heap that 1 and 2 don't refuse. No test reads counts, waiting list or sections: the answer
@@ -188,7 +205,7 @@ pub fn is_untidy(
         if step_list::next_bit(marks, 0, blocks) < blocks {
             return true;
         }
-        return has_entry(list);
+        return has_number(list, 0, blocks + 1);
     }
     let mut map = [0u8; MAX_BLOCKS / 8];
     if !read_list(blocks, list, &mut map) {

@@ -1,69 +1,89 @@
--- `check_marks::has_missed_cell` meets its contract.
-use mathlib.Core.Path.{sym, _∙_}
-use Prim.Native.Nat.{_-_}
-use Rattle.check_marks.specs.Tidy.{cellMissedIn}
-use Rattle.rules.proofs.Searches.{searched-hit}
-use Rattle.check_marks.proofs.Misses.{Swept, swept-start, swept-next, swept-all}
-use Rattle.check_marks.proofs.Tests.{cell-unmarked, cell-marked}
-use borrow.Author.Needs.{needs}
+-- `check_marks::has_missed_cell` meets its contract: the test fails at every block below 8 k.
+use mathlib.Core.Path.{_≡_, refl, sym, ap, _∙_}
+use mathlib.Core.Bool.{Bool, false}
+use Prim.Native.Nat.{ℕ, _≤_, _<_, _+_, _-_, _*_, _/_}
 use native.Mathlib.Omega.{arith}
+use lib.Bits.{bitAnd}
+use lib.ListN.{getD}
+use Rattle.rules.specs.Tools.{someBelow}
+use Rattle.rules.proofs.Stretches.{some-further, eight-hit, eight-past}
+use Rattle.check_marks.specs.Tidy.{missedApart, missedOf}
+use Rattle.check_marks.proofs.Tests.{of-eight}
 use Rattle.check_marks.proofs.has_missed_cell.Statement.{statement}
 use Rattle.check_marks.proofs.has_missed_cell.Tie as tie
 
 abbrev Inv-loop : tie.InvT-loop
-Inv-loop blocks a b d cells marks list map x₀ x = Swept (cellMissedIn blocks a b d cells marks list) blocks marks x
+Inv-loop blocks b d cells marks map k₀ k = (k ≤ blocks / 8) × (someBelow (missedApart blocks b d cells marks map) (8 * k) ≡ false)
 
 abbrev μ-loop : tie.MeasureT-loop
-μ-loop blocks a b d cells marks list map x₀ x = blocks - x
+μ-loop blocks b d cells marks map k₀ k = blocks / 8 - k
 
-slice-aggregate-name-all : tie.Need-slice-aggregate-name-all Inv-loop μ-loop
-slice-aggregate-name-all c = search needs
-
-name-all-requires : tie.Need-name-all-requires Inv-loop μ-loop
-name-all-requires c κs = omega arith
-
-next-bit-requires : tie.Need-next-bit-requires Inv-loop μ-loop
-next-bit-requires c κs = omega arith
+-- the test, on what is lent
+abbrev test : tie.Start Inv-loop μ-loop → ℕ → Bool
+test s = missedApart (s .args .blocks) (s .args .b .now) (s .args .d .now) (s .args .cells .now) (s .args .marks .now) (s .args .map .now)
 
 loop-holds : tie.Need-loop-holds Inv-loop μ-loop
-loop-holds c =
-    let s = c .before .before .before .before .before .before .before .before .before .before .args in
-    swept-start (cellMissedIn (s .blocks) (s .a .now) (s .b .now) (s .d .now) (s .cells .now) (s .marks .now) (s .list .now)) (s .blocks) (s .marks .now) (cell-unmarked _ _ _ _ _ _ _) (c .next-bit .ensures)
+unfolding someBelow
+loop-holds c = (omega arith, refl)
 
-slice-aggregate-misses-at : tie.Need-slice-aggregate-misses-at Inv-loop μ-loop
-slice-aggregate-misses-at c = search needs
+shared-slice-read-misses-of : tie.Need-shared-slice-read-misses-of Inv-loop μ-loop
+shared-slice-read-misses-of c = omega arith
 
-misses-at-requires : tie.Need-misses-at-requires Inv-loop μ-loop
-misses-at-requires c κs = omega arith
+shared-slice-read-misses-of-2 : tie.Need-shared-slice-read-misses-of-2 Inv-loop μ-loop
+shared-slice-read-misses-of-2 c = omega arith
+
+misses-of-requires : tie.Need-misses-of-requires Inv-loop μ-loop
+misses-of-requires c κs = omega arith
+
+abbrev start : tie.After-misses-of Inv-loop μ-loop → tie.Start Inv-loop μ-loop
+start c = search
+
+abbrev looping : tie.After-misses-of Inv-loop μ-loop → tie.In-loop Inv-loop μ-loop
+looping c = search
+
+-- at the eight blocks of byte k it is the test that the callee makes
+alike : (c : tie.After-misses-of Inv-loop μ-loop)
+    → let s = start c in
+    let k = looping c .before .loop .k in
+    (t : ℕ) → t < 8
+    → test s (8 * k + t)
+    ≡ missedOf (bitAnd (getD (s .args .marks .now) k 0) (255 - getD (s .args .map .now) k 0)) k (s .args .blocks) (s .args .b .now) (s .args .d .now)
+    (s .args .cells .now) (s .args .marks .now) t
+alike c t u =
+    let s = start c in
+    let k = looping c .before .loop .k in
+    let known : tie.After-shared-slice-known5 Inv-loop μ-loop = search in
+    of-eight (s .args .blocks) (s .args .b .now) (s .args .d .now) (s .args .cells .now) (s .args .marks .now) (s .args .map .now) k
+    (known .shared-slice-known5 .given k .fits) t u
 
 returns : tie.Need-returns Inv-loop μ-loop
 returns c =
-    let l = c .before .before .before .before in
-    let s = c .before .before .before .before .before .before .before .before .before .before .before .before .before .before .before .args in
-    searched-hit (cellMissedIn (s .blocks) (s .a .now) (s .b .now) (s .d .now) (s .cells .now) (s .marks .now) (s .list .now)) (s .blocks) (l .loop .x) (omega arith)
-    (sym (cell-marked (s .blocks) (s .a .now) (s .b .now) (s .d .now) (s .cells .now) (s .marks .now) (s .list .now) (l .loop .x) (c .before .before .before .loop-test .taken) (c .before .before .before .before .before .before .before .name-all .ensures) (l .loop .inv .next (omega arith))) ∙ sym (c .before .misses-at .ensures) ∙ c .if1 .taken)
+    let s = start (c .before) in
+    let k = looping (c .before) .before .loop .k in
+    sym
+    (some-further (test s) (8 * (k + 1)) (s .args .blocks) (omega arith)
+    (eight-hit (test s) _ k (alike (c .before)) (sym (c .before .misses-of .ensures) ∙ c .if1 .taken)))
 
-add-next-bit : tie.Need-add-next-bit Inv-loop μ-loop
-add-next-bit c = omega arith
-
-next-bit-requires-2 : tie.Need-next-bit-requires-2 Inv-loop μ-loop
-next-bit-requires-2 c κs = omega arith
+add-k : tie.Need-add-k Inv-loop μ-loop
+add-k c = omega arith
 
 loop-less : tie.Need-loop-less Inv-loop μ-loop
-loop-less c = omega (arith, c .next-bit2 .ensures .from-le, c .next-bit2 .ensures .end-le)
+loop-less c = omega arith
 
 loop-again : tie.Need-loop-again Inv-loop μ-loop
 loop-again c =
-    let l = c .before .before .before .before .before in
-    let s = c .before .before .before .before .before .before .before .before .before .before .before .before .before .before .before .before .args in
-    swept-next (cellMissedIn (s .blocks) (s .a .now) (s .b .now) (s .d .now) (s .cells .now) (s .marks .now) (s .list .now)) (s .blocks) (s .marks .now) (cell-unmarked _ _ _ _ _ _ _) (l .loop .inv)
-    (sym (cell-marked (s .blocks) (s .a .now) (s .b .now) (s .d .now) (s .cells .now) (s .marks .now) (s .list .now) (l .loop .x) (c .before .before .before .before .loop-test .taken) (c .before .before .before .before .before .before .before .before .name-all .ensures) (l .loop .inv .next (omega arith))) ∙ sym (c .before .before .misses-at .ensures) ∙ c .before .if1 .left) (c .next-bit2 .ensures)
+    let s = start (c .before) in
+    let l = looping (c .before) .before in (
+      omega arith,
+      eight-past (test s) _ (l .loop .k) (alike (c .before)) (sym (c .before .misses-of .ensures) ∙ c .if1 .left) (l .loop .inv .1),
+    )
 
 returns-2 : tie.Need-returns-2 Inv-loop μ-loop
 returns-2 c =
+    let s : tie.Start Inv-loop μ-loop = search in
     let l = c .before in
-    let s = c .before .before .before .before .before .before .before .before .before .before .before .before .args in
-    swept-all (cellMissedIn (s .blocks) (s .a .now) (s .b .now) (s .d .now) (s .cells .now) (s .marks .now) (s .list .now)) (s .blocks) (s .marks .now) (cell-unmarked _ _ _ _ _ _ _) (l .loop .inv) (omega arith)
+    let done : 8 * l .loop .k ≡ s .args .blocks = omega arith in
+    sym (ap (someBelow (test s)) (sym done) ∙ l .loop .inv .1)
 
 pub has-missed-cell-spec : {M : Type 1} → statement M
 has-missed-cell-spec =
@@ -71,15 +91,12 @@ has-missed-cell-spec =
     (tie.spec
     Inv-loop
     μ-loop
-    slice-aggregate-name-all
-    name-all-requires
-    next-bit-requires
     loop-holds
-    slice-aggregate-misses-at
-    misses-at-requires
+    shared-slice-read-misses-of
+    shared-slice-read-misses-of-2
+    misses-of-requires
     returns
-    add-next-bit
-    next-bit-requires-2
+    add-k
     loop-less
     loop-again
     returns-2)

@@ -1,13 +1,18 @@
 -- `check_marks::is_untidy` meets its contract: one law of the whole test for each way out.
-use mathlib.Core.Path.{_≡_, sym, _∙_}
+use mathlib.Core.Path.{_≡_, refl, sym, subst, _∙_}
 use mathlib.Core.Bool.{Bool}
 use mathlib.Core.List.{List}
-use Prim.Native.Nat.{ℕ, _-_}
+use Prim.Native.Nat.{ℕ, _-_, _/_}
 use native.Mathlib.Omega.{arith}
-use Rattle.rules.specs.Heap.{Memory, lentMemory}
+use lib.ListN.{length-replicate}
+use borrow.Author.Needs.{needs}
+use borrow.Author.Tests.{not-true, not-false}
+use Rattle.rules.specs.Heap.{Memory, lentMemory, maxBlocks}
 use Rattle.rules.specs.Steps.{isUntidy}
 use Rattle.rules.proofs.Shape.{Shaped, shape-facts}
-use Rattle.check_marks.proofs.TidySame.{unread, remains-marked, remains-listed, untidy-1, untidy-2, untidy-3, untidy-4, untidy-5}
+use Rattle.step_list.proofs.Bits.{shows-none}
+use Rattle.check_marks.specs.Tidy.{Read}
+use Rattle.check_marks.proofs.TidySame.{unread, remains-marked, remains-listed, unread-list, stray-mark, unmarked-listed, missed-root, missed-cell}
 use Rattle.check_marks.proofs.is_untidy.Statement.{statement}
 use Rattle.check_marks.proofs.is_untidy.Tie as tie
 
@@ -51,10 +56,15 @@ returns c =
     let next : tie.After-next-bit = search in
     for-all s (remains-marked (s .args .blocks) (heap s) (shut .if1 .taken) (next .next-bit .ensures) (c .if2 .taken))
 
-has-entry-requires : tie.Need-has-entry-requires
-has-entry-requires c κs =
+add-has-number : tie.Need-add-has-number
+add-has-number c =
     let s : tie.Start = search in
-    omega (arith, right s .length-list, right s .blocks-max)
+    omega (arith, right s .blocks-max)
+
+has-number-requires : tie.Need-has-number-requires
+has-number-requires c κs =
+    let s : tie.Start = search in
+    omega (arith, right s .length-list)
 
 returns-2 : tie.Need-returns-2
 returns-2 c =
@@ -63,58 +73,72 @@ returns-2 c =
     let next : tie.After-next-bit = search in
     for-all s
     (remains-listed (s .args .blocks) (heap s) (shut .if1 .taken) (next .next-bit .ensures) (omega (arith, c .before .if2 .left))
-    (right s .length-list) (c .has-entry .ensures))
+    (c .has-number .ensures))
 
-has-bad-next-requires : tie.Need-has-bad-next-requires
-has-bad-next-requires c κs =
-    let s : tie.Start = search in
-    (right s .length-list, omega (arith, right s .blocks-min))
+slice-aggregate-read-list : tie.Need-slice-aggregate-read-list
+slice-aggregate-read-list c = search needs
+
+read-list-requires : tie.Need-read-list-requires
+read-list-requires c κs =
+    let s : tie.Start = search in (
+      right s .length-list,
+      omega (arith, right s .blocks-max, length-replicate {A = ℕ} (maxBlocks / 8) 0),
+      shows-none (s .args .list .now) (maxBlocks / 8) refl,
+    )
 
 returns-3 : tie.Need-returns-3
 returns-3 c =
     let s : tie.Start = search in
     let is-open : tie.Else1 = search in
-    for-all s (untidy-1 (heap s) (s .pre .4) (is-open .if1 .left) (sym (c .if3 .taken) ∙ c .before .has-bad-next .ensures))
+    let read : tie.After-read-list = search in
+    for-all s
+    (unread-list (heap s) (s .pre .4) (is-open .if1 .left)
+    (subst (Read (s .args .blocks) (s .args .list .now) _) (not-true _ (c .if3 .taken)) (read .read-list .ensures)))
 
-has-bad-place-requires : tie.Need-has-bad-place-requires
-has-bad-place-requires c κs =
+has-stray-data-requires : tie.Need-has-stray-data-requires
+has-stray-data-requires c κs =
     let s : tie.Start = search in
     let shape = right s in (
       omega (arith, shape .length-a, shape .whole-bytes),
       omega (arith, shape .length-b, shape .whole-bytes),
       omega (arith, shape .length-marks, shape .whole-bytes),
-      shape .length-list,
+      sym (shape .whole-bytes),
     )
 
 returns-4 : tie.Need-returns-4
 returns-4 c =
     let s : tie.Start = search in
     let is-open : tie.Else1 = search in
-    let t₁ : tie.Else3 = search in
+    let formed : tie.Else3 = search in
+    let read : tie.After-read-list = search in
     for-all s
-    (untidy-2 (heap s) (s .pre .4) (is-open .if1 .left) (sym (t₁ .if3 .left) ∙ t₁ .before .has-bad-next .ensures)
-    (sym (c .if4 .taken) ∙ c .before .has-bad-place .ensures))
+    (stray-mark (heap s) (s .pre .4) (is-open .if1 .left)
+    (subst (Read (s .args .blocks) (s .args .list .now) _) (not-false _ (formed .if3 .left)) (read .read-list .ensures))
+    (sym (c .if4 .taken) ∙ c .before .has-stray-data .ensures))
 
-has-stray-mark-requires : tie.Need-has-stray-mark-requires
-has-stray-mark-requires c κs =
+slice-aggregate-has-unmarked : tie.Need-slice-aggregate-has-unmarked
+slice-aggregate-has-unmarked c = search needs
+
+has-unmarked-requires : tie.Need-has-unmarked-requires
+has-unmarked-requires c κs =
     let s : tie.Start = search in
-    let shape = right s in (
+    let shape = right s in
+    let read : tie.After-read-list = search in (
       sym (shape .whole-bytes),
-      shape .blocks-max,
-      omega (arith, shape .length-a, shape .whole-bytes),
-      omega (arith, shape .length-b, shape .whole-bytes),
       omega (arith, shape .length-marks, shape .whole-bytes),
+      omega (arith, shape .blocks-max, read .read-list .kept .1 .1 .0, length-replicate {A = ℕ} (maxBlocks / 8) 0),
     )
 
 returns-5 : tie.Need-returns-5
 returns-5 c =
     let s : tie.Start = search in
     let is-open : tie.Else1 = search in
-    let t₁ : tie.Else3 = search in
-    let t₂ : tie.Else4 = search in
+    let formed : tie.Else3 = search in
+    let read : tie.After-read-list = search in
     for-all s
-    (untidy-3 (heap s) (s .pre .4) (is-open .if1 .left) (sym (t₁ .if3 .left) ∙ t₁ .before .has-bad-next .ensures)
-    (sym (t₂ .if4 .left) ∙ t₂ .before .has-bad-place .ensures) (sym (c .if5 .taken) ∙ c .before .has-stray-mark .ensures))
+    (unmarked-listed (heap s) (s .pre .4) (is-open .if1 .left)
+    (subst (Read (s .args .blocks) (s .args .list .now) _) (not-false _ (formed .if3 .left)) (read .read-list .ensures))
+    (sym (c .if5 .taken) ∙ c .before .has-unmarked .ensures))
 
 has-missed-root-requires : tie.Need-has-missed-root-requires
 has-missed-root-requires c κs =
@@ -125,39 +149,47 @@ returns-6 : tie.Need-returns-6
 returns-6 c =
     let s : tie.Start = search in
     let is-open : tie.Else1 = search in
-    let t₁ : tie.Else3 = search in
-    let t₂ : tie.Else4 = search in
-    let t₃ : tie.Else5 = search in
+    let formed : tie.Else3 = search in
+    let read : tie.After-read-list = search in
+    let none : tie.Else4 = search in
+    let all : tie.Else5 = search in
     for-all s
-    (untidy-4 (heap s) (s .pre .4) (is-open .if1 .left) (sym (t₁ .if3 .left) ∙ t₁ .before .has-bad-next .ensures)
-    (sym (t₂ .if4 .left) ∙ t₂ .before .has-bad-place .ensures) (sym (t₃ .if5 .left) ∙ t₃ .before .has-stray-mark .ensures)
+    (missed-root (heap s) (s .pre .4) (is-open .if1 .left)
+    (subst (Read (s .args .blocks) (s .args .list .now) _) (not-false _ (formed .if3 .left)) (read .read-list .ensures))
+    (sym (none .if4 .left) ∙ none .before .has-stray-data .ensures) (sym (all .if5 .left) ∙ all .before .has-unmarked .ensures)
     (sym (c .if6 .taken) ∙ c .before .has-missed-root .ensures))
+
+slice-aggregate-has-missed-cell : tie.Need-slice-aggregate-has-missed-cell
+slice-aggregate-has-missed-cell c = search needs
 
 has-missed-cell-requires : tie.Need-has-missed-cell-requires
 has-missed-cell-requires c κs =
     let s : tie.Start = search in
-    let shape = right s in (
+    let shape = right s in
+    let read : tie.After-read-list = search in (
       sym (shape .whole-bytes),
       shape .blocks-max,
-      omega (arith, shape .length-a, shape .whole-bytes),
       omega (arith, shape .length-b, shape .whole-bytes),
+      omega (arith, shape .length-d, shape .whole-bytes),
       shape .length-cells,
       omega (arith, shape .length-marks, shape .whole-bytes),
-      shape .length-list,
-      omega (arith, shape .length-d, shape .whole-bytes),
+      omega (arith, shape .blocks-max, read .read-list .kept .1 .1 .0, length-replicate {A = ℕ} (maxBlocks / 8) 0),
     )
 
 returns-7 : tie.Need-returns-7
 returns-7 c =
     let s : tie.Start = search in
     let is-open : tie.Else1 = search in
-    let t₁ : tie.Else3 = search in
-    let t₂ : tie.Else4 = search in
-    let t₃ : tie.Else5 = search in
+    let formed : tie.Else3 = search in
+    let read : tie.After-read-list = search in
+    let none : tie.Else4 = search in
+    let all : tie.Else5 = search in
+    let rooted : tie.Else6 = search in
     for-all s
-    (untidy-5 (heap s) (s .pre .4) (is-open .if1 .left) (sym (t₁ .if3 .left) ∙ t₁ .before .has-bad-next .ensures)
-    (sym (t₂ .if4 .left) ∙ t₂ .before .has-bad-place .ensures) (sym (t₃ .if5 .left) ∙ t₃ .before .has-stray-mark .ensures)
-    (sym (c .before .if6 .left) ∙ c .before .before .has-missed-root .ensures) (c .has-missed-cell .ensures))
+    (missed-cell (heap s) (s .pre .4) (is-open .if1 .left)
+    (subst (Read (s .args .blocks) (s .args .list .now) _) (not-false _ (formed .if3 .left)) (read .read-list .ensures))
+    (sym (none .if4 .left) ∙ none .before .has-stray-data .ensures) (sym (all .if5 .left) ∙ all .before .has-unmarked .ensures)
+    (sym (rooted .if6 .left) ∙ rooted .before .has-missed-root .ensures) (c .has-missed-cell .ensures))
 
 pub is-untidy-spec : {M : Type 1} → statement M
 is-untidy-spec =
@@ -167,15 +199,19 @@ is-untidy-spec =
     shared-slice-read-if1
     next-bit-requires
     returns
-    has-entry-requires
+    add-has-number
+    has-number-requires
     returns-2
-    has-bad-next-requires
+    slice-aggregate-read-list
+    read-list-requires
     returns-3
-    has-bad-place-requires
+    has-stray-data-requires
     returns-4
-    has-stray-mark-requires
+    slice-aggregate-has-unmarked
+    has-unmarked-requires
     returns-5
     has-missed-root-requires
     returns-6
+    slice-aggregate-has-missed-cell
     has-missed-cell-requires
     returns-7)
