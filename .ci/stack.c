@@ -227,8 +227,8 @@ int main(void) {
         {"reason", reason, A_WALK, ANY},
         {"shape", shape, A_WALK, ANY},
         {"copy", copy, A_COPY, CLOSED | FULL},
-        {"replay", replay, {19000, 19000, 19000, 19000}, ANY},
-        {"make_calls", make_calls, A_TEST, ANY},
+        {"replay", replay, {20000, 20000, 20000, 20000}, ANY},
+        {"make_calls", make_calls, {20000, 20000, 20000, 77000}, ANY},
         {"run_records", run_records, A_TEST, OPEN | CLOSED},
     };
     enum { EACH = sizeof each / sizeof *each };

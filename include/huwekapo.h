@@ -24,9 +24,9 @@
  * refusal changes no buffer. Arguments are whole words, and nothing of them is cut off: a v of 2^32 + 1 is refused 8. Only the
  * number that is written into data is as wide as a cell: any such number is right. Format, both allocations, both stores, the
  * return, collect, steps, both lists of calls and runs of records leave `waiting` all 0, and `sections` as it must be, when
- * accepted; the opening of a collection writes `marks` and `list` and nothing else; the write of a number changes one cell and nothing else;
- * check, look, free blocks and the read of a number write nothing; the reason and the shape write nothing but their output; a copy
- * writes nothing but the buffers of its second heap, which it leaves as a collection leaves them.
+ * accepted; the opening of a collection writes `marks` and `list` and nothing else; the write of a number changes one cell and
+ * nothing else; check, look, free blocks and the read of a number write nothing; the reason and the shape write nothing but their
+ * output; a copy writes nothing but the buffers of its second heap, which it leaves as a collection leaves them.
  *
  * The cells of data are never followed, counted or checked as references, whatever they hold. What roots and cells name may be
  * data. When data is freed, its cells become 0, and its D bit too.
@@ -39,10 +39,9 @@
  * none of those objects of a later store was or led to, is gone at the close. The steps from the opening to the close are at
  * most the objects present at the opening.
  *
- * The buffers, those of both heaps of a copy, the two lists of replay and of make_calls, the bytes of a run, and the outputs of the reason and of
- * the shape must not overlap, nor
- * may the text and the cells of a reason that is read; and each pointer must be good for its length, and not null even where that
- * is 0.
+ * The buffers, those of both heaps of a copy, the two lists of replay and of make_calls, the bytes of a run, and the outputs of the
+ * reason and of the shape must not overlap, nor may the text and the cells of a reason that is read; and each pointer must be good
+ * for its length, and not null even where that is 0.
  *
  * huwekapo_heap.h has the ten buffers as one struct, and the same calls on it.
  *
@@ -52,9 +51,10 @@
  *   - x86-64, and of a C library memset and memcpy alone. Nothing is allocated, nothing is printed, and there is no global state:
  *     heaps in different buffers may be used by different threads at once. Calls on one heap must not overlap in time.
  *   - Stack: less than 19,000 bytes on heaps of up to 8,192 blocks, and less than 77,000 on larger ones. Format takes less than
- *     2,000 and replay less than 19,000, whatever the size. The reason and the shape take less than 18,000 bytes up to 1,024
- *     blocks, 135,000 up to 8,192, and 1,060,000 on larger heaps; a copy less than 27,000, 145,000 and 1,070,000. Recursion
- *     goes six deep at most, over the halves of a section.
+ *     2,000 and replay less than 20,000, whatever the size; make_calls less than 20,000 on heaps of up to 8,192 blocks, and less
+ *     than 77,000 on larger ones. The reason and the shape take less than 18,000 bytes up to 1,024 blocks, 135,000 up to 8,192,
+ *     and 1,060,000 on larger heaps; a copy less than 27,000, 145,000 and 1,070,000. Recursion goes six deep at most, over the
+ *     halves of a section.
  *   - Time: every call but format and replay tests the whole heap before it does anything, steps too; make_calls tests it once for
  *     all its calls, and a run of records once for each piece. Many calls at a time are therefore best made by make_calls, by
  *     replay, or by a run of records in long pieces.

@@ -160,19 +160,18 @@ class Calls(unittest.TestCase):
             heap.replay([(2, 2, 0, 0, 0)])
 
     def test_make_calls(self) -> None:
-        calls = [(2, 2, 0), (9, 1, 1), (12,), (4, 0, 7, 3), (10, 2, 0, 2**32 - 1), (13, 1), (8, 2), (6, 5), (13, 9)]
         heap, other = Heap(8, 2, 4), Heap(8, 2, 4)
-        heap.allocate(1, 3)
-        other.allocate(1, 3)
-        numbers = []
+        self.assertEqual((heap.allocate(1, 3), other.allocate(1, 3)), (0, 0))
+        calls = [(2, 2, 0), (9, 1, 1), (12,), (4, 2, 7, 1), (10, 2, 0, 2**32 - 1), (13, 1), (8, 2), (6, 5), (13, 9)]
         replies = heap.make_calls(calls)
-        for call in calls:
-            numbers += other.make_calls([call])
-        self.assertEqual(replies, numbers)
+        self.assertEqual([reply.number for reply in replies], [0, 0, 0, 0, 12, 0, 0, 6, 0])
+        # The same one by one. What stood lives on.
+        self.assertEqual((other.allocate(2, 0), other.allocate_data(1, 1)), (2, 1))
+        other.open_collection()
+        due = [2, 1, 0, other.store_cell(2, 7, 1), 0, other.step_collection(1).steps, other.return_roots(2), 0, other.step_collection(9).steps]
+        self.assertEqual([reply.value for reply in replies], due)
         self.assertEqual(heap, other)
-        self.assertEqual([reply.number for reply in replies], [0, 0, 0, 8, 12, 0, 0, 6, 0])
-        # Not formatted: what stood lives on.
-        self.assertEqual((heap.look(0), heap.is_open), (Look(1, 1), False))
+        self.assertEqual((heap.look(0), heap.is_open, heap.waiting.tolist()), (Look(1, 2), False, 8 * [0]))
         self.assertEqual((heap.make_calls([]), heap), ([], other))
         for wrong in [[(14,)], [(7,), (10, 0, 0, 2**32)]]:
             with self.refused(9, 0, "NO_CALL"):
