@@ -193,7 +193,7 @@ _BANDS = {
     "reached by a root": {"facecolor": "#dfe8f2", "edgecolor": "none"},
     GARBAGE_WORDS["stuck"]: {"facecolor": "#f4b183", "edgecolor": "0.35", "hatch": "////"},
     GARBAGE_WORDS["both"]: {"facecolor": "#c9a6c9", "edgecolor": "0.35", "hatch": "xxxx"},
-    GARBAGE_WORDS["cycles"]: {"facecolor": "#a9a9a9", "edgecolor": "0.35", "hatch": "...."},
+    GARBAGE_WORDS["cycles"]: {"facecolor": "#a9a9a9", "edgecolor": "0.35", "hatch": ".."},
 }
 _LINE = "most in use in each step"
 _MARK = "step with a full collection"
