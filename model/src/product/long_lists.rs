@@ -42,10 +42,7 @@ pub fn at_random(blocks: usize) -> Vec<u64> {
     let mut empty: Vec<usize> = (0..4).collect();
     for i in 1..blocks {
         let cell = empty.swap_remove(random.below(empty.len()));
-        calls.extend([
-            allocate(NEW),
-            store_cell(cell / 4, cell % 4, 1 + i as u64),
-        ]);
+        calls.extend([allocate(NEW), store_cell(cell / 4, cell % 4, 1 + i as u64)]);
         empty.extend(4 * i..4 * i + 4);
     }
     for cell in empty {

@@ -1,6 +1,7 @@
 //! Bits, counts, first blocks, sizes, data, chunks and extents: by bytes where the library goes by bytes.
 
 use super::words::{eight_bytes, twice};
+use crate::rules::heap::Ref;
 
 pub fn get_bit(map: &[u8], i: usize) -> u8 {
     (map[i / 8] >> (i % 8)) % 2
@@ -123,6 +124,12 @@ pub fn naming_cells(data: &[u8], i: usize, n: usize) -> usize {
         return 0;
     }
     4 * n
+}
+
+/// 0 only where the four cells from `from` on are all 0.
+pub fn any_of_four(cells: &[Ref], from: usize) -> Ref {
+    let four = &cells[from..from + 4];
+    four[0] | four[1] | four[2] | four[3]
 }
 
 /// Whether block i is a block of data, in a walk from block 0 upwards: `before` says it of the block before it.

@@ -1,12 +1,13 @@
-//! The check as it was before it went by bytes, kept to be compared with: kinds 1 to 5 and 7 block by block, a tally of whole
-//! numbers, a size and a run of bits bit by bit; and the collection with that size and those runs.
+//! The check and the collection as they were before they went by bytes, kept to be compared with: kinds 1 to 5 and 7 block by block, a
+//! tally of whole numbers, a size and a run of bits bit by bit; counts written in the maps while marking, and a sweep of every block.
 
 use super::blocks::{
-    chunk_size, get_bit, get_count, is_first, is_in_data, is_reference, set_bit,
+    chunk_size, get_bit, get_count, is_first, is_in_data, is_reference, naming_cells, set_bit,
+    set_count,
 };
 use super::damage::{check_with, is_free_or_past};
-use super::references::collect_with;
-use super::sections::renew;
+use super::references::capacity;
+use super::sections::{mark_unknown, renew};
 use super::{Answer, Lent};
 use crate::rules::heap::Ref;
 
@@ -182,9 +183,74 @@ pub fn check_by_blocks(blocks: usize, width: usize, m: &Lent) -> Answer {
     check_with(damage_kind, blocks, width, m)
 }
 
+fn visit(
+    blocks: usize,
+    width: usize,
+    counts: &mut [u8],
+    waiting: &mut [Ref],
+    v: Ref,
+    top: usize,
+) -> usize {
+    if v == 0 {
+        return top;
+    }
+    if blocks < v as usize {
+        return top;
+    }
+    let block = v as usize - 1;
+    let count = get_count(counts, blocks / 8, width, block);
+    if count == 0 {
+        set_count(counts, blocks / 8, width, block, 1);
+        waiting[top] = v - 1;
+        return top + 1;
+    }
+    if count < capacity(width) {
+        set_count(counts, blocks / 8, width, block, count + 1);
+    }
+    top
+}
+
+fn mark(blocks: usize, width: usize, m: &mut Lent) {
+    for byte in m.counts.iter_mut() {
+        *byte = 0;
+    }
+    let mut top = 0;
+    for r in 0..m.roots.len() {
+        top = visit(blocks, width, m.counts, m.waiting, m.roots[r], top);
+    }
+    while 0 < top {
+        top -= 1;
+        let i = m.waiting[top] as usize;
+        m.waiting[top] = 0;
+        let n = object_size(blocks, m.b, i);
+        for j in 4 * i..4 * i + naming_cells(m.data, i, n) {
+            top = visit(blocks, width, m.counts, m.waiting, m.cells[j], top);
+        }
+    }
+}
+
+/// Marking, and a sweep of every block. The number of blocks freed.
+fn collect(blocks: usize, width: usize, m: &mut Lent) -> usize {
+    mark(blocks, width, m);
+    let mut freed = 0;
+    for i in 0..blocks {
+        if is_first(blocks, m.a, m.b, i) && get_count(m.counts, blocks / 8, width, i) == 0 {
+            let n = object_size(blocks, m.b, i);
+            clear_extent(m.a, m.b, i, n);
+            mark_unknown(blocks, m.sections, i, n);
+            for j in 4 * i..4 * i + 4 * n {
+                m.cells[j] = 0;
+            }
+            set_bit(m.data, i, 0);
+            freed += n;
+        }
+    }
+    freed
+}
+
 /// What `full_collection` does.
 pub fn collection_by_blocks(blocks: usize, width: usize, m: &mut Lent) -> usize {
-    let freed = collect_with(object_size, clear_extent, blocks, width, m);
+    let freed = collect(blocks, width, m);
     if freed != 0 {
         renew(blocks, m.a, m.sections);
     }

@@ -3,6 +3,7 @@
 
 mod blocks;
 mod by_blocks;
+mod collection;
 mod damage;
 mod history;
 mod references;

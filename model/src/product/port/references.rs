@@ -1,15 +1,14 @@
-//! Counting, release, the two stores, placing, and the collection. What is placed or freed leaves the figures of its
-//! sections unknown.
+//! Counting, release, the two stores, and placing. What is placed or freed leaves the figures of its sections unknown.
 
 use super::blocks::{
-    clear_extent, get_count, is_first, mark_extent, naming_cells, object_size, set_bit, set_count,
+    clear_extent, get_count, mark_extent, naming_cells, object_size, set_bit, set_count,
 };
 use super::sections::mark_unknown;
 use super::steps::{forget, is_open, meet, meet_store};
 use super::Lent;
 use crate::rules::heap::Ref;
 
-fn capacity(width: usize) -> u8 {
+pub fn capacity(width: usize) -> u8 {
     (1u8 << width) - 1
 }
 
@@ -190,85 +189,4 @@ pub fn place(
         freed,
         stuck: capacity(width) == 1,
     }
-}
-
-fn visit(
-    blocks: usize,
-    width: usize,
-    counts: &mut [u8],
-    waiting: &mut [Ref],
-    v: Ref,
-    top: usize,
-) -> usize {
-    if v == 0 {
-        return top;
-    }
-    if blocks < v as usize {
-        return top;
-    }
-    let block = v as usize - 1;
-    let count = get_count(counts, blocks / 8, width, block);
-    if count == 0 {
-        set_count(counts, blocks / 8, width, block, 1);
-        waiting[top] = v - 1;
-        return top + 1;
-    }
-    if count < capacity(width) {
-        set_count(counts, blocks / 8, width, block, count + 1);
-    }
-    top
-}
-
-fn mark(
-    object_size: impl Fn(usize, &[u8], usize) -> usize,
-    blocks: usize,
-    width: usize,
-    m: &mut Lent,
-) {
-    for byte in m.counts.iter_mut() {
-        *byte = 0;
-    }
-    let mut top = 0;
-    for r in 0..m.roots.len() {
-        top = visit(blocks, width, m.counts, m.waiting, m.roots[r], top);
-    }
-    while 0 < top {
-        top -= 1;
-        let i = m.waiting[top] as usize;
-        m.waiting[top] = 0;
-        let n = object_size(blocks, m.b, i);
-        for j in 4 * i..4 * i + naming_cells(m.data, i, n) {
-            top = visit(blocks, width, m.counts, m.waiting, m.cells[j], top);
-        }
-    }
-}
-
-/// The full collection, on an undamaged heap with a cleared waiting list. The number of blocks freed.
-pub fn collect(blocks: usize, width: usize, m: &mut Lent) -> usize {
-    collect_with(object_size, clear_extent, blocks, width, m)
-}
-
-/// The same, with a way of its own to find a size and to clear an extent.
-pub fn collect_with(
-    object_size: impl Fn(usize, &[u8], usize) -> usize + Copy,
-    clear_extent: impl Fn(&mut [u8], &mut [u8], usize, usize),
-    blocks: usize,
-    width: usize,
-    m: &mut Lent,
-) -> usize {
-    mark(object_size, blocks, width, m);
-    let mut freed = 0;
-    for i in 0..blocks {
-        if is_first(blocks, m.a, m.b, i) && get_count(m.counts, blocks / 8, width, i) == 0 {
-            let n = object_size(blocks, m.b, i);
-            clear_extent(m.a, m.b, i, n);
-            mark_unknown(blocks, m.sections, i, n);
-            for j in 4 * i..4 * i + 4 * n {
-                m.cells[j] = 0;
-            }
-            set_bit(m.data, i, 0);
-            freed += n;
-        }
-    }
-    freed
 }

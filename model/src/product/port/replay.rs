@@ -4,8 +4,9 @@
 use super::blocks::{
     chunk_size, count_zeros, get_bit, get_count, is_first, is_reference, lowest_chunk, object_size,
 };
+use super::collection::collect;
 use super::damage::is_shaped;
-use super::references::{collect, place, return_roots, store_cell, store_root, Stored};
+use super::references::{place, return_roots, store_cell, store_root, Stored};
 use super::sections::{find_chunk, renew, section_length};
 use super::steps::{is_open, open, take_steps};
 use super::{acceptance, refusal, telling, Answer, Lent};
