@@ -29,7 +29,7 @@ final class Check {
         }
         for (Class<?> c : machine.getAllLoadedClasses()) {
             if (c.isArray() || Unsafe.getUnsafe().shouldBeInitialized(c) || !Scope.followed(c)) continue;
-            for (Field f : c.getDeclaredFields()) {
+            for (Field f : fields(c)) {
                 int cell = Setup.holdsReference(f) ? transformer.known(c.getName(), f.getName()) : -1;
                 if (cell >= 0 && Recorder.wasRecorded(cell)) note(Recorder.isAsRecorded(cell, Setup.get(f)), c);
             }
@@ -46,6 +46,15 @@ final class Check {
         if (Recorder.late() > 0) System.err.println("trace: written by code that is not traced, and recorded late: " + Recorder.late() + " cells");
         if (Recorder.elsewhere() > 0) System.err.println("trace: not recorded: " + Recorder.elsewhere() + " calls of methods in other threads");
         if (transformer.left() > 0) System.err.println("trace: not instrumented: " + transformer.left() + " classes, named above");
+    }
+
+    /** The fields of a class; none where one is of a class that is missing. */
+    private static Field[] fields(Class<?> c) {
+        try {
+            return c.getDeclaredFields();
+        } catch (LinkageError e) {
+            return new Field[0];
+        }
     }
 
     private static void note(boolean isSame, Class<?> c) {

@@ -25,8 +25,8 @@ final class Layout {
     private Layout(Class<?> c, Layout next) {
         this.of = c;
         this.next = next;
-        this.followed = Scope.followed(c);
         this.isArray = c.isArray();
+        this.followed = Scope.followed(c) && (isArray || isLaid(c));
     }
 
     static int count() { return count; }
@@ -41,9 +41,19 @@ final class Layout {
             String name = c.getName();
             int slash = name.indexOf('/');
             Events.writeClass(l.number, slash < 0 ? name : name.substring(0, slash));
-            if (!l.isArray) l.lay(c);
         }
         return l;
+    }
+
+    /** Finds the fields. A class may have fields of classes that are missing, and then tells of none. */
+    private boolean isLaid(Class<?> c) {
+        try {
+            lay(c);
+            return true;
+        } catch (LinkageError e) {
+            System.err.println("trace: objects are not followed of " + c.getName() + ": " + e);
+            return false;
+        }
     }
 
     private void lay(Class<?> c) {

@@ -130,8 +130,13 @@ public final class Recorder {
         busy = false;
     }
 
-    /** A handler of the frame has caught an exception: the frames above are gone. */
-    public static void caught(int frame) { if (frame >= 0) leave(frame + 1); }
+    /** A handler of the frame has caught an exception: the frames above are gone, and the recorder's own where it ran out of stack. */
+    public static void caught(int frame) {
+        if (frame < 0 || Thread.currentThread() != thread) return;
+        busy = true;
+        unwind(frame + 1);
+        busy = false;
+    }
 
     /** A local variable is written. */
     public static void local(Object o, int slot, int frame) {
