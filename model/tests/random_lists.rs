@@ -59,7 +59,10 @@ fn claims_in_every_family() {
                     Entry::NumberOutOfRange => {
                         assert!(["huge-arguments", "mixed"].contains(&family))
                     }
-                    Entry::Reason { .. } | Entry::Shape { .. } | Entry::Unknown(_) => {
+                    Entry::Reason { .. }
+                    | Entry::Shape { .. }
+                    | Entry::Copy { .. }
+                    | Entry::Unknown(_) => {
                         panic!("an entry of no family")
                     }
                 }
