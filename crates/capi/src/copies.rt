@@ -1,6 +1,6 @@
 // The copy into a second heap (request U14).
 ghost use Rattle.rules.specs.Lent.{before, after};
-ghost use Rattle.rules.specs.Promise.{CopyPromise};
+ghost use Rattle.rules_calls.specs.Promise.{CopyPromise};
 use types::Ref;
 use types::Reply;
 

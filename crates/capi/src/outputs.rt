@@ -2,7 +2,7 @@
 ghost use mathlib.Core.Path.{_≡_};
 ghost use lib.ListN.{length};
 ghost use Rattle.rules.specs.Lent.{before, after};
-ghost use Rattle.rules.specs.Promise.{ReasonPromise, ShapePromise};
+ghost use Rattle.rules_calls.specs.Promise.{ReasonPromise, ShapePromise};
 ghost use Rattle.walk_reader.specs.Reader.{smallBack, readingOf, cellsAfter};
 use types::Ref;
 use types::Reply;

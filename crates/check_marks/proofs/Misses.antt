@@ -13,7 +13,7 @@ use Rattle.rules.specs.Tools.{someBelow}
 use Rattle.rules.proofs.Tests.{test-cases, and-true, and-false, true-and, false-and, some-true, some-false, true-some, false-some}
 use Rattle.step_list.specs.Lists.{isSet}
 use Rattle.rules.specs.Heap.{sizeFrom}
-use Rattle.rules.specs.Store.{namingCells}
+use Rattle.rules_stores.specs.Store.{namingCells}
 use Rattle.step_list.specs.Naming.{namedFrom, cellNames}
 use Rattle.check_marks.specs.Tidy.{missedAt}
 

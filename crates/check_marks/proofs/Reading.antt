@@ -11,7 +11,7 @@ use lib.ListN.{length, getD}
 use borrow.Author.Tests.{eqb-true, eqb-false, eq-eqb, ne-eqb, le-leb, lt-leb, not-true, not-false}
 use Rattle.bitmap.specs.Bit.{setBit}
 use Rattle.rules.specs.Tools.{someBelow}
-use Rattle.rules.specs.Steps.{badNext}
+use Rattle.rules_steps.specs.Steps.{badNext}
 use Rattle.rules.proofs.Tests.{test-cases, true-some, some-true, some-false}
 use Rattle.rules.proofs.Stretches.{some-further, none-further}
 use Rattle.step_list.specs.Lists.{listedIn, Shows}

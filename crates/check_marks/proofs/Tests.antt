@@ -16,7 +16,7 @@ use Rattle.bitmap.proofs.Digits.{each-bit, digit-and, digit-not, or-some}
 use Rattle.bitmap.proofs.Maps.{bit-past-end, bit-of-byte, bit-at-lt}
 use Rattle.rules.specs.Tools.{someBelow}
 use Rattle.rules.specs.Heap.{firstIn}
-use Rattle.rules.specs.Steps.{badPlace}
+use Rattle.rules_steps.specs.Steps.{badPlace}
 use Rattle.rules.proofs.Tests.{false-unless, test-cases, and-true, some-true, true-some, false-some, some-next}
 use Rattle.rules.proofs.Stretches.{EightTests}
 use Rattle.step_list.specs.Lists.{isSet, listedIn, Shows}

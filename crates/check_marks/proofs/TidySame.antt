@@ -13,15 +13,15 @@ use borrow.Author.Tests.{eq-eqb, ne-eqb, not-true, not-false}
 use Rattle.rules.specs.Tools.{someBelow}
 use Rattle.rules.specs.Heap.{Memory, lentMemory, isFirst}
 use Rattle.rules.specs.Damage.{strayData}
-use Rattle.rules.specs.Steps.{names, isMarked, isListed, badNext, badPlace, strayMark, rootMissed, cellMissed, isUntidy}
+use Rattle.rules_steps.specs.Steps.{names, isMarked, isListed, badNext, badPlace, strayMark, rootMissed, cellMissed, isUntidy}
 use Rattle.rules.proofs.Tests.{test-cases, and-true, and-false, some-true, some-false, false-some, true-some}
 use Rattle.step_list.specs.Lists.{isSet, listedIn, NextBit}
 use Rattle.step_list.specs.Naming.{namedFrom, cellNames}
 use Rattle.check_marks.specs.Tidy.{badNextIn, badPlaceIn, strayMarkIn, rootMissedIn, missedAt, cellMissedIn, missedApart, Read}
 use Rattle.check_marks.proofs.Tests.{place-past, place-unmarked, places-good, apart-same}
-use Rattle.theory.specs.Statements.{Intact}
-use Rattle.theory.proofs.Memories.Healthy.{Healthy, healthy-facts}
-use Rattle.theory.proofs.Memories.Naming.{names-cells}
+use Rattle.theory_memories.specs.Heaps.{Intact}
+use Rattle.theory_memories.proofs.Memories.Healthy.{Healthy, healthy-facts}
+use Rattle.theory_memories.proofs.Memories.Naming.{names-cells}
 
 pub intact-healthy : {N w : ℕ} {h : Memory} → Intact N w h → Healthy N w h
 intact-healthy {N} {w} {h} intact = healthy-facts N w h (intact .right-shape) (intact .no-damage)

@@ -9,7 +9,7 @@ use lib.ListN.{getD}
 use Rattle.bitmap.specs.Bit.{bitOf}
 use Rattle.rules.specs.Tools.{someBelow}
 use Rattle.rules.specs.Heap.{firstIn, lentMemory}
-use Rattle.rules.specs.Steps.{badNext, badPlace, strayMark, rootMissed}
+use Rattle.rules_steps.specs.Steps.{badNext, badPlace, strayMark, rootMissed}
 use Rattle.step_list.specs.Lists.{isSet, listedIn, Shows}
 use Rattle.step_list.specs.Naming.{cellNames}
 

@@ -6,7 +6,7 @@ use Prim.Native.Nat.{ℕ, zero, suc, _-_, _*_, _/_, _≤_, _<_}
 use native.Mathlib.Omega.{arith}
 use lib.ListN.{length, getD, set, replicate}
 use Rattle.rules.specs.Heap.{Memory, withB, withCells, withRoots, withD, sizeAt, isData}
-use Rattle.rules.specs.Store.{Work, work, namingCells}
+use Rattle.rules_stores.specs.Store.{Work, work, namingCells}
 use Rattle.count_up.specs.Stack.{topFirst, uncounted, remaining, Stack, Worked}
 use Rattle.count_up.proofs.Stack.{top-first-kept, top-first-pop, stack-pop, stack-empty}
 use Rattle.count_up.proofs.Shapes.{planes-same}

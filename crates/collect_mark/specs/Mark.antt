@@ -6,7 +6,7 @@ use mathlib.Core.Path.{_≡_}
 use mathlib.Core.List.{List, [], _∷_}
 use lib.ListN.{length, replicate}
 use Rattle.rules.specs.Heap.{Memory, sizeAt}
-use Rattle.rules.specs.Store.{work, namingCells}
+use Rattle.rules_stores.specs.Store.{work, namingCells}
 use Rattle.count_up.specs.Ready.{Planes}
 use Rattle.collect_visit.specs.Visit.{visitEach}
 

@@ -11,7 +11,7 @@ use borrow.Author.Tests.{eqb-true}
 use Rattle.bitmap.specs.Bit.{setBit, fillBits}
 use Rattle.planes.proofs.Counts.{set-count-there}
 use Rattle.rules.specs.Heap.{Memory, withA, withB, withCounts, withCells, withD, isFirst, sizeAt, countOf}
-use Rattle.rules.specs.Store.{freed, clearCells}
+use Rattle.rules_stores.specs.Store.{freed, clearCells}
 use Rattle.rules.proofs.Tests.{and-true}
 use Rattle.section_figures.specs.Figures.{Coherent}
 use Rattle.count_up.specs.Ready.{partMemory}

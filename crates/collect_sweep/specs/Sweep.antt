@@ -4,7 +4,7 @@ use mathlib.Core.Path.{_≡_}
 use mathlib.Core.Bool.{Bool, true, false, _&&_}
 use lib.Dec.{eqb}
 use Rattle.rules.specs.Heap.{Memory, isFirst, sizeAt, countOf}
-use Rattle.rules.specs.Store.{freed}
+use Rattle.rules_stores.specs.Store.{freed}
 
 -- an object of count 0 starts at block i
 unfoldable pub isUnmarked : ℕ → ℕ → Memory → ℕ → Bool

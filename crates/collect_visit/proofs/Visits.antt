@@ -11,7 +11,7 @@ use lib.Pow.{pow-mono}
 use borrow.Author.Tests.{lt-ltb, le-ltb, eq-eqb, ne-eqb}
 use Rattle.planes.specs.Plane.{countAt, setCount}
 use Rattle.rules.specs.Heap.{capacity}
-use Rattle.rules.specs.Store.{Work, work, countUp}
+use Rattle.rules_stores.specs.Store.{Work, work, countUp}
 use Rattle.count_up.specs.Ready.{Planes}
 use Rattle.count_up.specs.Stack.{topFirst, uncounted, remaining, Stack, Worked}
 use Rattle.count_up.proofs.Worked.{unchanged, kept, push-room, pushed, worked-next}

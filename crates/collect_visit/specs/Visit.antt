@@ -6,7 +6,7 @@ use mathlib.Core.List.{List, _∷_}
 use lib.ListN.{getD}
 use lib.Dec.{ltb, eqb}
 use Rattle.planes.specs.Plane.{countAt}
-use Rattle.rules.specs.Store.{Work, work, countUp}
+use Rattle.rules_stores.specs.Store.{Work, work, countUp}
 use Rattle.count_up.specs.Ready.{Planes}
 use Rattle.count_up.specs.Stack.{uncounted, Stack, Worked}
 use Rattle.collect_counts.specs.Counts.{Counting, countMaps}

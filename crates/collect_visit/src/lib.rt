@@ -3,7 +3,7 @@
 ghost use Prim.Native.Nat.{_+_, _*_, _<_, _≤_};
 ghost use lib.ListN.{length};
 ghost use Rattle.rules.specs.Heap.{maxBlocks};
-ghost use Rattle.rules.specs.Store.{work};
+ghost use Rattle.rules_stores.specs.Store.{work};
 ghost use Rattle.count_up.specs.Stack.{topFirst, uncounted, remaining};
 ghost use Rattle.collect_counts.specs.Counts.{countMaps};
 ghost use Rattle.collect_visit.specs.Visit.{visit, visitEach, Counted, VisitedTo};

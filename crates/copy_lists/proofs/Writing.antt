@@ -4,7 +4,7 @@ use mathlib.Core.Bool.{Bool, true, false, true≢false, false≢true}
 use mathlib.Core.List.{List}
 use Prim.Native.Nat.{ℕ}
 use Rattle.rules.specs.Heap.{Memory}
-use Rattle.rules.specs.Copy.{layFirst, layAll, allLaid}
+use Rattle.rules_copy.specs.Copy.{layFirst, layAll, allLaid}
 use Rattle.copy_plan.specs.Plan.{Planned}
 use Rattle.refinement_copy.specs.Routed.{filledLists}
 use Rattle.copy_lists.specs.Written.{CopyWritten}

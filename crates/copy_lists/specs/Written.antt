@@ -6,7 +6,7 @@ use mathlib.Core.Bool.{Bool, true, false}
 use mathlib.Core.List.{List}
 use lib.ListN.{length}
 use Rattle.rules.specs.Heap.{Memory, isBlocks}
-use Rattle.rules.specs.Copy.{layAll, allLaid}
+use Rattle.rules_copy.specs.Copy.{layAll, allLaid}
 use Rattle.count_up.specs.Ready.{Planes, Extents}
 use Rattle.refinement_copy.specs.Routed.{filledLists}
 

@@ -7,7 +7,7 @@ use native.Mathlib.Numerals.{add-one}
 use native.Mathlib.Omega.{arith}
 use lib.ListN.{getD, set}
 use borrow.Author.Tests.{eq-eqb, ne-eqb}
-use Rattle.rules.specs.Copy.{fillCells}
+use Rattle.rules_copy.specs.Copy.{fillCells}
 use Rattle.copy_objects.specs.Copying.{movedTo, movedCells}
 
 -- one more

@@ -7,8 +7,8 @@ use lib.ListN.{getD}
 use Rattle.bitmap.specs.Bit.{bitAt, setBit, fillBits}
 use Rattle.planes.specs.Plane.{setCount}
 use Rattle.rules.specs.Heap.{Memory, capacity, sizeFrom}
-use Rattle.rules.specs.Store.{madeAt}
-use Rattle.rules.specs.Copy.{fillCells}
+use Rattle.rules_stores.specs.Store.{madeAt}
+use Rattle.rules_copy.specs.Copy.{fillCells}
 use Rattle.copy_plan.specs.Plan.{blockIn}
 use Rattle.count_up.specs.Ready.{partMemory}
 use Rattle.copy_objects.specs.Copying.{movedCells, copyObject, copyObjects}

@@ -8,8 +8,8 @@ use lib.ListN.{length, getD}
 use lib.Dec.{eqb}
 use Rattle.bitmap.specs.Bit.{bitAt}
 use Rattle.rules.specs.Heap.{Memory, maxBlocks, capacity, sizeFrom}
-use Rattle.rules.specs.Store.{madeAt}
-use Rattle.rules.specs.Copy.{fillCells}
+use Rattle.rules_stores.specs.Store.{madeAt}
+use Rattle.rules_copy.specs.Copy.{fillCells}
 use Rattle.copy_plan.specs.Plan.{blockIn}
 
 -- the reference to the copy of what v names, read off the array; 0 for nothing

@@ -4,7 +4,7 @@ ghost use mathlib.Core.Path.{_≡_};
 ghost use mathlib.Core.List.{[]};
 ghost use Prim.Native.Nat.{ℕ, _+_, _*_, _≤_, _<_};
 ghost use lib.ListN.{length, getD};
-ghost use Rattle.rules.specs.Copy.{fillCells};
+ghost use Rattle.rules_copy.specs.Copy.{fillCells};
 ghost use Rattle.copy_plan.specs.Plan.{blockIn};
 ghost use Rattle.count_up.specs.Ready.{Planes, Extents, partMemory};
 ghost use Rattle.copy_objects.specs.Copying.{movedTo, movedCells, Movable, copyObject, copyObjects};

@@ -18,9 +18,9 @@ use Rattle.rules.specs.Heap.{isBlocks, exponent, chunkFree, lowestFrom, lowestF
 use Rattle.rules.proofs.Tests.{false-unless}
 use Rattle.rules.proofs.Shape.{blocks-facts, blocks-le, blocks-power}
 use Rattle.rules.proofs.Chunks.{Used, exponent-covers, exponent-least, chunk-free, free-not-used}
-use Rattle.theory.proofs.Maps.LowestChunk.{lowest-some}
-use Rattle.theory.proofs.Graphs.Stretch.{side}
-use Rattle.theory.proofs.Memories.Formatted.{zeros-at}
+use Rattle.theory_memories.proofs.Maps.LowestChunk.{lowest-some}
+use Rattle.theory_graphs.proofs.Graphs.Stretch.{side}
+use Rattle.theory_memories.proofs.Memories.Formatted.{zeros-at}
 use Rattle.search_walk.specs.Search.{Part, orElse, lowestIn, Search}
 use Rattle.search_walk.proofs.LowestChunk.{multiple-lower}
 use Rattle.copy_plan.specs.Laying.{PassedOver, Sought, LaidOne}

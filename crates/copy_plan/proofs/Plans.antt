@@ -12,7 +12,7 @@ use lib.ListN.{length, getD, set, replicate, length-set, length-append, List·ge
 use lib.Seq.{getD-set-same, getD-set-other, getD-append-seam}
 use borrow.Author.Tests.{eq-eqb, ne-eqb}
 use Rattle.bitmap.specs.Bit.{fillBits}
-use Rattle.rules.specs.Copy.{laid, layOne, layNext, layFirst, allLaid, placesIn, newReference}
+use Rattle.rules_copy.specs.Copy.{laid, layOne, layNext, layFirst, allLaid, placesIn, newReference}
 use Rattle.copy_plan.specs.Laying.{LaidOne}
 use Rattle.copy_plan.specs.Plan.{blockIn, Numbering, Planned}
 

@@ -6,7 +6,7 @@ use mathlib.Core.Bool.{Bool, true}
 use mathlib.Core.List.{List}
 use lib.ListN.{length, getD}
 use Rattle.rules.specs.Heap.{maxBlocks, sizeFrom}
-use Rattle.rules.specs.Copy.{Laid, layFirst, allLaid, placesIn, newReference}
+use Rattle.rules_copy.specs.Copy.{Laid, layFirst, allLaid, placesIn, newReference}
 
 -- the first block of object k + 1: `order` has the references to the objects in the order of their numbers
 abbrev pub blockIn : (order : List ℕ) → (k : ℕ) → ℕ

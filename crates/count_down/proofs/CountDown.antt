@@ -13,7 +13,7 @@ use Rattle.planes.specs.Plane.{countAt, setCount}
 use Rattle.planes.proofs.Counts.{count-lt, set-count-there}
 use Rattle.map_objects.proofs.Cells.{clear-out}
 use Rattle.rules.specs.Heap.{capacity}
-use Rattle.rules.specs.Store.{Work, work, countDown, countDownEach, clearCells}
+use Rattle.rules_stores.specs.Store.{Work, work, countDown, countDownEach, clearCells}
 use Rattle.count_up.specs.Ready.{Planes}
 use Rattle.count_up.specs.Stack.{topFirst, counted, remaining, Stack, Worked}
 use Rattle.count_up.proofs.Worked.{unchanged, kept, push-room, pushed, worked-next}

@@ -4,7 +4,7 @@ ghost use Prim.Native.Nat.{_+_, _*_, _<_, _≤_};
 ghost use lib.ListN.{length};
 ghost use Rattle.bitmap.specs.Bit.{setBit};
 ghost use Rattle.rules.specs.Heap.{maxBlocks};
-ghost use Rattle.rules.specs.Store.{work, countDown, countDownEach, clearCells, namingCells};
+ghost use Rattle.rules_stores.specs.Store.{work, countDown, countDownEach, clearCells, namingCells};
 ghost use Rattle.step_marks.specs.Marks.{freedMarks};
 ghost use Rattle.count_up.specs.Ready.{Planes};
 ghost use Rattle.count_up.specs.Stack.{topFirst, counted, remaining, Stack, Worked};

@@ -9,7 +9,7 @@ use lib.Dec.{eqb}
 use borrow.Author.Tests.{eq-eqb, ne-eqb}
 use Rattle.planes.specs.Plane.{countAt, setCount}
 use Rattle.rules.specs.Heap.{capacity}
-use Rattle.rules.specs.Store.{countUp, sticks}
+use Rattle.rules_stores.specs.Store.{countUp, sticks}
 
 -- what is left, and the answer, are the rule's
 abbrev pub Up : (N w : ℕ) → (counts : List ℕ) → (v : ℕ) → (counts′ : List ℕ) → Bool → Type 0

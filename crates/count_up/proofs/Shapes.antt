@@ -8,7 +8,7 @@ use Rattle.bitmap.proofs.Maps.{length-set-bit}
 use Rattle.bitmap.proofs.Runs.{length-fill}
 use Rattle.map_objects.proofs.Cells.{length-clear}
 use Rattle.rules.specs.Heap.{Memory}
-use Rattle.rules.specs.Store.{clearCells}
+use Rattle.rules_stores.specs.Store.{clearCells}
 use Rattle.count_up.specs.Ready.{Planes, Extents, Ready}
 
 -- the memory that is known to be ready, for a lemma that asks for one: a `_` would be filled in with a far longer term

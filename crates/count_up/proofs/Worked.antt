@@ -10,7 +10,7 @@ use lib.Seq.{getD-set-same, getD-set-other}
 use Rattle.bitmap.specs.Bit.{one}
 use Rattle.planes.specs.Plane.{countAt, setCount}
 use Rattle.planes.proofs.Counts.{length-set-count}
-use Rattle.rules.specs.Store.{Work, work}
+use Rattle.rules_stores.specs.Store.{Work, work}
 use Rattle.count_up.specs.Ready.{Planes}
 use Rattle.count_up.specs.Stack.{topFirst, passing, remaining, Stack, Worked}
 use Rattle.count_up.proofs.Shapes.{planes-same}

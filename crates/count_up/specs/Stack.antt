@@ -8,7 +8,7 @@ use lib.ListN.{length, getD}
 use lib.Dec.{eqb}
 use Rattle.bitmap.specs.Bit.{countBelow}
 use Rattle.planes.specs.Plane.{countAt}
-use Rattle.rules.specs.Store.{Work, work}
+use Rattle.rules_stores.specs.Store.{Work, work}
 use Rattle.count_up.specs.Ready.{Planes}
 
 -- the first `top` places, the last first

@@ -1,7 +1,7 @@
 // A count up. `specs` has besides what every crate that counts asks of the lent lists.
 ghost use mathlib.Core.Path.{_≡_};
 ghost use Prim.Native.Nat.{_≤_};
-ghost use Rattle.rules.specs.Store.{countUp, sticks};
+ghost use Rattle.rules_stores.specs.Store.{countUp, sticks};
 ghost use Rattle.count_up.specs.Ready.{Planes};
 use types::Ref;
 

@@ -4,7 +4,7 @@ ghost use mathlib.Core.Bool.{true};
 ghost use Prim.Native.Nat.{_+_, _*_, _/_, _-_, _≤_, min};
 ghost use lib.ListN.{length};
 ghost use Rattle.rules.specs.Lent.{before, after, lent};
-ghost use Rattle.theory.specs.Usable.{Usable};
+ghost use Rattle.theory_memories.specs.Heaps.{Usable};
 ghost use Rattle.history_records.specs.Records.{recordLength, wide};
 ghost use Rattle.history_figures.specs.Figures.{mostRecords, inRange};
 ghost use Rattle.history_turns.specs.Steps.{Going};

@@ -4,8 +4,8 @@ use mathlib.Core.List.{[]}
 use Prim.Native.Nat.{ℕ}
 use native.Mathlib.Omega.{arith}
 use Rattle.rules.specs.Heap.{Memory, lentMemory}
-use Rattle.theory.specs.Usable.{Usable}
-use Rattle.theory.proofs.Memories.Stores.{roots-named}
+use Rattle.theory_memories.specs.Heaps.{Usable}
+use Rattle.theory_memories.proofs.Memories.Stores.{roots-named}
 use Rattle.theory.proofs.Usable.UsableHeap.{usable-healthy}
 use Rattle.history_records.specs.declared.Fields.{Fields}
 use Rattle.history_plans.specs.declared.Plan.{Plan}

@@ -1,6 +1,6 @@
 // The calls of one record, on an undamaged heap with a cleared waiting list.
 ghost use Rattle.rules.specs.Lent.{before, after, lent};
-ghost use Rattle.theory.specs.Usable.{Usable};
+ghost use Rattle.theory_memories.specs.Heaps.{Usable};
 ghost use Rattle.history_plans.specs.Meaning.{meaning};
 ghost use Rattle.history_turns.specs.Turns.{turnOf};
 ghost use Rattle.history_turns.specs.Steps.{Acted};

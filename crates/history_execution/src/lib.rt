@@ -2,7 +2,7 @@
 ghost use Prim.Native.Nat.{_≤_};
 ghost use Rattle.rules.specs.Heap.{maxNumber};
 ghost use Rattle.rules.specs.Lent.{before, after, lent};
-ghost use Rattle.theory.specs.Usable.{Usable};
+ghost use Rattle.theory_memories.specs.Heaps.{Usable};
 ghost use Rattle.history_plans.specs.Asked.{asked};
 ghost use Rattle.history_turns.specs.Turns.{turnOf};
 ghost use Rattle.history_turns.specs.Steps.{Going, Stepped};

@@ -5,7 +5,7 @@ use mathlib.Core.List.{List, [], _∷_}
 use lib.Dec.{eqb, leb}
 use Rattle.rules.specs.Tools.{all}
 use Rattle.rules.specs.Heap.{maxBlocks}
-use Rattle.rules.specs.Calls.{
+use Rattle.rules_calls.specs.Calls.{
   Call,
   format,
   check,
@@ -27,7 +27,7 @@ use Rattle.rules.specs.Calls.{
   copyInto,
 }
 use Rattle.types.specs.declared.Reply.{Reply}
-use Rattle.theory.specs.Words.{Made}
+use Rattle.theory.specs.CallWords.{Made}
 use Rattle.history_figures.specs.declared.tally.Tally.{Tally}
 use Rattle.history_figures.specs.declared.tally.Run.{Run}
 

@@ -9,7 +9,7 @@ use lib.ListN.{length, getD}
 use borrow.Author.Tests.{lt-ltb, le-ltb, ltb-true, eq-eqb, ne-eqb}
 use Rattle.bitmap.specs.Bit.{bitAt}
 use Rattle.rules.specs.Heap.{Memory, sizeAt}
-use Rattle.rules.specs.Calls.{storeRoot, storeCell, writeNumber}
+use Rattle.rules_calls.specs.Calls.{storeRoot, storeCell, writeNumber}
 use Rattle.history_records.specs.declared.Fields.{Fields}
 use Rattle.history_records.specs.Records.{unnamed, areZero}
 use Rattle.history_records.proofs.Unnamed.{picks-other}

@@ -5,7 +5,7 @@ use mathlib.Core.List.{List, [], _∷_}
 use lib.ListN.{length, getD}
 use lib.Dec.{ltb, eqb}
 use Rattle.rules.specs.Heap.{Memory, sizeAt, isData}
-use Rattle.rules.specs.Calls.{Call, allocate, storeRoot, storeCell, collect, allocateData, writeNumber}
+use Rattle.rules_calls.specs.Calls.{Call, allocate, storeRoot, storeCell, collect, allocateData, writeNumber}
 use Rattle.history_records.specs.declared.Fields.{Fields}
 use Rattle.history_records.specs.Records.{unnamed, areZero}
 

@@ -1,6 +1,6 @@
 -- What the code's plan of a record stands for. "Where an answer is an enum, a definition gives this paper's number and values for each of
 -- its cases."
-use Rattle.rules.specs.Calls.{allocateAs, storeRoot, storeCell, collect, writeNumber}
+use Rattle.rules_calls.specs.Calls.{allocateAs, storeRoot, storeCell, collect, writeNumber}
 use Rattle.history_plans.specs.declared.Plan.{Plan}
 use Rattle.history_plans.specs.declared.Plan.the-variants.{Stop, Allocate, StoreRoot, StoreCell, Collect, WriteNumber}
 use Rattle.history_plans.specs.Asked.{Asked, makes, stops}

@@ -1,8 +1,8 @@
 // An allocation of a record, on an undamaged heap with a cleared waiting list: its try, and where no chunk is free a collection and a
 // second one.
 ghost use Rattle.rules.specs.Lent.{before, after, lent};
-ghost use Rattle.rules.specs.Calls.{allocateAs};
-ghost use Rattle.theory.specs.Usable.{Usable};
+ghost use Rattle.rules_calls.specs.Calls.{allocateAs};
+ghost use Rattle.theory_memories.specs.Heaps.{Usable};
 ghost use Rattle.history_plans.specs.Asked.{makes};
 ghost use Rattle.history_turns.specs.Turns.{turnOf};
 ghost use Rattle.history_turns.specs.Steps.{Acted};

@@ -9,7 +9,7 @@ use lib.Dec.{eqb}
 use lib.ListN.{length}
 use borrow.Author.Tests.{eq-eqb, ne-eqb}
 use Rattle.rules.specs.Heap.{Memory}
-use Rattle.rules.specs.Calls.{
+use Rattle.rules_calls.specs.Calls.{
   Call,
   format,
   check,
@@ -30,12 +30,12 @@ use Rattle.rules.specs.Calls.{
   copyFrom,
   copyInto,
 }
-use Rattle.rules.specs.Calls.{answer, lastMemory}
+use Rattle.rules_calls.specs.Calls.{answer, lastMemory}
 use Rattle.types.specs.declared.Reply.{Reply}
 use Rattle.rules.proofs.Shape.{shape-facts}
-use Rattle.theory.specs.Words.{Made, leftBy}
+use Rattle.theory.specs.CallWords.{Made, leftBy}
 use Rattle.theory.specs.Demand.{Chain}
-use Rattle.theory.specs.Statements.{Undamaged}
+use Rattle.theory_memories.specs.Heaps.{Undamaged}
 use Rattle.theory.specs.Balance.{allocates, allocatedBy, blocksAllocated}
 use Rattle.theory.proofs.Theorems.{theory}
 use Rattle.history_records.specs.Records.{fieldsAt, recordLength, wide}

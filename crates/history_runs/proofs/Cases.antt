@@ -1,7 +1,7 @@
 -- Small histories print the lines that documents 01 and 02 give: one lemma over their list, by computation.
 use mathlib.Core.Path.{_≡_, refl}
 use mathlib.Core.List.{map}
-use Rattle.rules.proofs.Cases.{computed}
+use Rattle.rules_calls.proofs.Evidence.Computed.{computed}
 use Rattle.history_records.specs.Records.{number, fieldsAt, unnamed}
 use Rattle.history_plans.specs.Asked.{unless, onRoots, allocating, copying, writing, reading, clearing, allocatingData, writingNumber, operation, asked}
 use Rattle.text.specs.Text.{decimalIn, decimal}

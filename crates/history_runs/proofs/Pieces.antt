@@ -9,17 +9,17 @@ use native.Mathlib.Omega.{arith}
 use lib.ListN.{length, replicate}
 use borrow.Author.Tests.{eq-eqb, ne-eqb}
 use Rattle.rules.specs.Heap.{Memory, withWaiting}
-use Rattle.rules.specs.Calls.{check, Answer, reply, outcome, answer}
-use Rattle.rules.specs.Promise.{Promise}
+use Rattle.rules_calls.specs.Calls.{check, Answer, reply, outcome, answer}
+use Rattle.rules_calls.specs.Promise.{Promise}
 use Rattle.types.specs.declared.Reply.{Reply}
 use Rattle.rules.proofs.Shape.{shape-facts}
 use Rattle.rules.proofs.Tests.{test-cases}
-use Rattle.rules.proofs.Replies.{accepted-none, Passed, undamaged-passed}
-use Rattle.theory.specs.Statements.{Undamaged}
-use Rattle.theory.specs.Balance.{inUse}
-use Rattle.theory.specs.Usable.{Usable}
-use Rattle.theory.proofs.Memories.Fit.{undamaged-fit}
-use Rattle.theory.proofs.EachCall.Accepted.{fit-accepted}
+use Rattle.rules_calls.proofs.Replies.{accepted-none, Passed, undamaged-passed}
+use Rattle.theory_memories.specs.Heaps.{Undamaged}
+use Rattle.theory_memories.specs.Words.{inUse}
+use Rattle.theory_memories.specs.Heaps.{Usable}
+use Rattle.theory_memories.proofs.Memories.Fit.{undamaged-fit}
+use Rattle.theory_memories.proofs.Memories.Accepted.{fit-accepted}
 use Rattle.theory.proofs.Usable.UsableHeap.{cleared-usable as UsableHeap·cleared-usable, usable-fit}
 use Rattle.history_records.specs.Records.{recordLength, wide}
 use Rattle.history_figures.specs.declared.tally.Run.{Run}

@@ -6,7 +6,7 @@ use native.Mathlib.Omega.{arith}
 use lib.ListN.{length}
 use borrow.Author.Tests.{eq-eqb, ne-eqb}
 use Rattle.rules.specs.Heap.{Memory}
-use Rattle.theory.specs.Usable.{Usable}
+use Rattle.theory_memories.specs.Heaps.{Usable}
 use Rattle.history_records.specs.Records.{recordLength, fieldsAt, wide}
 use Rattle.history_plans.specs.Asked.{asked}
 use Rattle.history_records.specs.declared.Fields.{Fields}

@@ -7,12 +7,13 @@ use native.Mathlib.Omega.{arith}
 use lib.ListN.{replicate, length-replicate}
 use Rattle.bitmap.proofs.Zeros.{zeros-all-zero}
 use Rattle.rules.specs.Heap.{Memory, shaped, withWaiting}
-use Rattle.rules.specs.Store.{formatted}
-use Rattle.rules.specs.Calls.{lastMemory}
+use Rattle.rules_stores.specs.Store.{formatted}
+use Rattle.rules_calls.specs.Calls.{lastMemory}
 use Rattle.rules.proofs.Shape.{shape-facts}
-use Rattle.theory.specs.Words.{heapOf, Made, leftBy}
+use Rattle.theory_memories.specs.Words.{heapOf}
+use Rattle.theory.specs.CallWords.{Made, leftBy}
 use Rattle.theory.specs.Demand.{Chain}
-use Rattle.theory.specs.Statements.{Undamaged}
+use Rattle.theory_memories.specs.Heaps.{Undamaged}
 use Rattle.theory.proofs.Theorems.{theory}
 use Rattle.history_records.specs.Records.{wide}
 use Rattle.history_figures.specs.Figures.{newRun}

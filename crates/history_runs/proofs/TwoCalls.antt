@@ -6,14 +6,14 @@ use Prim.Native.Nat.{ℕ, _%_}
 use lib.ListN.{length, replicate, length-replicate}
 use Rattle.rules.specs.Heap.{Memory, withWaiting, shaped}
 use Rattle.rules.specs.Damage.{damage, endOnFree, openEnd, unaligned, badCell, badRoot, badCount, strayData}
-use Rattle.rules.specs.Calls.{reply}
+use Rattle.rules_calls.specs.Calls.{reply}
 use Rattle.types.specs.declared.Reply.{Reply}
 use Rattle.rules.proofs.Shape.{shape-facts, shape-test}
-use Rattle.theory.specs.Statements.{Undamaged}
+use Rattle.theory_memories.specs.Heaps.{Undamaged}
 use Rattle.theory.specs.Demand.{Finds}
-use Rattle.theory.proofs.Memories.ViewRelease.{reshaped}
-use Rattle.theory.proofs.Memories.TidyHeap.{waiting-untidy}
-use Rattle.theory.specs.Usable.{Usable}
+use Rattle.theory_memories.proofs.Memories.ViewRelease.{reshaped}
+use Rattle.theory_memories.proofs.Memories.TidyHeap.{waiting-untidy}
+use Rattle.theory_memories.specs.Heaps.{Usable}
 use Rattle.theory.proofs.Usable.UsableHeap.{cleared-usable, cleared-same}
 use Rattle.history_records.specs.Records.{recordLength, wide}
 use Rattle.history_figures.specs.declared.tally.Run.{Run}

@@ -11,7 +11,7 @@ use lib.ListN.{length, getD, length-append, List·getD-append}
 use lib.Seq.{getD-append-add}
 use borrow.Author.Tests.{eq-eqb, ne-eqb}
 use Rattle.rules.specs.Heap.{Memory}
-use Rattle.theory.specs.Words.{Made}
+use Rattle.theory.specs.CallWords.{Made}
 use Rattle.history_records.specs.declared.Fields.{Fields}
 use Rattle.history_records.specs.Records.{recordLength, fieldsAt, wide}
 use Rattle.history_plans.specs.Asked.{asked}

@@ -6,8 +6,8 @@ use Prim.Native.Char.{code}
 use Prim.Native.String.{String, [] as none, _∷_ as _then_}
 use mathlib.Core.List.{List, [], _∷_, _++_}
 use lib.ListN.{getD}
-use Rattle.rules.specs.Store.{formatted}
-use Rattle.rules.specs.Calls.{Call, openCollection, run, lastMemory}
+use Rattle.rules_stores.specs.Store.{formatted}
+use Rattle.rules_calls.specs.Calls.{Call, openCollection, run, lastMemory}
 use Rattle.history_records.specs.Records.{wide}
 use Rattle.history_figures.specs.Figures.{noFigures, run as runSoFar}
 use Rattle.history_line.specs.Line.{line}

@@ -5,11 +5,12 @@ use mathlib.Core.Bool.{true}
 use mathlib.Core.List.{List, _++_}
 use lib.ListN.{length}
 use Rattle.rules.specs.Heap.{Memory, shaped}
-use Rattle.rules.specs.Store.{formatted}
-use Rattle.theory.specs.Words.{leftBy}
+use Rattle.rules_stores.specs.Store.{formatted}
+use Rattle.theory.specs.CallWords.{leftBy}
 use Rattle.theory.specs.Demand.{Chain, Claim}
-use Rattle.theory.specs.Statements.{Undamaged}
-use Rattle.theory.specs.Balance.{inUse, blocksAllocated, blocksFreed}
+use Rattle.theory_memories.specs.Heaps.{Undamaged}
+use Rattle.theory_memories.specs.Words.{inUse}
+use Rattle.theory.specs.Balance.{blocksAllocated, blocksFreed}
 use Rattle.history_records.specs.Records.{recordLength, wide}
 use Rattle.history_figures.specs.declared.tally.Tally.{Tally}
 use Rattle.history_figures.specs.declared.tally.Run.{Run}

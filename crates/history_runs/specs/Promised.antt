@@ -7,9 +7,9 @@ use lib.Dec.{eqb}
 use lib.ListN.{length, replicate}
 use Rattle.rules.specs.Heap.{Memory, withWaiting}
 use Rattle.rules.specs.Sections.{figures}
-use Rattle.rules.specs.Calls.{check, reply, answer}
+use Rattle.rules_calls.specs.Calls.{check, reply, answer}
 use Rattle.types.specs.declared.Reply.{Reply}
-use Rattle.theory.specs.Words.{leftBy}
+use Rattle.theory.specs.CallWords.{leftBy}
 use Rattle.theory.specs.Demand.{Finds, Chain}
 use Rattle.history_records.specs.Records.{recordLength, wide}
 use Rattle.history_figures.specs.declared.tally.Run.{Run}

@@ -6,8 +6,8 @@ use mathlib.Core.List.{List, [], _++_}
 use lib.ListN.{length}
 use lib.Dec.{eqb}
 use Rattle.rules.specs.Heap.{Memory}
-use Rattle.rules.specs.Store.{formatted}
-use Rattle.theory.specs.Words.{Made}
+use Rattle.rules_stores.specs.Store.{formatted}
+use Rattle.theory.specs.CallWords.{Made}
 use Rattle.history_records.specs.Records.{Form, recordLength, fieldsAt}
 use Rattle.history_plans.specs.Asked.{asked}
 use Rattle.history_figures.specs.declared.tally.Run.{Run}

@@ -6,12 +6,14 @@ use native.Mathlib.Decide.{ℕ-discrete}
 use native.Mathlib.Omega.{arith}
 use lib.Dec.{eqb}
 use Rattle.rules.specs.Heap.{Memory}
-use Rattle.rules.specs.Calls.{collect, ownRefusals, answer}
+use Rattle.rules_calls.specs.Calls.{collect, ownRefusals, answer}
 use Rattle.rules.proofs.Tests.{also, done as no-more}
 use Rattle.types.specs.declared.Reply.{Reply}
 use Rattle.types.specs.declared.Outcome.{Outcome}
-use Rattle.theory.specs.Balance.{inUse, allocates, allocatedBy}
-use Rattle.theory.specs.Usable.{Usable, replyOf, Worked}
+use Rattle.theory_memories.specs.Words.{inUse}
+use Rattle.theory.specs.Balance.{allocates, allocatedBy}
+use Rattle.theory_memories.specs.Heaps.{Usable}
+use Rattle.theory.specs.Usable.{replyOf, Worked}
 use Rattle.theory.proofs.EachCall.Five.{not-five}
 use Rattle.theory.proofs.Usable.WorkDone.{accepted-allocates, refused-allocates, call-balance}
 use Rattle.history_plans.specs.Asked.{makes}

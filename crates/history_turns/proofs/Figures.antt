@@ -6,7 +6,7 @@ use native.Mathlib.Omega.{arith}
 use lib.Dec.{eqb}
 use borrow.Author.Tests.{eq-eqb, ne-eqb}
 use Rattle.bitmap.specs.Bit.{one}
-use Rattle.theory.specs.Words.{Made}
+use Rattle.theory.specs.CallWords.{Made}
 use Rattle.history_figures.specs.declared.tally.Tally.{Tally}
 use Rattle.history_figures.specs.Figures.{allocated, countedIn, toldStuck, momentIn, noted}
 use Rattle.history_turns.specs.Outcomes.{done, withAllocation}

@@ -7,12 +7,14 @@ use native.Mathlib.Omega.{arith}
 use lib.Dec.{eqb}
 use borrow.Author.Tests.{eq-eqb, ne-eqb}
 use Rattle.rules.specs.Heap.{Memory}
-use Rattle.rules.specs.Calls.{Call, allocate, allocateData, allocateAs, Alone, answer}
+use Rattle.rules_calls.specs.Calls.{Call, allocate, allocateData, allocateAs, Alone, answer}
 use Rattle.types.specs.declared.Reply.{Reply}
 use Rattle.types.specs.declared.Outcome.{Outcome}
-use Rattle.rules.proofs.Replies.{accepted-none, Passed, passed}
-use Rattle.theory.specs.Balance.{inUse, allocates, allocatedBy}
-use Rattle.theory.specs.Usable.{Usable, replyOf, Worked}
+use Rattle.rules_calls.proofs.Replies.{accepted-none, Passed, passed}
+use Rattle.theory_memories.specs.Words.{inUse}
+use Rattle.theory.specs.Balance.{allocates, allocatedBy}
+use Rattle.theory_memories.specs.Heaps.{Usable}
+use Rattle.theory.specs.Usable.{replyOf, Worked}
 use Rattle.theory.proofs.Usable.WorkDone.{accepted-allocates, refused-allocates, call-balance, refused-keeps}
 use Rattle.history_plans.specs.Asked.{makes}
 use Rattle.history_figures.specs.declared.tally.Tally.{Tally}

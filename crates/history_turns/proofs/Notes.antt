@@ -6,7 +6,7 @@ use native.Mathlib.Decide.{ℕ-discrete}
 use native.Mathlib.Omega.{arith}
 use borrow.Author.Tests.{eq-eqb, ne-eqb}
 use Rattle.rules.specs.Heap.{Memory, maxBlocks}
-use Rattle.theory.specs.Balance.{inUse}
+use Rattle.theory_memories.specs.Words.{inUse}
 use Rattle.history_figures.specs.declared.tally.Tally.{Tally}
 use Rattle.history_figures.specs.declared.tally.Run.{Run}
 use Rattle.history_figures.specs.Figures.{collected, used, momentIn, run}

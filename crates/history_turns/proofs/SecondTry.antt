@@ -8,9 +8,10 @@ use native.Mathlib.Omega.{arith}
 use lib.Dec.{eqb}
 use borrow.Author.Tests.{eq-eqb, ne-eqb}
 use Rattle.rules.specs.Heap.{Memory}
-use Rattle.rules.specs.Calls.{Call, collect, answer}
+use Rattle.rules_calls.specs.Calls.{Call, collect, answer}
 use Rattle.types.specs.declared.Outcome.{Outcome}
-use Rattle.theory.specs.Usable.{Usable, Worked}
+use Rattle.theory_memories.specs.Heaps.{Usable}
+use Rattle.theory.specs.Usable.{Worked}
 use Rattle.theory.proofs.Usable.UsableHeap.{usable-healthy}
 use Rattle.theory.proofs.Usable.UsableAfterCalls.{usable-kept}
 use Rattle.history_plans.specs.Asked.{makes}

@@ -9,13 +9,13 @@ use native.Mathlib.Omega.{arith}
 use borrow.Author.Tests.{ne-eqb}
 use Rattle.rules.specs.Tools.{firstNumber}
 use Rattle.rules.specs.Heap.{Memory}
-use Rattle.rules.specs.Steps.{isOpen}
-use Rattle.rules.specs.Calls.{Call, collect, Answer, reply, ownRefusals, answer}
+use Rattle.rules_steps.specs.Steps.{isOpen}
+use Rattle.rules_calls.specs.Calls.{Call, collect, Answer, reply, ownRefusals, answer}
 use Rattle.rules.proofs.Tests.{first-found}
-use Rattle.rules.proofs.Replies.{answer-either, outcome-accepts}
-use Rattle.theory.specs.Statements.{Undamaged}
-use Rattle.theory.proofs.Memories.Fit.{undamaged-fit}
-use Rattle.theory.proofs.EachCall.Accepted.{fit-refused}
+use Rattle.rules_calls.proofs.Replies.{answer-either, outcome-accepts}
+use Rattle.theory_memories.specs.Heaps.{Undamaged}
+use Rattle.theory_memories.proofs.Memories.Fit.{undamaged-fit}
+use Rattle.theory_memories.proofs.Memories.Accepted.{fit-refused}
 use Rattle.history_plans.specs.Asked.{Asked, makes, stops}
 use Rattle.history_figures.specs.declared.tally.Tally.{Tally}
 use Rattle.history_figures.specs.declared.tally.Run.{Run}

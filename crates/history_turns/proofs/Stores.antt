@@ -8,14 +8,15 @@ use lib.Dec.{eqb}
 use borrow.Author.Tests.{ne-eqb}
 use Rattle.bitmap.specs.Bit.{one}
 use Rattle.rules.specs.Heap.{Memory}
-use Rattle.rules.specs.Calls.{Call, storeRoot, storeCell, writeNumber, Alone, ownRefusals, outcome, answer}
+use Rattle.rules_calls.specs.Calls.{Call, storeRoot, storeCell, writeNumber, Alone, ownRefusals, outcome, answer}
 use Rattle.rules.proofs.Tests.{also, done as no-more}
-use Rattle.rules.proofs.Replies.{answer-either}
+use Rattle.rules_calls.proofs.Replies.{answer-either}
 use Rattle.types.specs.declared.Reply.{Reply}
 use Rattle.types.specs.declared.Outcome.{Outcome}
 use Rattle.theory.specs.Balance.{allocates, allocatedBy}
 use Rattle.theory.proofs.EachCall.Five.{not-five, store-root-not-five, store-cell-not-five}
-use Rattle.theory.specs.Usable.{Usable, replyOf, Worked}
+use Rattle.theory_memories.specs.Heaps.{Usable}
+use Rattle.theory.specs.Usable.{replyOf, Worked}
 use Rattle.theory.proofs.Usable.WorkDone.{accepted-allocates, refused-allocates, call-balance, refused-keeps}
 use Rattle.history_plans.specs.Asked.{makes, stops}
 use Rattle.history_figures.specs.declared.tally.Tally.{Tally}

@@ -4,7 +4,7 @@ use mathlib.Core.List.{[], _∷_}
 use Prim.Native.Nat.{ℕ}
 use borrow.Author.Tests.{eq-eqb, ne-eqb}
 use Rattle.rules.specs.Heap.{Memory}
-use Rattle.rules.specs.Calls.{Call, answer}
+use Rattle.rules_calls.specs.Calls.{Call, answer}
 use Rattle.history_plans.specs.declared.Plan.{Plan}
 use Rattle.history_plans.specs.Meaning.{meaning}
 use Rattle.history_plans.specs.Asked.{makes}

@@ -4,8 +4,8 @@ use Prim.Native.Nat.{ℕ}
 use native.Mathlib.Decide.{ℕ-discrete}
 use borrow.Author.Tests.{eq-eqb, ne-eqb}
 use Rattle.rules.specs.Heap.{Memory}
-use Rattle.rules.specs.Calls.{Call, collect, answer}
-use Rattle.theory.specs.Usable.{Usable}
+use Rattle.rules_calls.specs.Calls.{Call, collect, answer}
+use Rattle.theory_memories.specs.Heaps.{Usable}
 use Rattle.theory.proofs.Usable.UsableAfterCalls.{usable-kept}
 use Rattle.history_plans.specs.Asked.{Asked, makes, stops}
 use Rattle.history_figures.specs.declared.tally.Run.{Run}

@@ -3,7 +3,7 @@ use Prim.Native.Nat.{ℕ, _+_, _≤_}
 use mathlib.Core.Path.{_≡_}
 use mathlib.Core.Bool.{true, false}
 use Rattle.rules.specs.Heap.{Memory}
-use Rattle.theory.specs.Balance.{inUse}
+use Rattle.theory_memories.specs.Words.{inUse}
 use Rattle.history_figures.specs.declared.tally.Tally.{Tally}
 use Rattle.history_figures.specs.Figures.{notedAll, mostRecords, inRange}
 use Rattle.history_turns.specs.declared.outcome.Done.{Done}

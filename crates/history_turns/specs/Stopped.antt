@@ -4,9 +4,9 @@ use mathlib.Core.Path.{_≡_}
 use mathlib.Core.Logic.{_⊎_}
 use mathlib.Core.Bool.{true}
 use Rattle.rules.specs.Heap.{Memory}
-use Rattle.rules.specs.Steps.{isOpen}
-use Rattle.rules.specs.Calls.{Call, collect, answer}
-use Rattle.theory.specs.Statements.{Undamaged}
+use Rattle.rules_steps.specs.Steps.{isOpen}
+use Rattle.rules_calls.specs.Calls.{Call, collect, answer}
+use Rattle.theory_memories.specs.Heaps.{Undamaged}
 use Rattle.history_plans.specs.Asked.{Asked, makes}
 use Rattle.history_figures.specs.declared.tally.Run.{Run}
 use Rattle.history_figures.specs.Figures.{run}

@@ -4,9 +4,9 @@ use mathlib.Core.Bool.{true, false}
 use mathlib.Core.List.{List, [], _∷_}
 use lib.Dec.{eqb}
 use Rattle.rules.specs.Heap.{Memory}
-use Rattle.rules.specs.Calls.{Call, collect, answer}
-use Rattle.theory.specs.Words.{Made}
-use Rattle.theory.specs.Balance.{inUse}
+use Rattle.rules_calls.specs.Calls.{Call, collect, answer}
+use Rattle.theory.specs.CallWords.{Made}
+use Rattle.theory_memories.specs.Words.{inUse}
 use Rattle.history_plans.specs.Asked.{Asked, makes, stops}
 use Rattle.history_figures.specs.declared.tally.Run.{Run}
 use Rattle.history_figures.specs.Figures.{used, notedAll, run}

@@ -9,7 +9,7 @@ use lib.Dec.{eqb}
 use lib.ListN.{length}
 use borrow.Author.Tests.{eq-eqb, ne-eqb}
 use Rattle.rules.specs.Heap.{Memory}
-use Rattle.rules.specs.Store.{formatted}
+use Rattle.rules_stores.specs.Store.{formatted}
 use Rattle.history_records.specs.declared.Fields.{Fields}
 use Rattle.history_records.specs.Records.{recordLength, fieldsAt, wide, old}
 use Rattle.history_plans.specs.Asked.{asked}

@@ -11,10 +11,10 @@ use lib.ListN.{length, getD, length-replicate, getD-replicate}
 use borrow.Author.Tests.{eqb-true}
 use Rattle.rules.specs.Tools.{all}
 use Rattle.rules.specs.Heap.{Memory}
-use Rattle.rules.specs.Store.{formatted}
-use Rattle.rules.specs.Calls.{Call, allocate, allocateData, answer}
+use Rattle.rules_stores.specs.Store.{formatted}
+use Rattle.rules_calls.specs.Calls.{Call, allocate, allocateData, answer}
 use Rattle.rules.proofs.Tests.{test-cases, all-at}
-use Rattle.rules.proofs.Replies.{accepted-none, Passed, passed}
+use Rattle.rules_calls.proofs.Replies.{accepted-none, Passed, passed}
 use Rattle.history_records.specs.declared.Fields.{Fields}
 use Rattle.history_records.specs.Records.{recordLength, number, fieldsAt, wide, old, unnamedBy, unnamed, areZero}
 use Rattle.history_plans.specs.Asked.{Asked, makes, stops, root, allocating, allocatingData, writingNumber, operations, asked}

@@ -4,7 +4,7 @@ ghost use mathlib.Core.Path.{_≡_};
 ghost use Prim.Native.Nat.{_+_, _-_, _*_, _^_, _<_, _≤_};
 ghost use lib.ListN.{length};
 ghost use Rattle.bitmap.specs.Bit.{setBit, fillBits};
-ghost use Rattle.rules.specs.Store.{clearCells};
+ghost use Rattle.rules_stores.specs.Store.{clearCells};
 
 // The n blocks from block i on become an object's.
 pub fn mark_extent(a: &mut [u8], b: &mut [u8], i: usize, n: usize)

@@ -7,7 +7,7 @@ use native.Mathlib.Numerals.{add-one}
 use native.Mathlib.Omega.{arith}
 use lib.ListN.{length, getD, set, length-set}
 use lib.Seq.{getD-set-other}
-use Rattle.rules.specs.Store.{clearCells}
+use Rattle.rules_stores.specs.Store.{clearCells}
 
 -- one cell more
 pub clear-more : (cells : List ℕ) (j n : ℕ) → set (clearCells cells j n) (j + n) 0 ≡ clearCells cells j (n + 1)

@@ -5,7 +5,7 @@ use mathlib.Core.List.{List}
 use Prim.Native.Nat.{ℕ, _*_}
 use borrow.Author.Tests.{eq-eqb, ne-eqb}
 use Rattle.bitmap.specs.Bit.{bitAt}
-use Rattle.rules.specs.Store.{namingCells}
+use Rattle.rules_stores.specs.Store.{namingCells}
 
 module _ (d : List ℕ) (i n : ℕ) where
   pub naming-none : bitAt d i ≡ 1 → 0 ≡ namingCells d i n

@@ -6,7 +6,7 @@ ghost use lib.Dec.{eqb};
 ghost use lib.ListN.{length};
 ghost use Rattle.bitmap.specs.Bit.{bitOf};
 ghost use Rattle.rules.specs.Heap.{firstIn, sizeFrom, refIn, maxBlocks};
-ghost use Rattle.rules.specs.Store.{namingCells};
+ghost use Rattle.rules_stores.specs.Store.{namingCells};
 
 // Whether block i, which may be any number, is a first block.
 pub fn is_first(blocks: usize, a: &[u8], b: &[u8], i: usize) -> bool

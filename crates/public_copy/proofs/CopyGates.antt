@@ -9,8 +9,8 @@ use lib.ListN.{length}
 use borrow.Author.Tests.{ne-eqb}
 use Rattle.types.specs.declared.Reply.{Reply}
 use Rattle.rules.specs.Heap.{Memory, shaped}
-use Rattle.rules.specs.Calls.{collect, copyFrom, otherShaped, reply}
-use Rattle.rules.specs.Promise.{Promise}
+use Rattle.rules_calls.specs.Calls.{collect, copyFrom, otherShaped, reply}
+use Rattle.rules_calls.specs.Promise.{Promise}
 use Rattle.rules.proofs.Tests.{false-and}
 use Rattle.test_arguments.specs.Replies.{shutTest}
 use Rattle.test_calls.specs.Gated.{Gated}

@@ -6,10 +6,10 @@ use mathlib.Core.Bool.{Bool, true, false}
 use lib.ListN.{length}
 use Rattle.types.specs.declared.Reply.{Reply}
 use Rattle.rules.specs.Heap.{Memory, shaped}
-use Rattle.rules.specs.Steps.{isOpen}
-use Rattle.rules.specs.Calls.{copyFrom}
-use Rattle.rules.specs.Promise.{Promise}
-use Rattle.theory.specs.Statements.{Undamaged}
+use Rattle.rules_steps.specs.Steps.{isOpen}
+use Rattle.rules_calls.specs.Calls.{copyFrom}
+use Rattle.rules_calls.specs.Promise.{Promise}
+use Rattle.theory_memories.specs.Heaps.{Undamaged}
 
 -- A refusal is the copy's, with nothing written. Else both heaps are as the work of a copy asks.
 pub record CopyGated (N w : ℕ) (h : Memory) (M v : ℕ) (rightShape : Bool) (rootCount : ℕ) (reply : Reply) : Type 0 where

@@ -3,7 +3,7 @@
 ghost use lib.ListN.{length};
 ghost use Rattle.rules.specs.Heap.{shape};
 ghost use Rattle.rules.specs.Lent.{before, after};
-ghost use Rattle.rules.specs.Promise.{CopyPromise};
+ghost use Rattle.rules_calls.specs.Promise.{CopyPromise};
 ghost use Rattle.public_copy.specs.Gated.{CopyGated};
 use types::Ref;
 use types::Reply;

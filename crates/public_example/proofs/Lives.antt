@@ -4,13 +4,13 @@ use mathlib.Core.Path.{_≡_, refl, ap, _∙_}
 use mathlib.Core.List.{List, [], _∷_}
 use Prim.Native.Nat.{ℕ}
 use Rattle.rules.specs.Heap.{Memory}
-use Rattle.rules.specs.Calls.{Call, format, allocate, storeRoot, openCollection, takeSteps, answer, run, lastMemory}
-use Rattle.rules.specs.Promise.{Promise}
+use Rattle.rules_calls.specs.Calls.{Call, format, allocate, storeRoot, openCollection, takeSteps, answer, run, lastMemory}
+use Rattle.rules_calls.specs.Promise.{Promise}
 use Rattle.types.specs.declared.Reply.{Reply}
 use Rattle.rules.proofs.Shape.{shape-facts}
-use Rattle.theory.specs.Words.{Made}
+use Rattle.theory.specs.CallWords.{Made}
 use Rattle.theory.specs.Demand.{Chain}
-use Rattle.theory.specs.Statements.{Undamaged}
+use Rattle.theory_memories.specs.Heaps.{Undamaged}
 use Rattle.theory.proofs.Theorems.{accepted-format-undamaged, promise-keeps-undamaged, claim-from-format}
 use Rattle.public_example.specs.Session.{Life}
 

@@ -8,14 +8,15 @@ use lib.ListN.{length, length-replicate}
 use borrow.Author.Tests.{eq-eqb, ne-eqb}
 use Rattle.rules.specs.Tools.{all}
 use Rattle.rules.specs.Heap.{Memory, shaped}
-use Rattle.rules.specs.Store.{formatted}
-use Rattle.rules.specs.Calls.{Call, format, allocate, collect, answer, run, lastMemory}
-use Rattle.rules.specs.Promise.{Promise}
+use Rattle.rules_stores.specs.Store.{formatted}
+use Rattle.rules_calls.specs.Calls.{Call, format, allocate, collect, answer, run, lastMemory}
+use Rattle.rules_calls.specs.Promise.{Promise}
 use Rattle.types.specs.declared.Reply.{Reply}
 use Rattle.rules.proofs.Shape.{shape-facts}
-use Rattle.theory.specs.Words.{heapOf, Made, callsOf, leftBy}
+use Rattle.theory_memories.specs.Words.{heapOf}
+use Rattle.theory.specs.CallWords.{Made, callsOf, leftBy}
 use Rattle.theory.specs.Demand.{Finds, Chain}
-use Rattle.theory.specs.Statements.{Undamaged}
+use Rattle.theory_memories.specs.Heaps.{Undamaged}
 use Rattle.theory.proofs.Theorems.{accepted-format-undamaged, promise-keeps-undamaged, theory}
 use Rattle.replay_words.specs.Encoding.{callsIn}
 use Rattle.replay_words.proofs.Calls.{accepted-passed}

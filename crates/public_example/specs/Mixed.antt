@@ -6,10 +6,10 @@ use mathlib.Core.Bool.{true, false}
 use mathlib.Core.List.{List, [], _∷_, _++_}
 use lib.Dec.{eqb}
 use Rattle.rules.specs.Heap.{Memory}
-use Rattle.rules.specs.Calls.{Call, format, allocate, collect}
-use Rattle.rules.specs.Promise.{Promise}
+use Rattle.rules_calls.specs.Calls.{Call, format, allocate, collect}
+use Rattle.rules_calls.specs.Promise.{Promise}
 use Rattle.types.specs.declared.Reply.{Reply}
-use Rattle.theory.specs.Words.{Made, callsOf, leftBy}
+use Rattle.theory.specs.CallWords.{Made, callsOf, leftBy}
 use Rattle.theory.specs.Demand.{Chain, Claim}
 use Rattle.replay_words.specs.Encoding.{callsIn}
 use Rattle.replay.specs.Replay.{Replayed}

@@ -3,10 +3,10 @@ use Prim.Native.Nat.{ℕ}
 use mathlib.Core.Path.{_≡_}
 use mathlib.Core.List.{List, [], _∷_}
 use Rattle.rules.specs.Heap.{Memory}
-use Rattle.rules.specs.Calls.{Call, format, allocate, storeRoot, openCollection, takeSteps, run, lastMemory}
-use Rattle.rules.specs.Promise.{Promise}
+use Rattle.rules_calls.specs.Calls.{Call, format, allocate, storeRoot, openCollection, takeSteps, run, lastMemory}
+use Rattle.rules_calls.specs.Promise.{Promise}
 use Rattle.types.specs.declared.Reply.{Reply}
-use Rattle.theory.specs.Words.{Made, callsOf, leftBy}
+use Rattle.theory.specs.CallWords.{Made, callsOf, leftBy}
 use Rattle.theory.specs.Demand.{Chain, Claim}
 
 -- an object is made in root 0; a collection is opened (request U8); the object is let go; a step is taken

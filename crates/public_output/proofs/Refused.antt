@@ -5,8 +5,8 @@ use mathlib.Core.List.{List}
 use Prim.Native.Nat.{ℕ}
 use borrow.Author.Tests.{ne-eqb}
 use Rattle.rules.specs.Heap.{Memory}
-use Rattle.rules.specs.Calls.{Call, check}
-use Rattle.rules.specs.Promise.{Promise, OutputPromise, outputAfter}
+use Rattle.rules_calls.specs.Calls.{Call, check}
+use Rattle.rules_calls.specs.Promise.{Promise, OutputPromise, outputAfter}
 use Rattle.types.specs.declared.Reply.{Reply}
 use Rattle.public_read.proofs.CheckReply.{TestsOne, refused-alike}
 

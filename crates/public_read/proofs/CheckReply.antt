@@ -11,16 +11,16 @@ use Rattle.bitmap.specs.Bit.{zeros}
 use Rattle.rules.specs.Heap.{Memory, memory, lentMemory, shaped}
 use Rattle.rules.specs.Damage.{damage}
 use Rattle.rules.specs.Sections.{staleFigures}
-use Rattle.rules.specs.Steps.{isUntidy}
-use Rattle.rules.specs.Calls.{Call, check, freeBlocks, look, readNumber, reply, accepted, testsHeap, Other, otherHeap, refusals, refusedWith, outcome, answer}
-use Rattle.rules.specs.Promise.{Promise}
+use Rattle.rules_steps.specs.Steps.{isUntidy}
+use Rattle.rules_calls.specs.Calls.{Call, check, freeBlocks, look, readNumber, reply, accepted, testsHeap, Other, otherHeap, refusals, refusedWith, outcome, answer}
+use Rattle.rules_calls.specs.Promise.{Promise}
 use Rattle.types.specs.declared.Reply.{Reply}
 use Rattle.rules.proofs.Tests.{first-past, first-found}
-use Rattle.rules.proofs.Replies.{refused-with, accepted-none, Passed, undamaged-passed, alone-shaped, refused-as-check}
-use Rattle.theory.specs.Statements.{Intact, Undamaged}
-use Rattle.theory.proofs.Memories.Fit.{undamaged-fit}
-use Rattle.theory.proofs.EachCall.Accepted.{fit-accepted}
-use Rattle.rules.proofs.Promised.{promised}
+use Rattle.rules_calls.proofs.Replies.{refused-with, accepted-none, Passed, undamaged-passed, alone-shaped, refused-as-check}
+use Rattle.theory_memories.specs.Heaps.{Intact, Undamaged}
+use Rattle.theory_memories.proofs.Memories.Fit.{undamaged-fit}
+use Rattle.theory_memories.proofs.Memories.Accepted.{fit-accepted}
+use Rattle.rules_calls.proofs.Promised.{promised}
 use Rattle.test_arguments.specs.Replies.{lookReply, readReply}
 use Rattle.test_arguments.proofs.ArgumentTests.{look-answered, read-answered}
 

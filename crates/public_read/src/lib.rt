@@ -1,7 +1,7 @@
 // The public calls that only read: check, free blocks, look, and the read of a number.
 ghost use Rattle.rules.specs.Lent.{before, after};
-ghost use Rattle.rules.specs.Calls.{Call};
-ghost use Rattle.rules.specs.Promise.{Promise};
+ghost use Rattle.rules_calls.specs.Calls.{Call};
+ghost use Rattle.rules_calls.specs.Promise.{Promise};
 use test_arguments::looking;
 use test_arguments::numbers;
 use types::Ref;

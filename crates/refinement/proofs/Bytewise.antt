@@ -11,8 +11,8 @@ use Rattle.bitmap.proofs.Runs.{bytes-fill}
 use Rattle.planes.specs.Plane.{countAt}
 use Rattle.planes.proofs.Counts.{bytes-set-count}
 use Rattle.rules.specs.Heap.{Memory, withCounts, capacity, isFirst, sizeAt}
-use Rattle.rules.specs.Store.{Work, work, freed, namingCells, countUp}
-use Rattle.rules.specs.Collection.{marked, referencesFrom, reached, swept, recounted, collected}
+use Rattle.rules_stores.specs.Store.{Work, work, freed, namingCells, countUp}
+use Rattle.rules_stores.specs.Collection.{marked, referencesFrom, reached, swept, recounted, collected}
 use Rattle.rules.proofs.Tests.{choose}
 use Rattle.collect_visit.specs.Visit.{visit, visitEach}
 use Rattle.collect_mark.specs.Mark.{scan, markCounts}

@@ -12,21 +12,21 @@ use Rattle.bitmap.proofs.Maps.{map-ext}
 use Rattle.planes.specs.Plane.{countAt}
 use Rattle.planes.proofs.Counts.{counts-ext}
 use Rattle.rules.specs.Heap.{Memory, withCounts, capacity, countOf}
-use Rattle.rules.specs.Collection.{collected}
+use Rattle.rules_stores.specs.Collection.{collected}
 use Rattle.collect_mark.specs.Mark.{markCounts}
 use Rattle.refinement.proofs.Collection.{collectBy, collectBlocks}
 use Rattle.rules.proofs.Shape.{Shaped}
-use Rattle.theory.proofs.Maps.Extents.{Represents, length-sizes-of, represents-is, same-maps}
-use Rattle.theory.proofs.Maps.Totals.{free-and-sizes}
-use Rattle.theory.proofs.Graphs.Graph.{Graph, count}
-use Rattle.theory.proofs.Graphs.Sweep as graph
-use Rattle.theory.proofs.Graphs.Sweep.{markedGraph}
-use Rattle.theory.proofs.Memories.Keeping.{sizesIn, Kept, kept-cell, kept-kind}
-use Rattle.theory.proofs.Memories.View.{view}
-use Rattle.theory.proofs.Memories.Healthy.{Healthy, view-count}
-use Rattle.theory.proofs.Memories.ViewRelease.{reshaped, graph-is}
-use Rattle.theory.proofs.Memories.ViewSweep.{sweep-counts}
-use Rattle.theory.proofs.Memories.ViewCollection.{collect-swept, collected-shows}
+use Rattle.theory_memories.proofs.Maps.Extents.{Represents, length-sizes-of, represents-is, same-maps}
+use Rattle.theory_memories.proofs.Maps.Totals.{free-and-sizes}
+use Rattle.theory_graphs.proofs.Graphs.Graph.{Graph, count}
+use Rattle.theory_graphs.proofs.Graphs.Sweep as graph
+use Rattle.theory_graphs.proofs.Graphs.Sweep.{markedGraph}
+use Rattle.theory_memories.proofs.Memories.Keeping.{sizesIn, Kept, kept-cell, kept-kind}
+use Rattle.theory_memories.proofs.Memories.View.{view}
+use Rattle.theory_memories.proofs.Memories.Healthy.{Healthy, view-count}
+use Rattle.theory_memories.proofs.Memories.ViewRelease.{reshaped, graph-is}
+use Rattle.theory_memories.proofs.Memories.ViewSweep.{sweep-counts}
+use Rattle.theory_memories.proofs.Memories.ViewCollection.{collect-swept, collected-shows}
 use Rattle.refinement.proofs.ViewMarking.{mark-counts-shows}
 use Rattle.refinement.proofs.CollectorSweep.{Stage, sweep-stage}
 use Rattle.refinement.proofs.Bytewise.{Bytewise, collected-bytes, collect-by-bytes}

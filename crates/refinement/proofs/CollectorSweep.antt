@@ -15,20 +15,20 @@ use Rattle.bitmap.proofs.Zeros.{zeros-fill-zeros}
 use Rattle.planes.specs.Plane.{countAt}
 use Rattle.planes.proofs.Counts.{set-count-there}
 use Rattle.rules.specs.Heap.{Memory, isFirst, sizeAt, countOf}
-use Rattle.rules.specs.Store.{freed}
+use Rattle.rules_stores.specs.Store.{freed}
 use Rattle.collect_sweep.specs.Sweep.{isUnmarked, sweepOneBlocks, sweep, sweepBlocks}
 use Rattle.collect_sweep.specs.Sweep as sweeping
 use Rattle.rules.proofs.Tests.{test-cases, false-unless, and-true, and-false}
 use Rattle.rules.proofs.Shape.{Shaped}
-use Rattle.theory.proofs.Maps.Extents.{Represents, sizesOf, first-size, not-first-size, extent}
-use Rattle.theory.proofs.Graphs.Graph.{Graph, size, count}
-use Rattle.theory.proofs.Graphs.Sweep as graph
-use Rattle.theory.proofs.Graphs.Sweep.{sweepOne, sweep-gone, sweep-kept}
-use Rattle.theory.proofs.Memories.Reading.{Bare}
-use Rattle.theory.proofs.Memories.Keeping.{kept-same}
-use Rattle.theory.proofs.Memories.View.{view}
-use Rattle.theory.proofs.Memories.Healthy.{view-count}
-use Rattle.theory.proofs.Memories.ViewSweep.{Swept, freed-swept, erase-none, sweep-counts}
+use Rattle.theory_memories.proofs.Maps.Extents.{Represents, sizesOf, first-size, not-first-size, extent}
+use Rattle.theory_graphs.proofs.Graphs.Graph.{Graph, size, count}
+use Rattle.theory_graphs.proofs.Graphs.Sweep as graph
+use Rattle.theory_graphs.proofs.Graphs.Sweep.{sweepOne, sweep-gone, sweep-kept}
+use Rattle.theory_memories.proofs.Memories.Reading.{Bare}
+use Rattle.theory_memories.proofs.Memories.Keeping.{kept-same}
+use Rattle.theory_memories.proofs.Memories.View.{view}
+use Rattle.theory_memories.proofs.Memories.Healthy.{view-count}
+use Rattle.theory_memories.proofs.Memories.ViewSweep.{Swept, freed-swept, erase-none, sweep-counts}
 
 -- ---- one step
 

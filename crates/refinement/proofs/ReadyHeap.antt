@@ -10,8 +10,8 @@ use Rattle.rules.proofs.Shape.{shaped-blocks}
 use Rattle.section_figures.specs.Figures.{Upkeep}
 use Rattle.section_figures.proofs.Lists.{coherent-true}
 use Rattle.count_up.specs.Ready.{Ready}
-use Rattle.theory.specs.Usable.{Usable}
-use Rattle.theory.proofs.Memories.Fit.{Fit}
+use Rattle.theory_memories.specs.Heaps.{Usable}
+use Rattle.theory_memories.proofs.Memories.Fit.{Fit}
 use Rattle.theory.proofs.Usable.UsableHeap.{cleared-same, usable-fit}
 
 fit-ready : (N w : ℕ) (h : Memory) → Fit N w h → Ready N w (withWaiting (replicate N 0) h)

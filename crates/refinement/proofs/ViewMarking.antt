@@ -13,24 +13,24 @@ use borrow.Author.Tests.{le-ltb, ne-eqb}
 use Rattle.planes.specs.Plane.{countAt}
 use Rattle.planes.proofs.Counts.{count-all-zero}
 use Rattle.rules.specs.Heap.{Memory, capacity, sizeAt, isData, reference}
-use Rattle.rules.specs.Store.{Work, work, countUp, namingCells}
+use Rattle.rules_stores.specs.Store.{Work, work, countUp, namingCells}
 use Rattle.collect_visit.specs.Visit.{visit, visitEach}
 use Rattle.collect_mark.specs.Mark.{scan, markCounts}
 use Rattle.rules.proofs.Tabulate.{length-tabulate, getD-tabulate}
-use Rattle.theory.proofs.Maps.Extents.{sizesOf, length-sizes-of, extent}
-use Rattle.theory.proofs.Graphs.Occurrences.{equals-same, occurrences-cons}
-use Rattle.theory.proofs.Graphs.Stretch.{stretch}
-use Rattle.theory.proofs.Graphs.Graph as graph
-use Rattle.theory.proofs.Graphs.Graph.{firstSlot}
-use Rattle.theory.proofs.Graphs.Marking as graph-marking
-use Rattle.theory.proofs.Graphs.Marking.{meetStack, countUpEach, countUpEachStack, mark, Marking, Markable, reach-object, marking-start, marking-step}
-use Rattle.theory.proofs.Graphs.Calls.{whole-markable}
-use Rattle.theory.proofs.Memories.Reading.{data-read, ordinary-read}
-use Rattle.theory.proofs.Memories.View.{slotsIn, view}
-use Rattle.theory.proofs.Memories.Slots.{root-slot, cell-slot}
-use Rattle.theory.proofs.Memories.Healthy.{Healthy}
-use Rattle.theory.proofs.Memories.ViewMoves.{countsOf, WorkShows, counts-up, length-up}
-use Rattle.theory.proofs.Memories.Stores.{positive, slots-named}
+use Rattle.theory_memories.proofs.Maps.Extents.{sizesOf, length-sizes-of, extent}
+use Rattle.theory_graphs.proofs.Graphs.Occurrences.{equals-same, occurrences-cons}
+use Rattle.theory_graphs.proofs.Graphs.Stretch.{stretch}
+use Rattle.theory_graphs.proofs.Graphs.Graph as graph
+use Rattle.theory_graphs.proofs.Graphs.Graph.{firstSlot}
+use Rattle.theory_graphs.proofs.Graphs.Marking as graph-marking
+use Rattle.theory_graphs.proofs.Graphs.Marking.{meetStack, countUpEach, countUpEachStack, mark, Marking, Markable, reach-object, marking-start, marking-step}
+use Rattle.theory_graphs.proofs.Graphs.Calls.{whole-markable}
+use Rattle.theory_memories.proofs.Memories.Reading.{data-read, ordinary-read}
+use Rattle.theory_memories.proofs.Memories.View.{slotsIn, view}
+use Rattle.theory_memories.proofs.Memories.Slots.{root-slot, cell-slot}
+use Rattle.theory_memories.proofs.Memories.Healthy.{Healthy}
+use Rattle.theory_memories.proofs.Memories.ViewMoves.{countsOf, WorkShows, counts-up, length-up}
+use Rattle.theory_memories.proofs.Memories.Stores.{positive, slots-named}
 
 -- ---- one reference
 

@@ -15,14 +15,14 @@ use Rattle.rules.specs.Tools.{firstNumber}
 use Rattle.rules.specs.Heap.{Memory, shaped}
 use Rattle.rules.specs.Damage.{damage}
 use Rattle.rules.specs.Sections.{staleFigures}
-use Rattle.rules.specs.Steps.{isOpen, isUntidy}
-use Rattle.rules.specs.Copy.{Laid, layAll, allLaid, copied}
-use Rattle.rules.specs.Calls.{collect, copyFrom, copyInto, Answer, reply, otherShaped, ownRefusals, refusals, refusedWith, refused, settled, outcome, answer}
-use Rattle.rules.specs.Promise.{Promise}
+use Rattle.rules_steps.specs.Steps.{isOpen, isUntidy}
+use Rattle.rules_copy.specs.Copy.{Laid, layAll, allLaid, copied}
+use Rattle.rules_calls.specs.Calls.{collect, copyFrom, copyInto, Answer, reply, otherShaped, ownRefusals, refusals, refusedWith, refused, settled, outcome, answer}
+use Rattle.rules_calls.specs.Promise.{Promise}
 use Rattle.rules.proofs.Tests.{true-and, first-past, first-found}
-use Rattle.rules.proofs.Replies.{number-is, none-applies, one-applies, refused-with, CopyPassed, Passed, passed-own, copy-number}
-use Rattle.rules.proofs.Promised.{promised, copy-in-both}
-use Rattle.theory.specs.Statements.{Undamaged}
+use Rattle.rules_calls.proofs.Replies.{number-is, none-applies, one-applies, refused-with, CopyPassed, Passed, passed-own, copy-number}
+use Rattle.rules_calls.proofs.Promised.{promised, copy-in-both}
+use Rattle.theory_memories.specs.Heaps.{Undamaged}
 
 -- ---- refusals of the heaps
 

@@ -7,14 +7,14 @@ use lib.ListN.{length, getD, replicate, length-map, List·getD-map}
 use lib.Seq.{ext-getD}
 use Rattle.rules.specs.Heap.{Memory, lentMemory, withRoots}
 use Rattle.rules.specs.Sections.{figures}
-use Rattle.rules.specs.Store.{formatted}
-use Rattle.rules.specs.Walk.{numberIn, blockAt, numbered}
-use Rattle.rules.specs.Copy.{layAll, placesIn, newReference, fillCells, copyOne, copyFirst, copyAll}
-use Rattle.rules.specs.Calls.{settled}
-use Rattle.theory.proofs.Walks.Numbers.{number-zero}
-use Rattle.theory.proofs.Walks.Reached.{numbered-distinct, roots-below}
-use Rattle.theory.proofs.Copies.Image.{new-none}
-use Rattle.theory.proofs.Copies.Placing.{fill-length, fill-in}
+use Rattle.rules_stores.specs.Store.{formatted}
+use Rattle.rules_output.specs.Walk.{numberIn, blockAt, numbered}
+use Rattle.rules_copy.specs.Copy.{layAll, placesIn, newReference, fillCells, copyOne, copyFirst, copyAll}
+use Rattle.rules_calls.specs.Calls.{settled}
+use Rattle.theory_walks.proofs.Walks.Numbers.{number-zero}
+use Rattle.theory_walks.proofs.Walks.Reached.{numbered-distinct, roots-below}
+use Rattle.theory_copies.proofs.Copies.Image.{new-none}
+use Rattle.theory_copies.proofs.Copies.Placing.{fill-length, fill-in}
 use Rattle.count_up.specs.Ready.{partMemory}
 use Rattle.walk_objects.specs.Walking.{walkedHeap, Walkable}
 use Rattle.copy_plan.specs.Plan.{blockIn}

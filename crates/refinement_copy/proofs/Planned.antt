@@ -8,12 +8,12 @@ use Prim.Native.Nat.{ℕ, zero, suc, _+_, _-_, _≤_, _<_}
 use native.Mathlib.Omega.{arith}
 use lib.ListN.{length, getD}
 use Rattle.rules.specs.Heap.{Memory, sizeAt}
-use Rattle.rules.specs.Walk.{numberIn, objectAt, numbered}
-use Rattle.rules.specs.Copy.{Laid, sizeOf, layNext, layFirst, layAll, allLaid, placesIn, newReference}
+use Rattle.rules_output.specs.Walk.{numberIn, objectAt, numbered}
+use Rattle.rules_copy.specs.Copy.{Laid, sizeOf, layNext, layFirst, layAll, allLaid, placesIn, newReference}
 use Rattle.rules.proofs.Objects.{first-facts}
-use Rattle.theory.proofs.Walks.Numbers.{number-le, number-object, object-number, object-some}
-use Rattle.theory.proofs.Walks.Reached.{led-first, met-led, numbered-distinct, numbered-length}
-use Rattle.theory.proofs.Copies.Accepted.{there-laid}
+use Rattle.theory_walks.proofs.Walks.Numbers.{number-le, number-object, object-number, object-some}
+use Rattle.theory_walks.proofs.Walks.Reached.{led-first, met-led, numbered-distinct, numbered-length}
+use Rattle.theory_copies.proofs.Copies.Accepted.{there-laid}
 use Rattle.walk_objects.specs.Walking.{walkedHeap, Walkable, Walked}
 use Rattle.walk_objects.proofs.Meeting.{top-length}
 use Rattle.walk_objects.proofs.Numbering.{top-object}

@@ -10,16 +10,16 @@ use lib.ListN.{length, getD}
 use borrow.Author.Tests.{eq-eqb, ne-eqb}
 use Rattle.bitmap.specs.Bit.{bitAt}
 use Rattle.rules.specs.Heap.{Memory, capacity, isFirst, sizeAt, isData}
-use Rattle.rules.specs.Store.{madeAt}
-use Rattle.rules.specs.Walk.{numberIn, objectAt, blockAt, referencesOf, followed, numbered}
-use Rattle.rules.specs.Copy.{sizeOf, layAll, newReference, newCell, fillCells, copyOne}
+use Rattle.rules_stores.specs.Store.{madeAt}
+use Rattle.rules_output.specs.Walk.{numberIn, objectAt, blockAt, referencesOf, followed, numbered}
+use Rattle.rules_copy.specs.Copy.{sizeOf, layAll, newReference, newCell, fillCells, copyOne}
 use Rattle.rules.proofs.Objects.{first-facts}
-use Rattle.theory.specs.Words.{Leads}
-use Rattle.theory.proofs.Maps.LowestChunk.{room}
-use Rattle.theory.proofs.Walks.Numbers.{number-zero, object-number, object-some}
-use Rattle.theory.proofs.Walks.Reached.{led-first, met-led, numbered-distinct, references-at, followed-block, cells-below}
-use Rattle.theory.proofs.Copies.Laying.{LaidOut, laid-out}
-use Rattle.theory.proofs.Copies.Image.{new-none, new-some}
+use Rattle.theory_memories.specs.Words.{Leads}
+use Rattle.theory_memories.proofs.Maps.LowestChunk.{room}
+use Rattle.theory_walks.proofs.Walks.Numbers.{number-zero, object-number, object-some}
+use Rattle.theory_walks.proofs.Walks.Reached.{led-first, met-led, numbered-distinct, references-at, followed-block, cells-below}
+use Rattle.theory_copies.proofs.Copies.Laying.{LaidOut, laid-out}
+use Rattle.theory_copies.proofs.Copies.Image.{new-none, new-some}
 use Rattle.walk_objects.specs.Walking.{walkedHeap, Walkable}
 use Rattle.copy_plan.specs.Plan.{blockIn}
 use Rattle.copy_objects.specs.Copying.{movedTo, movedCells, Movable, copyObject}

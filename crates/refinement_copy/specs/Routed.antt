@@ -5,8 +5,8 @@ use mathlib.Core.List.{List, []}
 use mathlib.Core.Option.{some}
 use lib.ListN.{length, getD}
 use Rattle.rules.specs.Heap.{Memory, lentMemory}
-use Rattle.rules.specs.Walk.{numberIn, objectAt, numbered}
-use Rattle.rules.specs.Copy.{Laid, layAll, placesIn, newReference, copyAll}
+use Rattle.rules_output.specs.Walk.{numberIn, objectAt, numbered}
+use Rattle.rules_copy.specs.Copy.{Laid, layAll, placesIn, newReference, copyAll}
 
 -- `order` has the references to the reached objects in the order of their numbers, and `moved` at the first block of each the reference to
 -- its copy

@@ -10,25 +10,25 @@ use lib.ListN.{length, getD}
 use Rattle.bitmap.specs.Bit.{fillBits, zeros}
 use Rattle.bitmap.proofs.Zeros.{zeros-fill-zeros}
 use Rattle.rules.specs.Heap.{Memory, withCounts, isFirst, sizeAt}
-use Rattle.rules.specs.Store.{Work, work, freed, workAfter, memoryAfter}
-use Rattle.rules.specs.Collection.{marked, swept}
-use Rattle.rules.specs.Steps.{unmarkedFreed}
+use Rattle.rules_stores.specs.Store.{Work, work, freed, workAfter, memoryAfter}
+use Rattle.rules_stores.specs.Collection.{marked, swept}
+use Rattle.rules_steps.specs.Steps.{unmarkedFreed}
 use Rattle.rules.proofs.Tests.{test-cases, and-true}
-use Rattle.rules.proofs.Unread.{beside}
+use Rattle.rules_calls.proofs.Unread.{beside}
 use Rattle.step_list.specs.Lists.{isSet}
 use Rattle.count_up.specs.Ready.{partMemory}
 use Rattle.release.specs.Blocks.{releasedBlocks}
 use Rattle.step_close.specs.Close.{isDoomed, Closing, closing, closeOneBlocks, closeBelow, closeBlocks, releasedAfter}
 use Rattle.step_close.proofs.Order as order
-use Rattle.theory.proofs.Maps.Extents.{Represents, extent, first-size}
-use Rattle.theory.proofs.Graphs.Graph.{Graph}
-use Rattle.theory.proofs.Graphs.Sweep.{sweep}
-use Rattle.theory.proofs.Graphs.Tidy.{Tidy}
-use Rattle.theory.proofs.Memories.Keeping.{sizesIn}
-use Rattle.theory.proofs.Memories.View.{view, slotsIn}
-use Rattle.theory.proofs.Memories.Healthy.{Healthy}
-use Rattle.theory.proofs.Memories.ViewSweep.{asCounts, as-counts-marked, as-counts-unmarked, Swept, sweep-swept}
-use Rattle.theory.proofs.Memories.ViewClose as view-close
+use Rattle.theory_memories.proofs.Maps.Extents.{Represents, extent, first-size}
+use Rattle.theory_graphs.proofs.Graphs.Graph.{Graph}
+use Rattle.theory_graphs.proofs.Graphs.Sweep.{sweep}
+use Rattle.theory_graphs.proofs.Graphs.Tidy.{Tidy}
+use Rattle.theory_memories.proofs.Memories.Keeping.{sizesIn}
+use Rattle.theory_memories.proofs.Memories.View.{view, slotsIn}
+use Rattle.theory_memories.proofs.Memories.Healthy.{Healthy}
+use Rattle.theory_memories.proofs.Memories.ViewSweep.{asCounts, as-counts-marked, as-counts-unmarked, Swept, sweep-swept}
+use Rattle.theory_memories.proofs.Memories.ViewClose as view-close
 use Rattle.refinement_stores.proofs.FreedBlocks.{release-zeros}
 use Rattle.refinement_steps.proofs.CloseSame.{asideOf, close-beside, let-go-same, undisturbed, pass-is}
 

@@ -8,19 +8,19 @@ use Prim.Native.Nat.{ℕ, zero, suc, _+_, _-_, _*_, _≤_, _<_}
 use native.Mathlib.Omega.{arith}
 use lib.ListN.{getD}
 use Rattle.rules.specs.Heap.{Memory, withCounts, isFirst, sizeAt, isData}
-use Rattle.rules.specs.Store.{Work, work, countDown, namingCells, freed, release}
-use Rattle.rules.specs.Collection.{marked, swept}
-use Rattle.rules.specs.Steps.{toSurvivor, survivorsDown, survivorsLetGo, unmarkedFreed}
+use Rattle.rules_stores.specs.Store.{Work, work, countDown, namingCells, freed, release}
+use Rattle.rules_stores.specs.Collection.{marked, swept}
+use Rattle.rules_steps.specs.Steps.{toSurvivor, survivorsDown, survivorsLetGo, unmarkedFreed}
 use Rattle.rules.proofs.Tests.{test-cases, and-true}
-use Rattle.rules.proofs.Unread.{beside, release-beside}
+use Rattle.rules_calls.proofs.Unread.{beside, release-beside}
 use Rattle.step_list.specs.Lists.{isSet}
 use Rattle.count_up.specs.Ready.{partMemory}
 use Rattle.step_close.specs.Close as close
 use Rattle.step_close.specs.Close.{countDownSurvivors, isDoomed, Closing, closing, doomedFreed, closeOne, closeBelow, released}
 use Rattle.step_close.proofs.Order as order
-use Rattle.theory.proofs.Memories.Healthy.{Healthy}
-use Rattle.theory.proofs.Memories.Naming.{naming-data, naming-ordinary, of-data, of-others}
-use Rattle.theory.proofs.Memories.OnePass as pass
+use Rattle.theory_memories.proofs.Memories.Healthy.{Healthy}
+use Rattle.theory_memories.proofs.Memories.Naming.{naming-data, naming-ordinary, of-data, of-others}
+use Rattle.theory_memories.proofs.Memories.OnePass as pass
 
 -- ---- the lists that the pass does not read
 

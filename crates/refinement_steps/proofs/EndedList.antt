@@ -9,7 +9,7 @@ use lib.ListN.{length, getD}
 use borrow.Author.Tests.{eqb-false, ne-eqb}
 use Rattle.rules.specs.Tools.{someBelow}
 use Rattle.rules.specs.Heap.{Memory}
-use Rattle.rules.specs.Steps.{isOpen, badNext, badPlace, strayMark, rootMissed, cellMissed, isUntidy}
+use Rattle.rules_steps.specs.Steps.{isOpen, badNext, badPlace, strayMark, rootMissed, cellMissed, isUntidy}
 use Rattle.rules.proofs.Tests.{and-false, or-false, some-false}
 use Rattle.step_advance.specs.Steps.{Ended}
 

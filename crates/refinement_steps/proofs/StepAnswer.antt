@@ -9,28 +9,28 @@ use lib.ListN.{length, replicate}
 use Rattle.bitmap.specs.Bit.{zeros}
 use Rattle.rules.specs.Heap.{Memory, withRoots, withWaiting, withSections, withMarks, withList}
 use Rattle.rules.specs.Sections.{figures}
-use Rattle.rules.specs.Collection.{marked}
-use Rattle.rules.specs.Steps.{isOpen, mapOf, withProgress, withNone, Progress, progressOf, StepsTaken, stepsFrom, unmarkedFreed, closed, closes, stepped}
-use Rattle.rules.specs.Calls.{takeSteps, reply, settled, outcome, answer}
-use Rattle.rules.specs.Promise.{Promise}
+use Rattle.rules_stores.specs.Collection.{marked}
+use Rattle.rules_steps.specs.Steps.{isOpen, mapOf, withProgress, withNone, Progress, progressOf, StepsTaken, stepsFrom, unmarkedFreed, closed, closes, stepped}
+use Rattle.rules_calls.specs.Calls.{takeSteps, reply, settled, outcome, answer}
+use Rattle.rules_calls.specs.Promise.{Promise}
 use Rattle.types.specs.declared.Reply.{Reply}
 use Rattle.rules.proofs.Tests.{false-unless}
-use Rattle.rules.proofs.Replies.{Passed}
-use Rattle.rules.proofs.Promised.{promised}
-use Rattle.rules.proofs.Progress.{map-of-test, map-of-past}
-use Rattle.rules.proofs.Unread.{beside}
+use Rattle.rules_calls.proofs.Replies.{Passed}
+use Rattle.rules_calls.proofs.Promised.{promised}
+use Rattle.rules_steps.proofs.Progress.{map-of-test, map-of-past}
+use Rattle.rules_calls.proofs.Unread.{beside}
 use Rattle.step_list.specs.Lists.{isSet}
 use Rattle.step_advance.specs.Steps.{progressAt, stepsBy, Holding}
 use Rattle.count_up.specs.Ready.{partMemory}
 use Rattle.step_close.specs.Close.{closeBelow, closeBlocks, released, releasedAfter, untouched}
-use Rattle.theory.proofs.Graphs.Tidy.{Tidy}
-use Rattle.theory.proofs.Memories.View.{view}
-use Rattle.theory.proofs.Memories.Healthy.{Healthy}
-use Rattle.theory.proofs.Memories.Fit.{Fit}
-use Rattle.theory.proofs.Memories.TidyHeap.{some-inside}
-use Rattle.theory.proofs.Memories.Scanning.{progress-tidy, steps-from-open, list-empty}
-use Rattle.theory.proofs.EachCall.Accepted.{fit-accepted}
-use Rattle.theory.specs.Usable.{Usable}
+use Rattle.theory_graphs.proofs.Graphs.Tidy.{Tidy}
+use Rattle.theory_memories.proofs.Memories.View.{view}
+use Rattle.theory_memories.proofs.Memories.Healthy.{Healthy}
+use Rattle.theory_memories.proofs.Memories.Fit.{Fit}
+use Rattle.theory_memories.proofs.Memories.TidyHeap.{some-inside}
+use Rattle.theory_memories.proofs.Memories.Scanning.{progress-tidy, steps-from-open, list-empty}
+use Rattle.theory_memories.proofs.Memories.Accepted.{fit-accepted}
+use Rattle.theory_memories.specs.Heaps.{Usable}
 use Rattle.theory.proofs.Usable.UsableHeap.{usable-fit}
 use Rattle.refinement_steps.proofs.StepsSame.{codeNames, steps-same, progress-same}
 use Rattle.refinement_steps.proofs.CloseSame.{close-left}

@@ -10,17 +10,17 @@ use lib.Dec.{eqb}
 use lib.ListN.{length, getD}
 use Rattle.rules.specs.Tools.{isSome, tabulate}
 use Rattle.rules.specs.Heap.{Memory, isFirst}
-use Rattle.rules.specs.Collection.{marked}
-use Rattle.rules.specs.Steps.{names, isListed, Progress, progress, progressOf, lowest, scanned, StepsTaken, taken, stepsFrom}
+use Rattle.rules_stores.specs.Collection.{marked}
+use Rattle.rules_steps.specs.Steps.{names, isListed, Progress, progress, progressOf, lowest, scanned, StepsTaken, taken, stepsFrom}
 use Rattle.step_list.specs.Lists.{listedIn}
 use Rattle.step_list.specs.Naming.{cellNames}
 use Rattle.step_advance.specs.Steps.{progressAt, scannedBy, stepsBy}
 use Rattle.check_marks.proofs.TidySame.{names-same}
-use Rattle.theory.proofs.Graphs.Tidy.{Tidy}
-use Rattle.theory.proofs.Memories.View.{view}
-use Rattle.theory.proofs.Memories.Healthy.{Healthy}
-use Rattle.theory.proofs.Memories.TidyHeap.{some-first}
-use Rattle.theory.proofs.Memories.Scanning.{steps-taken}
+use Rattle.theory_graphs.proofs.Graphs.Tidy.{Tidy}
+use Rattle.theory_memories.proofs.Memories.View.{view}
+use Rattle.theory_memories.proofs.Memories.Healthy.{Healthy}
+use Rattle.theory_memories.proofs.Memories.TidyHeap.{some-first}
+use Rattle.theory_memories.proofs.Memories.Scanning.{steps-taken}
 
 lowest-found : (ts : List Bool) (i x : ℕ) → lowest ts i ≡ some x → (k : ℕ) × (x ≡ i + k) × (getD ts k false ≡ true)
 unfolding lowest isSome

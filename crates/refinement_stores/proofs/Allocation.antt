@@ -13,8 +13,8 @@ use lib.Seq.{getD-set-other}
 use Rattle.bitmap.specs.Bit.{setBit, fillBits, zeros}
 use Rattle.bitmap.proofs.Rewrites.{Rewritten, bit}
 use Rattle.rules.specs.Heap.{Memory, lentMemory, withRoots, withSections, withMarks, withList, exponent, lowestFree}
-use Rattle.rules.specs.Store.{letGo, putRoot, placed, allocateIn}
-use Rattle.rules.specs.Steps.{isOpen, wasMarked, allocateShading}
+use Rattle.rules_stores.specs.Store.{letGo, putRoot, placed, allocateIn}
+use Rattle.rules_steps.specs.Steps.{isOpen, wasMarked, allocateShading}
 use Rattle.rules.proofs.Tests.{test-cases, false-unless}
 use Rattle.count_up.specs.Ready.{partMemory}
 use Rattle.step_list.specs.Lists.{isSet, Listing}
@@ -23,16 +23,16 @@ use Rattle.work_place.specs.Born.{bornMarks}
 use Rattle.work_place.proofs.Births.{born-open, born-shut}
 use Rattle.release.proofs.OtherBuffers.{lentAgain}
 use Rattle.step_release.specs.Left.{Listable, LetGo}
-use Rattle.theory.proofs.Maps.Extents.{sizesOf, length-sizes-of}
-use Rattle.theory.proofs.Maps.LowestChunk.{Room, room}
-use Rattle.theory.proofs.Maps.Totals.{sum-set, free-and-sizes}
-use Rattle.theory.proofs.Graphs.Graph.{Graph, size}
-use Rattle.theory.proofs.Memories.View.{view}
-use Rattle.theory.proofs.Memories.Fit.{Fit}
-use Rattle.theory.proofs.Memories.Shades.{was-facts, facts-was}
-use Rattle.theory.proofs.Memories.Events.{allocate-fresh}
-use Rattle.theory.proofs.Memories.Stores.{roots-named, maps-placed, placed-shows, allocate-root}
-use Rattle.theory.proofs.EachCall.MarksAnyOrder.{tidy, first-objects, stays, new-touched}
+use Rattle.theory_memories.proofs.Maps.Extents.{sizesOf, length-sizes-of}
+use Rattle.theory_memories.proofs.Maps.LowestChunk.{Room, room}
+use Rattle.theory_memories.proofs.Maps.Totals.{sum-set, free-and-sizes}
+use Rattle.theory_graphs.proofs.Graphs.Graph.{Graph, size}
+use Rattle.theory_memories.proofs.Memories.View.{view}
+use Rattle.theory_memories.proofs.Memories.Fit.{Fit}
+use Rattle.theory_memories.proofs.Memories.Shades.{was-facts, facts-was}
+use Rattle.theory_memories.proofs.Memories.Events.{allocate-fresh}
+use Rattle.theory_memories.proofs.Memories.Stores.{roots-named, maps-placed, placed-shows, allocate-root}
+use Rattle.theory_memories.proofs.Memories.MarksAnyOrder.{tidy, first-objects, stays, new-touched}
 use Rattle.refinement_stores.proofs.Touched.{two-held}
 use Rattle.refinement_stores.proofs.Shaded.{Storing, handed, gone-of, shaded-left}
 use Rattle.refinement_stores.proofs.FreedBlocks.{freed-zeros}

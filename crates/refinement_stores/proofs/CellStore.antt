@@ -11,14 +11,14 @@ use borrow.Author.Tests.{eq-eqb, ne-eqb}
 use Rattle.bitmap.specs.Bit.{zeros}
 use Rattle.bitmap.proofs.Rewrites.{Rewritten}
 use Rattle.rules.specs.Heap.{Memory, withCounts, withCells, withMarks, withList, isFirst, sizeAt, isRef, isData}
-use Rattle.rules.specs.Store.{countUp, letGo, putCell, changeCell}
-use Rattle.rules.specs.Steps.{isOpen, storeCellShading}
+use Rattle.rules_stores.specs.Store.{countUp, letGo, putCell, changeCell}
+use Rattle.rules_steps.specs.Steps.{isOpen, storeCellShading}
 use Rattle.rules.proofs.Objects.{first-facts}
 use Rattle.release.proofs.OtherBuffers.{lentAgain}
 use Rattle.step_release.specs.Left.{LetGo}
-use Rattle.theory.proofs.Memories.Fit.{Fit}
-use Rattle.theory.proofs.Memories.Stores.{slots-named, cell-read, store-cell}
-use Rattle.theory.proofs.EachCall.MarksAnyOrder.{tidy, first-objects, cell-touched}
+use Rattle.theory_memories.proofs.Memories.Fit.{Fit}
+use Rattle.theory_memories.proofs.Memories.Stores.{slots-named, cell-read, store-cell}
+use Rattle.theory_memories.proofs.Memories.MarksAnyOrder.{tidy, first-objects, cell-touched}
 use Rattle.refinement_stores.proofs.Touched.{three-held, was-same}
 use Rattle.refinement_stores.proofs.Shaded.{Storing, handed, gone-of, shaded-left}
 use Rattle.refinement_stores.proofs.FreedBlocks.{freed-zeros}

@@ -5,11 +5,11 @@ use Prim.Native.Nat.{ℕ, zero, suc, _+_}
 use native.Mathlib.Omega.{arith}
 use Rattle.bitmap.specs.Bit.{zeros}
 use Rattle.rules.specs.Heap.{Memory}
-use Rattle.rules.specs.Store.{freed, release, letGo}
+use Rattle.rules_stores.specs.Store.{freed, release, letGo}
 use Rattle.release.specs.Blocks.{part, releasedBlocks, letGoBlocks}
 use Rattle.release.proofs.OtherBuffers.{let-go-beside, let-go-blocks-beside}
-use Rattle.theory.proofs.Memories.ViewRelease as view-release
-use Rattle.theory.proofs.Memories.ViewRelease.{Releasing, releasing-next}
+use Rattle.theory_memories.proofs.Memories.ViewRelease as view-release
+use Rattle.theory_memories.proofs.Memories.ViewRelease.{Releasing, releasing-next}
 use Rattle.refinement_stores.proofs.Shaded.{downIn, startOf}
 
 pub release-zeros :

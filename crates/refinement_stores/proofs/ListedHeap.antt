@@ -1,11 +1,11 @@
 -- While a collection is open on a usable heap, its second list is one, and what stands on it is marked.
 use Prim.Native.Nat.{ℕ}
 use Rattle.rules.specs.Heap.{Memory}
-use Rattle.rules.specs.Steps.{isListed}
+use Rattle.rules_steps.specs.Steps.{isListed}
 use Rattle.step_list.specs.Lists.{listedIn}
 use Rattle.step_release.specs.Left.{Listable}
-use Rattle.theory.specs.Usable.{Usable}
-use Rattle.theory.proofs.Memories.TidyHeap.{list-is, tidy-facts}
+use Rattle.theory_memories.specs.Heaps.{Usable}
+use Rattle.theory_memories.proofs.Memories.TidyHeap.{list-is, tidy-facts}
 use Rattle.theory.proofs.Usable.UsableHeap.{usable-fit}
 
 pub usable-listable : {N w : ℕ} {h : Memory} → Usable N w h → Listable N h

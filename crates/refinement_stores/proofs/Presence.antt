@@ -5,7 +5,7 @@ use mathlib.Core.Bool.{false}
 use mathlib.Core.List.{List}
 use Prim.Native.Nat.{ℕ}
 use borrow.Author.Tests.{eq-eqb, ne-eqb}
-use Rattle.rules.specs.Store.{sticks, storeSticks}
+use Rattle.rules_stores.specs.Store.{sticks, storeSticks}
 
 module _ (N w : ℕ) (counts : List ℕ) {old v : ℕ} where
   pub sticks-present : old ≡ v → false ≡ storeSticks N w counts old v

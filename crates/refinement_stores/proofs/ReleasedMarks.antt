@@ -13,25 +13,25 @@ use Rattle.bitmap.specs.Bit.{bitAt, setBit, one}
 use Rattle.bitmap.proofs.Maps.{bit-at-lt, bit-past-end, length-set-bit}
 use Rattle.bitmap.proofs.Rewrites.{Rewritten, bit, rewritten-length, rewritten-ext}
 use Rattle.rules.specs.Heap.{Memory, sizeAt}
-use Rattle.rules.specs.Store.{namingCells, workAfter, memoryAfter, release}
-use Rattle.rules.specs.Steps.{names, isMarked, isListed, mapOf, marksAfter}
+use Rattle.rules_stores.specs.Store.{namingCells, workAfter, memoryAfter, release}
+use Rattle.rules_steps.specs.Steps.{names, isMarked, isListed, mapOf, marksAfter}
 use Rattle.rules.proofs.Tests.{test-cases, false-unless, false-or}
-use Rattle.rules.proofs.Progress.{map-of-rewritten, bit-map-of}
+use Rattle.rules_steps.proofs.Progress.{map-of-rewritten, bit-map-of}
 use Rattle.step_marks.specs.Marks.{freedMarks}
 use Rattle.step_list.specs.Lists.{isSet}
 use Rattle.step_list.proofs.Bits.{zero-is, made-clear, others-same}
 use Rattle.release.specs.Marks.{releasedMarks}
-use Rattle.theory.specs.Marks.{Frees, TakenMarking, firstMarks, firstList}
-use Rattle.theory.proofs.Maps.Extents.{sizesOf, length-sizes-of}
-use Rattle.theory.proofs.Graphs.Occurrences.{occurrences}
-use Rattle.theory.proofs.Graphs.Graph.{size}
-use Rattle.theory.proofs.Graphs.Balance.{waits-head, waits-bound, named-object}
-use Rattle.theory.proofs.Memories.View.{view}
-use Rattle.theory.proofs.Memories.Naming.{names-cells}
-use Rattle.theory.proofs.Memories.TidyHeap.{some-first, some-inside, names-slot}
-use Rattle.theory.proofs.Memories.ViewRelease.{Releasing, releasing-next}
-use Rattle.theory.proofs.Memories.Orders.{fewer-objects}
-use Rattle.theory.proofs.Memories.MarkOrders.{in-any-order}
+use Rattle.theory_memories.specs.Marks.{Frees, TakenMarking, firstMarks, firstList}
+use Rattle.theory_memories.proofs.Maps.Extents.{sizesOf, length-sizes-of}
+use Rattle.theory_graphs.proofs.Graphs.Occurrences.{occurrences}
+use Rattle.theory_graphs.proofs.Graphs.Graph.{size}
+use Rattle.theory_graphs.proofs.Graphs.Balance.{waits-head, waits-bound, named-object}
+use Rattle.theory_memories.proofs.Memories.View.{view}
+use Rattle.theory_memories.proofs.Memories.Naming.{names-cells}
+use Rattle.theory_memories.proofs.Memories.TidyHeap.{some-first, some-inside, names-slot}
+use Rattle.theory_memories.proofs.Memories.ViewRelease.{Releasing, releasing-next}
+use Rattle.theory_memories.proofs.Memories.Orders.{fewer-objects}
+use Rattle.theory_memories.proofs.Memories.MarkOrders.{in-any-order}
 use Rattle.refinement_stores.proofs.MarkBits.{named-rewritten, named-bits}
 
 -- ---- along a release

@@ -10,13 +10,13 @@ use borrow.Author.Tests.{eq-eqb, ne-eqb}
 use Rattle.bitmap.specs.Bit.{zeros}
 use Rattle.bitmap.proofs.Rewrites.{Rewritten}
 use Rattle.rules.specs.Heap.{Memory, withCounts, withRoots, withMarks, withList, isRef}
-use Rattle.rules.specs.Store.{countUp, letGo, putRoot, changeRoot}
-use Rattle.rules.specs.Steps.{isOpen, storeRootShading}
+use Rattle.rules_stores.specs.Store.{countUp, letGo, putRoot, changeRoot}
+use Rattle.rules_steps.specs.Steps.{isOpen, storeRootShading}
 use Rattle.release.proofs.OtherBuffers.{lentAgain}
 use Rattle.step_release.specs.Left.{LetGo}
-use Rattle.theory.proofs.Memories.Fit.{Fit}
-use Rattle.theory.proofs.Memories.Stores.{roots-named, store-root}
-use Rattle.theory.proofs.EachCall.MarksAnyOrder.{tidy, first-objects, root-touched}
+use Rattle.theory_memories.proofs.Memories.Fit.{Fit}
+use Rattle.theory_memories.proofs.Memories.Stores.{roots-named, store-root}
+use Rattle.theory_memories.proofs.Memories.MarksAnyOrder.{tidy, first-objects, root-touched}
 use Rattle.refinement_stores.proofs.Touched.{two-held, was-same}
 use Rattle.refinement_stores.proofs.Shaded.{Storing, handed, gone-of, shaded-left}
 use Rattle.refinement_stores.proofs.FreedBlocks.{freed-zeros}

@@ -11,10 +11,10 @@ use lib.ListN.{length, getD}
 use Rattle.bitmap.proofs.Rewrites.{Rewritten, rewritten-length}
 use Rattle.rules.specs.Tools.{holding}
 use Rattle.rules.specs.Heap.{Memory, withCounts, withRoots, withSections, withMarks, withList}
-use Rattle.rules.specs.Store.{Work, work, countDown, letGo}
-use Rattle.rules.specs.Steps.{isOpen, isMarked, isListed, mapOf, listOf, withProgress, wasMarked, marksAfter, listAfter, shaded}
+use Rattle.rules_stores.specs.Store.{Work, work, countDown, letGo}
+use Rattle.rules_steps.specs.Steps.{isOpen, isMarked, isListed, mapOf, listOf, withProgress, wasMarked, marksAfter, listAfter, shaded}
 use Rattle.rules.proofs.Tests.{test-cases}
-use Rattle.rules.proofs.Unread.{let-go-beside}
+use Rattle.rules_calls.proofs.Unread.{let-go-beside}
 use Rattle.step_marks.specs.Marks.{markTouched}
 use Rattle.step_list.specs.Lists.{isSet, listedIn, relisted}
 use Rattle.step_list.proofs.Rising.{list-same}
@@ -23,10 +23,10 @@ use Rattle.release.proofs.OtherBuffers as other-buffers
 use Rattle.release.proofs.OtherBuffers.{lentAgain}
 use Rattle.release.specs.Blocks.{part}
 use Rattle.step_release.specs.Left.{marksLeft, listLeft, LetGo}
-use Rattle.theory.specs.Marks.{firstMarks}
-use Rattle.theory.proofs.Graphs.Graph.{size}
-use Rattle.theory.proofs.Memories.View.{view}
-use Rattle.theory.proofs.Memories.ViewRelease.{Releasing}
+use Rattle.theory_memories.specs.Marks.{firstMarks}
+use Rattle.theory_graphs.proofs.Graphs.Graph.{size}
+use Rattle.theory_memories.proofs.Memories.View.{view}
+use Rattle.theory_memories.proofs.Memories.ViewRelease.{Releasing}
 use Rattle.refinement_stores.proofs.MarkBits.{touched-rewritten, touched-bits}
 use Rattle.refinement_stores.proofs.ReleasedMarks.{released-bits, released-map}
 

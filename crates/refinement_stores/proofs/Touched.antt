@@ -9,7 +9,7 @@ use borrow.Author.Tests.{ne-eqb, lt-ltb, le-ltb}
 use Rattle.bitmap.specs.Bit.{one}
 use Rattle.rules.specs.Tools.{holding}
 use Rattle.rules.specs.Heap.{Memory, isFirst}
-use Rattle.rules.specs.Steps.{isMarked, wasMarked}
+use Rattle.rules_steps.specs.Steps.{isMarked, wasMarked}
 use Rattle.rules.proofs.Objects.{holding-nil, holding-cons}
 
 some-held : (x : ℕ) (l : List ℕ) (b : ℕ) → ltb 0 (holding (b + 1) (x ∷ l)) ≡ eqb x (b + 1) || ltb 0 (holding (b + 1) l)

@@ -6,9 +6,9 @@ use mathlib.Core.List.{List, [], _∷_}
 use Prim.Native.Nat.{ℕ, zero, suc, _+_}
 use lib.ListN.{replicate}
 use Rattle.rules.specs.Heap.{Memory, withA, withB, withCounts, withCells, withWaiting, withD, sizeAt}
-use Rattle.rules.specs.Store.{Work, work, countDown, freed, namingCells, workAfter, memoryAfter, release, letGo}
-use Rattle.rules.proofs.Unread as unread
-use Rattle.rules.proofs.Unread.{beside, release-beside}
+use Rattle.rules_stores.specs.Store.{Work, work, countDown, freed, namingCells, workAfter, memoryAfter, release, letGo}
+use Rattle.rules_calls.proofs.Unread as unread
+use Rattle.rules_calls.proofs.Unread.{beside, release-beside}
 use Rattle.count_up.specs.Stack.{topFirst}
 use Rattle.step_marks.specs.Marks.{freedMarks}
 use Rattle.release.specs.Blocks.{part, releasedBlocks, letGoBlocks}

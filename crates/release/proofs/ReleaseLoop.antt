@@ -10,7 +10,7 @@ use Rattle.bitmap.specs.Bit.{setBit, fillBits}
 use Rattle.planes.specs.Plane.{setCount}
 use Rattle.planes.proofs.Counts.{set-count-there}
 use Rattle.rules.specs.Heap.{Memory, withCounts, sizeFrom, maxBlocks}
-use Rattle.rules.specs.Store.{Work, work, countDownEach, clearCells, freed, namingCells, release}
+use Rattle.rules_stores.specs.Store.{Work, work, countDownEach, clearCells, freed, namingCells, release}
 use Rattle.step_marks.specs.Marks.{freedMarks}
 use Rattle.step_marks.proofs.Marked.{length-freed-marks}
 use Rattle.count_up.specs.Ready.{Planes, Extents, partMemory}

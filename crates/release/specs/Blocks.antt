@@ -3,7 +3,7 @@
 use Prim.Native.Nat.{ℕ, zero, suc, _+_}
 use mathlib.Core.List.{List, [], _∷_}
 use Rattle.rules.specs.Heap.{Memory, withCounts, sizeAt}
-use Rattle.rules.specs.Store.{work, countDown, workAfter, memoryAfter}
+use Rattle.rules_stores.specs.Store.{work, countDown, workAfter, memoryAfter}
 use Rattle.count_up.specs.Ready.{partMemory}
 
 -- what code that lets go knows of a memory

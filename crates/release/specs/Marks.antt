@@ -4,7 +4,7 @@ use Prim.Native.Nat.{ℕ, zero, suc}
 use mathlib.Core.Bool.{Bool}
 use mathlib.Core.List.{List, [], _∷_}
 use Rattle.rules.specs.Heap.{Memory, withCounts, sizeAt}
-use Rattle.rules.specs.Store.{work, countDown, namingCells, workAfter, memoryAfter}
+use Rattle.rules_stores.specs.Store.{work, countDown, namingCells, workAfter, memoryAfter}
 use Rattle.step_marks.specs.Marks.{freedMarks}
 
 -- along `release`

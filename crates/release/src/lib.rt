@@ -6,7 +6,7 @@ ghost use mathlib.Core.List.{[]};
 ghost use Prim.Native.Nat.{_*_, _/_, _≤_};
 ghost use lib.ListN.{length, replicate};
 ghost use Rattle.rules.specs.Heap.{maxBlocks};
-ghost use Rattle.rules.specs.Store.{release, letGo};
+ghost use Rattle.rules_stores.specs.Store.{release, letGo};
 ghost use Rattle.section_figures.specs.Figures.{Coherent, Upkeep};
 ghost use Rattle.count_up.specs.Ready.{Planes, Extents, partMemory};
 ghost use Rattle.count_up.specs.Stack.{topFirst, counted, Stack};

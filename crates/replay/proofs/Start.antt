@@ -6,17 +6,17 @@ use mathlib.Core.List.{List, [], _∷_, _++_}
 use Prim.Native.Nat.{ℕ, _*_, _/_}
 use lib.ListN.{length, drop}
 use Rattle.rules.specs.Heap.{Memory, shaped}
-use Rattle.rules.specs.Store.{formatted}
-use Rattle.rules.specs.Calls.{Call, format, Answer, reply, accepted, outcome, answer, run, lastMemory}
-use Rattle.rules.specs.Promise.{Promise}
-use Rattle.theory.specs.Words.{Made, callsOf, answersOf}
+use Rattle.rules_stores.specs.Store.{formatted}
+use Rattle.rules_calls.specs.Calls.{Call, format, Answer, reply, accepted, outcome, answer, run, lastMemory}
+use Rattle.rules_calls.specs.Promise.{Promise}
+use Rattle.theory.specs.CallWords.{Made, callsOf, answersOf}
 use Rattle.theory.specs.Demand.{Chain}
-use Rattle.theory.specs.Statements.{Undamaged}
+use Rattle.theory_memories.specs.Heaps.{Undamaged}
 use Rattle.types.specs.declared.Reply.{Reply}
-use Rattle.rules.proofs.Replies.{format-accepted}
+use Rattle.rules_calls.proofs.Replies.{format-accepted}
 use Rattle.rules.proofs.Shape.{shape-facts}
 use Rattle.theory.proofs.Theorems.{calls-keep-undamaged, format-makes-undamaged, claim-from-undamaged}
-use Rattle.theory.specs.Usable.{Usable}
+use Rattle.theory_memories.specs.Heaps.{Usable}
 use Rattle.replay_words.specs.Encoding.{callsIn, replyWords}
 use Rattle.replay.specs.Run.{AsRun}
 use Rattle.replay_words.proofs.Calls.{accepted-passed}

@@ -4,9 +4,9 @@ use mathlib.Core.Path.{_≡_}
 use mathlib.Core.List.{List, _∷_, _++_}
 use lib.ListN.{length, drop}
 use Rattle.rules.specs.Heap.{Memory, shaped}
-use Rattle.rules.specs.Store.{formatted}
-use Rattle.rules.specs.Calls.{format, run, lastMemory}
-use Rattle.theory.specs.Words.{Made, callsOf, answersOf, leftBy}
+use Rattle.rules_stores.specs.Store.{formatted}
+use Rattle.rules_calls.specs.Calls.{format, run, lastMemory}
+use Rattle.theory.specs.CallWords.{Made, callsOf, answersOf, leftBy}
 use Rattle.theory.specs.Demand.{Finds, Chain, Claim}
 use Rattle.types.specs.declared.Reply.{Reply}
 use Rattle.replay_words.specs.Encoding.{callsIn, replyWords}

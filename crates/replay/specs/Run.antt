@@ -4,8 +4,8 @@ use mathlib.Core.Path.{_≡_}
 use mathlib.Core.List.{List, _++_}
 use lib.ListN.{length, drop}
 use Rattle.rules.specs.Heap.{Memory}
-use Rattle.rules.specs.Calls.{run, lastMemory}
-use Rattle.theory.specs.Usable.{Usable}
+use Rattle.rules_calls.specs.Calls.{run, lastMemory}
+use Rattle.theory_memories.specs.Heaps.{Usable}
 use Rattle.replay_words.specs.Encoding.{callsIn, replyWords}
 
 -- all calls were made: the buffers and the replies are the plain machine's, behind the replies nothing is changed, and the heap can be

@@ -4,7 +4,7 @@ ghost use mathlib.Core.Bool.{true};
 ghost use Prim.Native.Nat.{_*_, _/_, _≤_};
 ghost use lib.ListN.{length};
 ghost use Rattle.rules.specs.Lent.{before, after, lent};
-ghost use Rattle.theory.specs.Usable.{Usable};
+ghost use Rattle.theory_memories.specs.Heaps.{Usable};
 ghost use Rattle.replay_words.specs.Encoding.{areCalls};
 ghost use Rattle.replay.specs.Run.{AsRun};
 use replay_words::words;

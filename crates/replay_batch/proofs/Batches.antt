@@ -6,12 +6,12 @@ use native.Mathlib.Decide.{ℕ-discrete}
 use lib.ListN.{length, replicate}
 use borrow.Author.Tests.{eq-eqb, ne-eqb}
 use Rattle.rules.specs.Heap.{Memory, withWaiting, shaped}
-use Rattle.rules.specs.Calls.{check, answer}
-use Rattle.rules.specs.Promise.{Promise}
+use Rattle.rules_calls.specs.Calls.{check, answer}
+use Rattle.rules_calls.specs.Promise.{Promise}
 use Rattle.types.specs.declared.Reply.{Reply}
 use Rattle.rules.proofs.Shape.{shape-facts}
-use Rattle.theory.specs.Statements.{Undamaged}
-use Rattle.theory.specs.Usable.{Usable}
+use Rattle.theory_memories.specs.Heaps.{Undamaged}
+use Rattle.theory_memories.specs.Heaps.{Usable}
 use Rattle.theory.proofs.Theorems.{theory}
 use Rattle.theory.proofs.Usable.UsableHeap.{cleared-usable}
 use Rattle.replay_words.proofs.Calls.{Passed, accepted-passed}

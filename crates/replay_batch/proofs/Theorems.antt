@@ -4,8 +4,9 @@ use mathlib.Core.List.{List, [], _∷_}
 use Prim.Native.Nat.{ℕ}
 use lib.ListN.{replicate}
 use Rattle.rules.specs.Heap.{Memory, withWaiting}
-use Rattle.rules.specs.Calls.{lastMemory}
-use Rattle.theory.specs.Words.{heapOf, Made, leftBy}
+use Rattle.rules_calls.specs.Calls.{lastMemory}
+use Rattle.theory_memories.specs.Words.{heapOf}
+use Rattle.theory.specs.CallWords.{Made, leftBy}
 use Rattle.theory.specs.Demand.{Chain}
 use Rattle.replay_batch.specs.Batch.{BatchIsCalls}
 use Rattle.replay_batch.specs.Theory.{BatchTheory}

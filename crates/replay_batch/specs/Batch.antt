@@ -7,12 +7,12 @@ use mathlib.Core.List.{List}
 use lib.Dec.{eqb}
 use lib.ListN.{length, replicate}
 use Rattle.rules.specs.Heap.{Memory, withWaiting}
-use Rattle.rules.specs.Calls.{check, answer}
+use Rattle.rules_calls.specs.Calls.{check, answer}
 use Rattle.types.specs.declared.Reply.{Reply}
-use Rattle.theory.specs.Words.{Made, callsOf, leftBy}
+use Rattle.theory.specs.CallWords.{Made, callsOf, leftBy}
 use Rattle.theory.specs.Demand.{Finds, Chain}
-use Rattle.theory.specs.Statements.{Undamaged}
-use Rattle.theory.specs.Usable.{Usable}
+use Rattle.theory_memories.specs.Heaps.{Undamaged}
+use Rattle.theory_memories.specs.Heaps.{Usable}
 use Rattle.replay_words.specs.Encoding.{callsIn}
 use Rattle.replay.specs.Replay.{replayReply, Ran}
 

@@ -4,11 +4,11 @@ use mathlib.Core.Bool.{true}
 use mathlib.Core.List.{List}
 use Prim.Native.Nat.{ℕ}
 use Rattle.rules.specs.Heap.{Memory, withMarks, withList}
-use Rattle.rules.specs.Steps.{isOpen}
-use Rattle.rules.specs.Calls.{openCollection, takeSteps}
-use Rattle.rules.specs.Promise.{Promise}
+use Rattle.rules_steps.specs.Steps.{isOpen}
+use Rattle.rules_calls.specs.Calls.{openCollection, takeSteps}
+use Rattle.rules_calls.specs.Promise.{Promise}
 use Rattle.types.specs.declared.Reply.{Reply}
-use Rattle.theory.specs.Usable.{Usable}
+use Rattle.theory_memories.specs.Heaps.{Usable}
 use Rattle.theory.proofs.Usable.UsableHeap.{usable-fit}
 use Rattle.test_arguments.specs.Replies.{shutTest, openTest}
 use Rattle.test_arguments.proofs.ArgumentTests.{own-refused, collect-tested, open-tested, step-tested, none-open, one-open}

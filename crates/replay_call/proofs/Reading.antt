@@ -4,15 +4,15 @@ use mathlib.Core.List.{[]}
 use Prim.Native.Nat.{ℕ}
 use Rattle.bitmap.specs.Bit.{zeros}
 use Rattle.rules.specs.Heap.{Memory, memory, lentMemory}
-use Rattle.rules.specs.Calls.{check, look, freeBlocks, readNumber, reply, accepted, outcome}
-use Rattle.rules.specs.Promise.{Promise}
+use Rattle.rules_calls.specs.Calls.{check, look, freeBlocks, readNumber, reply, accepted, outcome}
+use Rattle.rules_calls.specs.Promise.{Promise}
 use Rattle.types.specs.declared.Reply.{Reply}
-use Rattle.rules.proofs.Replies.{Passed}
-use Rattle.rules.proofs.Promised.{promised}
-use Rattle.theory.proofs.EachCall.Accepted.{fit-accepted}
+use Rattle.rules_calls.proofs.Replies.{Passed}
+use Rattle.rules_calls.proofs.Promised.{promised}
+use Rattle.theory_memories.proofs.Memories.Accepted.{fit-accepted}
 use Rattle.test_arguments.specs.Replies.{lookReply, readReply}
 use Rattle.test_arguments.proofs.ArgumentTests.{look-answered, read-answered}
-use Rattle.theory.specs.Usable.{Usable}
+use Rattle.theory_memories.specs.Heaps.{Usable}
 use Rattle.theory.proofs.Usable.UsableHeap.{usable-fit}
 
 module _ {N w : ℕ} {h : Memory} (usable : Usable N w h) where

@@ -1,6 +1,6 @@
 // One call of the list, on an undamaged heap.
 ghost use Rattle.rules.specs.Lent.{before, after, lent};
-ghost use Rattle.theory.specs.Usable.{Usable};
+ghost use Rattle.theory_memories.specs.Heaps.{Usable};
 ghost use Rattle.replay_call.specs.Dispatched.{Dispatched};
 use test_arguments::collecting;
 use test_arguments::looking;

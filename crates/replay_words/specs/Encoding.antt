@@ -6,7 +6,7 @@ use lib.ListN.{length, getD}
 use lib.Dec.{leb, eqb}
 use Rattle.rules.specs.Tools.{someBelow}
 use Rattle.rules.specs.Heap.{maxNumber}
-use Rattle.rules.specs.Calls.{
+use Rattle.rules_calls.specs.Calls.{
   Call,
   format,
   check,

@@ -5,7 +5,7 @@ use mathlib.Core.List.{List, [], _∷_}
 use lib.ListN.{length}
 use lib.Dec.{leb, eqb}
 use Rattle.rules.specs.Tools.{firstNumber}
-use Rattle.rules.specs.Calls.{reply}
+use Rattle.rules_calls.specs.Calls.{reply}
 use Rattle.types.specs.declared.Reply.{Reply}
 use Rattle.replay_words.specs.Encoding.{areCalls}
 

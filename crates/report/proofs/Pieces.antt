@@ -10,11 +10,11 @@ use lib.Seq.{getD-append-add}
 use Rattle.bitmap.specs.Bit.{Bytes}
 use Rattle.rules.specs.Tools.{all}
 use Rattle.rules.specs.Heap.{Memory}
-use Rattle.rules.specs.Store.{formatted}
+use Rattle.rules_stores.specs.Store.{formatted}
 use Rattle.rules.specs.Sections.{figures}
-use Rattle.rules.specs.Calls.{reply}
+use Rattle.rules_calls.specs.Calls.{reply}
 use Rattle.types.specs.declared.Reply.{Reply}
-use Rattle.theory.specs.Statements.{Undamaged}
+use Rattle.theory_memories.specs.Heaps.{Undamaged}
 use Rattle.public_read.proofs.CheckReply.{check-passed}
 use Rattle.history_records.specs.Records.{recordLength, wide}
 use Rattle.history_figures.specs.declared.tally.Run.{Run}

@@ -6,7 +6,7 @@ use mathlib.Core.List.{List}
 use lib.ListN.{length}
 use Rattle.bitmap.specs.Bit.{Bytes}
 use Rattle.rules.specs.Heap.{Memory}
-use Rattle.rules.specs.Calls.{reply}
+use Rattle.rules_calls.specs.Calls.{reply}
 use Rattle.history_records.specs.Records.{Form, recordLength, wide}
 use Rattle.history_figures.specs.declared.tally.Run.{Run}
 use Rattle.history_line.specs.Line.{line}

@@ -4,14 +4,14 @@ use Prim.Native.Nat.{ℕ, _+_, _*_, _/_}
 use native.Mathlib.Omega.{arith}
 use lib.ListN.{length, replicate, length-replicate}
 use Rattle.rules.specs.Heap.{Memory}
-use Rattle.rules.specs.Store.{formatted}
-use Rattle.rules.specs.Calls.{format, Answer, outcome}
-use Rattle.rules.specs.Promise.{Promise}
+use Rattle.rules_stores.specs.Store.{formatted}
+use Rattle.rules_calls.specs.Calls.{format, Answer, outcome}
+use Rattle.rules_calls.specs.Promise.{Promise}
 use Rattle.types.specs.declared.Reply.{Reply}
 use Rattle.rules.proofs.Shape.{Shaped, shape-test}
 use Rattle.rules.proofs.TrueList.{length-figures}
-use Rattle.rules.proofs.Replies.{format-accepted}
-use Rattle.theory.specs.Statements.{Undamaged}
+use Rattle.rules_calls.proofs.Replies.{format-accepted}
+use Rattle.theory_memories.specs.Heaps.{Undamaged}
 use Rattle.history_runs.proofs.Theorems.{new-heap-undamaged}
 use Rattle.report_heap.specs.Heap.{reportBlocks, reportWidth, reportRoots, newHeap}
 

@@ -2,7 +2,7 @@
 -- blocks."
 use Prim.Native.Nat.{ℕ}
 use Rattle.rules.specs.Heap.{Memory}
-use Rattle.rules.specs.Store.{formatted}
+use Rattle.rules_stores.specs.Store.{formatted}
 
 abbrev pub reportBlocks : ℕ
 reportBlocks = 4096

@@ -1,7 +1,4 @@
-pub mod Cases
-pub mod Questions
-pub mod WrongAnswers
-pub mod WrongOutputs
+pub mod Evidence
 pub mod Tests
 pub mod Searches
 pub mod Tabulate
@@ -12,10 +9,5 @@ pub mod Reading
 pub mod Chunks
 pub mod Figures
 pub mod Sections
-pub mod Replies
-pub mod Promised
 pub mod Counting
-pub mod Plain
-pub mod Unread
-pub mod Progress
 pub mod Stretches

@@ -8,13 +8,11 @@ use native.Mathlib.Nat.{mul-assoc, pow-succ'}
 use native.Mathlib.Decide.{decLt}
 use native.Mathlib.Omega.{arith}
 use lib.Dec.{leb, eqb}
-use lib.ListN.{length, getD, length-replicate, replicate}
+use lib.ListN.{length, getD}
 use lib.Pow.{pow-add, pow-mono, pow-lt}
 use borrow.Author.Tests.{leb-true, le-leb, eqb-true, eq-eqb}
 use Rattle.rules.specs.Heap.{Memory, doublings, isPowerFrom, isBlocks, shape, shaped, maxBlocks, sectionCount}
-use Rattle.rules.specs.Store.{formatted}
 use Rattle.rules.proofs.Tests.{test-cases, done, also, all-at, all-passed}
-use Rattle.rules.proofs.TrueList.{length-figures}
 
 pub record Shaped (N w : ℕ) (h : Memory) : Type 0 where
   pub power : (k : ℕ) × (N ≡ 2 ^ k)
@@ -146,26 +144,3 @@ shape-test N w h s =
 
 pub shaped-blocks : (N w : ℕ) (h : Memory) → Shaped N w h → isBlocks N ≡ true
 shaped-blocks N w h s = blocks-test N (s .power .0) (s .power .1) (s .blocks-min) (s .blocks-max)
-
--- a formatted heap has the shape of the lent one
-pub formatted-shaped : (N w : ℕ) (h : Memory) → Shaped N w h → Shaped N w (formatted N w (length (h .roots)))
-unfolding formatted
-formatted-shaped N w h s = record {
-  power = s .power;
-  blocks-min = s .blocks-min;
-  blocks-max = s .blocks-max;
-  whole-bytes = s .whole-bytes;
-  width-min = s .width-min;
-  width-max = s .width-max;
-  roots-min = omega (arith, s .roots-min, length-replicate {A = ℕ} (length (h .roots)) 0);
-  roots-max = omega (arith, s .roots-max, length-replicate {A = ℕ} (length (h .roots)) 0);
-  length-a = length-replicate (N / 8) 0;
-  length-b = length-replicate (N / 8) 255;
-  length-counts = length-replicate (w * (N / 8)) 0;
-  length-cells = length-replicate (4 * N) 0;
-  length-waiting = length-replicate N 0;
-  length-sections = length-figures N (replicate (N / 8) 0);
-  length-d = length-replicate (N / 8) 0;
-  length-marks = length-replicate (N / 8) 0;
-  length-list = length-replicate (N + 1) 0;
-}

@@ -43,7 +43,7 @@ unfoldable pub strayData : ℕ → Memory → ℕ → Bool
 strayData N h i = isData (h .d) i && not (isFirst N h i)
 
 -- Kind 6, "The number of objects differs from the number of 0 bits in the B-map", went with request U9: where
--- kinds 1 and 2 are absent the numbers are equal (`ObjectsAreEnds`, theory/specs/Statements.antt). Its number
+-- kinds 1 and 2 are absent the numbers are equal (`ObjectsAreEnds`, theory_memories/specs/Heaps.antt). Its number
 -- stays unused: "7 keeps its number".
 
 -- the damage kind that is reported, or 0 for a heap that is not damaged

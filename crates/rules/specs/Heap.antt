@@ -159,7 +159,7 @@ unfoldable pub exponentFrom : (f k n : ℕ) → ℕ
 exponentFrom zero k n = k
 exponentFrom (suc f) k n = elim (leb n (2 ^ k)) [ true ↦ k | false ↦ exponentFrom f (k + 1) n ]
 
--- n tries are enough (proved as `LeastPower`, theory/specs/Statements.antt)
+-- n tries are enough (proved as `LeastPower`, theory_memories/specs/Heaps.antt)
 unfoldable pub exponent : ℕ → ℕ
 exponent n = exponentFrom n 0 n
 

@@ -11,7 +11,7 @@ use lib.ListN.{length, getD, set, replicate, getD-replicate}
 use lib.Seq.{getD-set-same, getD-set-other}
 use Rattle.bitmap.specs.Bit.{bitAt, setBit}
 use Rattle.rules.specs.Heap.{sizeFrom}
-use Rattle.rules.specs.Store.{namingCells}
+use Rattle.rules_stores.specs.Store.{namingCells}
 use Rattle.step_list.specs.Lists.{isSet, NextBit}
 use Rattle.step_list.specs.Naming.{namedFrom, cellNames}
 use Rattle.step_list.proofs.Bits.{made-clear, others-same}

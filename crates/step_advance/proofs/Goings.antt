@@ -9,7 +9,7 @@ use lib.Dec.{eqb}
 use Rattle.rules.specs.Tools.{tabulate}
 use Rattle.rules.proofs.Tabulate.{getD-tabulate}
 use Rattle.step_list.specs.Lists.{isSet, NextBit}
-use Rattle.rules.specs.Steps.{Progress, progress, lowest, StepsTaken, taken}
+use Rattle.rules_steps.specs.Steps.{Progress, progress, lowest, StepsTaken, taken}
 use Rattle.step_advance.specs.Steps.{progressIn, scannedBy, stepsBy, Stepped, Went}
 
 -- ---- lists by number

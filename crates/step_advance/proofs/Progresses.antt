@@ -12,13 +12,13 @@ use borrow.Author.Tests.{leb-true, leb-false, ne-eqb}
 use Rattle.bitmap.specs.Bit.{Bytes}
 use mathlib.Core.Option.{Option}
 use Rattle.rules.specs.Tools.{someBelow, isSome, tabulate}
-use Rattle.rules.specs.Collection.{marked}
+use Rattle.rules_stores.specs.Collection.{marked}
 use Rattle.rules.proofs.Tests.{test-cases, some-true, true-some, some-false, false-some}
 use Rattle.rules.proofs.Tabulate.{getD-tabulate}
 use Rattle.step_list.specs.Lists.{isSet, listedIn, Shows, NextBit}
 use Rattle.step_list.proofs.Rising.{list-same}
 use Rattle.step_list.proofs.MapOf.{map-of}
-use Rattle.rules.specs.Steps.{listOf, Progress, progress, lowest, StepsTaken, closes}
+use Rattle.rules_steps.specs.Steps.{listOf, Progress, progress, lowest, StepsTaken, closes}
 use Rattle.step_advance.specs.Steps.{progressIn, progressAt, stepsBy, Went, Holding, Ended, Holds}
 use Rattle.step_advance.proofs.Goings.{tabulate-same, lowest-at, lowest-none}
 

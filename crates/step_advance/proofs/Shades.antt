@@ -12,7 +12,7 @@ use borrow.Author.Tests.{eq-eqb, ne-eqb, eqb-true}
 use Rattle.bitmap.specs.Bit.{bitAt, setBit}
 use Rattle.rules.specs.Tools.{someBelow}
 use Rattle.rules.specs.Heap.{sizeFrom}
-use Rattle.rules.specs.Store.{namingCells}
+use Rattle.rules_stores.specs.Store.{namingCells}
 use Rattle.step_list.specs.Lists.{isSet}
 use Rattle.step_list.proofs.Bits.{set-is, clear-is, made-clear, others-same, gains-one, some-more}
 use Rattle.step_list.specs.Naming.{namedFrom, cellNames}

@@ -8,8 +8,8 @@ use mathlib.Core.Option.{none, some}
 use lib.Dec.{eqb}
 use lib.ListN.{getD}
 use Rattle.rules.specs.Tools.{tabulate}
-use Rattle.rules.specs.Collection.{marked}
-use Rattle.rules.specs.Steps.{mapOf, listOf, Progress, progress, lowest, StepsTaken, taken}
+use Rattle.rules_stores.specs.Collection.{marked}
+use Rattle.rules_steps.specs.Steps.{mapOf, listOf, Progress, progress, lowest, StepsTaken, taken}
 use Rattle.step_list.specs.Lists.{isSet, listedIn}
 
 -- how far a collection has come, as the bits of two maps

@@ -6,7 +6,7 @@ ghost use lib.Dec.{eqb, leb, ltb};
 ghost use lib.ListN.{length};
 ghost use mathlib.Core.Bool.{_&&_};
 ghost use Rattle.rules.specs.Heap.{maxBlocks};
-ghost use Rattle.rules.specs.Steps.{closes};
+ghost use Rattle.rules_steps.specs.Steps.{closes};
 ghost use Rattle.step_list.specs.Naming.{namedFrom, cellNames};
 ghost use Rattle.step_advance.specs.Steps.{progressIn, progressAt, stepsBy, Went, Holding, Ended, Holds};
 ghost use Rattle.step_advance.specs.Flags.{Flagged, Clear, Section, Looked, Flying, Flown};

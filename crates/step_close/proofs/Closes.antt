@@ -9,7 +9,7 @@ use native.Mathlib.Omega.{arith}
 use Rattle.bitmap.specs.Bit.{bitAt, setBit, fillBits}
 use Rattle.planes.specs.Plane.{setCount}
 use Rattle.rules.specs.Heap.{Memory, isFirst, sizeAt}
-use Rattle.rules.specs.Store.{work, clearCells, namingCells, freed}
+use Rattle.rules_stores.specs.Store.{work, clearCells, namingCells, freed}
 use Rattle.count_up.specs.Ready.{partMemory}
 use Rattle.section_figures.specs.Figures.{Coherent}
 use Rattle.count_up.specs.Stack.{topFirst, counted, Worked}

@@ -14,7 +14,7 @@ use Rattle.bitmap.proofs.Rewrites.{rewritten-trans, rewritten-ext}
 use Rattle.planes.specs.Plane.{countAt, setCount}
 use Rattle.planes.proofs.Counts.{count-lt, count-set-same, count-set-other, length-set-count, rewritten-set-count, counts-bits}
 use Rattle.rules.specs.Heap.{capacity}
-use Rattle.rules.specs.Store.{Work, work, countDown}
+use Rattle.rules_stores.specs.Store.{Work, work, countDown}
 use Rattle.rules.proofs.Tests.{test-cases, or-false}
 use Rattle.count_up.specs.Ready.{Planes}
 use Rattle.count_up.proofs.Shapes.{planes-same}

@@ -10,10 +10,10 @@ use native.Mathlib.Omega.{arith}
 use borrow.Author.Tests.{not-true}
 use lib.ListN.{getD}
 use Rattle.rules.specs.Heap.{Memory, withCounts, isFirst, sizeAt}
-use Rattle.rules.specs.Store.{Work, work, countDown, namingCells, freed}
+use Rattle.rules_stores.specs.Store.{Work, work, countDown, namingCells, freed}
 use Rattle.bitmap.specs.Bit.{bitAt}
 use lib.Dec.{eqb}
-use Rattle.rules.specs.Collection.{marked, swept}
+use Rattle.rules_stores.specs.Collection.{marked, swept}
 use Rattle.rules.proofs.Tests.{test-cases, and-true}
 use Rattle.count_up.specs.Ready.{Planes}
 use Rattle.step_close.specs.Close.{toSurvivor, countDownSurvivors, isDoomed, Closing, closing, doomedFreed, closeOne, closeBelow}

@@ -13,7 +13,7 @@ use Rattle.bitmap.specs.Bit.{bitAt, one}
 use Rattle.bitmap.proofs.Maps.{bit-past-end}
 use Rattle.planes.specs.Plane.{countAt, setCount}
 use Rattle.map_objects.proofs.Cells.{clear-out}
-use Rattle.rules.specs.Store.{Work, work, countDown, clearCells}
+use Rattle.rules_stores.specs.Store.{Work, work, countDown, clearCells}
 use Rattle.count_up.specs.Ready.{Planes}
 use Rattle.count_up.specs.Stack.{topFirst, counted, passing, remaining, Stack, Worked}
 use Rattle.count_up.proofs.Counts.{count-written, count-kept, passing-set}

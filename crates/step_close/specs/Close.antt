@@ -5,7 +5,7 @@ use mathlib.Core.Bool.{Bool, true, false, not, _&&_}
 use mathlib.Core.List.{List, []}
 use lib.ListN.{getD}
 use Rattle.rules.specs.Heap.{Memory, withCounts, isFirst, sizeAt}
-use Rattle.rules.specs.Store.{Work, work, countDown, namingCells, freed, release}
+use Rattle.rules_stores.specs.Store.{Work, work, countDown, namingCells, freed, release}
 use Rattle.release.specs.Blocks.{releasedBlocks}
 use Rattle.section_figures.specs.Figures.{Coherent}
 use Rattle.count_up.specs.Ready.{Planes, Extents, partMemory}

@@ -7,7 +7,7 @@ ghost use Prim.Native.Nat.{_+_, _*_, _/_, _<_, _≤_};
 ghost use lib.ListN.{length, replicate};
 ghost use Rattle.bitmap.specs.Bit.{setBit};
 ghost use Rattle.rules.specs.Heap.{maxBlocks};
-ghost use Rattle.rules.specs.Store.{work, clearCells, namingCells};
+ghost use Rattle.rules_stores.specs.Store.{work, clearCells, namingCells};
 ghost use Rattle.section_figures.specs.Figures.{Coherent};
 ghost use Rattle.count_up.specs.Ready.{Planes, Extents, partMemory};
 ghost use Rattle.count_up.specs.Stack.{topFirst, counted, remaining, Stack, Worked};

@@ -9,8 +9,8 @@ use lib.ListN.{length}
 use borrow.Author.Tests.{eqb-true, eqb-false}
 use Rattle.bitmap.specs.Bit.{bitAt, one, Bytes}
 use Rattle.bitmap.proofs.Maps.{bit-at-lt, bytes-set-bit, map-ext}
-use Rattle.rules.specs.Steps.{mapOf}
-use Rattle.rules.proofs.Progress.{length-map-of, bit-map-of}
+use Rattle.rules_steps.specs.Steps.{mapOf}
+use Rattle.rules_steps.proofs.Progress.{length-map-of, bit-map-of}
 use Rattle.step_list.specs.Lists.{isSet, Shows}
 
 one-lt : (t : Bool) → one t < 2

@@ -8,7 +8,7 @@ use native.Mathlib.Decide.{ℕ-discrete, decLt}
 use native.Mathlib.Omega.{arith}
 use lib.ListN.{length, getD}
 use Rattle.bitmap.specs.Bit.{bitAt, setBit}
-use Rattle.rules.specs.Steps.{listOf}
+use Rattle.rules_steps.specs.Steps.{listOf}
 use Rattle.step_list.specs.Lists.{isSet, listedIn, relisted, Shows, Mixed, Listing}
 use Rattle.step_list.proofs.Bits.{set-is, zero-is, byte-equal, made-set, made-clear, others-same}
 use Rattle.step_list.proofs.Rising.{list-same}

@@ -16,8 +16,8 @@ use Rattle.bitmap.proofs.Bits.{bit-zero, bit-put-same, bit-put-other}
 use Rattle.bitmap.proofs.Digits.{trailing-lowest, clear-lowest}
 use Rattle.bitmap.proofs.Maps.{bit-of-byte}
 use Rattle.bitmap.proofs.Zeros.{count-same}
-use Rattle.rules.specs.Steps.{rising, listOf}
-use Rattle.rules.proofs.Progress.{length-rising}
+use Rattle.rules_steps.specs.Steps.{rising, listOf}
+use Rattle.rules_steps.proofs.Progress.{length-rising}
 use Rattle.step_list.specs.Lists.{isSet, Written}
 use Rattle.step_list.proofs.Bits.{set-is, zero-is}
 

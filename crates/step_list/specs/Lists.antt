@@ -8,7 +8,7 @@ use lib.ListN.{length, getD, replicate}
 use lib.Dec.{eqb}
 use Rattle.bitmap.specs.Bit.{bitAt}
 use Rattle.rules.specs.Tools.{someBelow}
-use Rattle.rules.specs.Steps.{rising, listOf}
+use Rattle.rules_steps.specs.Steps.{rising, listOf}
 
 -- bit i of a map is 1
 abbrev pub isSet : List ℕ → ℕ → Bool

@@ -7,7 +7,7 @@ use lib.ListN.{getD}
 use lib.Dec.{eqb}
 use Rattle.rules.specs.Tools.{someBelow}
 use Rattle.rules.specs.Heap.{sizeFrom}
-use Rattle.rules.specs.Store.{namingCells}
+use Rattle.rules_stores.specs.Store.{namingCells}
 
 -- of the n cells from cell j on, one names block i
 unfoldable pub namedFrom : List ℕ → (j n i : ℕ) → Bool

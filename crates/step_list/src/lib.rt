@@ -5,7 +5,7 @@ ghost use mathlib.Core.Bool.{true, not, _&&_, _||_};
 ghost use Prim.Native.Nat.{ℕ, _+_, _*_, _/_, _<_, _≤_};
 ghost use lib.ListN.{length, getD};
 ghost use Rattle.rules.specs.Heap.{maxBlocks};
-ghost use Rattle.rules.specs.Steps.{listOf};
+ghost use Rattle.rules_steps.specs.Steps.{listOf};
 ghost use Rattle.step_list.specs.Lists.{isSet, listedIn, relisted, Shows, NextBit, Written, Mixed, Listing};
 use types::MAX_BLOCKS;
 use types::Ref;

@@ -8,8 +8,8 @@ use native.Mathlib.Omega.{arith}
 use lib.ListN.{length, getD}
 use borrow.Author.Tests.{eq-eqb, ne-eqb}
 use Rattle.rules.specs.Heap.{Memory, withCounts}
-use Rattle.rules.specs.Store.{work, countDown, workAfter, memoryAfter, letGo}
-use Rattle.rules.specs.Steps.{listOf}
+use Rattle.rules_stores.specs.Store.{work, countDown, workAfter, memoryAfter, letGo}
+use Rattle.rules_steps.specs.Steps.{listOf}
 use Rattle.section_figures.specs.Figures.{Upkeep}
 use Rattle.step_marks.specs.Marks.{freedMarks, markTouched}
 use Rattle.step_list.specs.Lists.{isSet, listedIn, relisted, Listing}

@@ -6,8 +6,8 @@ use mathlib.Core.Path.{_≡_}
 use mathlib.Core.Bool.{true, false}
 use mathlib.Core.List.{List}
 use Rattle.rules.specs.Heap.{Memory}
-use Rattle.rules.specs.Store.{letGo}
-use Rattle.rules.specs.Steps.{isOpen, listOf}
+use Rattle.rules_stores.specs.Store.{letGo}
+use Rattle.rules_steps.specs.Steps.{isOpen, listOf}
 use Rattle.section_figures.specs.Figures.{Upkeep}
 use Rattle.step_marks.specs.Marks.{markTouched}
 use Rattle.step_list.specs.Lists.{relisted, Listing}

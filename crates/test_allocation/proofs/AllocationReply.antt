@@ -10,14 +10,14 @@ use lib.ListN.{length}
 use borrow.Author.Tests.{leb-true, ltb-true}
 use Rattle.rules.specs.Tools.{isSome, firstNumber}
 use Rattle.rules.specs.Heap.{Memory, exponent, lowestFree}
-use Rattle.rules.specs.Calls.{Call, allocate, allocateData, Answer, reply, Alone, allocationRefusals, ownRefusals, answer}
-use Rattle.rules.specs.Promise.{Promise}
+use Rattle.rules_calls.specs.Calls.{Call, allocate, allocateData, Answer, reply, Alone, allocationRefusals, ownRefusals, answer}
+use Rattle.rules_calls.specs.Promise.{Promise}
 use Rattle.types.specs.declared.Reply.{Reply}
 use Rattle.rules.proofs.Tests.{and-true}
-use Rattle.rules.proofs.Promised.{promised}
-use Rattle.theory.proofs.Maps.LowestChunk.{room}
-use Rattle.theory.proofs.Memories.Fit.{Fit}
-use Rattle.theory.proofs.EachCall.Accepted.{fit-refused}
+use Rattle.rules_calls.proofs.Promised.{promised}
+use Rattle.theory_memories.proofs.Maps.LowestChunk.{room}
+use Rattle.theory_memories.proofs.Memories.Fit.{Fit}
+use Rattle.theory_memories.proofs.Memories.Accepted.{fit-refused}
 use Rattle.test_arguments.specs.Replies.{ownTest}
 use Rattle.test_allocation.specs.Replies.{found, allocateReply}
 

@@ -6,8 +6,8 @@ use Prim.Native.Nat.{ℕ, _≤_, _<_}
 use native.Mathlib.Omega.{arith}
 use borrow.Author.Tests.{le-leb, lt-ltb}
 use Rattle.rules.specs.Heap.{exponent, lowestFree}
-use Rattle.rules.specs.Calls.{reply}
-use Rattle.theory.proofs.Maps.LowestChunk.{room}
+use Rattle.rules_calls.specs.Calls.{reply}
+use Rattle.theory_memories.proofs.Maps.LowestChunk.{room}
 use Rattle.search_walk.specs.Search.{orElse}
 use Rattle.test_allocation.specs.Replies.{found, allocateReply}
 

@@ -12,17 +12,17 @@ use lib.ListN.{length, getD}
 use borrow.Author.Tests.{eq-eqb, ne-eqb, ltb-true}
 use Rattle.rules.specs.Tools.{firstNumber}
 use Rattle.rules.specs.Heap.{Memory, memory, lentMemory, countOf, isFirst, sizeAt, isRef, isData}
-use Rattle.rules.specs.Calls.{Call, collect, storeRoot, storeCell, look, returnRoots, writeNumber, readNumber, openCollection, takeSteps, Answer}
-use Rattle.rules.specs.Steps.{isOpen}
-use Rattle.rules.specs.Calls.{reply, Alone, cellRefusals, ownRefusals, outcome, answer}
-use Rattle.rules.specs.Promise.{Promise}
+use Rattle.rules_calls.specs.Calls.{Call, collect, storeRoot, storeCell, look, returnRoots, writeNumber, readNumber, openCollection, takeSteps, Answer}
+use Rattle.rules_steps.specs.Steps.{isOpen}
+use Rattle.rules_calls.specs.Calls.{reply, Alone, cellRefusals, ownRefusals, outcome, answer}
+use Rattle.rules_calls.specs.Promise.{Promise}
 use Rattle.types.specs.declared.Reply.{Reply}
-use Rattle.rules.proofs.Replies.{Passed, own-passed, alone-shaped}
+use Rattle.rules_calls.proofs.Replies.{Passed, own-passed, alone-shaped}
 use Rattle.rules.proofs.Tests.{test-cases, first-found, first-not}
 use Rattle.rules.proofs.Objects.{first-facts, size-le, ref-facts}
-use Rattle.rules.proofs.Promised.{promised}
-use Rattle.theory.proofs.Memories.Fit.{Fit}
-use Rattle.theory.proofs.EachCall.Accepted.{fit-accepted, fit-refused}
+use Rattle.rules_calls.proofs.Promised.{promised}
+use Rattle.theory_memories.proofs.Memories.Fit.{Fit}
+use Rattle.theory_memories.proofs.Memories.Accepted.{fit-accepted, fit-refused}
 use Rattle.test_arguments.specs.Replies.{ownTest, storeRootTest, storeCellTest, cellTest, numberTest, readReply}
 use Rattle.test_arguments.specs.Replies.{returnTest, shutTest, openTest, lookReply}
 

@@ -7,8 +7,8 @@ use lib.Dec.{eqb}
 use lib.ListN.{getD}
 use Rattle.rules.specs.Tools.{firstNumber}
 use Rattle.rules.specs.Heap.{Memory, countOf, isFirst, sizeAt}
-use Rattle.rules.specs.Store.{chosenBelow}
-use Rattle.rules.specs.Calls.{Call, storeRoot, storeCell, readNumber, reply, cellRefusals, ownRefusals}
+use Rattle.rules_stores.specs.Store.{chosenBelow}
+use Rattle.rules_calls.specs.Calls.{Call, storeRoot, storeCell, readNumber, reply, cellRefusals, ownRefusals}
 use Rattle.types.specs.declared.Reply.{Reply}
 
 -- number 0 where a call goes on, or its own refusal

@@ -5,11 +5,11 @@ use mathlib.Core.Bool.{true, false}
 use mathlib.Core.List.{List, []}
 use Prim.Native.Nat.{ℕ}
 use Rattle.rules.specs.Heap.{Memory, lentMemory}
-use Rattle.rules.specs.Steps.{isOpen}
-use Rattle.rules.specs.Calls.{Call, check}
-use Rattle.rules.specs.Promise.{Promise}
+use Rattle.rules_steps.specs.Steps.{isOpen}
+use Rattle.rules_calls.specs.Calls.{Call, check}
+use Rattle.rules_calls.specs.Promise.{Promise}
 use Rattle.types.specs.declared.Reply.{Reply}
-use Rattle.theory.proofs.Memories.Fit.{Fit, undamaged-fit}
+use Rattle.theory_memories.proofs.Memories.Fit.{Fit, undamaged-fit}
 use Rattle.test_arguments.specs.Replies.{shutTest, openTest}
 use Rattle.test_arguments.proofs.ArgumentTests.{collect-tested, step-tested, none-open, one-open}
 use Rattle.public_read.proofs.CheckReply.{TestsOne, refused-alike, checked-fit}

@@ -5,18 +5,19 @@ use mathlib.Core.List.{List}
 use Prim.Native.Nat.{ℕ}
 use lib.ListN.{length, length-replicate, replicate}
 use Rattle.rules.specs.Heap.{Memory, withWaiting}
-use Rattle.rules.specs.Calls.{Call, Answer, Alone, outcome, answer}
-use Rattle.rules.specs.Promise.{Promise}
+use Rattle.rules_calls.specs.Calls.{Call, Answer, Alone, outcome, answer}
+use Rattle.rules_calls.specs.Promise.{Promise}
 use Rattle.types.specs.declared.Reply.{Reply}
 use Rattle.types.specs.declared.Outcome.{Outcome}
-use Rattle.rules.proofs.Replies.{none-applies}
-use Rattle.theory.specs.Words.{heapOf}
-use Rattle.theory.specs.Statements.{Undamaged}
-use Rattle.theory.proofs.Memories.Fit.{Fit, undamaged-fit}
-use Rattle.theory.proofs.EachCall.Accepted.{fit-number}
+use Rattle.rules_calls.proofs.Replies.{none-applies}
+use Rattle.theory_memories.specs.Words.{heapOf}
+use Rattle.theory_memories.specs.Heaps.{Undamaged}
+use Rattle.theory_memories.proofs.Memories.Fit.{Fit, undamaged-fit}
+use Rattle.theory_memories.proofs.Memories.Accepted.{fit-number}
 use Rattle.theory.proofs.EachCall.AnyWaiting.{waiting-unread}
 use Rattle.test_arguments.specs.Replies.{ownTest}
-use Rattle.theory.specs.Usable.{Usable, replyOf, Worked}
+use Rattle.theory_memories.specs.Heaps.{Usable}
+use Rattle.theory.specs.Usable.{replyOf, Worked}
 use Rattle.theory.proofs.Usable.UsableHeap as usable
 use Rattle.theory.proofs.Usable.UsableAfterCalls.{usable-kept}
 

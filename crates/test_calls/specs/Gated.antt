@@ -2,10 +2,10 @@
 use Prim.Native.Nat.{ℕ}
 use mathlib.Core.Path.{_≡_}
 use Rattle.rules.specs.Heap.{Memory}
-use Rattle.rules.specs.Calls.{Call}
-use Rattle.rules.specs.Promise.{Promise}
+use Rattle.rules_calls.specs.Calls.{Call}
+use Rattle.rules_calls.specs.Promise.{Promise}
 use Rattle.types.specs.declared.Reply.{Reply}
-use Rattle.theory.specs.Statements.{Undamaged}
+use Rattle.theory_memories.specs.Heaps.{Undamaged}
 
 -- A refusal is the call's own, with nothing written. Else the heap is undamaged, and the call's test of its own arguments is passed: `test` is
 -- what that one answers.

@@ -5,7 +5,7 @@ ghost use Prim.Native.Nat.{ℕ};
 ghost use lib.ListN.{length};
 ghost use Rattle.rules.specs.Heap.{memory, lentMemory};
 ghost use Rattle.rules.specs.Lent.{before};
-ghost use Rattle.rules.specs.Calls.{Call};
+ghost use Rattle.rules_calls.specs.Calls.{Call};
 ghost use Rattle.test_arguments.specs.Replies.{storeRootTest, storeCellTest, numberTest, returnTest, shutTest, openTest};
 ghost use Rattle.test_allocation.specs.Replies.{allocateReply};
 ghost use Rattle.test_calls.specs.Gated.{Gated};

@@ -3,13 +3,13 @@
 use mathlib.Core.Path.{_≡_, refl, sym, ap, _∙_, subst}
 use Prim.Native.Nat.{ℕ}
 use Rattle.rules.specs.Heap.{Memory, withWaiting}
-use Rattle.rules.specs.Calls.{Answer, answer}
-use Rattle.rules.specs.Promise.{Promise}
-use Rattle.theory.specs.Words.{Made}
+use Rattle.rules_calls.specs.Calls.{Answer, answer}
+use Rattle.rules_calls.specs.Promise.{Promise}
+use Rattle.theory.specs.CallWords.{Made}
 use Rattle.theory.specs.Demand.{Finds}
-use Rattle.theory.proofs.Memories.Fit.{Fit}
-use Rattle.theory.proofs.Memories.ViewRelease.{reshaped}
-use Rattle.theory.proofs.Memories.TidyHeap.{waiting-untidy}
+use Rattle.theory_memories.proofs.Memories.Fit.{Fit}
+use Rattle.theory_memories.proofs.Memories.ViewRelease.{reshaped}
+use Rattle.theory_memories.proofs.Memories.TidyHeap.{waiting-untidy}
 use Rattle.theory.proofs.EachCall.Served.{Served}
 use Rattle.theory.proofs.EachCall.Answers.{answer-served, answer-fit}
 

@@ -13,42 +13,43 @@ use lib.Seq.{set-append-left}
 use borrow.Author.Tests.{ne-eqb}
 use Rattle.bitmap.specs.Bit.{countBelow}
 use Rattle.rules.specs.Heap.{Memory, withCells, withRoots, withWaiting, isFirst, sizeAt, isRef, isData, reference, exponent, lowestFree}
-use Rattle.rules.specs.Store.{formatted, placed}
-use Rattle.rules.specs.Collection.{marked}
-use Rattle.rules.specs.Steps.{isOpen, isMarked, isListed, withNone, withProgress, rootNames, opened, Progress, progressOf, stepsFrom}
-use Rattle.rules.specs.Steps.{unmarkedFreed, closed, closes, stepped, storeRootShading, storeCellShading, allocateShading, returnShading}
-use Rattle.rules.specs.Calls.{Call, format, check, collect, freeBlocks, allocate, storeRoot, storeCell, look, returnRoots, openCollection, takeSteps}
-use Rattle.rules.specs.Calls.{allocateData, writeNumber, readNumber, writeReason, writeShape, Answer, reply, settled, freeing, outcome, answer, lastMemory}
-use Rattle.rules.specs.Calls.{copyFrom, copyInto}
-use Rattle.rules.specs.Promise.{Promise}
+use Rattle.rules_stores.specs.Store.{formatted, placed}
+use Rattle.rules_stores.specs.Collection.{marked}
+use Rattle.rules_steps.specs.Steps.{isOpen, isMarked, isListed, withNone, withProgress, rootNames, opened, Progress, progressOf, stepsFrom}
+use Rattle.rules_steps.specs.Steps.{unmarkedFreed, closed, closes, stepped, storeRootShading, storeCellShading, allocateShading, returnShading}
+use Rattle.rules_calls.specs.Calls.{Call, format, check, collect, freeBlocks, allocate, storeRoot, storeCell, look, returnRoots, openCollection, takeSteps}
+use Rattle.rules_calls.specs.Calls.{allocateData, writeNumber, readNumber, writeReason, writeShape, Answer, reply, settled, freeing, outcome, answer, lastMemory}
+use Rattle.rules_calls.specs.Calls.{copyFrom, copyInto}
+use Rattle.rules_calls.specs.Promise.{Promise}
 use Rattle.types.specs.declared.Reply.{Reply}
-use Rattle.rules.proofs.Replies.{answer-either, accepted-outcome, Passed, passed}
-use Rattle.theory.specs.Words.{Object, Leads, rootsWithout, written, Made, leftBy}
+use Rattle.rules_calls.proofs.Replies.{answer-either, accepted-outcome, Passed, passed}
+use Rattle.theory_memories.specs.Words.{Object, Leads}
+use Rattle.theory.specs.CallWords.{rootsWithout, written, Made, leftBy}
 use Rattle.theory.specs.Steps.{LeadsFrom, Party, Touched, Untouched, untilClosed, stepsOf, stepsIn, Closes, Collecting}
 use Rattle.theory.specs.Demand.{Finds, Chain}
-use Rattle.theory.proofs.Maps.Extents.{Represents, sizesOf}
-use Rattle.theory.proofs.Maps.LowestChunk.{room}
-use Rattle.theory.proofs.Graphs.Graph.{Graph, size, slot, firstSlot, Owns}
-use Rattle.theory.proofs.Graphs.Tidy.{Tidy}
-use Rattle.theory.proofs.Graphs.Apart.{To, self, link, Apart, apart-opened}
-use Rattle.theory.proofs.Graphs.Pale.{isPale, count-le, pale-facts}
-use Rattle.theory.proofs.Graphs.Scan.{apart-same, pale-same}
-use Rattle.theory.proofs.Graphs.Stored.{to-sized}
-use Rattle.theory.proofs.Memories.View.{cellRefs, slotsIn, view}
-use Rattle.theory.proofs.Memories.Slots.{root-slot, cell-slot, cell-within}
-use Rattle.theory.proofs.Memories.Fit.{Fit}
-use Rattle.theory.proofs.Memories.Leads.{size-object}
-use Rattle.theory.proofs.Memories.TidyHeap.{first-some, some-first, open-after, marked-after, listed-after, none-after}
-use Rattle.theory.proofs.Memories.Shades.{Among}
-use Rattle.theory.proofs.Memories.Events.{among-none, among-cases, allocate-slots, allocate-placed}
-use Rattle.theory.proofs.Memories.Scanning.{Stepped, steps-from-open, list-empty, marked-progress, listed-progress, opened-tidy, opened-names}
-use Rattle.theory.proofs.Memories.Stores.{placed-shows}
-use Rattle.theory.proofs.Memories.ViewClose.{close-shows, close-stands}
+use Rattle.theory_memories.proofs.Maps.Extents.{Represents, sizesOf}
+use Rattle.theory_memories.proofs.Maps.LowestChunk.{room}
+use Rattle.theory_graphs.proofs.Graphs.Graph.{Graph, size, slot, firstSlot, Owns}
+use Rattle.theory_graphs.proofs.Graphs.Tidy.{Tidy}
+use Rattle.theory_graphs.proofs.Graphs.Apart.{To, self, link, Apart, apart-opened}
+use Rattle.theory_graphs.proofs.Graphs.Pale.{isPale, count-le, pale-facts}
+use Rattle.theory_graphs.proofs.Graphs.Scan.{apart-same, pale-same}
+use Rattle.theory_graphs.proofs.Graphs.Stored.{to-sized}
+use Rattle.theory_memories.proofs.Memories.View.{cellRefs, slotsIn, view}
+use Rattle.theory_memories.proofs.Memories.Slots.{root-slot, cell-slot, cell-within}
+use Rattle.theory_memories.proofs.Memories.Fit.{Fit}
+use Rattle.theory_memories.proofs.Memories.Leads.{size-object}
+use Rattle.theory_memories.proofs.Memories.TidyHeap.{first-some, some-first, open-after, marked-after, listed-after, none-after}
+use Rattle.theory_memories.proofs.Memories.Shades.{Among}
+use Rattle.theory_memories.proofs.Memories.Events.{among-none, among-cases, allocate-slots, allocate-placed}
+use Rattle.theory_memories.proofs.Memories.Scanning.{Stepped, steps-from-open, list-empty, marked-progress, listed-progress, opened-tidy, opened-names}
+use Rattle.theory_memories.proofs.Memories.Stores.{placed-shows}
+use Rattle.theory_memories.proofs.Memories.ViewClose.{close-shows, close-stands}
 use Rattle.theory.proofs.EachCall.Open.{paleIn, ApartIn, Open, Goes, to-grows, root-goes, cell-goes, allocate-goes, return-goes}
 use Rattle.theory.proofs.EachCall.Served.{number-view}
 use Rattle.theory.proofs.EachCall.ReturnsServed.{length-without}
 use Rattle.theory.proofs.Calls.{finds-fit, promised, stays-fit}
-use Rattle.theory.proofs.Copies.Accepted.{copy-shut}
+use Rattle.theory_copies.proofs.Copies.Accepted.{copy-shut}
 
 -- ---- what leads to the object at b, in the words and in the graph
 

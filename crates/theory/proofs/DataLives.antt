@@ -9,16 +9,17 @@ use Prim.Native.Nat.{ℕ, _+_, _*_, _<_}
 use native.Mathlib.Decide.{ℕ-discrete}
 use lib.ListN.{getD}
 use Rattle.rules.specs.Heap.{Memory, isData}
-use Rattle.rules.specs.Calls.{Call, allocateData, writeNumber, readNumber, Answer, outcome, answer, lastMemory}
-use Rattle.rules.specs.Promise.{Promise}
+use Rattle.rules_calls.specs.Calls.{Call, allocateData, writeNumber, readNumber, Answer, outcome, answer, lastMemory}
+use Rattle.rules_calls.specs.Promise.{Promise}
 use Rattle.types.specs.declared.Reply.{Reply}
-use Rattle.rules.proofs.Replies.{one-applies, number-is, accepted-outcome}
-use Rattle.theory.specs.Words.{Object, copiedOver, Made, leftBy}
+use Rattle.rules_calls.proofs.Replies.{one-applies, number-is, accepted-outcome}
+use Rattle.theory_memories.specs.Words.{Object}
+use Rattle.theory.specs.CallWords.{copiedOver, Made, leftBy}
 use Rattle.theory.specs.Stuck.{LivesOn}
 use Rattle.theory.specs.Demand.{Finds, Chain}
 use Rattle.theory.specs.Data.{StaysSo, Unwritten, StillData, DataWhileItLives, Makes}
-use Rattle.theory.proofs.Memories.Fit.{Fit}
-use Rattle.theory.proofs.EachCall.Accepted.{accepted-fit}
+use Rattle.theory_memories.proofs.Memories.Fit.{Fit}
+use Rattle.theory_memories.proofs.Memories.Accepted.{accepted-fit}
 use Rattle.theory.proofs.EachCall.Answers.{answer-fit}
 use Rattle.theory.proofs.EachCall.Makes.{allocations-make}
 use Rattle.theory.proofs.EachCall.Numbers.{numbers-written}

@@ -7,15 +7,17 @@ use native.Mathlib.Decide.{decLt}
 use native.Mathlib.Omega.{arith}
 use Rattle.planes.proofs.Counts.{count-lt}
 use Rattle.rules.specs.Heap.{Memory, withWaiting, capacity, countOf}
-use Rattle.rules.specs.Calls.{Call, Answer, answer, run, lastMemory}
+use Rattle.rules_calls.specs.Calls.{Call, Answer, answer, run, lastMemory}
 use Rattle.rules.proofs.Shape.{shape-facts}
-use Rattle.theory.specs.Words.{Object, heapOf, Made, leftBy, callsOf, answersOf, compared}
+use Rattle.theory_memories.specs.Words.{Object, heapOf}
+use Rattle.theory.specs.CallWords.{Made, leftBy, callsOf, answersOf, compared}
 use Rattle.theory.specs.Stuck.{LivesOn, SomeWrote}
 use Rattle.theory.specs.Demand.{Finds, Chain, Holds, Claim, Demand3}
 use Rattle.theory.specs.Statements.{ChainsAppend, EveryListHasAChain}
-use Rattle.theory.specs.Balance.{inUse, blocksAllocated, blocksFreed}
-use Rattle.theory.proofs.Memories.Fit.{Fit, formatted-fit}
-use Rattle.theory.proofs.Memories.Soundness.{healthy-sound}
+use Rattle.theory_memories.specs.Words.{inUse}
+use Rattle.theory.specs.Balance.{blocksAllocated, blocksFreed}
+use Rattle.theory_memories.proofs.Memories.Fit.{Fit, formatted-fit}
+use Rattle.theory_memories.proofs.Memories.Soundness.{healthy-sound}
 use Rattle.theory.proofs.EachCall.AnyWaiting.{waiting-unread}
 use Rattle.theory.proofs.EachCall.Balance.{answer-even}
 use Rattle.theory.proofs.EachCall.Answers.{answer-fit}

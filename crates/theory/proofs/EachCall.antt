@@ -1,6 +1,5 @@
 -- What every call keeps and frees.
 pub mod AnyWaiting
-pub mod Accepted
 pub mod Five
 pub mod Served
 pub mod Shading
@@ -18,7 +17,6 @@ pub mod Answers
 pub mod ReturnAscending
 pub mod NoSteps
 pub mod Refusals
-pub mod MarksAnyOrder
 pub mod Balance
 pub mod Moments
 pub mod StepsStick

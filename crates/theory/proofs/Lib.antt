@@ -1,14 +1,8 @@
-pub mod Graphs
-pub mod Maps
-pub mod Memories
 pub mod EachCall
-pub mod Walks
-pub mod Sentences
 pub mod Calls
 pub mod Collecting
 pub mod Demand
 pub mod Spaces
 pub mod DataLives
-pub mod Copies
 pub mod Theorems
 pub mod Usable

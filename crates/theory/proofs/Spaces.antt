@@ -9,15 +9,16 @@ use native.Mathlib.Omega.{arith}
 use lib.ListN.{length}
 use borrow.Author.Tests.{eq-eqb, ne-eqb}
 use Rattle.rules.specs.Heap.{Memory, withWaiting, shaped}
-use Rattle.rules.specs.Calls.{Call, Answer, reply, otherShaped, refusals, refusedWith, answer, lastMemory}
-use Rattle.rules.specs.Promise.{Promise}
+use Rattle.rules_calls.specs.Calls.{Call, Answer, reply, otherShaped, refusals, refusedWith, answer, lastMemory}
+use Rattle.rules_calls.specs.Promise.{Promise}
 use Rattle.rules.proofs.Tests.{false-unless, false-and, first-found}
 use Rattle.rules.proofs.Shape.{shape-facts}
-use Rattle.rules.proofs.Replies.{refused-with}
-use Rattle.theory.specs.Words.{heapOf, Made, leftBy}
+use Rattle.rules_calls.proofs.Replies.{refused-with}
+use Rattle.theory_memories.specs.Words.{heapOf}
+use Rattle.theory.specs.CallWords.{Made, leftBy}
 use Rattle.theory.specs.Demand.{Chain}
 use Rattle.theory.specs.Spaces.{AnySpaces, withSpace, ClaimOfAll, EveryListWithAnySpaces}
-use Rattle.theory.proofs.Memories.Fit.{Fit}
+use Rattle.theory_memories.proofs.Memories.Fit.{Fit}
 use Rattle.theory.proofs.Demand.{claim}
 
 -- ---- one call

@@ -1,20 +1,21 @@
 -- Blocks allocated, freed and in use. Request U1: "Prove that blocks allocated in all, less the blocks freed by every call, allocations too,
 -- are the blocks in use."
-use Prim.Native.Nat.{ℕ, zero, suc, _+_, _-_}
+use Prim.Native.Nat.{ℕ, zero, suc, _+_}
 use mathlib.Core.Path.{_≡_}
 use mathlib.Core.Bool.{Bool, true, false, not, _&&_}
 use mathlib.Core.List.{List, [], _∷_}
 use lib.Dec.{eqb}
 use Rattle.bitmap.specs.Bit.{zeros}
 use Rattle.rules.specs.Heap.{Memory, isFirst, sizeAt}
-use Rattle.rules.specs.Store.{formatted}
-use Rattle.rules.specs.Calls.{Call, format, check, collect, freeBlocks, allocate, storeRoot, storeCell, look, returnRoots, openCollection, takeSteps}
-use Rattle.rules.specs.Calls.{allocateData, writeNumber, readNumber, writeReason, writeShape, allocateAs, answer}
-use Rattle.rules.specs.Calls.{copyFrom, copyInto}
+use Rattle.rules_stores.specs.Store.{formatted}
+use Rattle.rules_calls.specs.Calls.{Call, format, check, collect, freeBlocks, allocate, storeRoot, storeCell, look, returnRoots, openCollection, takeSteps}
+use Rattle.rules_calls.specs.Calls.{allocateData, writeNumber, readNumber, writeReason, writeShape, allocateAs, answer}
+use Rattle.rules_calls.specs.Calls.{copyFrom, copyInto}
 use Rattle.types.specs.declared.Reply.{Reply}
-use Rattle.theory.specs.Words.{copiedOver, Made, leftBy}
+use Rattle.theory.specs.CallWords.{copiedOver, Made, leftBy}
 use Rattle.theory.specs.Demand.{Chain}
-use Rattle.theory.specs.Statements.{Undamaged}
+use Rattle.theory_memories.specs.Heaps.{Undamaged}
+use Rattle.theory_memories.specs.Words.{inUse}
 
 -- the sum of what f gives at the numbers below n
 unfoldable pub sumBelow : (ℕ → ℕ) → ℕ → ℕ
@@ -30,10 +31,6 @@ freedAt N h g b =
 -- the blocks of all objects that are freed between h and g
 unfoldable pub freedBlocks : (N : ℕ) → (h g : Memory) → ℕ
 freedBlocks N h g = sumBelow (freedAt N h g) N
-
--- the blocks in use
-abbrev pub inUse : ℕ → Memory → ℕ
-inUse N h = N - zeros (h .a)
 
 -- the blocks that an accepted call allocates; a copy (request U14) tells how many it made
 unfoldable pub allocates : Call → Reply → ℕ

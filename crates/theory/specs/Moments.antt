@@ -7,14 +7,15 @@ use mathlib.Core.Bool.{Bool, true, false}
 use lib.ListN.{getD}
 use lib.Dec.{eqb}
 use Rattle.rules.specs.Heap.{Memory, withCounts, capacity, countOf, isFirst}
-use Rattle.rules.specs.Store.{countUp, placed}
-use Rattle.rules.specs.Calls.{Call, format, check, collect, freeBlocks, allocate, storeRoot, storeCell, look, returnRoots, openCollection, takeSteps}
-use Rattle.rules.specs.Calls.{allocateData, writeNumber, readNumber, writeReason, writeShape, allocateAs, answer}
-use Rattle.rules.specs.Calls.{copyFrom, copyInto}
+use Rattle.rules_stores.specs.Store.{countUp, placed}
+use Rattle.rules_calls.specs.Calls.{Call, format, check, collect, freeBlocks, allocate, storeRoot, storeCell, look, returnRoots, openCollection, takeSteps}
+use Rattle.rules_calls.specs.Calls.{allocateData, writeNumber, readNumber, writeReason, writeShape, allocateAs, answer}
+use Rattle.rules_calls.specs.Calls.{copyFrom, copyInto}
 use Rattle.types.specs.declared.Reply.{Reply}
-use Rattle.theory.specs.Words.{Object, copiedOver}
+use Rattle.theory_memories.specs.Words.{Object}
+use Rattle.theory.specs.CallWords.{copiedOver}
 use Rattle.theory.specs.Stuck.{writes}
-use Rattle.theory.specs.Statements.{Undamaged}
+use Rattle.theory_memories.specs.Heaps.{Undamaged}
 
 -- The heap once the call's own reference is counted, nothing let go yet: an allocation's object stands with its count, a store has counted
 -- up what it stores. A store of the value present counts nothing up (request U2).

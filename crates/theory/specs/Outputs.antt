@@ -5,13 +5,13 @@ use mathlib.Core.Logic.{_≢_, _↔_}
 use mathlib.Core.List.{List}
 use lib.ListN.{length, getD}
 use Rattle.rules.specs.Heap.{Memory}
-use Rattle.rules.specs.Shape.{shapeOf}
-use Rattle.rules.specs.Sentence.{sentenceFor}
-use Rattle.rules.specs.Calls.{writeReason, writeShape, answer}
-use Rattle.rules.specs.Promise.{ReasonPromise, ShapePromise}
+use Rattle.rules_output.specs.Shape.{shapeOf}
+use Rattle.rules_output.specs.Sentence.{sentenceFor}
+use Rattle.rules_calls.specs.Calls.{writeReason, writeShape, answer}
+use Rattle.rules_calls.specs.Promise.{ReasonPromise, ShapePromise}
 use Rattle.types.specs.declared.Reply.{Reply}
-use Rattle.theory.specs.Words.{Object}
-use Rattle.theory.specs.Statements.{Undamaged}
+use Rattle.theory_memories.specs.Words.{Object}
+use Rattle.theory_memories.specs.Heaps.{Undamaged}
 
 -- "later bytes of the output keep their values", "later ones keep theirs": `text` stands in front, and
 -- nothing else has changed

@@ -6,11 +6,11 @@ use mathlib.Core.Bool.{true, false}
 use lib.ListN.{length, getD}
 use Rattle.rules.specs.Heap.{Memory, isFirst, reference}
 use Rattle.rules.specs.Sections.{staleFigures}
-use Rattle.rules.specs.Steps.{isOpen, isMarked}
-use Rattle.rules.specs.Calls.{Call, collect, openCollection, takeSteps, testsHeap, Alone, answer}
-use Rattle.theory.specs.Words.{Object}
+use Rattle.rules_steps.specs.Steps.{isOpen, isMarked}
+use Rattle.rules_calls.specs.Calls.{Call, collect, openCollection, takeSteps, testsHeap, Alone, answer}
+use Rattle.theory_memories.specs.Words.{Object}
 use Rattle.theory.specs.Steps.{MarkedUnlisted}
-use Rattle.theory.specs.Statements.{Intact, Undamaged}
+use Rattle.theory_memories.specs.Heaps.{Intact, Undamaged}
 
 -- 13's clauses, each with what meets it
 pub data Untidy (N : ℕ) (h : Memory) : Type 0 where

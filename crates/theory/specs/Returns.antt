@@ -10,10 +10,10 @@ use lib.ListN.{length, replicate}
 use Rattle.bitmap.specs.Bit.{bitOf}
 use Rattle.rules.specs.Tools.{holding}
 use Rattle.rules.specs.Heap.{Memory, withWaiting}
-use Rattle.rules.specs.Store.{isChosen}
-use Rattle.rules.specs.Steps.{isOpen}
-use Rattle.rules.specs.Calls.{storeRoot, returnRoots, Answer, answer, run, lastMemory}
-use Rattle.theory.specs.Statements.{Undamaged}
+use Rattle.rules_stores.specs.Store.{isChosen}
+use Rattle.rules_steps.specs.Steps.{isOpen}
+use Rattle.rules_calls.specs.Calls.{storeRoot, returnRoots, Answer, answer, run, lastMemory}
+use Rattle.theory_memories.specs.Heaps.{Undamaged}
 
 -- "clearing them singly": the roots of a list, each cleared by a call of its own
 abbrev pub clearedSingly : ℕ → ℕ → Memory → List ℕ → List Answer

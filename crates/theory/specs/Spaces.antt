@@ -8,11 +8,12 @@ use mathlib.Core.List.{List, [], _∷_, _++_, map}
 use lib.ListN.{length}
 use lib.Dec.{eqb}
 use Rattle.rules.specs.Heap.{Memory}
-use Rattle.rules.specs.Calls.{Call, reply}
-use Rattle.rules.specs.Promise.{Promise}
-use Rattle.theory.specs.Words.{heapOf, Made, leftBy}
+use Rattle.rules_calls.specs.Calls.{Call, reply}
+use Rattle.rules_calls.specs.Promise.{Promise}
+use Rattle.theory_memories.specs.Words.{heapOf}
+use Rattle.theory.specs.CallWords.{Made, leftBy}
 use Rattle.theory.specs.Demand.{Chain, Claim}
-use Rattle.theory.specs.Statements.{Undamaged}
+use Rattle.theory_memories.specs.Heaps.{Undamaged}
 
 -- each call of the list was made on the heap that the one before it left, with whatever waiting list, and kept its promise
 pub data AnySpaces (N w : ℕ) : Memory → List Made → Type 0 where

@@ -1,36 +1,20 @@
 -- What the theory proves of the rules besides demand 3, for the reader: each statement is over the rules' own words.
-use Prim.Native.Nat.{ℕ, _+_, _*_, _%_, _^_, _≤_, _<_}
+use Prim.Native.Nat.{ℕ, _≤_, _<_}
 use mathlib.Core.Path.{_≡_}
+use Rattle.rules.specs.Heap.{Memory, shaped, exponent}
+use Rattle.rules.specs.Sections.{figures}
+use Rattle.rules_calls.specs.Calls.{Call, answer, format, check, allocateAs, testsHeap, otherShaped}
 use mathlib.Core.Logic.{_↔_}
-use mathlib.Core.Bool.{Bool, true, false}
+use mathlib.Core.Bool.{Bool, true}
 use mathlib.Core.List.{List, _++_, map}
-use mathlib.Core.Option.{some}
-use lib.ListN.{length, getD, set}
-use Rattle.bitmap.specs.Bit.{bitAt, countBelow, zeros}
-use Rattle.rules.specs.Heap.{Memory, withCounts, withCells, withRoots, shaped, isFirst, sizeAt, isRef, isData, exponent, lowestFree}
-use Rattle.rules.specs.Tools.{someBelow}
-use Rattle.rules.specs.Damage.{endOnFree, openEnd, damage}
-use Rattle.rules.specs.Sections.{staleFigures}
-use Rattle.rules.specs.Steps.{isUntidy}
-use Rattle.rules.specs.Store.{formatted, countUp, letGoIn, changeRoot, changeCell, placed, allocateIn}
-use Rattle.rules.specs.Calls.{Call, format, check, allocateAs, testsHeap, otherShaped, answer}
-use Rattle.rules.specs.Collection.{marked, reached}
-use Rattle.rules.specs.Promise.{Promise}
+use lib.ListN.{length}
+use Rattle.rules_stores.specs.Store.{formatted}
+use Rattle.rules_calls.specs.Promise.{Promise}
 use Rattle.types.specs.declared.Reply.{Reply}
-use Rattle.theory.specs.Words.{Object, Leads, heapOf, Made, leftBy}
+use Rattle.theory_memories.specs.Words.{heapOf}
+use Rattle.theory.specs.CallWords.{Made, leftBy}
 use Rattle.theory.specs.Demand.{Chain, Claim}
-
--- right shape and no damage, whatever the list of sections holds: refused with neither 1 nor 2
-pub record Intact (N w : ℕ) (h : Memory) : Type 0 where
-  pub right-shape : shaped N w h ≡ true
-  pub no-damage : damage N w h ≡ 0
-
--- .. and a true list of sections, and marks and a second list as they have to be: refused with none of 1, 2,
--- 11 and 13
-pub record Undamaged (N w : ℕ) (h : Memory) : Type 0 where
-  pub intact : Intact N w h
-  pub true-list : staleFigures N (h .a) (h .sections) ≡ false
-  pub tidy : isUntidy N h ≡ false
+use Rattle.theory_memories.specs.Heaps.{Undamaged, NoneFree, Lowest}
 
 -- "the proved fact that calls keep a heap undamaged"; a format makes one
 abbrev pub CallsKeepUndamaged : Type 0
@@ -58,47 +42,17 @@ FiveToAllocations =
     (N w : ℕ) (h : Memory) (call : Call) → answer N w h call .0 .number ≡ 5
     → (asData : Bool) × (n : ℕ) × (r : ℕ) × (call ≡ allocateAs asData n r)
 
--- "0 stands on the last block of each object and 1 everywhere else": of every heap without damage. A bit is 0 or 1.
-abbrev pub EndsOnLast : Type 0
-EndsOnLast =
-    (N w : ℕ) (h : Memory) → Intact N w h → (i : ℕ) → i < N
-    → (bitAt (h .b) i ≡ 0) ↔ ((b : ℕ) × (n : ℕ) × Object N h b n × (i + 1 ≡ b + n))
-
--- 2 ^ exponent n is "the least power of two that is n or more"
-abbrev pub LeastPower : Type 0
-LeastPower = (n : ℕ) → (n ≤ 2 ^ exponent n) × ((k : ℕ) → n ≤ 2 ^ k → 2 ^ exponent n ≤ 2 ^ k)
-
--- some block of the chunk of 2 ^ k blocks at block i is used
-abbrev pub UsedChunk : List ℕ → (k i : ℕ) → Type 0
-UsedChunk a k i = (j : ℕ) × (i ≤ j) × (j < i + 2 ^ k) × (bitAt a j ≡ 1)
-
--- every chunk of 2 ^ k blocks of the heap, being "s blocks starting at a multiple of s", has a used block
-abbrev pub NoneFree : (N k : ℕ) → List ℕ → Type 0
-NoneFree N k a = (c : ℕ) → (c + 1) * 2 ^ k ≤ N → UsedChunk a k (c * 2 ^ k)
-
 -- "5 if no chunk of s blocks is free", and only then
 abbrev pub RefusedExactly : Type 0
 RefusedExactly =
     (N w : ℕ) (h : Memory) → Undamaged N w h → (asData : Bool) (n r : ℕ) → 1 ≤ n → n ≤ N → r < length (h .roots)
     → (answer N w h (allocateAs asData n r) .0 .number ≡ 5) ↔ NoneFree N (exponent n) (h .a)
 
--- The lowest free chunk of s = 2 ^ k blocks starts at block i: i is a multiple of s, the s blocks from it lie in the heap and are free, and
--- every lower chunk has a used block.
-pub record Lowest (N k : ℕ) (a : List ℕ) (i : ℕ) : Type 0 where
-  pub aligned : i % 2 ^ k ≡ 0
-  pub inside : i + 2 ^ k ≤ N
-  pub free : (j : ℕ) → i ≤ j → j < i + 2 ^ k → bitAt a j ≡ 0
-  pub lowest : (c : ℕ) → c * 2 ^ k < i → UsedChunk a k (c * 2 ^ k)
-
 -- "The lowest free chunk of s blocks is taken": its first block is the value. Extents stay aligned and disjoint (`Sound`, in demand 3).
 abbrev pub LowestTaken : Type 0
 LowestTaken =
     (N w : ℕ) (h : Memory) (asData : Bool) (n r : ℕ) → answer N w h (allocateAs asData n r) .0 .number ≡ 0
     → Lowest N (exponent n) (h .a) (answer N w h (allocateAs asData n r) .0 .value)
-
--- The N rounds of `reached` are enough: what they mark is exactly what a root leads to.
-abbrev pub ReachedIsLed : Type 0
-ReachedIsLed = (N : ℕ) (h : Memory) (b : ℕ) → (marked (reached N h) b ≡ true) ↔ Leads N h b
 
 -- The hypothesis `Chain` of demand 3 can always be met: every list of calls, each with a waiting list of its own, has a chain.
 abbrev pub EveryListHasAChain : Type 0
@@ -127,24 +81,8 @@ WaitingUnread =
     (N w : ℕ) (h g : Memory) → heapOf h ≡ heapOf g → length (h .waiting) ≡ length (g .waiting) → (call : Call)
     → (answer N w h call .0 ≡ answer N w g call .0) × (heapOf (answer N w h call .1) ≡ heapOf (answer N w g call .1))
 
--- The N steps of `release` are enough: with more of them a store or an allocation ends in the same heap.
-pub record StepsSuffice (N w : ℕ) (h : Memory) (steps : ℕ) : Type 0 where
-  pub in-root : (r v : ℕ) → r < length (h .roots) → isRef N h v ≡ true
-      → let written : Memory = withRoots (set (h .roots) r v) (withCounts (countUp N w (h .counts) v) h) in
-      letGoIn steps N w written (getD (h .roots) r 0) ≡ changeRoot N w h r v
-  pub in-cell : (a j v : ℕ) → isFirst N h a ≡ true → j < 4 * sizeAt N h a → isData (h .d) a ≡ false → isRef N h v ≡ true
-      → let written : Memory = withCells (set (h .cells) (4 * a + j) v) (withCounts (countUp N w (h .counts) v) h) in
-      letGoIn steps N w written (getD (h .cells) (4 * a + j) 0) ≡ changeCell N w h (4 * a + j) v
-  pub new : (asData : Bool) (n r i : ℕ) → 1 ≤ n → r < length (h .roots) → lowestFree N (exponent n) (h .a) ≡ some i
-      → let written : Memory = withRoots (set (h .roots) r (i + 1)) (placed N w asData h i n) in
-      letGoIn steps N w written (getD (h .roots) r 0) ≡ allocateIn N w asData h n r i
-
-abbrev pub NStepsSuffice : Type 0
-NStepsSuffice = (N w : ℕ) (h : Memory) → Intact N w h → (steps : ℕ) → N ≤ steps → StepsSuffice N w h steps
-
--- Request U9: "Show that a heap passing kinds 1 and 2 has as many objects as 0 bits in the B-map. Then drop the kind". Kind 6 asked for just
--- this equality, after kinds 1 and 2, so no heap could have it as the first kind found, and it could go.
-abbrev pub ObjectsAreEnds : Type 0
-ObjectsAreEnds =
-    (N w : ℕ) (h : Memory) → shaped N w h ≡ true → someBelow (endOnFree h) N ≡ false → someBelow (openEnd N h) N ≡ false
-    → countBelow (isFirst N h) N ≡ zeros (h .b)
+-- "every accepted call, format too, leaves the list true": whatever the memory held
+abbrev pub ListLeftTrue : Type 0
+ListLeftTrue =
+    (N w : ℕ) (h : Memory) (call : Call) → answer N w h call .0 .number ≡ 0
+    → (answer N w h call .1) .sections ≡ figures N ((answer N w h call .1) .a)

@@ -10,13 +10,14 @@ use lib.ListN.{getD, replicate}
 use lib.Dec.{eqb}
 use Rattle.bitmap.specs.Bit.{countBelow}
 use Rattle.rules.specs.Heap.{Memory, withWaiting, isFirst, reference}
-use Rattle.rules.specs.Store.{isChosen}
-use Rattle.rules.specs.Steps.{isOpen, isMarked, isListed}
-use Rattle.rules.specs.Calls.{Call, format, check, collect, freeBlocks, allocate, storeRoot, storeCell, look, returnRoots, openCollection, takeSteps}
-use Rattle.rules.specs.Calls.{allocateData, writeNumber, readNumber, writeReason, writeShape, allocateAs, reply, answer}
-use Rattle.rules.specs.Calls.{copyFrom, copyInto}
+use Rattle.rules_stores.specs.Store.{isChosen}
+use Rattle.rules_steps.specs.Steps.{isOpen, isMarked, isListed}
+use Rattle.rules_calls.specs.Calls.{Call, format, check, collect, freeBlocks, allocate, storeRoot, storeCell, look, returnRoots, openCollection, takeSteps}
+use Rattle.rules_calls.specs.Calls.{allocateData, writeNumber, readNumber, writeReason, writeShape, allocateAs, reply, answer}
+use Rattle.rules_calls.specs.Calls.{copyFrom, copyInto}
 use Rattle.types.specs.declared.Reply.{Reply}
-use Rattle.theory.specs.Words.{Object, Leads, written, Made, leftBy}
+use Rattle.theory_memories.specs.Words.{Object, Leads}
+use Rattle.theory.specs.CallWords.{written, Made, leftBy}
 
 -- the object at block a is the one at block b, or leads to it: as `Leads`, from an object instead of a root
 pub data LeadsFrom (N : ℕ) (h : Memory) (a : ℕ) : ℕ → Type 0 where

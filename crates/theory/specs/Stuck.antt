@@ -4,11 +4,12 @@ use mathlib.Core.Path.{_≡_}
 use mathlib.Core.Bool.{false}
 use mathlib.Core.List.{List, [], _∷_, _++_}
 use Rattle.rules.specs.Heap.{Memory, capacity, countOf}
-use Rattle.rules.specs.Calls.{Call, format, check, collect, freeBlocks, allocate, storeRoot, storeCell, look, returnRoots, openCollection, takeSteps}
-use Rattle.rules.specs.Calls.{allocateData, writeNumber, readNumber, writeReason, writeShape}
-use Rattle.rules.specs.Calls.{copyFrom, copyInto}
+use Rattle.rules_calls.specs.Calls.{Call, format, check, collect, freeBlocks, allocate, storeRoot, storeCell, look, returnRoots, openCollection, takeSteps}
+use Rattle.rules_calls.specs.Calls.{allocateData, writeNumber, readNumber, writeReason, writeShape}
+use Rattle.rules_calls.specs.Calls.{copyFrom, copyInto}
 use Rattle.types.specs.declared.Reply.{Reply}
-use Rattle.theory.specs.Words.{Object, numberOfReferences, stored, copiedOver, Made, leftBy}
+use Rattle.theory_memories.specs.Words.{Object, numberOfReferences}
+use Rattle.theory.specs.CallWords.{stored, copiedOver, Made, leftBy}
 
 -- what an accepted call writes into a root or a cell as a reference, 0 where it writes none. An allocation
 -- writes the reference to the block that its reply gives.

@@ -1,23 +1,27 @@
 -- All that the theory states, as one record, which has one proof (`theory`, proofs/Theorems.antt): no statement can be dropped unnoticed.
 use Rattle.theory.specs.Demand.{Demand3}
-use Rattle.theory.specs.Statements.{CallsKeepUndamaged, FormatMakesUndamaged, RefusedAsCheck, AcceptedUndamaged, FiveToAllocations, EndsOnLast, LeastPower, RefusedExactly, LowestTaken}
-use Rattle.theory.specs.Statements.{ReachedIsLed, EveryListHasAChain, ChainsAppend, ClaimFromUndamaged, ClaimFromFormat, WaitingUnread}
-use Rattle.theory.specs.Statements.{NStepsSuffice, ObjectsAreEnds}
+use Rattle.theory.specs.Statements.{CallsKeepUndamaged, FormatMakesUndamaged, RefusedAsCheck, AcceptedUndamaged, FiveToAllocations, RefusedExactly, LowestTaken}
+use Rattle.theory_memories.specs.Heaps.{EndsOnLast, LeastPower}
+use Rattle.theory_memories.specs.Heaps.{ReachedIsLed}
+use Rattle.theory.specs.Statements.{EveryListHasAChain, ChainsAppend, ClaimFromUndamaged, ClaimFromFormat, WaitingUnread}
+use Rattle.theory_memories.specs.Heaps.{NStepsSuffice, ObjectsAreEnds}
 use Rattle.theory.specs.Spaces.{ClaimWithAnySpaces, EveryListWithAnySpaces}
-use Rattle.theory.specs.Orders.{OrderUnseen, CloseOrderUnseen}
+use Rattle.theory_memories.specs.Orders.{OrderUnseen, CloseOrderUnseen}
 use Rattle.theory.specs.Balance.{BlocksBalance, BlocksAddUp}
 use Rattle.theory.specs.Returns.{ReturnInAnyOrder, ReturnInAscendingOrder, ReturnRefusedExactly}
 use Rattle.theory.specs.Steps.{NoStepsNoChange, AllUnlessRanOut, BornMarked}
 use Rattle.theory.specs.Refusals.{ThirteenExactly, FourteenExactly}
-use Rattle.theory.specs.Marks.{MarksOrderUnseen}
-use Rattle.theory.specs.Sections.{SectionsFindLowest, FiguresAreLargest, StaleExactly, ListLeftTrue}
+use Rattle.theory_memories.specs.Marks.{MarksOrderUnseen}
+use Rattle.theory_memories.specs.Sections.{SectionsFindLowest, FiguresAreLargest, StaleExactly}
+use Rattle.theory.specs.Statements.{ListLeftTrue}
 use Rattle.theory.specs.Moments.{StuckTold, NoneUntold, CollectionSticksNone, StepsStickNone}
-use Rattle.theory.specs.Data.{DataNeverFollowed, DataNamesNothing, AllocationsMake, NumbersWritten, TwelveExactly, NumbersStay, DataWhileItLives}
-use Rattle.theory.specs.Shape.{AllNumbered, EqualShape, ShapeBounded}
-use Rattle.theory.specs.Reason.{ChainIsBest, NoneExactly, WalkFindsChain, NumberedByChains, ReadInOneWay, SentenceSays, SentenceBounded}
+use Rattle.theory_memories.specs.Cells.{DataNeverFollowed, DataNamesNothing}
+use Rattle.theory.specs.Data.{AllocationsMake, NumbersWritten, TwelveExactly, NumbersStay, DataWhileItLives}
+use Rattle.theory_walks.specs.Shape.{AllNumbered, EqualShape, ShapeBounded}
+use Rattle.theory_walks.specs.Reason.{ChainIsBest, NoneExactly, WalkFindsChain, NumberedByChains, ReadInOneWay, SentenceSays, SentenceBounded}
 use Rattle.theory.specs.Outputs.{ReasonGiven, ShapeGiven, FifteenExactly, SixteenExactly}
-use Rattle.theory.specs.Copies.{CopiesExactly, OneCopyInBothLists, CopyRefusedExactly, FirstWaitingUnread, SecondHeapUnread, OneShapeOneCopy}
-use Rattle.theory.specs.Copies.{EqualCopies, CopyOfCopy}
+use Rattle.theory_copies.specs.Copies.{CopiesExactly, OneCopyInBothLists, CopyRefusedExactly, FirstWaitingUnread, SecondHeapUnread, OneShapeOneCopy}
+use Rattle.theory_copies.specs.Copies.{EqualCopies, CopyOfCopy}
 
 pub record Theory : Type 0 where
   -- demand 3, and what makes it usable

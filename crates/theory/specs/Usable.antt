@@ -2,20 +2,13 @@
 use Prim.Native.Nat.{ℕ}
 use mathlib.Core.Path.{_≡_}
 use mathlib.Core.Bool.{Bool}
-use lib.ListN.{replicate}
 use Rattle.bitmap.specs.Bit.{one}
 use Rattle.rules.specs.Heap.{Memory}
-use Rattle.rules.specs.Calls.{Call}
-use Rattle.rules.specs.Promise.{Promise}
+use Rattle.rules_calls.specs.Calls.{Call}
+use Rattle.rules_calls.specs.Promise.{Promise}
 use Rattle.types.specs.declared.Reply.{Reply}
 use Rattle.types.specs.declared.Outcome.{Outcome}
-use Rattle.theory.specs.Statements.{Undamaged}
 use Rattle.theory.specs.Balance.{freedBlocks}
-
--- refused with none of 1, 2, 11 and 13, and the waiting list is cleared
-pub record Usable (N w : ℕ) (h : Memory) : Type 0 where
-  pub undamaged : Undamaged N w h
-  pub idle : h .waiting ≡ replicate N 0
 
 abbrev pub outcomeOf : (number value freed : ℕ) → (stuck : Bool) → Outcome
 outcomeOf number value freed stuck = record { number = number; value = value; freed = freed; stuck = stuck }

@@ -4,12 +4,12 @@ use Prim.Native.Nat.{ℕ, zero, suc, _*_, _≤_}
 use native.Mathlib.Omega.{arith}
 use lib.ListN.{length, getD, replicate, length-replicate}
 use Rattle.rules.specs.Heap.{Memory, maxBlocks}
-use Rattle.rules.specs.Walk.{numberIn}
-use Rattle.theory.specs.Statements.{Undamaged}
-use Rattle.theory.proofs.Memories.Fit.{undamaged-fit}
-use Rattle.theory.proofs.Walks.Numbers.{none}
-use Rattle.theory.proofs.Walks.Steps.{nil}
-use Rattle.theory.proofs.Walks.Reached.{Named, intact-named}
+use Rattle.rules_output.specs.Walk.{numberIn}
+use Rattle.theory_memories.specs.Heaps.{Undamaged}
+use Rattle.theory_memories.proofs.Memories.Fit.{undamaged-fit}
+use Rattle.theory_walks.proofs.Walks.Numbers.{none}
+use Rattle.theory_walks.proofs.Walks.Steps.{nil}
+use Rattle.theory_walks.proofs.Walks.Reached.{Named, intact-named}
 use Rattle.walk_objects.specs.Walking.{Walkable, Walking, Tracing, walkedHeap, lastFirst}
 
 zeros-at : (n i : ℕ) → _≡_ {A = ℕ} (getD (replicate n 0) i 0) 0

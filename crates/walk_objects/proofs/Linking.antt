@@ -8,8 +8,8 @@ use native.Mathlib.Decide.{ℕ-discrete}
 use native.Mathlib.Omega.{arith}
 use lib.ListN.{length, getD, set, take}
 use lib.Seq.{take-suc-set}
-use Rattle.theory.specs.Trail.{Entry, entry, linksTo}
-use Rattle.theory.proofs.Walks.Trails.{word-same, word-other}
+use Rattle.theory_walks.specs.Trail.{Entry, entry, linksTo}
+use Rattle.theory_walks.proofs.Walks.Trails.{word-same, word-other}
 use Rattle.walk_objects.specs.Walking.{entries}
 
 pub entries-length : (order owners vias : List ℕ) (n : ℕ) → length (entries order owners vias n) ≡ n

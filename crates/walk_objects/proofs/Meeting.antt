@@ -8,9 +8,9 @@ use native.Mathlib.Decide.{ℕ-discrete}
 use native.Mathlib.Omega.{arith}
 use lib.ListN.{length, getD, set, length-set}
 use lib.Seq.{getD-set-same, getD-set-other}
-use Rattle.rules.specs.Walk.{numberIn}
-use Rattle.theory.proofs.Walks.Numbers.{more, number-same, number-other}
-use Rattle.theory.proofs.Walks.Steps.{cons, distinct-length}
+use Rattle.rules_output.specs.Walk.{numberIn}
+use Rattle.theory_walks.proofs.Walks.Numbers.{more, number-same, number-other}
+use Rattle.theory_walks.proofs.Walks.Steps.{cons, distinct-length}
 use Rattle.walk_objects.specs.Walking.{Walking, lastFirst}
 
 kept : (l : List ℕ) (n k v : ℕ) → n ≤ k → lastFirst (set l k v) n ≡ lastFirst l n

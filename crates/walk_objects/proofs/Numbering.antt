@@ -9,15 +9,15 @@ use native.Mathlib.Omega.{arith}
 use lib.ListN.{length, getD, length-append, List·getD-append}
 use lib.Seq.{ext-getD, getD-append-add}
 use Rattle.rules.specs.Heap.{Memory, maxBlocks, isFirst, sizeAt, isData}
-use Rattle.rules.specs.Store.{namingCells}
-use Rattle.rules.specs.Walk.{objectAt, walk, referencesOf, followed}
+use Rattle.rules_stores.specs.Store.{namingCells}
+use Rattle.rules_output.specs.Walk.{objectAt, walk, referencesOf, followed}
 use Rattle.rules.proofs.Objects.{first-facts}
 use Rattle.rules.proofs.Tests.{test-cases}
-use Rattle.theory.specs.Words.{Leads}
-use Rattle.theory.proofs.Walks.Numbers.{object-same, object-other, object-some}
-use Rattle.theory.proofs.Walks.Steps.{all-at, walk-all, distinct-length}
-use Rattle.theory.proofs.Walks.Reached.{references-length, references-at, followed-zero, followed-block, follows, led-first, Named}
-use Rattle.theory.proofs.Walks.Reached.{root-led, cell-led, roots-below, cells-below}
+use Rattle.theory_memories.specs.Words.{Leads}
+use Rattle.theory_walks.proofs.Walks.Numbers.{object-same, object-other, object-some}
+use Rattle.theory_walks.proofs.Walks.Steps.{all-at, walk-all, distinct-length}
+use Rattle.theory_walks.proofs.Walks.Reached.{references-length, references-at, followed-zero, followed-block, follows, led-first, Named}
+use Rattle.theory_walks.proofs.Walks.Reached.{root-led, cell-led, roots-below, cells-below}
 use Rattle.walk_objects.specs.Walking.{Walked, walkedHeap, lastFirst, part}
 use Rattle.walk_objects.proofs.Meeting.{top-length}
 

@@ -9,13 +9,13 @@ use native.Mathlib.Decide.{ℕ-discrete}
 use native.Mathlib.Omega.{arith}
 use lib.ListN.{length, getD}
 use Rattle.rules.specs.Heap.{Memory, isFirst, sizeAt}
-use Rattle.rules.specs.Store.{namingCells}
-use Rattle.rules.specs.Walk.{objectAt, walk, referencesOf, followed, numbered}
-use Rattle.theory.specs.Trail.{Entry, metIn, meetEachAt, trail, linksTo}
-use Rattle.theory.proofs.Walks.Numbers.{object-past}
-use Rattle.theory.proofs.Walks.Least.{trail-settled}
-use Rattle.theory.proofs.Walks.Trails.{Owned, met-length, MetAt, nothing, again, new, met-at-cases, trail-met}
-use Rattle.theory.proofs.Walks.Reached.{followed-zero, followed-block, Named}
+use Rattle.rules_stores.specs.Store.{namingCells}
+use Rattle.rules_output.specs.Walk.{objectAt, walk, referencesOf, followed, numbered}
+use Rattle.theory_walks.specs.Trail.{Entry, metIn, meetEachAt, trail, linksTo}
+use Rattle.theory_walks.proofs.Walks.Numbers.{object-past}
+use Rattle.theory_walks.proofs.Walks.Least.{trail-settled}
+use Rattle.theory_walks.proofs.Walks.Trails.{Owned, met-length, MetAt, nothing, again, new, met-at-cases, trail-met}
+use Rattle.theory_walks.proofs.Walks.Reached.{followed-zero, followed-block, Named}
 use Rattle.walk_objects.specs.Walking.{Walked, walkedHeap, part}
 use Rattle.walk_objects.specs.Walking.{entries, Traced}
 use Rattle.walk_objects.proofs.Tracing.{entries-met}
@@ -142,7 +142,7 @@ module _ (N : ℕ) (a b d cells roots : List ℕ) (named : Named N (walkedHeap a
   owners-before order numbers owners vias met t =
       owned-at order owners vias met (subst Owned (sym (t .is)) (trail-settled roots (followed N heap) (followed-zero N heap) N .owned))
 
-  -- so what is written is what `WalkFindsChain` (theory/specs/Reason.antt) turns round into the chain
+  -- so what is written is what `WalkFindsChain` (theory_walks/specs/Reason.antt) turns round into the chain
   pub links-found : (order numbers owners vias : List ℕ) (met n : ℕ) → Traced N (turns N) order numbers owners vias met → n ≤ met
       → linksTo (entries [] owners vias n) n ≡ linksTo (turns N) n
   links-found order numbers owners vias met n t l =

@@ -7,9 +7,9 @@ use native.Mathlib.Numerals.{add-one}
 use native.Mathlib.Omega.{arith}
 use lib.ListN.{length, getD, set, length-set}
 use lib.Seq.{getD-set-same, getD-set-other}
-use Rattle.rules.specs.Walk.{numberIn}
-use Rattle.theory.specs.Trail.{Entry, entry, metIn, meetAt, meetEachAt}
-use Rattle.theory.proofs.Walks.Trails.{MetAt, nothing, again, new, met-at-cases}
+use Rattle.rules_output.specs.Walk.{numberIn}
+use Rattle.theory_walks.specs.Trail.{Entry, entry, metIn, meetAt, meetEachAt}
+use Rattle.theory_walks.proofs.Walks.Trails.{MetAt, nothing, again, new, met-at-cases}
 use Rattle.walk_objects.specs.Walking.{lastFirst, part}
 use Rattle.walk_objects.specs.Walking.{entries, Tracing, Traced}
 use Rattle.walk_objects.proofs.Meeting.{room, walks-on}

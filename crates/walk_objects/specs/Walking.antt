@@ -4,11 +4,11 @@ use mathlib.Core.Path.{_≡_}
 use mathlib.Core.List.{List, [], _∷_, _++_}
 use lib.ListN.{length, getD}
 use Rattle.rules.specs.Heap.{Memory, lentMemory, maxBlocks}
-use Rattle.rules.specs.Walk.{numberIn}
-use Rattle.theory.specs.Trail.{Entry, entry}
-use Rattle.theory.proofs.Walks.Numbers.{Distinct}
-use Rattle.theory.proofs.Walks.Steps.{All}
-use Rattle.theory.proofs.Walks.Reached.{Named}
+use Rattle.rules_output.specs.Walk.{numberIn}
+use Rattle.theory_walks.specs.Trail.{Entry, entry}
+use Rattle.theory_walks.proofs.Walks.Numbers.{Distinct}
+use Rattle.theory_walks.proofs.Walks.Steps.{All}
+use Rattle.theory_walks.proofs.Walks.Reached.{Named}
 
 -- the first n numbers of a list, the last first
 unfoldable pub lastFirst : List ℕ → ℕ → List ℕ

@@ -7,8 +7,8 @@ ghost use Prim.Native.Nat.{ℕ, _+_, _*_, _≤_, _<_};
 ghost use mathlib.Core.List.{[]};
 ghost use lib.ListN.{length, getD, take};
 ghost use Rattle.rules.specs.Heap.{maxBlocks};
-ghost use Rattle.rules.specs.Walk.{followed};
-ghost use Rattle.theory.specs.Trail.{meetAt, meetEachAt, trail, linksTo};
+ghost use Rattle.rules_output.specs.Walk.{followed};
+ghost use Rattle.theory_walks.specs.Trail.{meetAt, meetEachAt, trail, linksTo};
 ghost use Rattle.walk_objects.specs.Walking.{part, walkedHeap, entries, Walkable, Tracing, Traced};
 use types::Ref;
 

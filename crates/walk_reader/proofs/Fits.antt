@@ -7,8 +7,8 @@ use Prim.Native.Nat.{ℕ, zero, suc}
 use native.Mathlib.Omega.{arith}
 use lib.ListN.{length}
 use lib.Dec.{eqb}
-use Rattle.rules.specs.Reason.{Reason, keptBy, noChain}
-use Rattle.rules.specs.Sentence.{rootText, cellText, blockText, noRootText, behind, numberAt, ended, linksOf, readBack}
+use Rattle.rules_output.specs.Reason.{Reason, keptBy, noChain}
+use Rattle.rules_output.specs.Sentence.{rootText, cellText, blockText, noRootText, behind, numberAt, ended, linksOf, readBack}
 use Rattle.walk_reader.specs.Reader.{isSmall, areSmall, fits, smallBack, when, limited, smallAt, smallLinks, linksIn}
 
 -- ---- numbers

@@ -11,7 +11,7 @@ use lib.ListN.{length, getD, drop}
 use lib.Seq.{drop-cons}
 use lib.Dec.{leb}
 use borrow.Author.Tests.{eq-eqb, ne-eqb, lt-ltb, le-ltb, le-leb, lt-leb}
-use Rattle.rules.specs.Sentence.{behind, numberFrom, numberAt}
+use Rattle.rules_output.specs.Sentence.{behind, numberFrom, numberAt}
 use Rattle.rules.proofs.Tests.{true-and}
 use Rattle.walk_reader.specs.Reader.{Found, when, limited, smallAt}
 

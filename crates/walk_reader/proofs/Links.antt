@@ -10,7 +10,7 @@ use native.Mathlib.Omega.{arith}
 use lib.ListN.{length, getD, set, take, drop, length-drop}
 use lib.Seq.{drop-drop, length-take-le, take-suc}
 use borrow.Author.Tests.{eq-eqb, ne-eqb}
-use Rattle.rules.specs.Sentence.{cellText, blockText, behind, ended}
+use Rattle.rules_output.specs.Sentence.{cellText, blockText, behind, ended}
 use Rattle.text.specs.Text.{Put}
 use Rattle.text.proofs.Writing.{put-as, put-more}
 use Rattle.walk_reader.specs.Reader.{Found, smallAt, smallLinks, linksIn, counted, linksFound}

@@ -8,15 +8,15 @@ use native.Mathlib.Omega.{arith}
 use lib.ListN.{length}
 use borrow.Author.Tests.{lt-ltb}
 use Rattle.rules.specs.Heap.{Memory, maxBlocks}
-use Rattle.rules.specs.Reason.{Reason, keptBy, noChain, reasonFrom, chainTo, reasonOf}
-use Rattle.rules.specs.Sentence.{sentence, sentenceFor, readBack}
+use Rattle.rules_output.specs.Reason.{Reason, keptBy, noChain, reasonFrom, chainTo, reasonOf}
+use Rattle.rules_output.specs.Sentence.{sentence, sentenceFor, readBack}
 use Rattle.rules.proofs.Tests.{true-and}
 use Rattle.rules.proofs.Objects.{size-le}
 use Rattle.rules.proofs.Shape.{shape-facts}
-use Rattle.theory.specs.Statements.{Intact}
-use Rattle.theory.specs.Reason.{Along, here, link, IsChain, chain}
-use Rattle.theory.proofs.Walks.Reached.{intact-named}
-use Rattle.theory.proofs.Walks.Best.{found-best}
+use Rattle.theory_memories.specs.Heaps.{Intact}
+use Rattle.theory_walks.specs.Reason.{Along, here, link, IsChain, chain}
+use Rattle.theory_walks.proofs.Walks.Reached.{intact-named}
+use Rattle.theory_walks.proofs.Walks.Best.{found-best}
 use Rattle.theory.proofs.Theorems.{theory}
 use Rattle.walk_reader.specs.Reader.{isSmall, areSmall, fits, smallBack, when}
 use Rattle.walk_reader.specs.ReadBack.{ReadsBack}

@@ -7,8 +7,8 @@ use Prim.Native.Nat.{ℕ, _+_, _-_, _≤_, _<_}
 use native.Mathlib.Omega.{arith}
 use lib.ListN.{length, getD, drop, length-drop}
 use borrow.Author.Tests.{eq-eqb, ne-eqb, le-leb, lt-leb}
-use Rattle.rules.specs.Reason.{keptBy, noChain}
-use Rattle.rules.specs.Sentence.{rootText, noRootText, behind, ended}
+use Rattle.rules_output.specs.Reason.{keptBy, noChain}
+use Rattle.rules_output.specs.Sentence.{rootText, noRootText, behind, ended}
 use Rattle.text.specs.Text.{Put}
 use Rattle.walk_reader.specs.declared.Reading.{Reading}
 use Rattle.walk_reader.specs.Reader.{smallBack, reading, readingOf, cellsAfter, smallAt, linksIn, counted, linksFound}

@@ -6,9 +6,9 @@ use mathlib.Core.Bool.{true}
 use mathlib.Core.List.{List}
 use mathlib.Core.Option.{some}
 use Rattle.rules.specs.Heap.{Memory}
-use Rattle.rules.specs.Reason.{Reason, reasonOf}
-use Rattle.rules.specs.Sentence.{sentence, sentenceFor}
-use Rattle.theory.specs.Statements.{Intact}
+use Rattle.rules_output.specs.Reason.{Reason, reasonOf}
+use Rattle.rules_output.specs.Sentence.{sentence, sentenceFor}
+use Rattle.theory_memories.specs.Heaps.{Intact}
 use Rattle.walk_reader.specs.Reader.{fits, smallBack}
 
 pub record ReadsBack : Type 0 where

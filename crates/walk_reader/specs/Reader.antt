@@ -7,8 +7,8 @@ use mathlib.Core.List.{List, [], _∷_, _++_}
 use mathlib.Core.Option.{Option, none, some, Option·map}
 use lib.ListN.{length, drop}
 use lib.Dec.{leb, ltb}
-use Rattle.rules.specs.Reason.{Reason, keptBy, noChain}
-use Rattle.rules.specs.Sentence.{cellText, blockText, behind, numberAt, ended, readBack}
+use Rattle.rules_output.specs.Reason.{Reason, keptBy, noChain}
+use Rattle.rules_output.specs.Sentence.{cellText, blockText, behind, numberAt, ended, readBack}
 use Rattle.walk_reader.specs.declared.Reading.{Reading}
 
 -- something where the test passes, else nothing

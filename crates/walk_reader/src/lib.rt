@@ -2,7 +2,7 @@
 ghost use mathlib.Core.Path.{_≡_};
 ghost use Prim.Native.Nat.{_+_, _≤_, _<_};
 ghost use lib.ListN.{length, drop};
-ghost use Rattle.rules.specs.Sentence.{behind, ended};
+ghost use Rattle.rules_output.specs.Sentence.{behind, ended};
 ghost use Rattle.text.specs.Text.{Put};
 ghost use Rattle.walk_reader.specs.Reader.{smallBack, reading, readingOf, cellsAfter, Found, smallAt, linksIn, counted, linksFound};
 

@@ -12,24 +12,24 @@ use lib.Seq.{length-take-le}
 use lib.Dec.{ltb}
 use borrow.Author.Tests.{ne-eqb, lt-ltb}
 use Rattle.rules.specs.Heap.{Memory, maxBlocks, isFirst}
-use Rattle.rules.specs.Walk.{numberIn, followed, referencesOf, numbered}
-use Rattle.rules.specs.Reason.{Reason, reasonFrom, reasonOf}
-use Rattle.rules.specs.Sentence.{sentence, sentenceFor}
-use Rattle.rules.specs.Calls.{reply, writeReason, outcome, ownRefusals}
-use Rattle.rules.specs.Promise.{ReasonPromise}
+use Rattle.rules_output.specs.Walk.{numberIn, followed, referencesOf, numbered}
+use Rattle.rules_output.specs.Reason.{Reason, reasonFrom, reasonOf}
+use Rattle.rules_output.specs.Sentence.{sentence, sentenceFor}
+use Rattle.rules_calls.specs.Calls.{reply, writeReason, outcome, ownRefusals}
+use Rattle.rules_calls.specs.Promise.{ReasonPromise}
 use Rattle.rules.proofs.Tests.{first-past, first-found}
-use Rattle.rules.proofs.Replies.{Passed}
+use Rattle.rules_calls.proofs.Replies.{Passed}
 use Rattle.types.specs.declared.Reply.{Reply}
 use Rattle.text.specs.Text.{Put}
 use Rattle.text.proofs.Writing.{put-as}
-use Rattle.theory.specs.Statements.{Intact, Undamaged}
-use Rattle.theory.specs.Trail.{trail, linksTo}
+use Rattle.theory_memories.specs.Heaps.{Intact, Undamaged}
+use Rattle.theory_walks.specs.Trail.{trail, linksTo}
 use Rattle.theory.proofs.EachCall.Outputs.{output-refused, output-accepted}
-use Rattle.theory.proofs.Walks.Numbers.{number-le}
-use Rattle.theory.proofs.Walks.Steps.{distinct-length}
-use Rattle.theory.proofs.Walks.Trails.{word-zero}
-use Rattle.theory.proofs.Walks.Best.{none-exactly, walk-finds-chain}
-use Rattle.theory.proofs.Walks.Reached.{Named, intact-named, led-met}
+use Rattle.theory_walks.proofs.Walks.Numbers.{number-le}
+use Rattle.theory_walks.proofs.Walks.Steps.{distinct-length}
+use Rattle.theory_walks.proofs.Walks.Trails.{word-zero}
+use Rattle.theory_walks.proofs.Walks.Best.{none-exactly, walk-finds-chain}
+use Rattle.theory_walks.proofs.Walks.Reached.{Named, intact-named, led-met}
 use Rattle.walk_objects.specs.Walking.{walkedHeap, lastFirst, entries, Traced}
 use Rattle.walk_objects.proofs.Meeting.{top-length}
 use Rattle.walk_objects.proofs.TracedHeap.{all-walked, owners-before, links-found}

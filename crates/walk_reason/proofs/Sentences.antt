@@ -6,7 +6,7 @@ use Prim.Native.Nat.{ℕ, zero, suc, _+_, _-_, _/_, _%_, _^_, _≤_, _<_}
 use native.Mathlib.Omega.{arith}
 use lib.ListN.{length, getD, length-append}
 use borrow.Author.Tests.{eq-eqb, ne-eqb}
-use Rattle.rules.specs.Sentence.{rootText, cellText, blockText, noRootText, links, sentence}
+use Rattle.rules_output.specs.Sentence.{rootText, cellText, blockText, noRootText, links, sentence}
 use Rattle.io.specs.Digits.{glyph, digits, Fewest}
 use Rattle.text.specs.Text.{decimal, Put}
 use Rattle.text.proofs.Decimals.{decimal-is, decimal-short}

@@ -7,11 +7,11 @@ use mathlib.Core.Option.{some}
 use lib.ListN.{length, getD, take}
 use lib.Dec.{eqb}
 use Rattle.rules.specs.Heap.{Memory, maxBlocks}
-use Rattle.rules.specs.Walk.{numberIn, followed, numbered}
-use Rattle.rules.specs.Reason.{Reason, keptBy, noChain, reasonFrom}
-use Rattle.rules.specs.Sentence.{sentence}
+use Rattle.rules_output.specs.Walk.{numberIn, followed, numbered}
+use Rattle.rules_output.specs.Reason.{Reason, keptBy, noChain, reasonFrom}
+use Rattle.rules_output.specs.Sentence.{sentence}
 use Rattle.text.specs.Text.{Put}
-use Rattle.theory.specs.Trail.{trail, linksTo}
+use Rattle.theory_walks.specs.Trail.{trail, linksTo}
 use Rattle.walk_objects.specs.Walking.{lastFirst}
 
 -- the links read from their end; no links are no chain

@@ -12,23 +12,23 @@ use lib.Dec.{ltb}
 use borrow.Author.Tests.{lt-ltb}
 use Rattle.bitmap.specs.Bit.{bitAt}
 use Rattle.rules.specs.Heap.{Memory, isFirst, sizeAt, sizeFrom, isData}
-use Rattle.rules.specs.Walk.{numberIn, objectAt, blockAt, referencesOf, followed, numbered}
-use Rattle.rules.specs.Shape.{cellsOf, described, joined, shapeOf}
-use Rattle.rules.specs.Calls.{reply, writeShape, outcome, ownRefusals}
-use Rattle.rules.specs.Promise.{ShapePromise}
+use Rattle.rules_output.specs.Walk.{numberIn, objectAt, blockAt, referencesOf, followed, numbered}
+use Rattle.rules_output.specs.Shape.{cellsOf, described, joined, shapeOf}
+use Rattle.rules_calls.specs.Calls.{reply, writeShape, outcome, ownRefusals}
+use Rattle.rules_calls.specs.Promise.{ShapePromise}
 use Rattle.rules.proofs.Tests.{test-cases, first-found}
-use Rattle.rules.proofs.Replies.{Passed}
+use Rattle.rules_calls.proofs.Replies.{Passed}
 use Rattle.types.specs.declared.Reply.{Reply}
 use Rattle.text.specs.Text.{Put}
 use Rattle.text.proofs.Writing.{put-as}
-use Rattle.theory.specs.Words.{Leads}
-use Rattle.theory.specs.Statements.{Undamaged}
+use Rattle.theory_memories.specs.Words.{Leads}
+use Rattle.theory_memories.specs.Heaps.{Undamaged}
 use Rattle.theory.proofs.EachCall.Outputs.{output-refused, output-accepted}
-use Rattle.theory.proofs.Walks.Numbers.{number-le, number-zero, object-number, Distinct}
-use Rattle.theory.proofs.Walks.Steps.{all-at, distinct-length}
-use Rattle.theory.proofs.Walks.Reached.{Named, led-first, met-led, roots-below, cells-below, followed-block}
-use Rattle.theory.proofs.Walks.Equal.{cells-length, cells-at, described-data, described-other}
-use Rattle.theory.proofs.Walks.Joined.{joined-same}
+use Rattle.theory_walks.proofs.Walks.Numbers.{number-le, number-zero, object-number, Distinct}
+use Rattle.theory_walks.proofs.Walks.Steps.{all-at, distinct-length}
+use Rattle.theory_walks.proofs.Walks.Reached.{Named, led-first, met-led, roots-below, cells-below, followed-block}
+use Rattle.theory_walks.proofs.Walks.Equal.{cells-length, cells-at, described-data, described-other}
+use Rattle.theory_walks.proofs.Walks.Joined.{joined-same}
 use Rattle.walk_objects.specs.Walking.{Walkable, Walked, walkedHeap, part}
 use Rattle.walk_objects.proofs.Meeting.{top-length}
 use Rattle.walk_objects.proofs.Numbering.{top-object, part-length, part-at, cells-list}

@@ -9,7 +9,7 @@ use lib.ListN.{length, getD, set, length-map, length-append}
 use borrow.Author.Tests.{eq-eqb, ne-eqb}
 use Rattle.bitmap.specs.Bit.{bitAt}
 use Rattle.rules.specs.Heap.{sizeFrom, isData}
-use Rattle.rules.specs.Shape.{joined}
+use Rattle.rules_output.specs.Shape.{joined}
 use Rattle.rules.proofs.Tests.{test-cases}
 use Rattle.text.specs.Text.{Put}
 use Rattle.text.proofs.Writing.{put-both, put-as, put-length, put-none, put-one, put-more}

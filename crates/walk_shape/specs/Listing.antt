@@ -8,7 +8,7 @@ use lib.ListN.{length, getD}
 use lib.Dec.{eqb}
 use Rattle.bitmap.specs.Bit.{bitAt}
 use Rattle.rules.specs.Heap.{Memory, maxBlocks, sizeFrom, isData}
-use Rattle.rules.specs.Shape.{joined, shapeOf}
+use Rattle.rules_output.specs.Shape.{joined, shapeOf}
 use Rattle.text.specs.Text.{Put}
 use Rattle.walk_objects.specs.Walking.{part}
 

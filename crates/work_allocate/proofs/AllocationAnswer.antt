@@ -9,18 +9,19 @@ use lib.ListN.{length}
 use Rattle.bitmap.specs.Bit.{one, zeros}
 use Rattle.rules.specs.Heap.{Memory, withWaiting, withSections}
 use Rattle.rules.specs.Sections.{figures}
-use Rattle.rules.specs.Store.{birthSticks}
-use Rattle.rules.specs.Steps.{allocateShading}
-use Rattle.rules.specs.Calls.{allocate, allocateData, allocateAs, Answer, reply, allocated, settled, outcome, answer}
-use Rattle.rules.specs.Promise.{Promise}
+use Rattle.rules_stores.specs.Store.{birthSticks}
+use Rattle.rules_steps.specs.Steps.{allocateShading}
+use Rattle.rules_calls.specs.Calls.{allocate, allocateData, allocateAs, Answer, reply, allocated, settled, outcome, answer}
+use Rattle.rules_calls.specs.Promise.{Promise}
 use Rattle.types.specs.declared.Reply.{Reply}
-use Rattle.rules.proofs.Replies.{Passed}
-use Rattle.rules.proofs.Promised.{promised}
-use Rattle.rules.proofs.Unread.{allocate-aside}
+use Rattle.rules_calls.proofs.Replies.{Passed}
+use Rattle.rules_calls.proofs.Promised.{promised}
+use Rattle.rules_calls.proofs.Unread.{allocate-aside}
 use Rattle.theory.specs.Balance.{freedBlocks}
-use Rattle.theory.specs.Usable.{Usable, outcomeOf, Worked}
-use Rattle.theory.proofs.Memories.Fit.{Fit}
-use Rattle.theory.proofs.EachCall.Accepted.{fit-accepted}
+use Rattle.theory_memories.specs.Heaps.{Usable}
+use Rattle.theory.specs.Usable.{outcomeOf, Worked}
+use Rattle.theory_memories.proofs.Memories.Fit.{Fit}
+use Rattle.theory_memories.proofs.Memories.Accepted.{fit-accepted}
 use Rattle.theory.proofs.EachCall.Balance.{blocks-add-up}
 use Rattle.theory.proofs.Usable.UsableHeap.{usable-fit, left-settled}
 use Rattle.test_allocation.proofs.AllocationReply.{AllocationPassed}

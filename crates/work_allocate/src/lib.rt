@@ -3,8 +3,9 @@
 ghost use mathlib.Core.Path.{_≡_};
 ghost use lib.ListN.{length};
 ghost use Rattle.rules.specs.Lent.{before, after, lent};
-ghost use Rattle.rules.specs.Calls.{allocateAs, reply};
-ghost use Rattle.theory.specs.Usable.{Usable, Worked};
+ghost use Rattle.rules_calls.specs.Calls.{allocateAs, reply};
+ghost use Rattle.theory_memories.specs.Heaps.{Usable};
+ghost use Rattle.theory.specs.Usable.{Worked};
 ghost use Rattle.test_allocation.specs.Replies.{allocateReply};
 use types::Outcome;
 use types::Ref;

@@ -4,11 +4,12 @@ use mathlib.Core.Bool.{false}
 use Prim.Native.Nat.{ℕ}
 use Rattle.rules.specs.Heap.{Memory, withWaiting, withSections}
 use Rattle.rules.specs.Sections.{figures}
-use Rattle.rules.specs.Collection.{collected}
-use Rattle.rules.specs.Steps.{isOpen}
-use Rattle.rules.specs.Calls.{collect}
-use Rattle.rules.proofs.Unread.{collect-beside}
-use Rattle.theory.specs.Usable.{Usable, outcomeOf, Worked}
+use Rattle.rules_stores.specs.Collection.{collected}
+use Rattle.rules_steps.specs.Steps.{isOpen}
+use Rattle.rules_calls.specs.Calls.{collect}
+use Rattle.rules_calls.proofs.Unread.{collect-beside}
+use Rattle.theory_memories.specs.Heaps.{Usable}
+use Rattle.theory.specs.Usable.{outcomeOf, Worked}
 use Rattle.theory.proofs.EachCall.Balance.{blocks-add-up}
 use Rattle.theory.proofs.Usable.UsableHeap.{usable-fit, usable-healthy, left-settled}
 use Rattle.theory.proofs.Usable.WorkDone.{worked-freeing, collect-answered}

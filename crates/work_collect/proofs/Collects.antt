@@ -4,9 +4,9 @@ use mathlib.Core.List.{List, []}
 use Prim.Native.Nat.{ℕ, zero, suc, _+_}
 use lib.ListN.{replicate}
 use Rattle.rules.specs.Heap.{Memory, lentMemory, withA, withB, withCounts, withCells, withWaiting, withD, sizeAt}
-use Rattle.rules.specs.Store.{freed}
+use Rattle.rules_stores.specs.Store.{freed}
 use Rattle.rules.proofs.Tests.{choose-both}
-use Rattle.rules.proofs.Unread.{beside}
+use Rattle.rules_calls.proofs.Unread.{beside}
 use Rattle.count_up.specs.Ready.{partMemory}
 use Rattle.collect_mark.specs.Mark.{markCounts}
 use Rattle.collect_mark.proofs.Scans.{mark-reads}

@@ -3,9 +3,10 @@
 ghost use mathlib.Core.Path.{_≡_};
 ghost use mathlib.Core.Bool.{false};
 ghost use Rattle.rules.specs.Lent.{before, after, lent};
-ghost use Rattle.rules.specs.Steps.{isOpen};
-ghost use Rattle.rules.specs.Calls.{Call};
-ghost use Rattle.theory.specs.Usable.{Usable, Worked};
+ghost use Rattle.rules_steps.specs.Steps.{isOpen};
+ghost use Rattle.rules_calls.specs.Calls.{Call};
+ghost use Rattle.theory_memories.specs.Heaps.{Usable};
+ghost use Rattle.theory.specs.Usable.{Worked};
 use types::Outcome;
 use types::Ref;
 

@@ -10,20 +10,22 @@ use Rattle.types.specs.declared.Reply.{Reply}
 use Rattle.types.specs.declared.Outcome.{Outcome}
 use Rattle.rules.specs.Heap.{Memory, lentMemory, withRoots, shaped}
 use Rattle.rules.specs.Sections.{figures}
-use Rattle.rules.specs.Store.{formatted}
-use Rattle.rules.specs.Collection.{collected}
-use Rattle.rules.specs.Steps.{isOpen}
-use Rattle.rules.specs.Walk.{blockAt, numberIn, referencesOf, followed, numbered}
-use Rattle.rules.specs.Copy.{Laid, layAll, allLaid, placesIn, newReference, newCell, copyOne, copyFirst, copyAll, copied}
-use Rattle.rules.specs.Calls.{collect, copyFrom, Answer, reply, settled, freeing, answer}
-use Rattle.rules.specs.Promise.{Promise}
-use Rattle.rules.proofs.Shape.{Shaped, shape-facts, shaped-blocks, formatted-shaped}
-use Rattle.theory.specs.Statements.{Undamaged}
-use Rattle.theory.specs.Usable.{Usable, Worked}
+use Rattle.rules_stores.specs.Store.{formatted}
+use Rattle.rules_stores.specs.Collection.{collected}
+use Rattle.rules_steps.specs.Steps.{isOpen}
+use Rattle.rules_output.specs.Walk.{blockAt, numberIn, referencesOf, followed, numbered}
+use Rattle.rules_copy.specs.Copy.{Laid, layAll, allLaid, placesIn, newReference, newCell, copyOne, copyFirst, copyAll, copied}
+use Rattle.rules_calls.specs.Calls.{collect, copyFrom, Answer, reply, settled, freeing, answer}
+use Rattle.rules_calls.specs.Promise.{Promise}
+use Rattle.rules.proofs.Shape.{Shaped, shape-facts, shaped-blocks}
+use Rattle.rules_stores.proofs.FormattedShape.{formatted-shaped}
+use Rattle.theory_memories.specs.Heaps.{Undamaged}
+use Rattle.theory_memories.specs.Heaps.{Usable}
+use Rattle.theory.specs.Usable.{Worked}
 use Rattle.theory.proofs.Usable.UsableHeap.{usable-fit}
 use Rattle.theory.proofs.Usable.WorkDone.{collect-answered}
-use Rattle.theory.proofs.Copies.Accepted.{there-laid}
-use Rattle.theory.proofs.Copies.Copied.{filled-usable, filled-shut, filled-collected}
+use Rattle.theory_copies.proofs.Copies.Accepted.{there-laid}
+use Rattle.theory_copies.proofs.Copies.Copied.{filled-usable, filled-shut, filled-collected}
 use Rattle.walk_objects.specs.Walking.{walkedHeap}
 use Rattle.walk_objects.proofs.Beginning.{walkable}
 use Rattle.refinement_copy.specs.Routed.{copiedLists, listsOf}

@@ -7,14 +7,14 @@ use native.Mathlib.Omega.{arith}
 use lib.ListN.{length, replicate}
 use Rattle.rules.specs.Heap.{Memory, lentMemory, shaped}
 use Rattle.rules.specs.Sections.{figures}
-use Rattle.rules.specs.Store.{formatted}
-use Rattle.rules.specs.Calls.{format, reply, accepted, refusals, refusedWith, outcome}
-use Rattle.rules.specs.Promise.{Promise}
+use Rattle.rules_stores.specs.Store.{formatted}
+use Rattle.rules_calls.specs.Calls.{format, reply, accepted, refusals, refusedWith, outcome}
+use Rattle.rules_calls.specs.Promise.{Promise}
 use Rattle.types.specs.declared.Reply.{Reply}
 use Rattle.rules.proofs.Tests.{first-found}
-use Rattle.rules.proofs.Replies.{refused-with, format-accepted}
+use Rattle.rules_calls.proofs.Replies.{refused-with, format-accepted}
 use Rattle.rules.proofs.Shape.{shape-facts}
-use Rattle.rules.proofs.Promised.{promised}
+use Rattle.rules_calls.proofs.Promised.{promised}
 
 module _ {N w : ℕ} {h : Memory} where
   pub format-refused : {x : Reply} → shaped N w h ≡ false → x ≡ reply 1 0 0 → Promise N w format h x h

@@ -6,14 +6,15 @@ use Prim.Native.Nat.{ℕ, _+_, _*_}
 use native.Mathlib.Omega.{arith}
 use lib.ListN.{set}
 use Rattle.rules.specs.Heap.{Memory, withCells}
-use Rattle.rules.specs.Calls.{Call, writeNumber, Answer, reply, accepted, outcome, answer}
-use Rattle.rules.proofs.Replies.{own-passed}
-use Rattle.rules.proofs.Promised.{promised}
-use Rattle.theory.specs.Statements.{Undamaged}
-use Rattle.theory.specs.Balance.{freedBlocks, inUse, allocates, allocatedBy}
+use Rattle.rules_calls.specs.Calls.{Call, writeNumber, Answer, reply, accepted, outcome, answer}
+use Rattle.rules_calls.proofs.Replies.{own-passed}
+use Rattle.rules_calls.proofs.Promised.{promised}
+use Rattle.theory_memories.specs.Heaps.{Undamaged}
+use Rattle.theory.specs.Balance.{freedBlocks, allocates, allocatedBy}
+use Rattle.theory_memories.specs.Words.{inUse}
 use Rattle.theory.specs.Usable.{outcomeOf, Worked}
-use Rattle.theory.proofs.Memories.Fit.{Fit, undamaged-fit}
-use Rattle.theory.proofs.EachCall.Accepted.{fit-accepted}
+use Rattle.theory_memories.proofs.Memories.Fit.{Fit, undamaged-fit}
+use Rattle.theory_memories.proofs.Memories.Accepted.{fit-accepted}
 use Rattle.theory.proofs.EachCall.Balance.{even-alone}
 use Rattle.theory.proofs.Usable.WorkDone.{accepted-allocates}
 use Rattle.test_arguments.specs.Replies.{ownTest}

@@ -3,9 +3,9 @@ use Prim.Native.Nat.{ℕ}
 use mathlib.Core.Path.{_≡_}
 use mathlib.Core.List.{List}
 use Rattle.rules.specs.Heap.{Memory, withCells}
-use Rattle.rules.specs.Calls.{writeNumber}
+use Rattle.rules_calls.specs.Calls.{writeNumber}
 use Rattle.types.specs.declared.Outcome.{Outcome}
-use Rattle.theory.specs.Statements.{Undamaged}
+use Rattle.theory_memories.specs.Heaps.{Undamaged}
 use Rattle.theory.specs.Usable.{Worked}
 use Rattle.test_arguments.specs.Replies.{ownTest}
 

@@ -11,19 +11,19 @@ use borrow.Author.Tests.{ltb-true, ltb-false, lt-ltb, le-ltb}
 use Rattle.bitmap.specs.Bit.{one, countBelow, Bytes}
 use Rattle.rules.specs.Tools.{someBelow, holding}
 use Rattle.rules.specs.Heap.{Memory, withMarks, withList}
-use Rattle.rules.specs.Steps.{isOpen, listOf, withProgress, rootNames, opened}
-use Rattle.rules.specs.Calls.{openCollection, reply, accepted, outcome, answer}
-use Rattle.rules.specs.Promise.{Promise}
+use Rattle.rules_steps.specs.Steps.{isOpen, listOf, withProgress, rootNames, opened}
+use Rattle.rules_calls.specs.Calls.{openCollection, reply, accepted, outcome, answer}
+use Rattle.rules_calls.specs.Promise.{Promise}
 use Rattle.types.specs.declared.Reply.{Reply}
 use Rattle.rules.proofs.Tests.{test-cases}
-use Rattle.rules.proofs.Replies.{Passed}
-use Rattle.rules.proofs.Promised.{promised}
+use Rattle.rules_calls.proofs.Replies.{Passed}
+use Rattle.rules_calls.proofs.Promised.{promised}
 use Rattle.step_list.specs.Lists.{isSet, listedIn, Shows}
 use Rattle.step_list.proofs.Rising.{list-same}
 use Rattle.step_list.proofs.MapOf.{map-of}
-use Rattle.theory.specs.Statements.{Undamaged}
-use Rattle.theory.proofs.Memories.Fit.{undamaged-fit}
-use Rattle.theory.proofs.EachCall.Accepted.{fit-accepted}
+use Rattle.theory_memories.specs.Heaps.{Undamaged}
+use Rattle.theory_memories.proofs.Memories.Fit.{undamaged-fit}
+use Rattle.theory_memories.proofs.Memories.Accepted.{fit-accepted}
 use Rattle.work_open.specs.Opened.{rootNamesIn, Opened}
 
 -- some are counted where one passes

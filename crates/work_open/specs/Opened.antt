@@ -5,8 +5,8 @@ use mathlib.Core.Path.{_≡_}
 use mathlib.Core.Bool.{Bool}
 use mathlib.Core.List.{List, []}
 use Rattle.rules.specs.Heap.{lentMemory}
-use Rattle.rules.specs.Steps.{mapOf, listOf, rootNames}
-use Rattle.rules.specs.Calls.{reply}
+use Rattle.rules_steps.specs.Steps.{mapOf, listOf, rootNames}
+use Rattle.rules_calls.specs.Calls.{reply}
 use Rattle.types.specs.declared.Reply.{Reply}
 
 -- one of these roots names the object at block i

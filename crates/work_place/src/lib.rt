@@ -5,7 +5,7 @@ ghost use mathlib.Core.List.{[]};
 ghost use Prim.Native.Nat.{_+_, _*_, _/_, _<_, _≤_};
 ghost use lib.ListN.{length};
 ghost use Rattle.bitmap.specs.Bit.{one, setBit};
-ghost use Rattle.rules.specs.Store.{placed};
+ghost use Rattle.rules_stores.specs.Store.{placed};
 ghost use Rattle.section_figures.specs.Figures.{Coherent};
 ghost use Rattle.count_up.specs.Ready.{Planes, Extents, partMemory};
 ghost use Rattle.work_place.specs.Born.{bornMarks};

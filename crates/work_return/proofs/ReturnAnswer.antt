@@ -9,21 +9,22 @@ use lib.ListN.{length, replicate}
 use borrow.Author.Tests.{eq-eqb, ne-eqb}
 use Rattle.bitmap.specs.Bit.{bitOf, zeros}
 use Rattle.rules.specs.Heap.{Memory, withWaiting, withSections}
-use Rattle.rules.specs.Store.{chosenBelow}
-use Rattle.rules.specs.Steps.{storeRootShading, clearShading, returnShading}
-use Rattle.rules.specs.Calls.{returnRoots, storeRoot, Answer, settled, freeing, outcome, answer}
+use Rattle.rules_stores.specs.Store.{chosenBelow}
+use Rattle.rules_steps.specs.Steps.{storeRootShading, clearShading, returnShading}
+use Rattle.rules_calls.specs.Calls.{returnRoots, storeRoot, Answer, settled, freeing, outcome, answer}
 use Rattle.types.specs.declared.Reply.{Reply}
 use Rattle.types.specs.declared.Outcome.{Outcome}
-use Rattle.rules.proofs.Replies.{Passed, passed-own}
+use Rattle.rules_calls.proofs.Replies.{Passed, passed-own}
 use Rattle.rules.proofs.Tests.{first-not}
-use Rattle.rules.proofs.Unread.{store-root-aside}
-use Rattle.theory.proofs.Memories.Fit.{Fit}
-use Rattle.theory.proofs.EachCall.Accepted.{fit-accepted}
+use Rattle.rules_calls.proofs.Unread.{store-root-aside}
+use Rattle.theory_memories.proofs.Memories.Fit.{Fit}
+use Rattle.theory_memories.proofs.Memories.Accepted.{fit-accepted}
 use Rattle.theory.proofs.EachCall.Clearing.{none-ref}
 use Rattle.test_arguments.specs.Replies.{ownTest, storeRootTest, returnTest}
 use Rattle.test_arguments.proofs.ArgumentTests.{root-passed}
 use Rattle.theory.specs.Balance.{freedBlocks}
-use Rattle.theory.specs.Usable.{Usable, outcomeOf, Worked}
+use Rattle.theory_memories.specs.Heaps.{Usable}
+use Rattle.theory.specs.Usable.{outcomeOf, Worked}
 use Rattle.theory.proofs.EachCall.Balance.{blocks-add-up}
 use Rattle.theory.proofs.Usable.UsableHeap.{cleared-same, usable-fit, left-settled}
 use Rattle.theory.proofs.Usable.UsableAfterCalls.{usable-kept}

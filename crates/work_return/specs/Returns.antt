@@ -4,8 +4,8 @@ use mathlib.Core.Path.{_≡_}
 use mathlib.Core.List.{List}
 use Rattle.bitmap.specs.Bit.{zeros}
 use Rattle.rules.specs.Heap.{Memory, withSections}
-use Rattle.rules.specs.Steps.{clearShading}
-use Rattle.theory.specs.Usable.{Usable}
+use Rattle.rules_steps.specs.Steps.{clearShading}
+use Rattle.theory_memories.specs.Heaps.{Usable}
 
 -- root r was cleared where it is one of the set, and `freed` blocks were freed: as the rule has it whatever list of sections stands beside,
 -- and the heap's own list is left true

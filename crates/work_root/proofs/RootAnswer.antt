@@ -7,14 +7,15 @@ use lib.ListN.{getD}
 use Rattle.bitmap.specs.Bit.{one, zeros}
 use Rattle.rules.specs.Heap.{Memory, withWaiting, withSections}
 use Rattle.rules.specs.Sections.{figures}
-use Rattle.rules.specs.Store.{storeSticks}
-use Rattle.rules.specs.Steps.{storeRootShading}
-use Rattle.rules.specs.Calls.{storeRoot, Answer, freeing, outcome, answer}
-use Rattle.rules.proofs.Replies.{Passed}
-use Rattle.rules.proofs.Unread.{store-root-aside}
-use Rattle.theory.specs.Usable.{Usable, outcomeOf, Worked}
-use Rattle.theory.proofs.Memories.Fit.{Fit}
-use Rattle.theory.proofs.EachCall.Accepted.{fit-accepted}
+use Rattle.rules_stores.specs.Store.{storeSticks}
+use Rattle.rules_steps.specs.Steps.{storeRootShading}
+use Rattle.rules_calls.specs.Calls.{storeRoot, Answer, freeing, outcome, answer}
+use Rattle.rules_calls.proofs.Replies.{Passed}
+use Rattle.rules_calls.proofs.Unread.{store-root-aside}
+use Rattle.theory_memories.specs.Heaps.{Usable}
+use Rattle.theory.specs.Usable.{outcomeOf, Worked}
+use Rattle.theory_memories.proofs.Memories.Fit.{Fit}
+use Rattle.theory_memories.proofs.Memories.Accepted.{fit-accepted}
 use Rattle.theory.proofs.EachCall.Balance.{blocks-add-up}
 use Rattle.theory.proofs.Usable.UsableHeap.{usable-fit, left-settled}
 use Rattle.theory.proofs.Usable.WorkDone.{worked-freeing}

@@ -3,10 +3,10 @@
 ghost use mathlib.Core.Path.{_≡_};
 ghost use mathlib.Core.Bool.{true};
 ghost use Rattle.rules.specs.Lent.{before, after, lent};
-ghost use Rattle.rules.specs.Calls.{Call};
-ghost use Rattle.rules.specs.Promise.{Promise};
-ghost use Rattle.rules.specs.Steps.{isOpen};
-ghost use Rattle.theory.specs.Usable.{Usable};
+ghost use Rattle.rules_calls.specs.Calls.{Call};
+ghost use Rattle.rules_calls.specs.Promise.{Promise};
+ghost use Rattle.rules_steps.specs.Steps.{isOpen};
+ghost use Rattle.theory_memories.specs.Heaps.{Usable};
 use types::Ref;
 use types::Reply;
 

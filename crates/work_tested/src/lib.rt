@@ -1,7 +1,8 @@
 // The calls that write, on an undamaged heap with a cleared waiting list: their tests, and their work where these pass.
 ghost use Rattle.rules.specs.Lent.{before, after, lent};
-ghost use Rattle.rules.specs.Calls.{Call, allocateAs};
-ghost use Rattle.theory.specs.Usable.{Usable, Worked};
+ghost use Rattle.rules_calls.specs.Calls.{Call, allocateAs};
+ghost use Rattle.theory_memories.specs.Heaps.{Usable};
+ghost use Rattle.theory.specs.Usable.{Worked};
 use test_arguments::collecting;
 use test_arguments::numbers;
 use test_arguments::storing;

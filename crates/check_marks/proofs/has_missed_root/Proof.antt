@@ -2,7 +2,7 @@
 use mathlib.Core.Path.{sym, _∙_}
 use Prim.Native.Nat.{_-_}
 use lib.ListN.{length}
-use Rattle.rules.specs.Steps.{rootMissed}
+use Rattle.rules_steps.specs.Steps.{rootMissed}
 use Rattle.check_marks.specs.Tidy.{rootMissedIn}
 use Rattle.rules.proofs.Searches.{Searched, searched-start, searched-next, searched-all, searched-hit}
 use native.Mathlib.Omega.{arith}

@@ -8,7 +8,7 @@ use lib.ListN.{length-replicate}
 use borrow.Author.Needs.{needs}
 use borrow.Author.Tests.{not-true, not-false}
 use Rattle.rules.specs.Heap.{Memory, lentMemory, maxBlocks}
-use Rattle.rules.specs.Steps.{isUntidy}
+use Rattle.rules_steps.specs.Steps.{isUntidy}
 use Rattle.rules.proofs.Shape.{Shaped, shape-facts}
 use Rattle.step_list.proofs.Bits.{shows-none}
 use Rattle.check_marks.specs.Tidy.{Read}

@@ -6,8 +6,8 @@ use Prim.Native.Nat.{ℕ}
 use native.Mathlib.Omega.{arith}
 use borrow.Author.Tests.{not-true, not-false}
 use Rattle.rules.specs.Heap.{Memory}
-use Rattle.rules.specs.Walk.{numbered}
-use Rattle.rules.specs.Copy.{layFirst, layAll}
+use Rattle.rules_output.specs.Walk.{numbered}
+use Rattle.rules_copy.specs.Copy.{layFirst, layAll}
 use Rattle.walk_objects.specs.Walking.{walkedHeap, Walked}
 use Rattle.walk_objects.proofs.TracedHeap.{all-walked}
 use Rattle.copy_plan.specs.Plan.{sizesIn, Planned}

@@ -5,7 +5,7 @@ use mathlib.Core.List.{List}
 use Prim.Native.Nat.{ℕ, _+_, _-_, _≤_}
 use native.Mathlib.Omega.{arith}
 use lib.ListN.{length, set}
-use Rattle.rules.specs.Store.{work, countDownEach, clearCells}
+use Rattle.rules_stores.specs.Store.{work, countDownEach, clearCells}
 use Rattle.count_up.specs.Stack.{topFirst, counted, remaining, Worked}
 use Rattle.map_objects.proofs.Cells.{clear-more, length-clear}
 use Rattle.count_down.proofs.CountDown.{each-more}

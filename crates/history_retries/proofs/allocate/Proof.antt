@@ -1,6 +1,6 @@
 -- `allocate` meets its contract: one try, or a collection and a second one where no chunk was free.
 use mathlib.Core.Path.{_∙_}
-use Rattle.rules.specs.Calls.{allocateAs}
+use Rattle.rules_calls.specs.Calls.{allocateAs}
 use borrow.Author.Needs.{needs}
 use Rattle.theory.proofs.Usable.UsableAfterCalls.{usable-kept}
 use Rattle.history_turns.proofs.FirstTry.{Allocation, allocation, acted-once}

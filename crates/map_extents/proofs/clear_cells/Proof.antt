@@ -4,7 +4,7 @@ use mathlib.Core.Path.{_≡_, refl, _∙_}
 use Prim.Native.Nat.{_+_, _-_, _≤_}
 use native.Mathlib.Omega.{arith}
 use lib.ListN.{length, length-set}
-use Rattle.rules.specs.Store.{clearCells}
+use Rattle.rules_stores.specs.Store.{clearCells}
 use Rattle.map_objects.proofs.Cells.{clear-more}
 use Rattle.map_extents.proofs.clear_cells.Statement.{statement}
 use Rattle.map_extents.proofs.clear_cells.Tie as tie

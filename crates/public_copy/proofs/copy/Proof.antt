@@ -2,7 +2,7 @@
 use mathlib.Core.Path.{refl}
 use borrow.Author.Needs.{needs}
 use Rattle.rules.specs.Heap.{Memory, lentMemory}
-use Rattle.rules.proofs.Promised.{copy-promised}
+use Rattle.rules_calls.proofs.Promised.{copy-promised}
 use Rattle.public_copy.proofs.copy.Statement.{statement}
 use Rattle.public_copy.proofs.copy.Tie as tie
 

@@ -1,7 +1,7 @@
 -- `public_heap::allocate` meets its contract: the gate, and then the work on the cleared heap.
 use mathlib.Core.Path.{refl, _∙_}
 use borrow.Author.Needs.{needs}
-use Rattle.rules.specs.Calls.{outcome}
+use Rattle.rules_calls.specs.Calls.{outcome}
 use Rattle.test_allocation.proofs.AllocationReply.{replied, allocate-accepts, allocate-goes-on}
 use Rattle.test_calls.proofs.ClearedHeap.{cleared-usable, worked-back}
 use Rattle.public_heap.proofs.allocate.Statement.{statement}

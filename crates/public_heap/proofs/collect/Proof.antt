@@ -1,7 +1,7 @@
 -- `public_heap::collect` meets its contract: the gate, and then the work on the cleared heap.
 use mathlib.Core.Path.{refl, _∙_}
 use borrow.Author.Needs.{needs}
-use Rattle.rules.specs.Calls.{freeing, outcome}
+use Rattle.rules_calls.specs.Calls.{freeing, outcome}
 use Rattle.test_arguments.proofs.ArgumentTests.{goes-on, collect-tested}
 use Rattle.test_calls.proofs.CheckAtGate.{gate-none-open}
 use Rattle.test_calls.proofs.ClearedHeap.{cleared-usable, worked-back}

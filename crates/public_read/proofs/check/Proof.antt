@@ -8,9 +8,9 @@ use borrow.Author.Tests.{not-true, not-false}
 use Rattle.rules.specs.Heap.{Memory, lentMemory, shaped}
 use Rattle.rules.specs.Damage.{damage}
 use Rattle.rules.specs.Sections.{staleFigures}
-use Rattle.rules.specs.Steps.{isUntidy}
+use Rattle.rules_steps.specs.Steps.{isUntidy}
 use Rattle.rules.proofs.Shape.{shape-facts, shaped-blocks}
-use Rattle.theory.specs.Statements.{Intact}
+use Rattle.theory_memories.specs.Heaps.{Intact}
 use Rattle.public_read.proofs.CheckReply.{check-unshaped, check-damaged, check-stale, check-untidy, check-passed}
 use Rattle.public_read.proofs.check.Statement.{statement}
 use Rattle.public_read.proofs.check.Tie as tie

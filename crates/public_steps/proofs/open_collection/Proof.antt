@@ -2,7 +2,7 @@
 use mathlib.Core.Path.{refl, sym}
 use borrow.Author.Needs.{needs}
 use Rattle.rules.specs.Heap.{Memory, lentMemory}
-use Rattle.theory.proofs.Memories.Fit.{undamaged-fit}
+use Rattle.theory_memories.proofs.Memories.Fit.{undamaged-fit}
 use Rattle.test_calls.proofs.CheckAtGate.{gate-none-open}
 use Rattle.work_open.proofs.Opening.{open-promised}
 use Rattle.public_steps.proofs.open_collection.Statement.{statement}

@@ -1,7 +1,7 @@
 -- `public_steps::step_collection` meets its contract: the gate, and then the work on the cleared heap.
 use mathlib.Core.Path.{refl, _∙_}
 use borrow.Author.Needs.{needs}
-use Rattle.rules.specs.Calls.{outcome}
+use Rattle.rules_calls.specs.Calls.{outcome}
 use Rattle.test_arguments.proofs.ArgumentTests.{goes-on, step-tested}
 use Rattle.test_calls.proofs.CheckAtGate.{gate-one-open}
 use Rattle.test_calls.proofs.ClearedHeap.{cleared-usable, promised-back}

@@ -1,7 +1,7 @@
 -- `public_store::return_roots` meets its contract: the gate, and then the work on the cleared heap.
 use mathlib.Core.Path.{refl, sym, ap, _∙_}
 use borrow.Author.Needs.{needs}
-use Rattle.rules.specs.Calls.{freeing, outcome}
+use Rattle.rules_calls.specs.Calls.{freeing, outcome}
 use Rattle.types.specs.declared.Reply.{Reply}
 use Rattle.test_arguments.proofs.ArgumentTests.{goes-on, return-tested}
 use Rattle.test_calls.proofs.ClearedHeap.{cleared-usable, worked-back}

@@ -5,7 +5,7 @@ use borrow.Author.Needs.{needs}
 use Rattle.rules.specs.Heap.{Memory, lentMemory}
 use Rattle.types.specs.declared.Reply.{Reply}
 use Rattle.test_arguments.proofs.ArgumentTests.{goes-on, number-tested, number-passed}
-use Rattle.theory.proofs.Memories.Fit.{undamaged-fit}
+use Rattle.theory_memories.proofs.Memories.Fit.{undamaged-fit}
 use Rattle.public_store.proofs.write_number.Statement.{statement}
 use Rattle.public_store.proofs.write_number.Tie as tie
 

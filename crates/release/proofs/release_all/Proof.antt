@@ -4,7 +4,7 @@ use mathlib.Core.Path.{_≡_, refl, sym, _∙_}
 use mathlib.Core.List.{[]}
 use Prim.Native.Nat.{_-_}
 use native.Mathlib.Omega.{arith}
-use Rattle.rules.specs.Store.{release}
+use Rattle.rules_stores.specs.Store.{release}
 use Rattle.section_figures.specs.Figures.{Upkeep}
 use Rattle.count_up.specs.Ready.{partMemory}
 use Rattle.count_up.specs.Stack.{topFirst, counted, remaining}

@@ -3,7 +3,7 @@ use mathlib.Core.Path.{refl, sym, ap, _∙_}
 use Prim.Native.Nat.{ℕ}
 use native.Mathlib.Omega.{arith}
 use borrow.Author.Needs.{needs}
-use Rattle.rules.specs.Calls.{reply}
+use Rattle.rules_calls.specs.Calls.{reply}
 use Rattle.theory.proofs.Usable.UsableHeap.{usable-healthy}
 use Rattle.replay_words.specs.Encoding.{decoded, isCall}
 use Rattle.replay_call.proofs.Codes.{stepped-as, stepped-worked, stepped-none, narrow-call, wide-call, past-call, past-codes}

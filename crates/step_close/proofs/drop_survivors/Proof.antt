@@ -3,7 +3,7 @@ use mathlib.Core.Path.{_≡_, refl, sym, ap, _∙_}
 use Prim.Native.Nat.{ℕ, _+_, _-_, _≤_}
 use mathlib.Core.List.{List}
 use lib.ListN.{length, set, length-set}
-use Rattle.rules.specs.Store.{work, clearCells}
+use Rattle.rules_stores.specs.Store.{work, clearCells}
 use Rattle.count_up.specs.Stack.{topFirst, counted, remaining, Worked}
 use Rattle.map_objects.proofs.Cells.{clear-more}
 use Rattle.step_close.specs.Close.{countDownSurvivors}

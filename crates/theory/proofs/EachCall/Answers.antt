@@ -3,11 +3,11 @@ use mathlib.Core.Path.{refl}
 use mathlib.Core.Bool.{true, false}
 use Prim.Native.Nat.{ℕ}
 use Rattle.rules.specs.Heap.{Memory}
-use Rattle.rules.specs.Calls.{Call, format, check, collect, freeBlocks, allocate, storeRoot, storeCell, look, returnRoots, openCollection, takeSteps}
-use Rattle.rules.specs.Calls.{allocateData, writeNumber, readNumber, writeReason, writeShape, outcome, answer}
-use Rattle.rules.specs.Calls.{copyFrom, copyInto}
-use Rattle.rules.proofs.Replies.{answer-either, Passed, passed}
-use Rattle.theory.proofs.Memories.Fit.{Fit}
+use Rattle.rules_calls.specs.Calls.{Call, format, check, collect, freeBlocks, allocate, storeRoot, storeCell, look, returnRoots, openCollection, takeSteps}
+use Rattle.rules_calls.specs.Calls.{allocateData, writeNumber, readNumber, writeReason, writeShape, outcome, answer}
+use Rattle.rules_calls.specs.Calls.{copyFrom, copyInto}
+use Rattle.rules_calls.proofs.Replies.{answer-either, Passed, passed}
+use Rattle.theory_memories.proofs.Memories.Fit.{Fit}
 use Rattle.theory.proofs.EachCall.Served.{no-collection, Served, unchanged, refused-served, number-served, format-served}
 use Rattle.theory.proofs.EachCall.StoresServed.{storeRoot-served, storeCell-served, allocate-served}
 use Rattle.theory.proofs.EachCall.Shading.{Sized, shape-sized, settled-beside, freeing-beside, store-root-shading, store-cell-shading}

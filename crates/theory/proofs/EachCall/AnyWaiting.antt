@@ -10,20 +10,21 @@ use lib.ListN.{length, getD}
 use Rattle.bitmap.specs.Bit.{one, zeros}
 use Rattle.rules.specs.Heap.{Memory, withWaiting, shape, shaped, countOf, sizeAt, exponent, lowestFree}
 use Rattle.rules.specs.Damage.{endOnFree, openEnd, unaligned, badCell, badRoot, badCount, strayData, damage}
-use Rattle.rules.specs.Store.{birthSticks}
-use Rattle.rules.specs.Collection.{collected}
-use Rattle.rules.specs.Steps.{isListed, opened, StepsTaken, progressOf, stepsFrom, stepped}
-use Rattle.rules.specs.Steps.{storeRootShading, storeCellShading, allocateShading, returnShading}
-use Rattle.rules.specs.Calls.{Call, format, check, collect, freeBlocks, allocate, storeRoot, storeCell, look, returnRoots, openCollection, takeSteps}
-use Rattle.rules.specs.Calls.{allocateData, writeNumber, readNumber, writeReason, writeShape, allocated, Answer}
-use Rattle.rules.specs.Calls.{reply, ownRefusals, refusals, refusedWith, refused, settled, freeing, outcome, answer}
-use Rattle.rules.specs.Calls.{copyFrom, copyInto, damageTold}
+use Rattle.rules_stores.specs.Store.{birthSticks}
+use Rattle.rules_stores.specs.Collection.{collected}
+use Rattle.rules_steps.specs.Steps.{isListed, opened, StepsTaken, progressOf, stepsFrom, stepped}
+use Rattle.rules_steps.specs.Steps.{storeRootShading, storeCellShading, allocateShading, returnShading}
+use Rattle.rules_calls.specs.Calls.{Call, format, check, collect, freeBlocks, allocate, storeRoot, storeCell, look, returnRoots, openCollection, takeSteps}
+use Rattle.rules_calls.specs.Calls.{allocateData, writeNumber, readNumber, writeReason, writeShape, allocated, Answer}
+use Rattle.rules_calls.specs.Calls.{reply, ownRefusals, refusals, refusedWith, refused, settled, freeing, outcome, answer}
+use Rattle.rules_calls.specs.Calls.{copyFrom, copyInto, damageTold}
 use Rattle.types.specs.declared.Reply.{Reply}
-use Rattle.rules.proofs.Unread.{store-root-aside, store-cell-aside, return-aside, allocate-aside, collect-beside, open-aside, steps-aside}
-use Rattle.rules.proofs.Unread.{stepped-aside, sentence-aside, shape-aside, laid-aside, copied-aside}
-use Rattle.theory.specs.Words.{heapOf}
+use Rattle.rules_calls.proofs.Unread.{store-root-aside, store-cell-aside, return-aside, allocate-aside, collect-beside, open-aside, steps-aside}
+use Rattle.rules_calls.proofs.Unread.{stepped-aside, sentence-aside, shape-aside, laid-aside, copied-aside}
+use Rattle.theory_memories.specs.Words.{heapOf}
 use Rattle.theory.specs.Statements.{WaitingUnread}
-use Rattle.theory.proofs.Memories.TidyHeap.{waiting-untidy}
+use Rattle.theory_memories.proofs.Memories.TidyHeap.{waiting-untidy}
+use Rattle.theory_memories.proofs.Memories.SameShape.{same-shape, same-damage}
 
 -- what is compared of two answers
 record Alike (x y : Answer) : Type 0 where
@@ -33,18 +34,6 @@ record Alike (x y : Answer) : Type 0 where
 module _ (N w : ℕ) (h : Memory) (x : List ℕ) (same-length : length x ≡ length (h .waiting)) where
   abbrev g : Memory
   g = withWaiting x h
-
-  pub same-shape : shaped N w g ≡ shaped N w h
-  same-shape =
-      ap
-      (λ (n : ℕ).
-      shape N w (length (h .a)) (length (h .b)) (length (h .counts)) (length (h .cells)) (length (h .roots)) n (length (h .sections))
-      (length (h .d)) (length (h .marks)) (length (h .list)))
-      same-length
-
-  pub same-damage : damage N w g ≡ damage N w h
-  unfolding damage endOnFree openEnd unaligned badCell badRoot badCount strayData
-  same-damage = refl
 
   -- with the same reply, and nothing done
   unchanged-alike : (r : Reply) → Alike (r, g) (r, h)
@@ -73,7 +62,7 @@ module _ (N w : ℕ) (h : Memory) (x : List ℕ) (same-length : length x ≡ len
 
   same-number : (c : Call) → refusedWith N w g c ≡ refusedWith N w h c
   unfolding refusedWith refusals
-  same-number c = rw (same-shape, same-damage, waiting-untidy N x h, same-own c)
+  same-number c = rw (same-shape N w h x same-length, same-damage N w h x same-length, waiting-untidy N x h, same-own c)
 
   refused-alike : (c : Call) (number : ℕ) → Alike (refused (damageTold N w g c) g number) (refused (damageTold N w h c) h number)
   unfolding damage endOnFree openEnd unaligned badCell badRoot badCount strayData

@@ -13,39 +13,40 @@ use lib.Dec.{eqb}
 use borrow.Author.Tests.{eq-eqb, ne-eqb}
 use Rattle.bitmap.specs.Bit.{zeros}
 use Rattle.rules.specs.Heap.{Memory, withCells, capacity, isFirst, sizeAt, exponent, lowestFree, isRef, isData}
-use Rattle.rules.specs.Store.{formatted, placed, putRoot, putCell, changeRoot, changeCell, allocateIn}
-use Rattle.rules.proofs.Plain.{storeRootIn, storeCellIn, returnIn}
-use Rattle.rules.specs.Collection.{collected}
-use Rattle.rules.specs.Steps.{isOpen, opened, progressOf, stepsFrom, withProgress, stepped}
-use Rattle.rules.specs.Calls.{Call, format, check, collect, freeBlocks, allocate, storeRoot, storeCell, look, returnRoots, openCollection, takeSteps}
-use Rattle.rules.specs.Calls.{allocateData, writeNumber, readNumber, writeReason, writeShape, allocateAs, Answer}
-use Rattle.rules.specs.Calls.{copyFrom, copyInto}
-use Rattle.rules.specs.Calls.{reply, accepted, refused, testsHeap, Other, otherHeap, Alone, freeing, settled, outcome, answer}
+use Rattle.rules_stores.specs.Store.{formatted, placed, putRoot, putCell, changeRoot, changeCell, allocateIn}
+use Rattle.rules_stores.proofs.Plain.{storeRootIn, storeCellIn, returnIn}
+use Rattle.rules_stores.specs.Collection.{collected}
+use Rattle.rules_steps.specs.Steps.{isOpen, opened, progressOf, stepsFrom, withProgress, stepped}
+use Rattle.rules_calls.specs.Calls.{Call, format, check, collect, freeBlocks, allocate, storeRoot, storeCell, look, returnRoots, openCollection, takeSteps}
+use Rattle.rules_calls.specs.Calls.{allocateData, writeNumber, readNumber, writeReason, writeShape, allocateAs, Answer}
+use Rattle.rules_calls.specs.Calls.{copyFrom, copyInto}
+use Rattle.rules_calls.specs.Calls.{reply, accepted, refused, testsHeap, Other, otherHeap, Alone, freeing, settled, outcome, answer}
 use Rattle.types.specs.declared.Reply.{Reply}
-use Rattle.rules.proofs.Replies.{answer-either, accepted-outcome, Passed, passed, allocation-alone}
-use Rattle.theory.proofs.Memories.Fit.{Fit}
+use Rattle.rules_calls.proofs.Replies.{answer-either, accepted-outcome, Passed, passed, allocation-alone}
+use Rattle.theory_memories.proofs.Memories.Fit.{Fit}
 use Rattle.rules.proofs.Tests.{test-cases, false-and}
 use Rattle.rules.proofs.Objects.{first-facts}
-use Rattle.theory.specs.Words.{copiedOver}
-use Rattle.theory.specs.Balance.{sumBelow, freedAt, freedBlocks, inUse, allocates, allocatedBy, freedBy, FreedValue, BlocksAddUp}
-use Rattle.theory.proofs.Maps.Extents.{Represents, sizesOf, length-sizes-of, first-size, size-is-first, not-first-size, extent}
-use Rattle.theory.proofs.Maps.Extents.{formatted-represents}
-use Rattle.theory.proofs.Memories.Formatted.{zeros-at}
-use Rattle.theory.proofs.Maps.LowestChunk.{Room, room}
-use Rattle.theory.proofs.Maps.Totals.{sum, sum-set, sum-none, free-and-sizes}
-use Rattle.theory.proofs.Graphs.Graph as graph
-use Rattle.theory.proofs.Graphs.Graph.{Graph, size, raise, place}
-use Rattle.theory.proofs.Graphs.Keep.{root}
-use Rattle.theory.proofs.Graphs.Order.{runs-leave}
-use Rattle.theory.proofs.Graphs.Collection.{collected-or-gone}
-use Rattle.theory.proofs.Graphs.Calls.{Place, finish-ends, finish-keeps}
-use Rattle.theory.proofs.Graphs.Calls.{raised-balanced, raised-waits, raised-shape, placed-balanced, placed-waits, placed-shape}
-use Rattle.theory.proofs.Memories.View.{view}
-use Rattle.theory.proofs.Memories.Healthy.{Healthy}
-use Rattle.theory.proofs.Memories.ViewRelease.{Shows}
-use Rattle.theory.proofs.Memories.ViewCollection.{is-collected, collected-shows}
-use Rattle.theory.proofs.Memories.Stores.{positive, ref-object, store-root, cell-place, store-cell, room-vacant, allocate-root}
-use Rattle.theory.proofs.EachCall.Accepted.{accepted-fit}
+use Rattle.theory.specs.CallWords.{copiedOver}
+use Rattle.theory.specs.Balance.{sumBelow, freedAt, freedBlocks, allocates, allocatedBy, freedBy, FreedValue, BlocksAddUp}
+use Rattle.theory_memories.specs.Words.{inUse}
+use Rattle.theory_memories.proofs.Maps.Extents.{Represents, sizesOf, length-sizes-of, first-size, size-is-first, not-first-size, extent}
+use Rattle.theory_memories.proofs.Maps.Extents.{formatted-represents}
+use Rattle.theory_memories.proofs.Memories.Formatted.{zeros-at}
+use Rattle.theory_memories.proofs.Maps.LowestChunk.{Room, room}
+use Rattle.theory_memories.proofs.Maps.Totals.{sum, sum-set, sum-none, free-and-sizes}
+use Rattle.theory_graphs.proofs.Graphs.Graph as graph
+use Rattle.theory_graphs.proofs.Graphs.Graph.{Graph, size, raise, place}
+use Rattle.theory_graphs.proofs.Graphs.Keep.{root}
+use Rattle.theory_graphs.proofs.Graphs.Order.{runs-leave}
+use Rattle.theory_graphs.proofs.Graphs.Collection.{collected-or-gone}
+use Rattle.theory_graphs.proofs.Graphs.Calls.{Place, finish-ends, finish-keeps}
+use Rattle.theory_graphs.proofs.Graphs.Calls.{raised-balanced, raised-waits, raised-shape, placed-balanced, placed-waits, placed-shape}
+use Rattle.theory_memories.proofs.Memories.View.{view}
+use Rattle.theory_memories.proofs.Memories.Healthy.{Healthy}
+use Rattle.theory_memories.proofs.Memories.ViewRelease.{Shows}
+use Rattle.theory_memories.proofs.Memories.ViewCollection.{is-collected, collected-shows}
+use Rattle.theory_memories.proofs.Memories.Stores.{positive, ref-object, store-root, cell-place, store-cell, room-vacant, allocate-root}
+use Rattle.theory_memories.proofs.Memories.Accepted.{accepted-fit}
 use Rattle.theory.proofs.EachCall.Clearing.{InSet, returned}
 use Rattle.theory.proofs.EachCall.Answers.{answer-served}
 use Rattle.theory.proofs.EachCall.Shading.{Sized, shape-sized, Shading, store-root-shading, store-cell-shading, allocate-shading, return-shading}

@@ -8,21 +8,21 @@ use Prim.Native.Nat.{ℕ, _+_, _≤_, _<_}
 use native.Mathlib.Omega.{arith}
 use lib.ListN.{length, getD, set}
 use Rattle.rules.specs.Heap.{Memory, withRoots, exponent, lowestFree}
-use Rattle.rules.specs.Store.{placed, allocateIn}
-use Rattle.rules.specs.Steps.{isOpen, isMarked, isListed, marksAfter, listAfter, allocateShading}
-use Rattle.rules.specs.Calls.{Call, allocate, allocateData, Answer, settled, outcome}
+use Rattle.rules_stores.specs.Store.{placed, allocateIn}
+use Rattle.rules_steps.specs.Steps.{isOpen, isMarked, isListed, marksAfter, listAfter, allocateShading}
+use Rattle.rules_calls.specs.Calls.{Call, allocate, allocateData, Answer, settled, outcome}
 use Rattle.rules.proofs.Tests.{false-unless}
-use Rattle.rules.proofs.Replies.{accepted-none, accepted-outcome, Passed, passed}
+use Rattle.rules_calls.proofs.Replies.{accepted-none, accepted-outcome, Passed, passed}
 use Rattle.theory.specs.Steps.{MarkedUnlisted, BornMarked}
-use Rattle.theory.proofs.Maps.LowestChunk.{Room, room}
-use Rattle.theory.proofs.Graphs.Tidy.{Was, Shades}
-use Rattle.theory.proofs.Memories.View.{view}
-use Rattle.theory.proofs.Memories.Healthy.{Healthy}
-use Rattle.theory.proofs.Memories.Fit.{Fit}
-use Rattle.theory.proofs.Memories.TidyHeap.{first-some, tidy-facts, marked-after, listed-after}
-use Rattle.theory.proofs.Memories.Shades.{Among}
-use Rattle.theory.proofs.Memories.Events.{Event, allocate-event, allocate-fresh}
-use Rattle.theory.proofs.EachCall.Accepted.{accepted-fit}
+use Rattle.theory_memories.proofs.Maps.LowestChunk.{Room, room}
+use Rattle.theory_graphs.proofs.Graphs.Tidy.{Was, Shades}
+use Rattle.theory_memories.proofs.Memories.View.{view}
+use Rattle.theory_memories.proofs.Memories.Healthy.{Healthy}
+use Rattle.theory_memories.proofs.Memories.Fit.{Fit}
+use Rattle.theory_memories.proofs.Memories.TidyHeap.{first-some, tidy-facts, marked-after, listed-after}
+use Rattle.theory_memories.proofs.Memories.Shades.{Among}
+use Rattle.theory_memories.proofs.Memories.Events.{Event, allocate-event, allocate-fresh}
+use Rattle.theory_memories.proofs.Memories.Accepted.{accepted-fit}
 use Rattle.theory.proofs.EachCall.Open.{Open, shade, tidy-left, is-shaded, allocate-left}
 use Rattle.theory.proofs.EachCall.Makes.{stands-there}
 

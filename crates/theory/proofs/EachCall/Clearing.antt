@@ -13,22 +13,22 @@ use borrow.Author.Tests.{eqb-true, eqb-false}
 use Rattle.bitmap.specs.Bit.{bitOf, zeros}
 use Rattle.bitmap.proofs.Rewrites.{same}
 use Rattle.rules.specs.Heap.{Memory, withRoots, capacity, isRef}
-use Rattle.rules.specs.Store.{work, countUp, letGo, putRoot, changeRoot, isChosen}
-use Rattle.rules.proofs.Plain.{storeRootIn, clearChosen, returnIn}
-use Rattle.rules.specs.Calls.{settled}
+use Rattle.rules_stores.specs.Store.{work, countUp, letGo, putRoot, changeRoot, isChosen}
+use Rattle.rules_stores.proofs.Plain.{storeRootIn, clearChosen, returnIn}
+use Rattle.rules_calls.specs.Calls.{settled}
 use Rattle.rules.proofs.Objects.{ref-test}
-use Rattle.theory.proofs.Graphs.Graph as graph
-use Rattle.theory.proofs.Graphs.Graph.{Graph, slot}
-use Rattle.theory.proofs.Graphs.Keep.{Runs, done}
-use Rattle.theory.proofs.Graphs.Returns.{runs-append, clear-runs, clear-slot, stays-clear}
-use Rattle.theory.proofs.Memories.View.{view}
-use Rattle.theory.proofs.Memories.Slots.{root-slot}
-use Rattle.theory.proofs.Memories.Healthy.{Healthy}
-use Rattle.theory.proofs.Memories.ViewRelease.{Shows}
-use Rattle.theory.proofs.Memories.SameView.{Rewrites, rewrites-trans, rewrites-same, down-rewritten}
-use Rattle.theory.proofs.Memories.Orders.{release-rewrites}
-use Rattle.theory.proofs.Memories.Stores.{memoryLeft, positive, store-root}
-use Rattle.theory.proofs.EachCall.Served.{settled-healthy}
+use Rattle.theory_graphs.proofs.Graphs.Graph as graph
+use Rattle.theory_graphs.proofs.Graphs.Graph.{Graph, slot}
+use Rattle.theory_graphs.proofs.Graphs.Keep.{Runs, done}
+use Rattle.theory_graphs.proofs.Graphs.Returns.{runs-append, clear-runs, clear-slot, stays-clear}
+use Rattle.theory_memories.proofs.Memories.View.{view}
+use Rattle.theory_memories.proofs.Memories.Slots.{root-slot}
+use Rattle.theory_memories.proofs.Memories.Healthy.{Healthy}
+use Rattle.theory_memories.proofs.Memories.ViewRelease.{Shows}
+use Rattle.theory_memories.proofs.Memories.SameView.{Rewrites, rewrites-trans, rewrites-same, down-rewritten}
+use Rattle.theory_memories.proofs.Memories.Orders.{release-rewrites}
+use Rattle.theory_memories.proofs.Memories.Stores.{memoryLeft, positive, store-root}
+use Rattle.theory_memories.proofs.Memories.Settled.{settled-healthy}
 use Rattle.theory.proofs.EachCall.StoresServed.{store-root-healthy}
 
 -- 0 may always be stored

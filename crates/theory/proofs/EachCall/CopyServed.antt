@@ -4,14 +4,14 @@ use mathlib.Core.Bool.{true, false, true≢false}
 use Prim.Native.Nat.{ℕ}
 use lib.ListN.{length}
 use Rattle.rules.specs.Heap.{Memory}
-use Rattle.rules.specs.Copy.{copied}
-use Rattle.rules.specs.Calls.{copyFrom, reply, settled, accepted}
-use Rattle.rules.proofs.Replies.{CopyPassed}
+use Rattle.rules_copy.specs.Copy.{copied}
+use Rattle.rules_calls.specs.Calls.{copyFrom, reply, settled, accepted}
+use Rattle.rules_calls.proofs.Replies.{CopyPassed}
 use Rattle.rules.proofs.Shape.{Shaped}
-use Rattle.theory.specs.Words.{written, stored}
-use Rattle.theory.proofs.Memories.Formatted.{zeros-at}
+use Rattle.theory.specs.CallWords.{written, stored}
+use Rattle.theory_memories.proofs.Memories.Formatted.{zeros-at}
 use Rattle.theory.proofs.EachCall.Served.{no-collection, Served, no-roots}
-use Rattle.theory.proofs.Copies.Accepted.{copy-fit}
+use Rattle.theory_copies.proofs.Copies.Accepted.{copy-fit}
 
 pub copy-served :
     (N w : ℕ) (h : Memory) → Shaped N w h → (K u : ℕ) (first : Memory) → CopyPassed N h K u first → {value : ℕ}

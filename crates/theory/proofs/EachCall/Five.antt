@@ -5,12 +5,12 @@ use mathlib.Core.Bool.{true, false}
 use Prim.Native.Nat.{ℕ}
 use native.Mathlib.Omega.{arith}
 use Rattle.rules.specs.Heap.{Memory}
-use Rattle.rules.specs.Calls.{format, check, collect, freeBlocks, allocate, storeRoot, storeCell, look, returnRoots, allocateData, writeNumber, readNumber, writeReason, writeShape}
-use Rattle.rules.specs.Calls.{openCollection, takeSteps}
-use Rattle.rules.specs.Calls.{copyFrom, copyInto}
-use Rattle.rules.specs.Calls.{Call, ownRefusals, refusals, refusedWith, answer}
+use Rattle.rules_calls.specs.Calls.{format, check, collect, freeBlocks, allocate, storeRoot, storeCell, look, returnRoots, allocateData, writeNumber, readNumber, writeReason, writeShape}
+use Rattle.rules_calls.specs.Calls.{openCollection, takeSteps}
+use Rattle.rules_calls.specs.Calls.{copyFrom, copyInto}
+use Rattle.rules_calls.specs.Calls.{Call, ownRefusals, refusals, refusedWith, answer}
 use Rattle.rules.proofs.Tests.{Each, done, also, first-other}
-use Rattle.rules.proofs.Replies.{number-is}
+use Rattle.rules_calls.proofs.Replies.{number-is}
 use Rattle.theory.specs.Statements.{FiveToAllocations}
 
 pub not-five :

@@ -11,25 +11,25 @@ use lib.Seq.{getD-set-same}
 use Rattle.bitmap.specs.Bit.{one}
 use Rattle.bitmap.proofs.Maps.{bit-set-same}
 use Rattle.rules.specs.Heap.{Memory, withRoots, capacity, exponent, lowestFree}
-use Rattle.rules.specs.Store.{putRoot, placed, allocateIn}
-use Rattle.rules.specs.Steps.{allocateShading}
-use Rattle.rules.specs.Calls.{Call, allocate, allocateData, Answer, settled, outcome}
-use Rattle.rules.proofs.Replies.{accepted-none, accepted-outcome, Passed, passed}
-use Rattle.theory.specs.Words.{Object}
+use Rattle.rules_stores.specs.Store.{putRoot, placed, allocateIn}
+use Rattle.rules_steps.specs.Steps.{allocateShading}
+use Rattle.rules_calls.specs.Calls.{Call, allocate, allocateData, Answer, settled, outcome}
+use Rattle.rules_calls.proofs.Replies.{accepted-none, accepted-outcome, Passed, passed}
+use Rattle.theory_memories.specs.Words.{Object}
 use Rattle.theory.specs.Data.{Makes, AllocationsMake}
-use Rattle.theory.proofs.Maps.Extents.{Represents, sizesOf, length-sizes-of}
-use Rattle.theory.proofs.Maps.LowestChunk.{Room, room}
-use Rattle.theory.proofs.Graphs.Graph as graph
-use Rattle.theory.proofs.Graphs.Graph.{Graph, size, place}
-use Rattle.theory.proofs.Graphs.Keep.{root}
-use Rattle.theory.proofs.Graphs.Calls.{finish-keeps, placed-balanced, placed-waits, placed-shape}
-use Rattle.theory.proofs.Memories.Reading.{one-lt, cleared-in}
-use Rattle.theory.proofs.Memories.Keeping.{sizesIn, Kept}
-use Rattle.theory.proofs.Memories.View.{view}
-use Rattle.theory.proofs.Memories.Healthy.{Healthy}
-use Rattle.theory.proofs.Memories.Leads.{size-object}
-use Rattle.theory.proofs.Memories.Stores.{memoryLeft, LetsGo, positive, room-vacant, allocate-root}
-use Rattle.theory.proofs.EachCall.Accepted.{accepted-fit}
+use Rattle.theory_memories.proofs.Maps.Extents.{Represents, sizesOf, length-sizes-of}
+use Rattle.theory_memories.proofs.Maps.LowestChunk.{Room, room}
+use Rattle.theory_graphs.proofs.Graphs.Graph as graph
+use Rattle.theory_graphs.proofs.Graphs.Graph.{Graph, size, place}
+use Rattle.theory_graphs.proofs.Graphs.Keep.{root}
+use Rattle.theory_graphs.proofs.Graphs.Calls.{finish-keeps, placed-balanced, placed-waits, placed-shape}
+use Rattle.theory_memories.proofs.Memories.Reading.{one-lt, cleared-in}
+use Rattle.theory_memories.proofs.Memories.Keeping.{sizesIn, Kept}
+use Rattle.theory_memories.proofs.Memories.View.{view}
+use Rattle.theory_memories.proofs.Memories.Healthy.{Healthy}
+use Rattle.theory_memories.proofs.Memories.Leads.{size-object}
+use Rattle.theory_memories.proofs.Memories.Stores.{memoryLeft, LetsGo, positive, room-vacant, allocate-root}
+use Rattle.theory_memories.proofs.Memories.Accepted.{accepted-fit}
 use Rattle.theory.proofs.EachCall.Shading.{shape-sized, allocate-shading}
 use Rattle.theory.proofs.EachCall.Stay.{let-go-rewrites}
 

@@ -15,43 +15,45 @@ use borrow.Author.Tests.{ne-eqb, eqb-true, eqb-false}
 use Rattle.bitmap.specs.Bit.{one, zeros}
 use Rattle.planes.proofs.Counts.{count-lt}
 use Rattle.rules.specs.Heap.{Memory, withCounts, capacity, countOf, isFirst, sizeAt, exponent, lowestFree, isRef, isData}
-use Rattle.rules.specs.Store.{countUp, sticks, putRoot, putCell, changeRoot, changeCell, storeSticks, birthSticks}
-use Rattle.rules.proofs.Plain.{storeRootIn, storeCellIn}
-use Rattle.rules.specs.Store.{placed, allocateIn}
-use Rattle.rules.specs.Collection.{collected}
-use Rattle.rules.specs.Steps.{isOpen}
-use Rattle.rules.specs.Calls.{Call, format, check, collect, freeBlocks, allocate, storeRoot, storeCell, look, returnRoots, openCollection, takeSteps}
-use Rattle.rules.specs.Calls.{allocateData, writeNumber, readNumber, writeReason, writeShape, allocateAs, Answer}
-use Rattle.rules.specs.Calls.{copyFrom, copyInto}
-use Rattle.rules.specs.Calls.{reply, testsHeap, ownRefusals, settled, freeing, outcome, answer}
+use Rattle.rules_stores.specs.Store.{countUp, sticks, putRoot, putCell, changeRoot, changeCell, storeSticks, birthSticks}
+use Rattle.rules_stores.proofs.Plain.{storeRootIn, storeCellIn}
+use Rattle.rules_stores.specs.Store.{placed, allocateIn}
+use Rattle.rules_stores.specs.Collection.{collected}
+use Rattle.rules_steps.specs.Steps.{isOpen}
+use Rattle.rules_calls.specs.Calls.{Call, format, check, collect, freeBlocks, allocate, storeRoot, storeCell, look, returnRoots, openCollection, takeSteps}
+use Rattle.rules_calls.specs.Calls.{allocateData, writeNumber, readNumber, writeReason, writeShape, allocateAs, Answer}
+use Rattle.rules_calls.specs.Calls.{copyFrom, copyInto}
+use Rattle.rules_calls.specs.Calls.{reply, testsHeap, ownRefusals, settled, freeing, outcome, answer}
 use Rattle.types.specs.declared.Reply.{Reply}
 use Rattle.rules.proofs.Tests.{test-cases, first-found}
-use Rattle.rules.proofs.Replies.{accepted-none, accepted-outcome, Passed, passed}
+use Rattle.rules_calls.proofs.Replies.{accepted-none, accepted-outcome, Passed, passed}
 use Rattle.rules.proofs.Objects.{first-facts}
 use Rattle.rules.proofs.Tabulate.{length-tabulate}
-use Rattle.theory.specs.Words.{Object, copiedOver}
+use Rattle.theory_memories.specs.Words.{Object}
+use Rattle.theory.specs.CallWords.{copiedOver}
 use Rattle.theory.specs.Stuck.{writes, Wrote}
 use Rattle.theory.specs.Moments.{counted, BecameStuck, Tells, StuckTold}
-use Rattle.theory.proofs.Maps.Extents.{sizesOf, length-sizes-of, sized-first}
-use Rattle.theory.proofs.Maps.LowestChunk.{room}
-use Rattle.theory.proofs.Graphs.Occurrences.{nonzero-inside}
-use Rattle.theory.proofs.Graphs.Graph as graph
-use Rattle.theory.proofs.Graphs.Graph.{Graph, size, count, raise, place, count-up-same}
-use Rattle.theory.proofs.Graphs.Balance.{all-counted}
-use Rattle.theory.proofs.Graphs.Calls.{Place, raised-balanced, raised-waits, raised-shape}
-use Rattle.theory.proofs.Graphs.Calls.{placed-balanced, placed-waits, placed-shape}
-use Rattle.theory.proofs.Graphs.Stuck.{finish-stuck}
-use Rattle.theory.proofs.Memories.View.{view}
-use Rattle.theory.proofs.Memories.Slots.{ref-first}
-use Rattle.theory.proofs.Memories.Healthy.{Healthy, view-count, healthy-damage-free}
-use Rattle.theory.proofs.Memories.ViewRelease.{Shows}
-use Rattle.theory.proofs.Memories.Stores.{positive, ref-object, raised-shows, store-root, cell-place, store-cell}
-use Rattle.theory.proofs.Memories.Stores.{room-vacant, placed-shows, allocate-root}
-use Rattle.theory.proofs.Memories.Fit.{Fit}
-use Rattle.theory.proofs.EachCall.Accepted.{accepted-fit, fit-accepted, fit-refused}
+use Rattle.theory_memories.proofs.Maps.Extents.{sizesOf, length-sizes-of, sized-first}
+use Rattle.theory_memories.proofs.Maps.LowestChunk.{room}
+use Rattle.theory_graphs.proofs.Graphs.Occurrences.{nonzero-inside}
+use Rattle.theory_graphs.proofs.Graphs.Graph as graph
+use Rattle.theory_graphs.proofs.Graphs.Graph.{Graph, size, count, raise, place, count-up-same}
+use Rattle.theory_graphs.proofs.Graphs.Balance.{all-counted}
+use Rattle.theory_graphs.proofs.Graphs.Calls.{Place, raised-balanced, raised-waits, raised-shape}
+use Rattle.theory_graphs.proofs.Graphs.Calls.{placed-balanced, placed-waits, placed-shape}
+use Rattle.theory_graphs.proofs.Graphs.Stuck.{finish-stuck}
+use Rattle.theory_memories.proofs.Memories.View.{view}
+use Rattle.theory_memories.proofs.Memories.Slots.{ref-first}
+use Rattle.theory_memories.proofs.Memories.Healthy.{Healthy, view-count, healthy-damage-free}
+use Rattle.theory_memories.proofs.Memories.ViewRelease.{Shows}
+use Rattle.theory_memories.proofs.Memories.Stores.{positive, ref-object, raised-shows, store-root, cell-place, store-cell}
+use Rattle.theory_memories.proofs.Memories.Stores.{room-vacant, placed-shows, allocate-root}
+use Rattle.theory_memories.proofs.Memories.Fit.{Fit}
+use Rattle.theory_memories.proofs.Memories.Accepted.{accepted-fit, fit-accepted, fit-refused}
 use Rattle.theory.proofs.EachCall.Shading.{shape-sized, Shading, store-root-shading, store-cell-shading, allocate-shading}
 use Rattle.theory.proofs.EachCall.StoresServed.{store-healthy, allocate-served}
-use Rattle.theory.proofs.EachCall.CollectionServed.{unstuck, collect-served}
+use Rattle.theory_memories.proofs.Memories.Collected.{unstuck}
+use Rattle.theory.proofs.EachCall.CollectionServed.{collect-served}
 use Rattle.theory.proofs.EachCall.Answers.{answer-served}
 
 one-or-none : (t : Bool) → (one t ≡ 1) ⊎ (one t ≡ 0)

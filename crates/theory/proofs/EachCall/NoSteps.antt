@@ -10,18 +10,18 @@ use lib.ListN.{replicate}
 use borrow.Author.Tests.{lt-ltb}
 use Rattle.bitmap.specs.Bit.{zeros}
 use Rattle.rules.specs.Heap.{Memory, withWaiting, withSections, withMarks, withList}
-use Rattle.rules.specs.Collection.{marked}
+use Rattle.rules_stores.specs.Collection.{marked}
 use Rattle.rules.specs.Tools.{isSome}
-use Rattle.rules.specs.Steps.{isOpen, isMarked, isListed, mapOf, listOf, withProgress, Progress, progressOf, lowest, scanned, StepsTaken, taken}
-use Rattle.rules.specs.Steps.{stepsFrom, unmarkedFreed, closed, closes, stepped}
-use Rattle.rules.specs.Calls.{takeSteps, Answer, reply, settled, outcome}
-use Rattle.rules.proofs.Progress.{map-of-same, list-of-same}
-use Rattle.rules.proofs.Replies.{accepted-none, accepted-outcome, Passed, passed}
+use Rattle.rules_steps.specs.Steps.{isOpen, isMarked, isListed, mapOf, listOf, withProgress, Progress, progressOf, lowest, scanned, StepsTaken, taken}
+use Rattle.rules_steps.specs.Steps.{stepsFrom, unmarkedFreed, closed, closes, stepped}
+use Rattle.rules_calls.specs.Calls.{takeSteps, Answer, reply, settled, outcome}
+use Rattle.rules_steps.proofs.Progress.{map-of-same, list-of-same}
+use Rattle.rules_calls.proofs.Replies.{accepted-none, accepted-outcome, Passed, passed}
 use Rattle.theory.specs.Steps.{NoStepsNoChange, AllUnlessRanOut}
-use Rattle.theory.proofs.Memories.Fit.{Fit}
-use Rattle.theory.proofs.Memories.TidyHeap.{progress-same, none-after}
-use Rattle.theory.proofs.Memories.Scanning.{marked-progress, listed-progress}
-use Rattle.theory.proofs.EachCall.Accepted.{accepted-fit}
+use Rattle.theory_memories.proofs.Memories.Fit.{Fit}
+use Rattle.theory_memories.proofs.Memories.TidyHeap.{progress-same, none-after}
+use Rattle.theory_memories.proofs.Memories.Scanning.{marked-progress, listed-progress}
+use Rattle.theory_memories.proofs.Memories.Accepted.{accepted-fit}
 
 module _ (N w : ℕ) (h : Memory) (fit : Fit N w h) (is-open : isOpen N h ≡ true) where
   -- the lists written anew

@@ -6,44 +6,20 @@ use mathlib.Core.List.{List, [], _∷_}
 use Prim.Native.Nat.{ℕ, _+_, _*_, _<_}
 use native.Mathlib.Omega.{arith}
 use lib.Dec.{ltb}
-use lib.ListN.{getD, set}
+use lib.ListN.{set}
 use lib.Seq.{getD-set-same}
 use borrow.Author.Tests.{lt-ltb, not-true}
 use Rattle.rules.specs.Tools.{firstNumber}
 use Rattle.rules.specs.Heap.{Memory, withCells, isFirst, sizeAt, isRef, isData}
-use Rattle.rules.specs.Calls.{Call, storeCell, writeNumber, readNumber, Answer, reply, cellRefusals, Alone, ownRefusals, outcome, answer}
+use Rattle.rules_calls.specs.Calls.{Call, storeCell, writeNumber, readNumber, Answer, reply, cellRefusals, Alone, ownRefusals, outcome, answer}
 use Rattle.rules.proofs.Tests.{Each, done, also, first-past, first-found, first-other}
-use Rattle.rules.proofs.Replies.{number-is, accepted-none, accepted-outcome, Passed, passed}
-use Rattle.theory.specs.Words.{Object}
-use Rattle.theory.specs.Data.{CellsRead, NumberStands, NumbersWritten, Twelve}
-use Rattle.theory.proofs.Maps.Extents.{sizesOf}
-use Rattle.theory.proofs.Graphs.Stretch.{Inside}
-use Rattle.rules.proofs.Reading.{read-free}
-use Rattle.theory.proofs.Memories.Reading.{data-read, ordinary-read}
-use Rattle.theory.proofs.Memories.Healthy.{Healthy}
-use Rattle.theory.proofs.Memories.TidyHeap.{read-untidy}
-use Rattle.theory.proofs.Memories.Fit.{Fit}
-use Rattle.theory.proofs.Memories.Leads.{object-size}
-use Rattle.theory.proofs.Memories.Stores.{cell-below}
-use Rattle.theory.proofs.EachCall.Accepted.{accepted-fit, fit-number, fit-accepted}
+use Rattle.rules_calls.proofs.Replies.{number-is, accepted-none, accepted-outcome, Passed, passed}
+use Rattle.theory.specs.Data.{NumberStands, NumbersWritten, Twelve}
+use Rattle.theory_memories.proofs.Memories.TidyHeap.{read-untidy}
+use Rattle.theory_memories.proofs.Memories.Fit.{Fit}
+use Rattle.theory_memories.proofs.Memories.Stores.{cell-below}
+use Rattle.theory_memories.proofs.Memories.Accepted.{accepted-fit, fit-number, fit-accepted}
 use Rattle.theory.proofs.EachCall.Served.{number-references, number-healthy}
-
--- ---- cells read
-
-pub cells-read : (N w : ℕ) (h : Memory) → Healthy N w h → CellsRead N h
-cells-read N w h healthy =
-    record {
-      of-data = λ b n j object made l.
-          data-read N (h .a) (h .b) (sizesOf N (h .a) (h .b)) (healthy .represents) (h .d) (h .cells) b (4 * b + j) (inside b n j object l) made;
-      of-others = λ b n j object ordinary l.
-          ordinary-read N (h .a) (h .b) (sizesOf N (h .a) (h .b)) (healthy .represents) (h .d) (h .cells) b (4 * b + j) (inside b n j object l)
-          ordinary;
-      of-free = λ j z. read-free N (h .a) (h .b) (h .d) (h .cells) j z ∙ healthy .bare .free-cells j z;
-    }
-  where
-    inside : (b n j : ℕ) → Object N h b n → j < 4 * n → Inside (4 * b) (4 * getD (sizesOf N (h .a) (h .b)) b 0) (4 * b + j)
-    inside b n j object l =
-        (omega arith, omega (arith, object-size N h (sizesOf N (h .a) (h .b)) (healthy .represents) b n object .0))
 
 -- ---- a number written
 

@@ -14,26 +14,26 @@ use lib.Seq.{getD-set-other, set-append-left}
 use borrow.Author.Tests.{eqb-false}
 use Rattle.bitmap.specs.Bit.{countBelow}
 use Rattle.rules.specs.Heap.{Memory, withCells, withRoots, capacity, isFirst, sizeAt, exponent, lowestFree, isRef, isData}
-use Rattle.rules.specs.Store.{putRoot, putCell, changeRoot, changeCell, placed, allocateIn, isChosen}
-use Rattle.rules.proofs.Plain.{storeRootIn, returnIn}
-use Rattle.rules.specs.Steps.{isOpen, isMarked, isListed, isUntidy, withProgress, marksAfter, listAfter, shaded}
-use Rattle.rules.specs.Steps.{storeRootShading, storeCellShading, allocateShading, clearShading, returnShading}
-use Rattle.rules.specs.Calls.{settled}
+use Rattle.rules_stores.specs.Store.{putRoot, putCell, changeRoot, changeCell, placed, allocateIn, isChosen}
+use Rattle.rules_stores.proofs.Plain.{storeRootIn, returnIn}
+use Rattle.rules_steps.specs.Steps.{isOpen, isMarked, isListed, isUntidy, withProgress, marksAfter, listAfter, shaded}
+use Rattle.rules_steps.specs.Steps.{storeRootShading, storeCellShading, allocateShading, clearShading, returnShading}
+use Rattle.rules_calls.specs.Calls.{settled}
 use Rattle.rules.proofs.Shape.{Shaped}
-use Rattle.theory.proofs.Maps.LowestChunk.{room}
-use Rattle.theory.proofs.Graphs.Graph.{size, slot, Owns}
-use Rattle.theory.proofs.Graphs.Order.{runs-leave}
-use Rattle.theory.proofs.Graphs.Tidy.{Tidy, Shades, tidy-shades}
-use Rattle.theory.proofs.Graphs.Apart.{To, self, link, Apart, apart-shades}
-use Rattle.theory.proofs.Graphs.Pale.{isPale, pale-shades}
-use Rattle.theory.proofs.Graphs.Scan.{apart-same, pale-same}
-use Rattle.theory.proofs.Memories.View.{cellRefs, slotsIn, view}
-use Rattle.theory.proofs.Memories.Slots.{root-slot}
-use Rattle.theory.proofs.Memories.Healthy.{Healthy}
-use Rattle.theory.proofs.Memories.TidyHeap.{tidy-facts, open-after, marked-after, listed-after, tidy-passes}
-use Rattle.theory.proofs.Memories.Shades.{Among, shades}
-use Rattle.theory.proofs.Memories.Events.{among-none, among-cases, Event, root-event, cell-event, allocate-event}
-use Rattle.theory.proofs.Memories.Stores.{positive, store-root, cell-place, store-cell, allocate-root}
+use Rattle.theory_memories.proofs.Maps.LowestChunk.{room}
+use Rattle.theory_graphs.proofs.Graphs.Graph.{size, slot, Owns}
+use Rattle.theory_graphs.proofs.Graphs.Order.{runs-leave}
+use Rattle.theory_graphs.proofs.Graphs.Tidy.{Tidy, Shades, tidy-shades}
+use Rattle.theory_graphs.proofs.Graphs.Apart.{To, self, link, Apart, apart-shades}
+use Rattle.theory_graphs.proofs.Graphs.Pale.{isPale, pale-shades}
+use Rattle.theory_graphs.proofs.Graphs.Scan.{apart-same, pale-same}
+use Rattle.theory_memories.proofs.Memories.View.{cellRefs, slotsIn, view}
+use Rattle.theory_memories.proofs.Memories.Slots.{root-slot}
+use Rattle.theory_memories.proofs.Memories.Healthy.{Healthy}
+use Rattle.theory_memories.proofs.Memories.TidyHeap.{tidy-facts, open-after, marked-after, listed-after, tidy-passes}
+use Rattle.theory_memories.proofs.Memories.Shades.{Among, shades}
+use Rattle.theory_memories.proofs.Memories.Events.{among-none, among-cases, Event, root-event, cell-event, allocate-event}
+use Rattle.theory_memories.proofs.Memories.Stores.{positive, store-root, cell-place, store-cell, allocate-root}
 use Rattle.theory.proofs.EachCall.Shading.{shape-sized, progress-shading, healthy-shading, store-root-shading, return-shading}
 use Rattle.theory.proofs.EachCall.StoresServed.{store-healthy, allocate-served}
 use Rattle.theory.proofs.EachCall.Clearing.{none-ref, InSet, root-cleared, returned}

@@ -12,18 +12,18 @@ use lib.Seq.{getD-append-add, getD-drop}
 use borrow.Author.Tests.{eq-eqb, ne-eqb, lt-ltb, le-ltb}
 use Rattle.rules.specs.Tools.{firstNumber}
 use Rattle.rules.specs.Heap.{Memory, isFirst}
-use Rattle.rules.specs.Shape.{shapeOf}
-use Rattle.rules.specs.Sentence.{sentenceFor}
-use Rattle.rules.specs.Calls.{Call, writeReason, writeShape, Answer, reply, accepted, Alone, ownRefusals, refused, outcome, answer}
-use Rattle.rules.specs.Promise.{Promise, OutputPromise, outputAfter}
+use Rattle.rules_output.specs.Shape.{shapeOf}
+use Rattle.rules_output.specs.Sentence.{sentenceFor}
+use Rattle.rules_calls.specs.Calls.{Call, writeReason, writeShape, Answer, reply, accepted, Alone, ownRefusals, refused, outcome, answer}
+use Rattle.rules_calls.specs.Promise.{Promise, OutputPromise, outputAfter}
 use Rattle.rules.proofs.Tests.{first-past, first-found}
-use Rattle.rules.proofs.Replies.{number-is, accepted-none, accepted-outcome, answer-either, Passed, passed}
+use Rattle.rules_calls.proofs.Replies.{number-is, accepted-none, accepted-outcome, answer-either, Passed, passed}
 use Rattle.types.specs.declared.Reply.{Reply}
 use Rattle.text.specs.Text.{Put}
-use Rattle.theory.specs.Statements.{Undamaged}
+use Rattle.theory_memories.specs.Heaps.{Undamaged}
 use Rattle.theory.specs.Outputs.{WrittenOver, OnlyOutput, ReasonGiven, ShapeGiven, Fifteen, Sixteen}
-use Rattle.theory.proofs.Memories.Fit.{Fit, undamaged-fit}
-use Rattle.theory.proofs.EachCall.Accepted.{fit-number, fit-accepted, fit-refused}
+use Rattle.theory_memories.proofs.Memories.Fit.{Fit, undamaged-fit}
+use Rattle.theory_memories.proofs.Memories.Accepted.{fit-number, fit-accepted, fit-refused}
 
 written-over : (text out : List ℕ) → length text ≤ length out → WrittenOver text out (text ++ drop (length text) out)
 written-over text out fits =

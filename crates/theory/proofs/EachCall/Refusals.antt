@@ -14,17 +14,17 @@ use Rattle.rules.specs.Tools.{someBelow, firstNumber}
 use Rattle.rules.specs.Heap.{Memory, shaped, isFirst, sizeAt, reference}
 use Rattle.rules.specs.Damage.{damage}
 use Rattle.rules.specs.Sections.{staleFigures}
-use Rattle.rules.specs.Steps.{names, isOpen, isMarked, isListed, badNext, badPlace, strayMark, rootMissed, cellMissed, isUntidy}
-use Rattle.rules.specs.Calls.{format, check, collect, freeBlocks, allocate, storeRoot, storeCell, look, returnRoots, allocateData, writeNumber, readNumber, writeReason, writeShape}
-use Rattle.rules.specs.Calls.{openCollection, takeSteps, copyFrom, copyInto, Call, testsHeap, Alone, otherShaped, ownRefusals, refusals, refusedWith, answer}
+use Rattle.rules_steps.specs.Steps.{names, isOpen, isMarked, isListed, badNext, badPlace, strayMark, rootMissed, cellMissed, isUntidy}
+use Rattle.rules_calls.specs.Calls.{format, check, collect, freeBlocks, allocate, storeRoot, storeCell, look, returnRoots, allocateData, writeNumber, readNumber, writeReason, writeShape}
+use Rattle.rules_calls.specs.Calls.{openCollection, takeSteps, copyFrom, copyInto, Call, testsHeap, Alone, otherShaped, ownRefusals, refusals, refusedWith, answer}
 use Rattle.rules.proofs.Tests.{Each, done, also, test-cases, and-true, true-and, and-false, false-and, or-true, true-or, some-true, true-some}
 use Rattle.rules.proofs.Tests.{first-past, first-found, first-other, first-after}
-use Rattle.rules.proofs.Replies.{number-is, alone-shaped, own-number}
-use Rattle.theory.specs.Statements.{Intact, Undamaged}
+use Rattle.rules_calls.proofs.Replies.{number-is, alone-shaped, own-number}
+use Rattle.theory_memories.specs.Heaps.{Intact, Undamaged}
 use Rattle.theory.specs.Refusals.{Untidy, not-rising, no-first-block, unmarked-listed, stray-mark, root-missed, cell-missed, mark-left, place-left}
 use Rattle.theory.specs.Refusals.{ThirteenExactly, OutOfTurn, step, opening, collection, FourteenExactly}
-use Rattle.theory.proofs.Memories.Healthy.{Healthy, healthy-facts}
-use Rattle.theory.proofs.Memories.TidyHeap.{marked-inside, cell-inside}
+use Rattle.theory_memories.proofs.Memories.Healthy.{Healthy, healthy-facts}
+use Rattle.theory_memories.proofs.Memories.TidyHeap.{marked-inside, cell-inside}
 
 -- ---- the clauses of 13
 

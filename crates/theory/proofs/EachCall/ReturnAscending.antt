@@ -9,14 +9,14 @@ use lib.ListN.{length, getD, replicate}
 use Rattle.bitmap.specs.Bit.{one, zeros}
 use Rattle.rules.specs.Heap.{Memory, withWaiting, withSections}
 use Rattle.rules.specs.Sections.{figures}
-use Rattle.rules.specs.Store.{storeSticks, isChosen}
-use Rattle.rules.specs.Steps.{storeRootShading, clearShading, returnShading}
-use Rattle.rules.specs.Calls.{Call, storeRoot, returnRoots, Answer, settled, freeing, outcome, answer, run, lastMemory}
-use Rattle.rules.proofs.Unread.{store-root-aside}
-use Rattle.rules.proofs.Replies.{accepted-outcome, Passed}
+use Rattle.rules_stores.specs.Store.{storeSticks, isChosen}
+use Rattle.rules_steps.specs.Steps.{storeRootShading, clearShading, returnShading}
+use Rattle.rules_calls.specs.Calls.{Call, storeRoot, returnRoots, Answer, settled, freeing, outcome, answer, run, lastMemory}
+use Rattle.rules_calls.proofs.Unread.{store-root-aside}
+use Rattle.rules_calls.proofs.Replies.{accepted-outcome, Passed}
 use Rattle.theory.specs.Returns.{freedInAll, clearedSingly, SameAsSingly, ascending}
-use Rattle.theory.proofs.Memories.Fit.{Fit}
-use Rattle.theory.proofs.EachCall.Accepted.{fit-accepted}
+use Rattle.theory_memories.proofs.Memories.Fit.{Fit}
+use Rattle.theory_memories.proofs.Memories.Accepted.{fit-accepted}
 use Rattle.theory.proofs.EachCall.Answers.{answer-fit}
 use Rattle.theory.proofs.EachCall.Clearing.{none-ref, root-cleared}
 use Rattle.theory.proofs.EachCall.Shading.{shape-sized, store-root-shading}

@@ -14,24 +14,24 @@ use Rattle.bitmap.proofs.Bits.{bit-lt, bits-past, some-bit-past}
 use Rattle.rules.specs.Tools.{firstNumber}
 use Rattle.rules.specs.Heap.{Memory, capacity, withWaiting, withSections}
 use Rattle.rules.specs.Sections.{figures}
-use Rattle.rules.specs.Store.{storeSticks, chosenBelow}
-use Rattle.rules.proofs.Plain.{storeRootIn, returnIn}
-use Rattle.rules.specs.Steps.{isOpen}
-use Rattle.rules.specs.Calls.{storeRoot, returnRoots, Answer, ownRefusals, settled, freeing, outcome, answer, run, lastMemory}
-use Rattle.rules.proofs.Unread.{Keeps, store-root-keeps, return-keeps}
-use Rattle.rules.proofs.Replies.{number-is, accepted-none, accepted-outcome, Passed, passed}
+use Rattle.rules_stores.specs.Store.{storeSticks, chosenBelow}
+use Rattle.rules_stores.proofs.Plain.{storeRootIn, returnIn}
+use Rattle.rules_steps.specs.Steps.{isOpen}
+use Rattle.rules_calls.specs.Calls.{storeRoot, returnRoots, Answer, ownRefusals, settled, freeing, outcome, answer, run, lastMemory}
+use Rattle.rules_calls.proofs.Unread.{Keeps, store-root-keeps, return-keeps}
+use Rattle.rules_calls.proofs.Replies.{number-is, accepted-none, accepted-outcome, Passed, passed}
 use Rattle.theory.specs.Returns.{freedInAll, clearedSingly, EachOnce, SameAsSingly}
-use Rattle.theory.proofs.Graphs.Occurrences.{equals-same, equals-cases, occurrences, occurrences-nil, occurrences-cons}
-use Rattle.theory.proofs.Graphs.Order.{same-end}
-use Rattle.theory.proofs.Memories.View.{view}
-use Rattle.theory.proofs.Memories.Slots.{occurrences-holding}
-use Rattle.theory.proofs.Memories.Healthy.{Healthy}
-use Rattle.theory.proofs.Memories.Fit.{Listed, Fit}
-use Rattle.theory.proofs.Memories.TidyHeap.{settled-untidy, none-passes}
+use Rattle.theory_graphs.proofs.Graphs.Occurrences.{equals-same, equals-cases, occurrences, occurrences-nil, occurrences-cons}
+use Rattle.theory_graphs.proofs.Graphs.Order.{same-end}
+use Rattle.theory_memories.proofs.Memories.View.{view}
+use Rattle.theory_memories.proofs.Memories.Slots.{occurrences-holding}
+use Rattle.theory_memories.proofs.Memories.Healthy.{Healthy}
+use Rattle.theory_memories.proofs.Memories.Fit.{Listed, Fit}
+use Rattle.theory_memories.proofs.Memories.TidyHeap.{settled-untidy, none-passes}
 use Rattle.theory.proofs.EachCall.TidyKept.{store-root-none, return-none, keeps-none}
-use Rattle.theory.proofs.Memories.SameView.{same-memory}
-use Rattle.theory.proofs.Memories.Stores.{positive}
-use Rattle.theory.proofs.EachCall.Accepted.{fit-number, fit-accepted}
+use Rattle.theory_memories.proofs.Memories.SameView.{same-memory}
+use Rattle.theory_memories.proofs.Memories.Stores.{positive}
+use Rattle.theory_memories.proofs.Memories.Accepted.{fit-number, fit-accepted}
 use Rattle.theory.proofs.EachCall.Clearing.{none-ref, Cleared, cleared-none, cleared-then, cleared-settled, root-cleared, InSet, returned}
 
 -- ---- roots cleared singly

@@ -10,23 +10,25 @@ use lib.ListN.{length, getD}
 use borrow.Author.Tests.{eqb-false}
 use Rattle.bitmap.specs.Bit.{bitOf}
 use Rattle.rules.specs.Heap.{Memory, withRoots, capacity}
-use Rattle.rules.specs.Store.{isChosen}
-use Rattle.rules.proofs.Plain.{returnIn}
-use Rattle.rules.specs.Calls.{returnRoots, settled, freeing}
+use Rattle.rules_stores.specs.Store.{isChosen}
+use Rattle.rules_stores.proofs.Plain.{returnIn}
+use Rattle.rules_calls.specs.Calls.{returnRoots, settled, freeing}
 use Rattle.rules.proofs.Objects.{first-facts}
-use Rattle.theory.specs.Words.{Object, rootsWithout, written, stored}
+use Rattle.theory_memories.specs.Words.{Object}
+use Rattle.theory.specs.CallWords.{rootsWithout, written, stored}
 use Rattle.rules.proofs.Tabulate.{length-tabulate, getD-tabulate}
-use Rattle.theory.proofs.Maps.Extents.{sizesOf}
-use Rattle.theory.proofs.Graphs.Graph.{size, slot}
-use Rattle.theory.proofs.Graphs.Keep.{Reach}
-use Rattle.theory.proofs.Graphs.Order.{runs-leave}
-use Rattle.theory.proofs.Graphs.Returns.{runs-reach-without}
-use Rattle.theory.proofs.Memories.View.{slotsIn, view}
-use Rattle.theory.proofs.Memories.Slots.{root-slot, cell-slot, cell-within, slot-cases}
-use Rattle.theory.proofs.Memories.Healthy.{Healthy, view-count}
-use Rattle.theory.proofs.Memories.Leads.{object-size, size-object, leads-reach}
-use Rattle.theory.proofs.Memories.Stores.{positive}
-use Rattle.theory.proofs.EachCall.Served.{no-collection, Served, settled-healthy}
+use Rattle.theory_memories.proofs.Maps.Extents.{sizesOf}
+use Rattle.theory_graphs.proofs.Graphs.Graph.{size, slot}
+use Rattle.theory_graphs.proofs.Graphs.Keep.{Reach}
+use Rattle.theory_graphs.proofs.Graphs.Order.{runs-leave}
+use Rattle.theory_graphs.proofs.Graphs.Returns.{runs-reach-without}
+use Rattle.theory_memories.proofs.Memories.View.{slotsIn, view}
+use Rattle.theory_memories.proofs.Memories.Slots.{root-slot, cell-slot, cell-within, slot-cases}
+use Rattle.theory_memories.proofs.Memories.Healthy.{Healthy, view-count}
+use Rattle.theory_memories.proofs.Memories.Leads.{object-size, size-object, leads-reach}
+use Rattle.theory_memories.proofs.Memories.Stores.{positive}
+use Rattle.theory.proofs.EachCall.Served.{no-collection, Served}
+use Rattle.theory_memories.proofs.Memories.Settled.{settled-healthy}
 use Rattle.theory.proofs.EachCall.Clearing.{Cleared, InSet, returned}
 
 -- what one place holds once the roots of the set are made 0

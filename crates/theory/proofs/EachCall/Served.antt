@@ -6,29 +6,29 @@ use mathlib.Core.Bool.{Bool, true, false, true≢false}
 use mathlib.Core.List.{List, _++_}
 use Prim.Native.Nat.{ℕ, _+_, _*_, _<_}
 use native.Mathlib.Omega.{arith}
-use lib.ListN.{length, getD, set, length-set, length-replicate}
+use lib.ListN.{length, getD, set, length-set}
 use Rattle.rules.specs.Heap.{Memory, withCells, capacity, countOf, isFirst, sizeAt, isData, reference}
-use Rattle.rules.specs.Store.{formatted}
-use Rattle.rules.specs.Calls.{Call, format, check, collect, freeBlocks, allocate, storeRoot, storeCell, look, returnRoots, openCollection, takeSteps}
-use Rattle.rules.specs.Calls.{allocateData, writeNumber, readNumber, writeReason, writeShape, Answer}
-use Rattle.rules.specs.Calls.{copyFrom, copyInto}
-use Rattle.rules.specs.Calls.{reply, accepted, refused, settled}
-use Rattle.theory.specs.Words.{Object, Leads, root, cell, written, stored, copiedOver}
+use Rattle.rules_stores.specs.Store.{formatted}
+use Rattle.rules_calls.specs.Calls.{Call, format, check, collect, freeBlocks, allocate, storeRoot, storeCell, look, returnRoots, openCollection, takeSteps}
+use Rattle.rules_calls.specs.Calls.{allocateData, writeNumber, readNumber, writeReason, writeShape, Answer}
+use Rattle.rules_calls.specs.Calls.{copyFrom, copyInto}
+use Rattle.rules_calls.specs.Calls.{reply, accepted, refused}
+use Rattle.theory_memories.specs.Words.{Object, Leads, root, cell}
+use Rattle.theory.specs.CallWords.{written, stored, copiedOver}
 use Rattle.theory.specs.Stuck.{Wrote}
 use Rattle.theory.specs.Demand.{NoEarlyFree, Collects}
 use Rattle.types.specs.declared.Reply.{Reply}
-use Rattle.rules.proofs.TrueList.{length-figures}
 use Rattle.rules.proofs.Tabulate.{getD-tabulate}
-use Rattle.theory.proofs.Maps.Extents.{sizesOf}
-use Rattle.theory.proofs.Graphs.Graph.{Graph}
-use Rattle.theory.proofs.Graphs.Calls.{Whole}
-use Rattle.theory.proofs.Memories.Reading.{tabulate-is, number-written, cell-bare}
-use Rattle.theory.proofs.Memories.View.{cellRefs, view}
-use Rattle.theory.proofs.Memories.Slots.{length-cell-refs}
-use Rattle.theory.proofs.Memories.Healthy.{Healthy}
-use Rattle.theory.proofs.Memories.Stores.{cell-of}
-use Rattle.theory.proofs.Memories.ViewRelease.{reshaped, graph-is}
-use Rattle.theory.proofs.Memories.Formatted.{zeros-at, no-object, formatted-healthy}
+use Rattle.theory_memories.proofs.Maps.Extents.{sizesOf}
+use Rattle.theory_graphs.proofs.Graphs.Graph.{Graph}
+use Rattle.theory_graphs.proofs.Graphs.Calls.{Whole}
+use Rattle.theory_memories.proofs.Memories.Reading.{tabulate-is, number-written, cell-bare}
+use Rattle.theory_memories.proofs.Memories.View.{cellRefs, view}
+use Rattle.theory_memories.proofs.Memories.Slots.{length-cell-refs}
+use Rattle.theory_memories.proofs.Memories.Healthy.{Healthy}
+use Rattle.theory_memories.proofs.Memories.Stores.{cell-of}
+use Rattle.theory_memories.proofs.Memories.ViewRelease.{reshaped, graph-is}
+use Rattle.theory_memories.proofs.Memories.Formatted.{zeros-at, no-object, formatted-healthy}
 
 -- the count of an object that stands before and after a call, not made anew by a copy, comes to the capacity only by a reference that the
 -- call writes
@@ -67,19 +67,6 @@ pub record Served (N w : ℕ) (c : Call) (h : Memory) (x : Answer) : Type 0 wher
   pub no-early-free : NoEarlyFree N c h (x .0) (x .1)
   pub collects : Collects N w c h (x .0) (x .1)
   pub sticks : Sticks N w c h (x .0) (x .1)
-
--- a healthy memory stays so when its waiting list is cleared and its list of sections is true
-pub settled-healthy : (N w : ℕ) (h : Memory) → Healthy N w h → Healthy N w (settled N h)
-settled-healthy N w h healthy =
-    record {
-      shape = reshaped N w h (settled N h) (healthy .shape) refl refl refl refl refl
-          (length-replicate N 0 ∙ sym (healthy .shape .length-waiting)) (length-figures N (h .a) ∙ sym (healthy .shape .length-sections))
-          refl refl refl;
-      represents = healthy .represents;
-      whole = healthy .whole;
-      aligned = healthy .aligned;
-      bare = healthy .bare;
-    }
 
 -- where all roots are 0 they lead nowhere
 pub no-roots : (N : ℕ) (h : Memory) → ((r : ℕ) → getD (h .roots) r 0 ≡ 0) → {b : ℕ} → Leads N h b → ⊥

@@ -8,18 +8,19 @@ use native.Mathlib.Omega.{arith}
 use lib.Dec.{eqb}
 use lib.ListN.{length, getD, set}
 use Rattle.rules.specs.Heap.{Memory, withCells, withRoots, withMarks, withList}
-use Rattle.rules.specs.Store.{changeRoot, changeCell, placed, allocateIn, isChosen}
-use Rattle.rules.proofs.Plain.{storeRootIn, storeCellIn, clearChosen, returnIn}
-use Rattle.rules.specs.Steps.{isOpen, mapOf, listOf, withProgress, marksAfter, listAfter, shaded}
-use Rattle.rules.specs.Steps.{storeRootShading, storeCellShading, allocateShading, clearShading, returnShading}
-use Rattle.rules.specs.Calls.{Call, settled, freeing}
+use Rattle.rules_stores.specs.Store.{changeRoot, changeCell, placed, allocateIn, isChosen}
+use Rattle.rules_stores.proofs.Plain.{storeRootIn, storeCellIn, clearChosen, returnIn}
+use Rattle.rules_steps.specs.Steps.{isOpen, mapOf, listOf, withProgress, marksAfter, listAfter, shaded}
+use Rattle.rules_steps.specs.Steps.{storeRootShading, storeCellShading, allocateShading, clearShading, returnShading}
+use Rattle.rules_calls.specs.Calls.{Call, settled, freeing}
 use Rattle.types.specs.declared.Reply.{Reply}
 use Rattle.rules.proofs.Shape.{Shaped}
-use Rattle.rules.proofs.Progress.{length-map-of, length-list-of}
-use Rattle.rules.proofs.Unread.{Keeps, store-root-beside, change-root-keeps, change-cell-keeps, allocate-keeps}
-use Rattle.theory.proofs.Memories.Healthy.{Healthy}
-use Rattle.theory.proofs.Memories.ViewRelease.{reshaped}
-use Rattle.theory.proofs.EachCall.Served.{collecting, no-collection, Served, settled-healthy}
+use Rattle.rules_steps.proofs.Progress.{length-map-of, length-list-of}
+use Rattle.rules_calls.proofs.Unread.{Keeps, store-root-beside, change-root-keeps, change-cell-keeps, allocate-keeps}
+use Rattle.theory_memories.proofs.Memories.Healthy.{Healthy}
+use Rattle.theory_memories.proofs.Memories.ViewRelease.{reshaped}
+use Rattle.theory.proofs.EachCall.Served.{collecting, no-collection, Served}
+use Rattle.theory_memories.proofs.Memories.Settled.{settled-healthy}
 
 -- ---- memories that differ in these lists alone
 

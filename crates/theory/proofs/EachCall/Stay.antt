@@ -14,36 +14,37 @@ use lib.Seq.{getD-set-other}
 use Rattle.bitmap.specs.Bit.{bitAt, one}
 use Rattle.bitmap.proofs.Maps.{bit-set-other}
 use Rattle.rules.specs.Heap.{Memory, withCounts, withCells, withRoots, capacity, isFirst, sizeAt, exponent, lowestFree, isRef, isData}
-use Rattle.rules.specs.Store.{countUp, letGo, putRoot, putCell, changeRoot, changeCell, placed, allocateIn}
-use Rattle.rules.proofs.Plain.{storeRootIn, storeCellIn, returnIn}
-use Rattle.rules.specs.Collection.{marked, collected}
-use Rattle.rules.specs.Steps.{withNone, withProgress, opened, Progress, progressOf, stepsFrom, closed, closes, stepped}
-use Rattle.rules.specs.Calls.{Call, format, check, collect, freeBlocks, allocate, storeRoot, storeCell, look, returnRoots, openCollection, takeSteps}
-use Rattle.rules.specs.Calls.{allocateData, writeNumber, readNumber, writeReason, writeShape, settled, freeing, outcome, answer}
-use Rattle.rules.specs.Calls.{copyFrom, copyInto}
-use Rattle.rules.proofs.Replies.{answer-either, Passed, passed}
-use Rattle.theory.specs.Words.{Object, copiedOver}
+use Rattle.rules_stores.specs.Store.{countUp, letGo, putRoot, putCell, changeRoot, changeCell, placed, allocateIn}
+use Rattle.rules_stores.proofs.Plain.{storeRootIn, storeCellIn, returnIn}
+use Rattle.rules_stores.specs.Collection.{marked, collected}
+use Rattle.rules_steps.specs.Steps.{withNone, withProgress, opened, Progress, progressOf, stepsFrom, closed, closes, stepped}
+use Rattle.rules_calls.specs.Calls.{Call, format, check, collect, freeBlocks, allocate, storeRoot, storeCell, look, returnRoots, openCollection, takeSteps}
+use Rattle.rules_calls.specs.Calls.{allocateData, writeNumber, readNumber, writeReason, writeShape, settled, freeing, outcome, answer}
+use Rattle.rules_calls.specs.Calls.{copyFrom, copyInto}
+use Rattle.rules_calls.proofs.Replies.{answer-either, Passed, passed}
+use Rattle.theory_memories.specs.Words.{Object}
+use Rattle.theory.specs.CallWords.{copiedOver}
 use Rattle.theory.specs.Data.{StaysSo}
-use Rattle.theory.proofs.Maps.Extents.{Represents}
-use Rattle.theory.proofs.Maps.Moves.{clear-of}
-use Rattle.theory.proofs.Maps.LowestChunk.{Room, room}
-use Rattle.theory.proofs.Graphs.Graph as graph
-use Rattle.theory.proofs.Graphs.Graph.{Graph}
-use Rattle.theory.proofs.Graphs.Stretch.{Outside}
-use Rattle.theory.proofs.Graphs.Tidy.{Tidy}
-use Rattle.theory.proofs.Memories.Reading.{one-lt, cleared-out}
-use Rattle.theory.proofs.Memories.Keeping.{sizesIn, Kept}
-use Rattle.theory.proofs.Memories.View.{view}
-use Rattle.theory.proofs.Memories.Healthy.{Healthy}
-use Rattle.theory.proofs.Memories.Fit.{Fit}
-use Rattle.theory.proofs.Memories.Formatted.{no-object}
-use Rattle.theory.proofs.Memories.Leads.{object-size}
-use Rattle.theory.proofs.Memories.Stores.{memoryLeft, LetsGo, store-root, store-cell, allocate-root}
-use Rattle.theory.proofs.Memories.SameView.{Rewrites}
-use Rattle.theory.proofs.Memories.Orders.{release-rewrites}
-use Rattle.theory.proofs.Memories.ViewCollection.{collect-swept, collected-shows}
-use Rattle.theory.proofs.Memories.ViewClose.{close-shows, close-keeps}
-use Rattle.theory.proofs.Memories.Scanning.{steps-from-open, list-empty}
+use Rattle.theory_memories.proofs.Maps.Extents.{Represents}
+use Rattle.theory_memories.proofs.Maps.Moves.{clear-of}
+use Rattle.theory_memories.proofs.Maps.LowestChunk.{Room, room}
+use Rattle.theory_graphs.proofs.Graphs.Graph as graph
+use Rattle.theory_graphs.proofs.Graphs.Graph.{Graph}
+use Rattle.theory_graphs.proofs.Graphs.Stretch.{Outside}
+use Rattle.theory_graphs.proofs.Graphs.Tidy.{Tidy}
+use Rattle.theory_memories.proofs.Memories.Reading.{one-lt, cleared-out}
+use Rattle.theory_memories.proofs.Memories.Keeping.{sizesIn, Kept}
+use Rattle.theory_memories.proofs.Memories.View.{view}
+use Rattle.theory_memories.proofs.Memories.Healthy.{Healthy}
+use Rattle.theory_memories.proofs.Memories.Fit.{Fit}
+use Rattle.theory_memories.proofs.Memories.Formatted.{no-object}
+use Rattle.theory_memories.proofs.Memories.Leads.{object-size}
+use Rattle.theory_memories.proofs.Memories.Stores.{memoryLeft, LetsGo, store-root, store-cell, allocate-root}
+use Rattle.theory_memories.proofs.Memories.SameView.{Rewrites}
+use Rattle.theory_memories.proofs.Memories.Orders.{release-rewrites}
+use Rattle.theory_memories.proofs.Memories.ViewCollection.{collect-swept, collected-shows}
+use Rattle.theory_memories.proofs.Memories.ViewClose.{close-shows, close-keeps}
+use Rattle.theory_memories.proofs.Memories.Scanning.{steps-from-open, list-empty}
 use Rattle.theory.proofs.EachCall.Clearing.{returned}
 use Rattle.theory.proofs.EachCall.Shading.{Shading, Sized, shape-sized, store-root-shading, store-cell-shading, allocate-shading, return-shading}
 

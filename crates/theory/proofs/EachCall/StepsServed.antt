@@ -8,27 +8,28 @@ use Prim.Native.Nat.{ℕ, _+_, _/_, _<_}
 use native.Mathlib.Omega.{arith}
 use lib.ListN.{length, getD, replicate, length-replicate}
 use Rattle.rules.specs.Heap.{Memory}
-use Rattle.rules.specs.Collection.{marked}
-use Rattle.rules.specs.Steps.{isOpen, withProgress, withNone, rootNames, opened, Progress, progressOf, stepsFrom, unmarkedFreed, closed, closes, stepped}
-use Rattle.rules.specs.Calls.{openCollection, takeSteps, reply, accepted, settled}
+use Rattle.rules_stores.specs.Collection.{marked}
+use Rattle.rules_steps.specs.Steps.{isOpen, withProgress, withNone, rootNames, opened, Progress, progressOf, stepsFrom, unmarkedFreed, closed, closes, stepped}
+use Rattle.rules_calls.specs.Calls.{openCollection, takeSteps, reply, accepted, settled}
 use Rattle.types.specs.declared.Reply.{Reply}
 use Rattle.rules.proofs.Objects.{first-facts}
-use Rattle.theory.specs.Words.{Object, written, stored}
-use Rattle.theory.proofs.Maps.Extents.{sizesOf}
-use Rattle.theory.proofs.Graphs.Graph.{Graph, size, count}
-use Rattle.theory.proofs.Graphs.Tidy.{Tidy}
-use Rattle.theory.proofs.Memories.View.{view}
-use Rattle.theory.proofs.Memories.Healthy.{Aligned, Healthy, view-count}
-use Rattle.theory.proofs.Memories.Fit.{Fit}
-use Rattle.theory.proofs.Memories.Leads.{leads-reach}
-use Rattle.theory.proofs.Memories.ViewRelease.{Shows}
-use Rattle.theory.proofs.Memories.ViewClose as close
-use Rattle.theory.proofs.Memories.ViewClose.{close-shows, close-whole, close-stands, close-or-gone, close-reach, close-lowered}
-use Rattle.theory.proofs.Memories.TidyHeap.{first-some}
-use Rattle.theory.proofs.Memories.Scanning.{Stepped, steps-from-open, list-empty}
+use Rattle.theory_memories.specs.Words.{Object}
+use Rattle.theory.specs.CallWords.{written, stored}
+use Rattle.theory_memories.proofs.Maps.Extents.{sizesOf}
+use Rattle.theory_graphs.proofs.Graphs.Graph.{Graph, size, count}
+use Rattle.theory_graphs.proofs.Graphs.Tidy.{Tidy}
+use Rattle.theory_memories.proofs.Memories.View.{view}
+use Rattle.theory_memories.proofs.Memories.Healthy.{Aligned, Healthy, view-count}
+use Rattle.theory_memories.proofs.Memories.Fit.{Fit}
+use Rattle.theory_memories.proofs.Memories.Leads.{leads-reach}
+use Rattle.theory_memories.proofs.Memories.ViewRelease.{Shows}
+use Rattle.theory_memories.proofs.Memories.ViewClose as close
+use Rattle.theory_memories.proofs.Memories.ViewClose.{close-shows, close-whole, close-stands, close-or-gone, close-reach, close-lowered}
+use Rattle.theory_memories.proofs.Memories.TidyHeap.{first-some}
+use Rattle.theory_memories.proofs.Memories.Scanning.{Stepped, steps-from-open, list-empty}
 use Rattle.theory.proofs.EachCall.Served.{no-collection, Served}
 use Rattle.theory.proofs.EachCall.Shading.{Shading, shape-sized, progress-shading, marked-served, marked-settled, settled-beside}
-use Rattle.theory.proofs.EachCall.StoresServed.{healthy-after, object-after}
+use Rattle.theory_memories.proofs.Memories.Settled.{healthy-after, object-after}
 
 pub none-shading : (N : ℕ) (g : Memory) → Shading N g (withNone N g)
 unfolding withNone

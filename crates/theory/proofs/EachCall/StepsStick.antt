@@ -7,20 +7,20 @@ use native.Mathlib.Decide.{ℕ-discrete}
 use native.Mathlib.Omega.{arith}
 use lib.ListN.{length}
 use Rattle.rules.specs.Heap.{Memory, capacity, countOf, isFirst}
-use Rattle.rules.specs.Collection.{marked}
-use Rattle.rules.specs.Steps.{isOpen, withProgress, withNone, Progress, progressOf, stepsFrom, unmarkedFreed, closed, closes, stepped}
-use Rattle.rules.specs.Calls.{takeSteps, outcome, answer}
+use Rattle.rules_stores.specs.Collection.{marked}
+use Rattle.rules_steps.specs.Steps.{isOpen, withProgress, withNone, Progress, progressOf, stepsFrom, unmarkedFreed, closed, closes, stepped}
+use Rattle.rules_calls.specs.Calls.{takeSteps, outcome, answer}
 use Rattle.rules.proofs.Objects.{first-facts}
-use Rattle.rules.proofs.Replies.{answer-either, Passed, passed}
-use Rattle.theory.proofs.Graphs.Graph.{Graph, size, count}
-use Rattle.theory.proofs.Graphs.Tidy.{Tidy}
-use Rattle.theory.proofs.Memories.View.{view}
-use Rattle.theory.proofs.Memories.Healthy.{view-count}
-use Rattle.theory.proofs.Memories.Fit.{Fit}
-use Rattle.theory.proofs.Memories.Stores.{positive}
-use Rattle.theory.proofs.Memories.ViewClose as close
-use Rattle.theory.proofs.Memories.ViewClose.{close-shows, close-whole, close-lowered}
-use Rattle.theory.proofs.Memories.Scanning.{steps-from-open, list-empty}
+use Rattle.rules_calls.proofs.Replies.{answer-either, Passed, passed}
+use Rattle.theory_graphs.proofs.Graphs.Graph.{Graph, size, count}
+use Rattle.theory_graphs.proofs.Graphs.Tidy.{Tidy}
+use Rattle.theory_memories.proofs.Memories.View.{view}
+use Rattle.theory_memories.proofs.Memories.Healthy.{view-count}
+use Rattle.theory_memories.proofs.Memories.Fit.{Fit}
+use Rattle.theory_memories.proofs.Memories.Stores.{positive}
+use Rattle.theory_memories.proofs.Memories.ViewClose as close
+use Rattle.theory_memories.proofs.Memories.ViewClose.{close-shows, close-whole, close-lowered}
+use Rattle.theory_memories.proofs.Memories.Scanning.{steps-from-open, list-empty}
 
 module _ (N w : ℕ) (h : Memory) (fit : Fit N w h) (b : ℕ) (first : isFirst N h b ≡ true) (low : countOf N w h b < capacity w) where
   inside : b < N

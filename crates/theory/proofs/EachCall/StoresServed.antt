@@ -8,66 +8,45 @@ use mathlib.Core.Option.{some}
 use Prim.Native.Nat.{ℕ, suc, _+_, _-_, _*_, _/_, _≤_, _<_}
 use native.Mathlib.Decide.{ℕ-discrete}
 use native.Mathlib.Omega.{arith}
-use lib.ListN.{length, getD, set, length-set, length-replicate}
+use lib.ListN.{length, getD, set, length-set}
 use lib.Dec.{eqb}
 use borrow.Author.Tests.{eqb-false}
 use Rattle.bitmap.specs.Bit.{bitAt, zeros}
 use lib.Seq.{set-append-left, getD-set-same, getD-set-other}
 use Rattle.rules.specs.Heap.{Memory, withCells, withRoots, capacity, countOf, isFirst, sizeAt, exponent, lowestFree, isRef, isData}
-use Rattle.rules.specs.Store.{placed, putRoot, putCell, changeRoot, changeCell, allocateIn}
-use Rattle.rules.proofs.Plain.{storeRootIn, storeCellIn}
-use Rattle.rules.specs.Calls.{Call, allocateAs, storeRoot, storeCell, reply, settled, freeing}
-use Rattle.theory.specs.Words.{Object, Leads, numberOfReferences, written, stored}
+use Rattle.rules_stores.specs.Store.{placed, putRoot, putCell, changeRoot, changeCell, allocateIn}
+use Rattle.rules_stores.proofs.Plain.{storeRootIn, storeCellIn}
+use Rattle.rules_calls.specs.Calls.{Call, allocateAs, storeRoot, storeCell, reply, settled, freeing}
+use Rattle.theory_memories.specs.Words.{Object, Leads, numberOfReferences}
+use Rattle.theory.specs.CallWords.{written, stored}
 use Rattle.theory.specs.Stuck.{writes}
 use Rattle.types.specs.declared.Reply.{Reply}
 use Rattle.rules.proofs.Objects.{first-facts}
-use Rattle.theory.proofs.Maps.Extents.{Represents, sizesOf, length-sizes-of}
-use Rattle.theory.proofs.Maps.LowestChunk.{Room, room}
-use Rattle.theory.proofs.Graphs.Graph as graph
-use Rattle.theory.proofs.Graphs.Graph.{Graph, size, count, raise, place, finish}
-use Rattle.theory.proofs.Graphs.Occurrences.{occurrences}
-use Rattle.theory.proofs.Graphs.Stuck.{stuck-by-store, allocate-lowers}
-use Rattle.theory.proofs.Graphs.Balance.{Balanced, Waits}
-use Rattle.theory.proofs.Graphs.Keep.{Reach}
-use Rattle.theory.proofs.Graphs.Order.{runs-leave}
-use Rattle.theory.proofs.Graphs.Calls.{Shape, Whole, Place, finish-ends}
-use Rattle.theory.proofs.Graphs.Calls.{raised-balanced, raised-waits, raised-shape, store-whole, store-keeps}
-use Rattle.theory.proofs.Graphs.Calls.{placed-balanced, placed-waits, placed-shape, allocate-whole, allocate-keeps}
-use Rattle.theory.proofs.Memories.Reading.{reference-written, cell-bare}
-use Rattle.theory.proofs.Memories.View.{cellRefs, slotsIn, view}
-use Rattle.theory.proofs.Memories.Slots.{root-slot, references-slots}
-use Rattle.theory.proofs.Memories.Healthy.{Aligned, Healthy, view-count}
-use Rattle.theory.proofs.Memories.Soundness.{all-references}
-use Rattle.theory.proofs.Memories.Leads.{object-size, size-object, leads-reach}
-use Rattle.rules.proofs.TrueList.{length-figures}
-use Rattle.theory.proofs.EachCall.Served.{collecting, no-collection, Served, settled-healthy}
-use Rattle.theory.proofs.Memories.ViewMoves.{set-append-right}
-use Rattle.theory.proofs.Memories.ViewRelease.{reshaped, Shows}
-use Rattle.theory.proofs.Memories.Stores.{positive, slots-length, ref-object, store-root, cell-place, cell-inside, cell-of, cell-below}
-use Rattle.theory.proofs.Memories.Stores.{cell-read, store-cell, room-vacant, allocate-root}
-
--- ---- what a graph that keeps its laws gives its memory
-
-pub healthy-after :
-    (N w r : ℕ) (g : Memory) (k : Graph) → Shows N w r g k → Whole (capacity w) r k → Aligned (k .sizes) → Healthy N w (settled N g)
-healthy-after N w r g k shows whole aligned = record {
-  shape = reshaped N w g (settled N g) (shows .shape) refl refl refl refl refl (length-replicate N 0 ∙ sym (shows .shape .length-waiting))
-      (length-figures N (g .a) ∙ sym (shows .shape .length-sections)) refl refl refl;
-  represents = shows .represents;
-  whole = subst (λ (m : Graph). Whole (capacity w) (length (g .roots)) m) (sym (shows .view-is)) (rw (shows .roots-are) whole);
-  aligned = subst (λ (m : Graph). Aligned (m .sizes)) (sym (shows .view-is)) aligned;
-  bare = shows .bare;
-}
-
--- an object whose size stays stands
-pub object-after :
-    (N w r : ℕ) (h g : Memory) (k : Graph) → Represents N (h .a) (h .b) (sizesOf N (h .a) (h .b)) → Shows N w r g k → (b n : ℕ)
-    → Object N h b n → size k b ≡ size (view N w h) b → Object N (settled N g) b n
-object-after N w r h g k represents shows b n object e =
-    let was = object-size N h (sizesOf N (h .a) (h .b)) represents b n object in
-    let is : size (view N w g) b ≡ n = ap (λ (m : Graph). size m b) (shows .view-is) ∙ e ∙ was .0 in
-    subst (λ (m : ℕ). Object N (settled N g) b m) is
-    (size-object N (settled N g) (sizesOf N (g .a) (g .b)) (shows .represents) b (λ z. was .1 (sym is ∙ z)))
+use Rattle.theory_memories.proofs.Maps.Extents.{sizesOf, length-sizes-of}
+use Rattle.theory_memories.proofs.Maps.LowestChunk.{Room, room}
+use Rattle.theory_graphs.proofs.Graphs.Graph as graph
+use Rattle.theory_graphs.proofs.Graphs.Graph.{Graph, size, count, raise, place, finish}
+use Rattle.theory_graphs.proofs.Graphs.Occurrences.{occurrences}
+use Rattle.theory_graphs.proofs.Graphs.Stuck.{stuck-by-store, allocate-lowers}
+use Rattle.theory_graphs.proofs.Graphs.Balance.{Balanced, Waits}
+use Rattle.theory_graphs.proofs.Graphs.Keep.{Reach}
+use Rattle.theory_graphs.proofs.Graphs.Order.{runs-leave}
+use Rattle.theory_graphs.proofs.Graphs.Calls.{Shape, Place, finish-ends}
+use Rattle.theory_graphs.proofs.Graphs.Calls.{raised-balanced, raised-waits, raised-shape, store-whole, store-keeps}
+use Rattle.theory_graphs.proofs.Graphs.Calls.{placed-balanced, placed-waits, placed-shape, allocate-whole, allocate-keeps}
+use Rattle.theory_memories.proofs.Memories.Reading.{reference-written, cell-bare}
+use Rattle.theory_memories.proofs.Memories.View.{cellRefs, slotsIn, view}
+use Rattle.theory_memories.proofs.Memories.Slots.{root-slot, references-slots}
+use Rattle.theory_memories.proofs.Memories.Healthy.{Aligned, Healthy, view-count}
+use Rattle.theory_memories.proofs.Memories.Soundness.{all-references}
+use Rattle.theory_memories.proofs.Memories.Leads.{object-size, leads-reach}
+use Rattle.theory.proofs.EachCall.Served.{collecting, no-collection, Served}
+use Rattle.theory_memories.proofs.Memories.Settled.{settled-healthy}
+use Rattle.theory_memories.proofs.Memories.ViewMoves.{set-append-right}
+use Rattle.theory_memories.proofs.Memories.ViewRelease.{Shows}
+use Rattle.theory_memories.proofs.Memories.Stores.{positive, slots-length, ref-object, store-root, cell-place, cell-inside, cell-of, cell-below}
+use Rattle.theory_memories.proofs.Memories.Stores.{cell-read, store-cell, room-vacant, allocate-root}
+use Rattle.theory_memories.proofs.Memories.Settled.{healthy-after, object-after}
 
 -- an object that a release leaves has its old size
 finish-aligned :

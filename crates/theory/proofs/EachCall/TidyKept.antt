@@ -10,24 +10,24 @@ use native.Mathlib.Omega.{arith}
 use lib.Dec.{eqb}
 use lib.ListN.{length, getD, set}
 use Rattle.rules.specs.Heap.{Memory, withCells, withRoots, isFirst, sizeAt, exponent, lowestFree, isData}
-use Rattle.rules.specs.Collection.{marked, collected}
-use Rattle.rules.specs.Store.{formatted, changeRoot, changeCell, placed, allocateIn, isChosen}
-use Rattle.rules.proofs.Plain.{storeRootIn, storeCellIn, clearChosen, returnIn}
-use Rattle.rules.specs.Steps.{isOpen, isUntidy, withNone, withProgress, rootNames, opened, Progress, progressOf, stepsFrom, closed, closes, stepped}
-use Rattle.rules.specs.Steps.{shaded, storeRootShading, storeCellShading, allocateShading, clearShading, returnShading}
-use Rattle.rules.specs.Calls.{Call, format, check, collect, freeBlocks, allocate, storeRoot, storeCell, look, returnRoots, openCollection, takeSteps}
-use Rattle.rules.specs.Calls.{allocateData, writeNumber, readNumber, writeReason, writeShape, settled, freeing, outcome, answer}
-use Rattle.rules.specs.Calls.{copyFrom, copyInto}
+use Rattle.rules_stores.specs.Collection.{marked, collected}
+use Rattle.rules_stores.specs.Store.{formatted, changeRoot, changeCell, placed, allocateIn, isChosen}
+use Rattle.rules_stores.proofs.Plain.{storeRootIn, storeCellIn, clearChosen, returnIn}
+use Rattle.rules_steps.specs.Steps.{isOpen, isUntidy, withNone, withProgress, rootNames, opened, Progress, progressOf, stepsFrom, closed, closes, stepped}
+use Rattle.rules_steps.specs.Steps.{shaded, storeRootShading, storeCellShading, allocateShading, clearShading, returnShading}
+use Rattle.rules_calls.specs.Calls.{Call, format, check, collect, freeBlocks, allocate, storeRoot, storeCell, look, returnRoots, openCollection, takeSteps}
+use Rattle.rules_calls.specs.Calls.{allocateData, writeNumber, readNumber, writeReason, writeShape, settled, freeing, outcome, answer}
+use Rattle.rules_calls.specs.Calls.{copyFrom, copyInto}
 use Rattle.rules.proofs.Tests.{test-cases}
-use Rattle.rules.proofs.Replies.{answer-either, Passed, passed}
-use Rattle.rules.proofs.Unread.{Keeps, store-root-keeps, change-cell-keeps, allocate-keeps, return-keeps, collect-keeps}
-use Rattle.theory.proofs.Graphs.Tidy.{Tidy}
-use Rattle.theory.proofs.Memories.View.{view}
-use Rattle.theory.proofs.Memories.Fit.{Fit}
-use Rattle.theory.proofs.Memories.TidyHeap.{tidy-passes, settled-untidy, read-untidy, none-passes, closed-passes}
-use Rattle.theory.proofs.Memories.Scanning.{steps-from-open, opened-tidy}
+use Rattle.rules_calls.proofs.Replies.{answer-either, Passed, passed}
+use Rattle.rules_calls.proofs.Unread.{Keeps, store-root-keeps, change-cell-keeps, allocate-keeps, return-keeps, collect-keeps}
+use Rattle.theory_graphs.proofs.Graphs.Tidy.{Tidy}
+use Rattle.theory_memories.proofs.Memories.View.{view}
+use Rattle.theory_memories.proofs.Memories.Fit.{Fit}
+use Rattle.theory_memories.proofs.Memories.TidyHeap.{tidy-passes, settled-untidy, read-untidy, none-passes, closed-passes}
+use Rattle.theory_memories.proofs.Memories.Scanning.{steps-from-open, opened-tidy}
 use Rattle.theory.proofs.EachCall.Served.{number-references}
-use Rattle.theory.proofs.Copies.Accepted.{copy-fit}
+use Rattle.theory_copies.proofs.Copies.Accepted.{copy-fit}
 use Rattle.theory.proofs.EachCall.Open.{Open, root-goes, cell-goes, allocate-goes, return-goes}
 
 -- ---- with none open nothing is marked

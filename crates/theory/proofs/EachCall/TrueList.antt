@@ -3,16 +3,16 @@ use mathlib.Core.Path.{_≡_, refl, sym, subst}
 use mathlib.Core.Bool.{true}
 use Prim.Native.Nat.{ℕ}
 use Rattle.rules.specs.Heap.{Memory}
-use Rattle.rules.specs.Store.{formatted}
-use Rattle.rules.specs.Steps.{withProgress, opened}
-use Rattle.rules.specs.Calls.{Call, format, check, collect, freeBlocks, allocate, storeRoot, storeCell, look, returnRoots, openCollection, takeSteps}
-use Rattle.rules.specs.Calls.{allocateData, writeNumber, readNumber, writeReason, writeShape, Answer}
-use Rattle.rules.specs.Calls.{copyFrom, copyInto}
-use Rattle.rules.specs.Calls.{testsHeap, freeing, outcome, answer}
-use Rattle.rules.proofs.Replies.{answer-either, accepted-outcome}
-use Rattle.theory.specs.Sections.{ListLeftTrue}
-use Rattle.theory.proofs.Memories.Fit.{Listed}
-use Rattle.theory.proofs.EachCall.Accepted.{accepted-fit}
+use Rattle.rules_stores.specs.Store.{formatted}
+use Rattle.rules_steps.specs.Steps.{withProgress, opened}
+use Rattle.rules_calls.specs.Calls.{Call, format, check, collect, freeBlocks, allocate, storeRoot, storeCell, look, returnRoots, openCollection, takeSteps}
+use Rattle.rules_calls.specs.Calls.{allocateData, writeNumber, readNumber, writeReason, writeShape, Answer}
+use Rattle.rules_calls.specs.Calls.{copyFrom, copyInto}
+use Rattle.rules_calls.specs.Calls.{testsHeap, freeing, outcome, answer}
+use Rattle.rules_calls.proofs.Replies.{answer-either, accepted-outcome}
+use Rattle.theory.specs.Statements.{ListLeftTrue}
+use Rattle.theory_memories.proofs.Memories.Fit.{Listed}
+use Rattle.theory_memories.proofs.Memories.Accepted.{accepted-fit}
 
 -- a list that a call tests is true where the call goes on; every other outcome makes it so
 outcome-listed : (N w : ℕ) (h : Memory) (c : Call) → (testsHeap c ≡ true → Listed N h) → Listed N (outcome N w h c .1)

@@ -3,15 +3,15 @@ use mathlib.Core.Path.{_≡_, refl, sym, subst}
 use Prim.Native.Nat.{ℕ}
 use lib.ListN.{replicate}
 use Rattle.rules.specs.Heap.{Memory}
-use Rattle.rules.specs.Store.{formatted}
-use Rattle.rules.specs.Steps.{opened, withProgress}
-use Rattle.rules.specs.Calls.{Call, format, check, collect, freeBlocks, allocate, storeRoot, storeCell, look, returnRoots, openCollection, takeSteps}
-use Rattle.rules.specs.Calls.{allocateData, writeNumber, readNumber, writeReason, writeShape, copyFrom, copyInto, Answer, freeing, outcome, answer}
-use Rattle.rules.specs.Promise.{Promise}
+use Rattle.rules_stores.specs.Store.{formatted}
+use Rattle.rules_steps.specs.Steps.{opened, withProgress}
+use Rattle.rules_calls.specs.Calls.{Call, format, check, collect, freeBlocks, allocate, storeRoot, storeCell, look, returnRoots, openCollection, takeSteps}
+use Rattle.rules_calls.specs.Calls.{allocateData, writeNumber, readNumber, writeReason, writeShape, copyFrom, copyInto, Answer, freeing, outcome, answer}
+use Rattle.rules_calls.specs.Promise.{Promise}
 use Rattle.types.specs.declared.Reply.{Reply}
-use Rattle.rules.proofs.Replies.{answer-either}
+use Rattle.rules_calls.proofs.Replies.{answer-either}
 use Rattle.theory.proofs.Theorems.{calls-keep-undamaged}
-use Rattle.theory.specs.Usable.{Usable}
+use Rattle.theory_memories.specs.Heaps.{Usable}
 
 module _ {N w : ℕ} {h : Memory} (usable : Usable N w h) where
   abbrev Idle : Answer → Type 0

@@ -7,14 +7,14 @@ use lib.ListN.{length-replicate, replicate}
 use Rattle.rules.specs.Heap.{Memory, withWaiting, withSections}
 use Rattle.rules.specs.Damage.{endOnFree, openEnd, unaligned, badCell, badRoot, badCount, strayData, damage}
 use Rattle.rules.specs.Sections.{figures}
-use Rattle.rules.specs.Calls.{settled}
+use Rattle.rules_calls.specs.Calls.{settled}
 use Rattle.rules.proofs.Shape.{shape-facts, shape-test}
-use Rattle.theory.specs.Statements.{Undamaged}
-use Rattle.theory.proofs.Memories.Healthy.{Healthy}
-use Rattle.theory.proofs.Memories.Fit.{Fit, undamaged-fit}
-use Rattle.theory.proofs.Memories.ViewRelease.{reshaped}
-use Rattle.theory.proofs.Memories.TidyHeap.{waiting-untidy}
-use Rattle.theory.specs.Usable.{Usable}
+use Rattle.theory_memories.specs.Heaps.{Undamaged}
+use Rattle.theory_memories.proofs.Memories.Healthy.{Healthy}
+use Rattle.theory_memories.proofs.Memories.Fit.{Fit, undamaged-fit}
+use Rattle.theory_memories.proofs.Memories.ViewRelease.{reshaped}
+use Rattle.theory_memories.proofs.Memories.TidyHeap.{waiting-untidy}
+use Rattle.theory_memories.specs.Heaps.{Usable}
 
 module _ {N w : ℕ} {h : Memory} where
   pub cleared-usable : Undamaged N w h → Usable N w (withWaiting (replicate N 0) h)

@@ -6,17 +6,19 @@ use native.Mathlib.Omega.{arith}
 use borrow.Author.Tests.{eq-eqb, ne-eqb}
 use Rattle.bitmap.specs.Bit.{one, zeros}
 use Rattle.rules.specs.Heap.{Memory}
-use Rattle.rules.specs.Collection.{collected}
-use Rattle.rules.specs.Steps.{isOpen}
-use Rattle.rules.specs.Calls.{Call, collect, Answer, reply, Alone, freeing, settled, outcome, answer}
-use Rattle.rules.specs.Promise.{Promise}
+use Rattle.rules_stores.specs.Collection.{collected}
+use Rattle.rules_steps.specs.Steps.{isOpen}
+use Rattle.rules_calls.specs.Calls.{Call, collect, Answer, reply, Alone, freeing, settled, outcome, answer}
+use Rattle.rules_calls.specs.Promise.{Promise}
 use Rattle.types.specs.declared.Reply.{Reply}
-use Rattle.rules.proofs.Replies.{Passed, outcome-accepts, answer-either}
-use Rattle.rules.proofs.Promised.{promised}
-use Rattle.theory.specs.Balance.{freedBlocks, inUse, allocates, allocatedBy, FreedValue}
-use Rattle.theory.specs.Usable.{Usable, outcomeOf, Worked}
-use Rattle.theory.proofs.Memories.Fit.{Fit}
-use Rattle.theory.proofs.EachCall.Accepted.{fit-accepted, refused-plain}
+use Rattle.rules_calls.proofs.Replies.{Passed, outcome-accepts, answer-either}
+use Rattle.rules_calls.proofs.Promised.{promised}
+use Rattle.theory.specs.Balance.{freedBlocks, allocates, allocatedBy, FreedValue}
+use Rattle.theory_memories.specs.Words.{inUse}
+use Rattle.theory_memories.specs.Heaps.{Usable}
+use Rattle.theory.specs.Usable.{outcomeOf, Worked}
+use Rattle.theory_memories.proofs.Memories.Fit.{Fit}
+use Rattle.theory_memories.proofs.Memories.Accepted.{fit-accepted, refused-plain}
 use Rattle.theory.proofs.EachCall.Balance.{even-alone}
 use Rattle.theory.proofs.Usable.UsableHeap.{usable-fit}
 

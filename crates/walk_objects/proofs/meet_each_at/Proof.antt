@@ -2,7 +2,7 @@
 use mathlib.Core.Path.{_≡_, refl, _∙_}
 use Prim.Native.Nat.{_≤_, _-_}
 use native.Mathlib.Omega.{arith}
-use Rattle.theory.specs.Trail.{meetEachAt}
+use Rattle.theory_walks.specs.Trail.{meetEachAt}
 use Rattle.walk_objects.specs.Walking.{part}
 use Rattle.walk_objects.specs.Walking.{entries, Traced}
 use Rattle.walk_objects.proofs.Tracing.{AsLong, trace-start, trace-more}

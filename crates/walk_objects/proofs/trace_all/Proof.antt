@@ -4,9 +4,9 @@ use Prim.Native.Nat.{ℕ, _≤_, _<_, _-_}
 use native.Mathlib.Omega.{arith}
 use lib.ListN.{getD}
 use Rattle.rules.specs.Heap.{sizeAt}
-use Rattle.rules.specs.Store.{namingCells}
-use Rattle.rules.specs.Walk.{followed}
-use Rattle.theory.specs.Trail.{trail}
+use Rattle.rules_stores.specs.Store.{namingCells}
+use Rattle.rules_output.specs.Walk.{followed}
+use Rattle.theory_walks.specs.Trail.{trail}
 use Rattle.walk_objects.specs.Walking.{walkedHeap, Traced}
 use Rattle.walk_objects.proofs.Numbering.{Taken, cells-fit, roots-fit}
 use Rattle.walk_objects.proofs.Tracing.{AsLong}

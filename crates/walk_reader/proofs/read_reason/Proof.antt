@@ -5,7 +5,7 @@ use native.Mathlib.Omega.{arith}
 use lib.ListN.{drop}
 use borrow.Author.Needs.{needs}
 use borrow.Author.Tests.{not-true, not-false}
-use Rattle.rules.specs.Sentence.{rootText, noRootText, behind}
+use Rattle.rules_output.specs.Sentence.{rootText, noRootText, behind}
 use Rattle.walk_reader.specs.Reader.{smallAt, linksIn, counted}
 use Rattle.walk_reader.proofs.Links.{behind-inside}
 use Rattle.walk_reader.proofs.Told.{no-line-end, no-root, no-words, no-number, no-rest, no-room, all-told, cells-count}

@@ -4,7 +4,7 @@ use native.Mathlib.Omega.{arith}
 use lib.ListN.{length}
 use borrow.Author.Needs.{needs}
 use borrow.Author.Tests.{not-true, not-false}
-use Rattle.rules.specs.Sentence.{cellText, blockText}
+use Rattle.rules_output.specs.Sentence.{cellText, blockText}
 use Rattle.walk_reader.proofs.Laws.{not-found}
 use Rattle.walk_reader.proofs.Links.{behind-inside, Counting, count-start, count-link, count-no-number, count-no-block, count-end}
 use Rattle.walk_reader.proofs.rest_at.Statement.{statement}

@@ -2,8 +2,8 @@
 use mathlib.Core.Path.{refl, ap, _∙_}
 use native.Mathlib.Omega.{arith}
 use lib.ListN.{length}
-use Rattle.rules.specs.Reason.{Reason}
-use Rattle.rules.specs.Sentence.{sentence}
+use Rattle.rules_output.specs.Reason.{Reason}
+use Rattle.rules_output.specs.Sentence.{sentence}
 use Rattle.text.proofs.Writing.{put-as}
 use Rattle.walk_reason.proofs.Reasons.{links-few, links-whole}
 use Rattle.walk_reason.proofs.reason_in.Statement.{statement}

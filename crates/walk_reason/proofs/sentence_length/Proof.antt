@@ -4,7 +4,7 @@ use Prim.Native.Nat.{_+_, _-_, _*_, _≤_, _<_}
 use native.Mathlib.Omega.{arith}
 use borrow.Author.Needs.{needs}
 use lib.ListN.{length}
-use Rattle.rules.specs.Sentence.{sentence}
+use Rattle.rules_output.specs.Sentence.{sentence}
 use Rattle.walk_reason.specs.Telling.{reasonIn}
 use Rattle.walk_reason.proofs.Sentences.{left, none-long, chain-long, next-long, last-long}
 use Rattle.walk_reason.proofs.sentence_length.Statement.{statement}

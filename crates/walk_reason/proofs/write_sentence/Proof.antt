@@ -5,7 +5,7 @@ use native.Mathlib.Omega.{arith}
 use borrow.Author.Needs.{needs}
 use mathlib.Core.List.{[], _∷_, _++_}
 use lib.ListN.{length, getD}
-use Rattle.rules.specs.Sentence.{rootText, cellText, blockText, noRootText, sentence}
+use Rattle.rules_output.specs.Sentence.{rootText, cellText, blockText, noRootText, sentence}
 use Rattle.text.specs.Text.{decimal, Put}
 use Rattle.walk_reason.specs.Telling.{reasonIn}
 use Rattle.walk_reason.proofs.Sentences.{Written, none-written, written-kept, room-for, written-more, all-written, written-as, rest-fits, join, left, left-next, left-last, none-start, chain-start}

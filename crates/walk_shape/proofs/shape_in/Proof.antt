@@ -4,7 +4,7 @@ use native.Mathlib.Omega.{arith}
 use Prim.Native.Nat.{ℕ}
 use mathlib.Core.List.{List}
 use lib.ListN.{length}
-use Rattle.rules.specs.Walk.{numbered}
+use Rattle.rules_output.specs.Walk.{numbered}
 use Rattle.text.proofs.Writing.{put-as}
 use Rattle.walk_objects.specs.Walking.{Walked, walkedHeap}
 use Rattle.walk_objects.proofs.TracedHeap.{all-walked}

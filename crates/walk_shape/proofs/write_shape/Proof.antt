@@ -4,7 +4,7 @@ use mathlib.Core.Path.{_≡_, refl}
 use Prim.Native.Nat.{_+_, _-_, _≤_, _<_}
 use native.Mathlib.Omega.{arith}
 use lib.ListN.{length, getD, length-set}
-use Rattle.rules.specs.Shape.{joined}
+use Rattle.rules_output.specs.Shape.{joined}
 use Rattle.text.specs.Text.{Put}
 use Rattle.walk_shape.specs.Listing.{describedIn, shapeUpTo}
 use Rattle.walk_shape.proofs.Laws.{length-start, shape-upto, put-start, put-none-objects, objects-kept, object-room, put-next, put-end}

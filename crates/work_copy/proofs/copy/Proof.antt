@@ -7,7 +7,7 @@ use lib.ListN.{length, replicate}
 use borrow.Author.Tests.{not-true, not-false}
 use borrow.Author.Needs.{needs}
 use Rattle.rules.specs.Heap.{Memory, lentMemory}
-use Rattle.rules.specs.Calls.{reply}
+use Rattle.rules_calls.specs.Calls.{reply}
 use Rattle.rules.proofs.Shape.{Shaped, shaped-blocks}
 use Rattle.walk_objects.proofs.Beginning.{walkable}
 use Rattle.work_copy.proofs.CopyWork.{second-shape, fillable, copy-unplaced, full-usable, full-shut, copy-collected}

@@ -1,7 +1,7 @@
 -- `work_place::place` meets its contract.
 use mathlib.Core.List.{[]}
 use borrow.Author.Needs.{needs}
-use Rattle.rules.specs.Store.{placed}
+use Rattle.rules_stores.specs.Store.{placed}
 use Rattle.count_up.specs.Ready.{partMemory}
 use Rattle.work_place.proofs.place.Statement.{statement}
 use Rattle.work_place.proofs.place.Tie as tie

@@ -5,14 +5,14 @@ use Prim.Native.Nat.{ℕ}
 use native.Mathlib.Omega.{arith}
 use lib.ListN.{length}
 use Rattle.rules.specs.Heap.{Memory}
-use Rattle.rules.specs.Calls.{allocateAs}
-use Rattle.rules.specs.Promise.{Promise}
-use Rattle.rules.proofs.Replies.{allocation-alone}
+use Rattle.rules_calls.specs.Calls.{allocateAs}
+use Rattle.rules_calls.specs.Promise.{Promise}
+use Rattle.rules_calls.proofs.Replies.{allocation-alone}
 use Rattle.types.specs.declared.Reply.{Reply}
 use Rattle.rules.proofs.Shape.{shaped-blocks}
 use Rattle.test_allocation.proofs.AllocationReply.{replied, allocate-accepts, allocate-refused, allocate-data-refused}
 use Rattle.test_allocation.specs.Replies.{allocateReply}
-use Rattle.theory.proofs.Memories.Fit.{Fit}
+use Rattle.theory_memories.proofs.Memories.Fit.{Fit}
 use Rattle.theory.proofs.Usable.UsableHeap.{usable-fit}
 use Rattle.theory.proofs.Usable.WorkDone.{worked-refused}
 use borrow.Author.Needs.{needs}

@@ -7,7 +7,7 @@ use borrow.Author.Needs.{needs}
 use borrow.Author.Tests.{eq-eqb, ne-eqb}
 use Rattle.types.specs.declared.Reply.{Reply}
 use Rattle.rules.specs.Heap.{Memory, lentMemory}
-use Rattle.rules.specs.Calls.{ownRefusals}
+use Rattle.rules_calls.specs.Calls.{ownRefusals}
 use Rattle.test_arguments.specs.Replies.{ownTest, numberTest, readReply}
 use Rattle.test_arguments.proofs.ArgumentTests.{number-passed}
 use Rattle.test_arguments.proofs.numbers.read_reply.Statement.{statement}

@@ -7,7 +7,7 @@ use lib.ListN.{length}
 use borrow.Author.Needs.{needs}
 use borrow.Author.Tests.{le-ltb, lt-ltb, not-true, not-false}
 use Rattle.rules.specs.Tools.{firstNumber}
-use Rattle.rules.specs.Calls.{ownRefusals}
+use Rattle.rules_calls.specs.Calls.{ownRefusals}
 use Rattle.test_arguments.specs.Replies.{ownTest}
 use Rattle.test_arguments.proofs.storing.store_root_test.Statement.{statement}
 use Rattle.test_arguments.proofs.storing.store_root_test.Tie as tie

@@ -1,0 +1,4 @@
+pub mod Evidence
+pub mod Replies
+pub mod Promised
+pub mod Unread

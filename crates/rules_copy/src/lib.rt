@@ -1,0 +1,1 @@
+// The copy into a second heap as rules: definitions in specs/. There is no code here.

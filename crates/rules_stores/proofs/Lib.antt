@@ -1,0 +1,3 @@
+pub mod Evidence
+pub mod FormattedShape
+pub mod Plain

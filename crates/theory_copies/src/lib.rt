@@ -1,0 +1,1 @@
+// Mathematics alone: the copy into a second heap.

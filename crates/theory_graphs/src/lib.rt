@@ -1,0 +1,1 @@
+// Mathematics alone: the object graph, and what its machine keeps.

@@ -1,0 +1,1 @@
+// Mathematics alone: what holds of heaps, whatever call is made.
