@@ -1,3 +1,2 @@
 pub mod Start
-pub mod Progress
 pub mod Theorems

@@ -18,7 +18,7 @@ use Rattle.rules.proofs.Shape.{shape-facts}
 use Rattle.theory.proofs.Theorems.{calls-keep-undamaged, format-makes-undamaged, claim-from-undamaged}
 use Rattle.theory_memories.specs.Heaps.{Usable}
 use Rattle.replay_words.specs.Encoding.{callsIn, replyWords}
-use Rattle.replay.specs.Run.{AsRun}
+use Rattle.replay_run.specs.Run.{AsRun}
 use Rattle.replay_words.proofs.Calls.{accepted-passed}
 use Rattle.replay.specs.Replay.{Ran, ReplayIsCalls}
 

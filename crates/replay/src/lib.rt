@@ -6,8 +6,6 @@ use replay_words::tests;
 use types::Ref;
 use types::Reply;
 
-pub mod run;
-
 // Formats the heap and runs the calls: four words each, the replies three words each. The value is the number of calls. Refused lists, and
 // their numbers, are those of `replayReply`: nothing is written then.
 pub fn replay(
@@ -67,7 +65,7 @@ pub fn replay(
         marks,
         list,
     );
-    run::run_all(
+    replay_run::run_all(
         blocks,
         width,
         a,

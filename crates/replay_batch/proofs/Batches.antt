@@ -15,7 +15,7 @@ use Rattle.theory_memories.specs.Heaps.{Usable}
 use Rattle.theory.proofs.Theorems.{theory}
 use Rattle.theory.proofs.Usable.UsableHeap.{cleared-usable}
 use Rattle.replay_words.proofs.Calls.{Passed, accepted-passed}
-use Rattle.replay.specs.Run.{AsRun}
+use Rattle.replay_run.specs.Run.{AsRun}
 use Rattle.replay.specs.Replay.{replayReply}
 use Rattle.replay.proofs.Start.{ran-from}
 use Rattle.replay_batch.specs.Batch.{batchReply, Batch}

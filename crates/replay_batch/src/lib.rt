@@ -3,7 +3,6 @@ ghost use mathlib.Core.Path.{_≡_};
 ghost use Rattle.rules.specs.Lent.{before, after};
 ghost use Rattle.replay_batch.specs.Batch.{batchReply, Batch};
 use map_objects::lists;
-use replay::run;
 use replay_words::tests;
 use types::Ref;
 use types::Reply;
@@ -111,7 +110,7 @@ pub fn make_calls(
         return reply;
     }
     lists::clear_all(waiting);
-    run::run_all(
+    replay_run::run_all(
         blocks,
         width,
         a,

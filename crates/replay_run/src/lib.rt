@@ -1,4 +1,4 @@
-// The loop over the calls, on an undamaged heap with a cleared waiting list.
+// The loop over the calls of a list, on an undamaged heap with a cleared waiting list.
 ghost use mathlib.Core.Path.{_≡_};
 ghost use mathlib.Core.Bool.{true};
 ghost use Prim.Native.Nat.{_*_, _/_, _≤_};
@@ -6,7 +6,7 @@ ghost use lib.ListN.{length};
 ghost use Rattle.rules.specs.Lent.{before, after, lent};
 ghost use Rattle.theory_memories.specs.Heaps.{Usable};
 ghost use Rattle.replay_words.specs.Encoding.{areCalls};
-ghost use Rattle.replay.specs.Run.{AsRun};
+ghost use Rattle.replay_run.specs.Run.{AsRun};
 use replay_words::words;
 use types::Ref;
 

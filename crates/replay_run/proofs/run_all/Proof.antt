@@ -1,4 +1,4 @@
--- `run::run_all` meets its contract: what is left of the run is the run on the calls that are left. The measure is their number.
+-- `run_all` meets its contract: what is left of the run is the run on the calls that are left. The measure is their number.
 use mathlib.Core.Path.{sym, _∙_}
 use Prim.Native.Nat.{_-_, _/_, _<_}
 use native.Mathlib.Omega.{arith}
@@ -7,9 +7,9 @@ use Rattle.rules.specs.Heap.{lentMemory}
 use Rattle.rules.proofs.Shape.{Shaped}
 use Rattle.theory.proofs.Usable.UsableHeap.{usable-healthy}
 use Rattle.replay_words.proofs.Calls.{call-at}
-use Rattle.replay.proofs.Progress.{call-made, Progress, progress-start, progress-next, progress-done}
-use Rattle.replay.proofs.run.run_all.Statement.{statement}
-use Rattle.replay.proofs.run.run_all.Tie as tie
+use Rattle.replay_run.proofs.Progress.{call-made, Progress, progress-start, progress-next, progress-done}
+use Rattle.replay_run.proofs.run_all.Statement.{statement}
+use Rattle.replay_run.proofs.run_all.Tie as tie
 
 abbrev Inv-loop : tie.InvT-loop
 Inv-loop blocks width a₀ b₀ counts₀ cells₀ roots₀ waiting₀ sections₀ d₀ marks₀ list₀ calls replies₀ n i₀ a b counts cells roots waiting sections d marks list replies i =

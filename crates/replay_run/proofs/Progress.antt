@@ -17,7 +17,7 @@ use Rattle.replay_words.specs.Words.{wordsAt, withReply}
 use Rattle.replay_words.specs.declared.words.Words.{Words}
 use Rattle.replay_words.proofs.Replies.{taken-with-reply, dropped-with-reply, length-with-reply}
 use Rattle.replay_call.specs.Dispatched.{Dispatched}
-use Rattle.replay.specs.Run.{AsRun}
+use Rattle.replay_run.specs.Run.{AsRun}
 
 -- ---- the calls left
 
