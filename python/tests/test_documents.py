@@ -14,6 +14,7 @@ from typing import Iterator, Tuple
 import huwekapo
 from huwekapo import Number, examples, refused
 from huwekapo.__main__ import EXAMPLES
+from huwekapo.compact import lets_go_on
 from huwekapo.record import ALLOCATE, ALLOCATE_DATA
 from huwekapo.sweep import TABLE_COLUMNS
 from huwekapo.widths import text, widths
@@ -63,6 +64,12 @@ class Figures(unittest.TestCase):
             row = next(line for line in page.splitlines() if line.startswith(f"| `{name}.history` |"))
             added = int(row.split("|")[-2])
             self.assertIn(f"| {made - added:,} | {len(found):,} | {added} |", row)
+        # The third on a smaller heap.
+        heap, words = huwekapo.Heap(8192), " ".join(README.split())
+        run = huwekapo.History(history).run(heap, may_stop=True)
+        self.assertEqual((run.number, found[run.records].size), (Number.NO_CHUNK, 514))
+        self.assertIn(f"with {huwekapo.compact(heap).used_before:,} in use no chunk of 1,024 is free for an array of 514", words)
+        self.assertTrue(lets_go_on(heap, history, run.records))
         # And both rules by width: those of the rule `uses` are the tables of README.md.
         rules = (TOP / "examples/real/rules.txt").read_text().splitlines()
         for name, _, _ in list(drawn())[:3]:

@@ -176,6 +176,8 @@ class InABrowser(unittest.TestCase):
                     drawn = browser.asked(f"Object.fromEntries(panels[{panel}].width.objects().map(one => [one.first, one.size]))")
                     self.assertEqual(drawn, sizes)
             self.assertEqual(moment, last - 31)
+            axes = browser.asked("[...document.querySelectorAll('.axes')].map(one => [...one.children].map(end => end.textContent))")
+            self.assertEqual(axes, 2 * [["0 records", "up to 1,024 blocks", "5,000"]])
             self.assertEqual((browser.errors, len(browser.fetched)), ([], 1))
 
     def test_an_object(self) -> None:
