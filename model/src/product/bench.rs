@@ -55,6 +55,7 @@ pub fn sizes() -> String {
     let mut out = String::new();
     size_bench::single_calls(&mut out);
     growth_bench::growth(&mut out);
+    growth_bench::over_sizes(&mut out);
     copy_bench::copies(&mut out);
     out
 }

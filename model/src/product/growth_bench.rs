@@ -68,6 +68,29 @@ pub fn growth(out: &mut String) {
     );
 }
 
+/// The number of blocks, and what a check, a collection with its check and a light record take on a busy heap of it, in nanoseconds:
+/// the lines that docs/figures/speed.py draws.
+pub fn over_sizes(out: &mut String) {
+    writeln!(
+        out,
+        "blocks, check, collection with its check, light record, in ns:"
+    )
+    .unwrap();
+    for blocks in [64, 256, 1024, 4096, 8192, 16_384, 32_768, MAX_BLOCKS] {
+        let memory = busy(blocks, WIDTH);
+        let check = check_times(blocks, &memory).library;
+        let collect = collect_times(blocks, &memory).library;
+        let record = light_record(blocks, &with_one_kept(blocks, &memory));
+        writeln!(
+            out,
+            "  {blocks} {} {} {record:.1}",
+            check.as_nanos(),
+            collect.as_nanos()
+        )
+        .unwrap();
+    }
+}
+
 /// The object that light records name, in its root.
 fn with_one_kept(blocks: usize, memory: &Memory) -> Memory {
     let mut memory = memory.clone();
