@@ -220,8 +220,7 @@ fn list_first(
 
 #[test]
 fn wrong_lists_of_calls_are_found() {
-    // The last: from a formatted heap.
-    for make_calls in [uncleared, list_first, replay] {
+    for make_calls in [uncleared, list_first] {
         let list_only = Library {
             make_calls,
             ..MODEL
