@@ -18,7 +18,8 @@ use Rattle.bitmap.proofs.Maps.{bit-set-same, bit-set-other, bit-all-zero}
 use Rattle.rules.specs.Tools.{someBelow}
 use Rattle.step_marks.specs.Marks.{markOne}
 use Rattle.step_marks.proofs.Marked.{mark-none, mark-past, mark-some}
-use Rattle.step_list.specs.Lists.{isSet, listedIn, Shows, Gains, NextBit}
+use Rattle.section_words.specs.Words.{Digits}
+use Rattle.step_list.specs.Lists.{isSet, listedIn, Shows, Gains, Passed, NextBit}
 
 -- ---- one bit
 
@@ -53,12 +54,6 @@ others-same map i v j b n = ap (λ (x : ℕ). eqb x 1) (bit-set-other map i v j 
 
 -- ---- the next 1
 
--- a search that has come to i
-pub record Passed (map : List ℕ) (from end i : ℕ) : Type 0 where
-  pub from-le : from ≤ i
-  pub end-le : i ≤ end
-  pub clear : (j : ℕ) → from ≤ j → j < i → isSet map j ≡ false
-
 module _ {map : List ℕ} {from end : ℕ} where
   pub passed-start : from ≤ end → Passed map from end from
   passed-start l = record { from-le = omega arith; end-le = l; clear = λ j u v. absurd (omega arith) }
@@ -89,6 +84,14 @@ module _ {map : List ℕ} {from end : ℕ} where
     pub passed-found : isSet map i ≡ true → NextBit map from end i
     passed-found e = record { from-le = p .from-le; end-le = p .end-le; clear = p .clear; found = λ u. e }
 
+  -- none up to r
+  pub passed-more : {i : ℕ} → Passed map from end i → (r : ℕ) → i ≤ r → r ≤ end → ((j : ℕ) → i ≤ j → j < r → isSet map j ≡ false) → Passed map from end r
+  passed-more {i} p r l u none = record {
+    from-le = omega (arith, p .from-le);
+    end-le = u;
+    clear = λ j s v. elim (decLt j i) [ yes q ↦ p .clear j s q | no q ↦ none j (omega arith) v ];
+  }
+
   pub passed-all : {i : ℕ} → Passed map from end i → end ≤ i → NextBit map from end end
   passed-all {i} p l = record {
     from-le = omega (arith, p .from-le, p .end-le);
@@ -96,6 +99,24 @@ module _ {map : List ℕ} {from end : ℕ} where
     clear = λ j u v. p .clear j u (omega arith);
     found = λ u. absurd (omega arith);
   }
+
+-- a byte that is 0, and those behind it that were passed over
+pub passed-bytes : {map : List ℕ} {from end i : ℕ} (r : ℕ) → Passed map from end i → i < end → end ≡ 8 * (end / 8) → getD map (i / 8) 0 ≡ 0
+    → Passed map (8 * (i / 8 + 1)) (8 * (end / 8)) (8 * r) → Passed map from end (r * 8)
+passed-bytes {map} {from} {end} {i} r p l whole e q =
+    let low = q .from-le in
+    let high = q .end-le in
+    passed-more (passed-byte p l whole e) (r * 8) (omega arith) (omega arith) (λ j s v. q .clear j (omega arith) (omega arith))
+
+-- eight bytes that are 0 as one number
+pub passed-eight : {map : List ℕ} {from end w : ℕ} (k : ℕ) → Passed map from end (8 * k) → 8 * (k + 8) ≤ end → Digits 64 map (8 * k) w → w ≡ 0
+    → Passed map from end (8 * (k + 8))
+passed-eight {map} {from} {end} {w} k p l d none =
+    passed-more p (8 * (k + 8)) (omega arith) l
+    (λ j s v.
+    let at : 8 * k + (j - 8 * k) ≡ j = omega arith in
+    zero-is map j
+    (ap (bitAt map) (sym at) ∙ sym (d .each (j - 8 * k) (omega arith)) ∙ ap (λ (x : ℕ). bitOf x (j - 8 * k)) none ∙ bit-zero (j - 8 * k)))
 
 -- ---- what a list names
 

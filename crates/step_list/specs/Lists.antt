@@ -34,6 +34,12 @@ pub record Shows (N : ℕ) (test : ℕ → Bool) (map : List ℕ) : Type 0 where
 pub record Gains (N v : ℕ) (map after : List ℕ) : Type 0 where
   pub bits : (i : ℕ) → i < N → isSet after i ≡ (isSet map i || eqb v (i + 1))
 
+-- a search that has come to i: none from `from` on
+pub record Passed (map : List ℕ) (from end i : ℕ) : Type 0 where
+  pub from-le : from ≤ i
+  pub end-le : i ≤ end
+  pub clear : (j : ℕ) → from ≤ j → j < i → isSet map j ≡ false
+
 -- r is the lowest 1 bit from `from` on and below `end`, or `end`
 pub record NextBit (map : List ℕ) (from end r : ℕ) : Type 0 where
   pub from-le : from ≤ r

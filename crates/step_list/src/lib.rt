@@ -6,11 +6,26 @@ ghost use Prim.Native.Nat.{ℕ, _+_, _*_, _/_, _<_, _≤_};
 ghost use lib.ListN.{length, getD};
 ghost use Rattle.rules.specs.Heap.{maxBlocks};
 ghost use Rattle.rules_steps.specs.Steps.{listOf};
-ghost use Rattle.step_list.specs.Lists.{isSet, listedIn, relisted, Shows, NextBit, Written, Mixed, Listing};
+ghost use Rattle.step_list.specs.Lists.{isSet, listedIn, relisted, Shows, Passed, NextBit, Written, Mixed, Listing};
 use types::MAX_BLOCKS;
 use types::Ref;
 
-// The lowest 1 bit of the map from `from` on and below `end`, or `end`. A byte that is 0 is passed over at
+// A byte from `from` on and up to `end` before which there are only 0s: eight bytes are looked at at once.
+fn pass_zeros(map: &[u8], from: usize, end: usize) -> usize
+    requires { ⌜ (from ≤ end) × (end ≤ length (now map)) × (end ≤ maxBlocks) ⌝ }
+    ensures { λ r. ⌜ Passed (now (map .entry)) (8 * from) (8 * end) (8 * r) ⌝ }
+{
+    let mut k = from;
+    while 8 <= end - k {
+        if section_words::eight_bytes(map, k) != 0 {
+            return k;
+        }
+        k += 8;
+    }
+    k
+}
+
+// The lowest 1 bit of the map from `from` on and below `end`, or `end`. Bytes that are 0 are passed over at
 // once.
 pub fn next_bit(map: &[u8], from: usize, end: usize) -> usize
     requires { ⌜ (from ≤ end) × (end ≡ 8 * (end / 8)) × (end ≤ 8 * length (now map)) × (end ≤ maxBlocks) ⌝ }
@@ -19,7 +34,7 @@ pub fn next_bit(map: &[u8], from: usize, end: usize) -> usize
     let mut i = from;
     while i < end {
         if map[i / 8] == 0 {
-            i = (i / 8 + 1) * 8;
+            i = pass_zeros(map, i / 8 + 1, end / 8) * 8;
         } else {
             if bitmap::get_bit(map, i) == 1 {
                 return i;
