@@ -1,13 +1,14 @@
 -- Counting down, by the ways the code goes: each leaves what `countDown` gives, and a stack with room for the rest.
-use mathlib.Core.Path.{_≡_, sym, ap, _∙_}
+use mathlib.Core.Path.{_≡_, refl, sym, ap, _∙_}
 use mathlib.Core.Logic.{_≢_, inr}
 use mathlib.Core.Bool.{true, false}
 use mathlib.Core.List.{List, _∷_}
-use Prim.Native.Nat.{ℕ, _+_, _-_, _/_, _^_, _≤_, _<_}
+use Prim.Native.Nat.{ℕ, zero, suc, _+_, _-_, _/_, _^_, _≤_, _<_}
 use native.Mathlib.Numerals.{add-one}
 use native.Mathlib.Omega.{arith}
 use lib.Pow.{pow-mono}
 use lib.ListN.{length, getD, set}
+use lib.Seq.{set-getD}
 use borrow.Author.Tests.{lt-ltb, le-ltb, eq-eqb, ne-eqb}
 use Rattle.planes.specs.Plane.{countAt, setCount}
 use Rattle.planes.proofs.Counts.{count-lt, set-count-there}
@@ -106,3 +107,54 @@ unfolding countDownEach
 each-more {N} {w} {cells′ = cells′} s cells j i cleared =
     let held = ap (λ (x : List ℕ). getD x (j + i) 0) cleared ∙ clear-out cells j i (j + i) (inr (omega arith)) in
     worked-next (λ x. countDown N w x (getD cells′ (j + i) 0)) (rw (add-one, held))
+
+-- ---- .. and several at once
+
+-- those of the run up to cell i, and then n more, of which none has changed
+each-join :
+    (N w : ℕ) (s : Work) (cells : List ℕ) (j i n : ℕ)
+    → countDownEach N w (countDownEach N w s cells j i) (clearCells cells j i) (j + i) n ≡ countDownEach N w s cells j (i + n)
+unfolding countDownEach
+each-join N w s cells j i zero = let none : i ≡ i + 0 = omega arith in ap (countDownEach N w s cells j) none
+each-join N w s cells j i (suc n) =
+    let place : j + i + n ≡ j + (i + n) = omega arith in
+    let more : suc (i + n) ≡ i + suc n = omega arith in
+    let held = clear-out cells j i (j + i + n) (inr (omega arith)) ∙ ap (λ (k : ℕ). getD cells k 0) place in
+    ap (λ (x : Work). countDown N w x (getD (clearCells cells j i) (j + i + n) 0)) (each-join N w s cells j i n)
+    ∙ ap (countDown N w (countDownEach N w s cells j (i + n))) held
+    ∙ ap (countDownEach N w s cells j) more
+
+pub each-several :
+    {N w left top top′ : ℕ} {counts waiting cells′ counts′ waiting′ : List ℕ} (s : Work) (cells : List ℕ) (j i n : ℕ)
+    → cells′ ≡ clearCells cells j i
+    → Worked counted N w (countDownEach N w s cells j i) left counts waiting top
+    → Worked counted N w (countDownEach N w (work counts (topFirst waiting top)) cells′ (j + i) n) (remaining counted N w counts top) counts′ waiting′ top′
+    → Worked counted N w (countDownEach N w s cells j (i + n)) left counts′ waiting′ top′
+each-several {N} {w} {cells′ = cells′} s cells j i n cleared =
+    worked-next (λ x. countDownEach N w x cells′ (j + i) n)
+    (ap (λ (l : List ℕ). countDownEach N w (countDownEach N w s cells j i) l (j + i) n) cleared ∙ each-join N w s cells j i n)
+
+-- n cells that are 0 name nothing
+each-none :
+    (N w : ℕ) (s : Work) (cells : List ℕ) (p n : ℕ) → ((c : ℕ) → c < n → getD cells (p + c) 0 ≡ 0) → countDownEach N w s cells p n ≡ s
+unfolding countDownEach countDown
+each-none N w s cells p zero zeros = refl
+each-none N w s cells p (suc n) zeros =
+    ap (countDown N w (countDownEach N w s cells p n)) (zeros n (omega arith))
+    ∙ each-none N w s cells p n (λ c l. zeros c (omega arith))
+
+pub clear-none : (cells : List ℕ) (p n : ℕ) → ((c : ℕ) → c < n → getD cells (p + c) 0 ≡ 0) → clearCells cells p n ≡ cells
+unfolding clearCells
+clear-none cells p zero zeros = refl
+clear-none cells p (suc n) zeros =
+    let rest = clear-none cells p n (λ c l. zeros c (omega arith)) in
+    ap (λ (l : List ℕ). set l (p + n) 0) rest
+    ∙ ap (set cells (p + n)) (sym (zeros n (omega arith)))
+    ∙ set-getD cells (p + n) 0
+
+-- they are passed over
+module _ {N w : ℕ} {counts waiting : List ℕ} {top : ℕ} (cells : List ℕ) (p n : ℕ) (zeros : (c : ℕ) → c < n → getD cells (p + c) 0 ≡ 0) where
+  pub passed-each : Planes N w counts → Stack counted N w counts waiting top
+      → Worked counted N w (countDownEach N w (work counts (topFirst waiting top)) cells p n) (remaining counted N w counts top) counts waiting top
+  passed-each planes stack =
+      record { result = sym (each-none N w (work counts (topFirst waiting top)) cells p n zeros); planes = planes; stack = stack; left-is = refl }

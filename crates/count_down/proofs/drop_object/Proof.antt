@@ -1,5 +1,6 @@
 -- `count_down::drop_object` meets its contract: what the cells that name others named is marked, they are dropped, and those behind them,
 -- all of data, cleared.
+use native.Mathlib.Omega.{arith}
 use borrow.Author.Needs.{needs}
 use Rattle.map_objects.proofs.Cells.{clear-rest}
 use Rattle.count_down.proofs.drop_object.Statement.{statement}
@@ -28,7 +29,10 @@ mul-drop-cells : tie.Need-mul-drop-cells
 mul-drop-cells c = search needs
 
 drop-cells-requires : tie.Need-drop-cells-requires
-drop-cells-requires c κs = search needs
+drop-cells-requires c κs =
+    let s : tie.Start = search in
+    let kind : tie.After-end-kind = search in
+    (s .pre .0, s .pre .1, omega (arith, s .pre .2, s .pre .4, kind .end-kind .ensures .1), omega (arith, kind .end-kind .ensures .3))
 
 mul-clear-cells : tie.Need-mul-clear-cells
 mul-clear-cells c = search needs

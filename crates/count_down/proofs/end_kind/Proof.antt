@@ -20,7 +20,7 @@ returns : tie.Need-returns
 returns c =
     let read : tie.After-get-bit = search in
     let cleared : tie.After-set-bit = search in
-    (naming-none _ _ _ (sym (read .get-bit .ensures .0) ∙ cleared .before .before .if1 .taken), omega arith, cleared .set-bit .ensures)
+    (naming-none _ _ _ (sym (read .get-bit .ensures .0) ∙ cleared .before .before .if1 .taken), omega arith, cleared .set-bit .ensures, omega arith)
 
 mul-result : tie.Need-mul-result
 mul-result c = search needs
@@ -33,7 +33,7 @@ returns-2 c =
     let read : tie.After-get-bit = search in
     let bit = read .get-bit .ensures in
     let zero-there : read .get-bit .result ≡ 0 = omega (arith, bit .1, c .if1 .left) in
-    (naming-all _ _ _ (λ e. c .if1 .left (bit .0 ∙ e)), omega arith, sym (set-bit-there _ _ 0 (sym (bit .0) ∙ zero-there)))
+    (naming-all _ _ _ (λ e. c .if1 .left (bit .0 ∙ e)), omega arith, sym (set-bit-there _ _ 0 (sym (bit .0) ∙ zero-there)), omega arith)
 
 pub end-kind-spec : {M : Type 1} → statement M
 end-kind-spec =
