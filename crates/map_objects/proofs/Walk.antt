@@ -1,22 +1,17 @@
 -- Laws of blocks of data in a walk: block i from its own bits and from the block before it.
-use mathlib.Core.Path.{_≡_, refl, sym, ap, _∙_}
+use mathlib.Core.Path.{_≡_, refl, sym, _∙_}
 use mathlib.Core.Logic.{_≢_, inl, inr}
-use mathlib.Core.Bool.{Bool, true, false, not, true≢false}
+use mathlib.Core.Bool.{Bool, true, false, true≢false}
 use mathlib.Core.List.{List}
-use Prim.Native.Nat.{ℕ, zero, suc, _+_, _/_, _%_, _<_}
+use Prim.Native.Nat.{ℕ, zero, suc, _+_, _<_}
 use native.Mathlib.Numerals.{add-one, unary-clauses}
-use native.Mathlib.Decide.{ℕ-discrete, decLt}
+use native.Mathlib.Decide.{ℕ-discrete}
 use native.Mathlib.Omega.{arith}
-use lib.Dec.{eqb}
-use lib.ListN.{length, getD, List·getD-eq-default}
-use borrow.Author.Tests.{ne-eqb, eqb-true, not-false}
-use Rattle.bitmap.specs.Bit.{bitOf, bitAt}
-use Rattle.bitmap.proofs.Bits.{bit-zero}
+use Rattle.bitmap.specs.Bit.{bitAt}
 use Rattle.bitmap.proofs.Maps.{bit-at-lt}
-use Rattle.rules.specs.Heap.{firstIn, isData, firstAt, inData}
-use Rattle.rules.specs.Tools.{someBelow}
+use Rattle.rules.specs.Heap.{firstIn, isData, inData}
 use Rattle.rules.proofs.Objects.{Starts, first-test}
-use Rattle.rules.proofs.Tests.{test-cases, some-false}
+use Rattle.rules.proofs.Tests.{test-cases}
 use Rattle.rules.proofs.Reading.{free-no-data, first-data, inner-data}
 use Rattle.map_objects.specs.Walk.{dataBefore}
 
@@ -59,28 +54,3 @@ module _ (N : ℕ) (a b d : List ℕ) where
     | inl first ↦ first-data N a b d i first ∙ marked ∙ sym first
     | inr other ↦ walk-outside i l none other ∙ sym other
   ]
-
--- ---- a D-map without a bit
-
--- byte q of the D-map has one
-abbrev pub someBit : List ℕ → ℕ → Bool
-someBit d q = not (eqb (getD d q 0) 0)
-
-pub no-bits : (d : List ℕ) → someBelow (someBit d) (length d) ≡ false → (k : ℕ) → isData d k ≡ false
-unfolding bitAt
-no-bits d none k =
-    ne-eqb (bitAt d k) 1 (λ e. omega (arith, e, ap (λ (x : ℕ). bitOf x (k % 8)) (byte (k / 8)), bit-zero (k % 8)))
-  where
-    byte : (q : ℕ) → getD d q 0 ≡ 0
-    byte q = elim (decLt q (length d)) [
-      | yes l ↦ eqb-true (getD d q 0) 0 (not-false (eqb (getD d q 0) 0) (some-false (someBit d) (length d) none q l))
-      | no l ↦ List·getD-eq-default d 0 {n = q} (omega arith)
-    ]
-
-pub no-data : (N : ℕ) (a b d : List ℕ) → someBelow (someBit d) (length d) ≡ false → (i : ℕ) → inData N a b d i ≡ false
-unfolding inData
-no-data N a b d none i =
-    elim (ℕ-discrete (bitAt a i) 0) [
-      | yes free ↦ free-no-data N a b d i free
-      | no used ↦ rw (ne-eqb (bitAt a i) 0 used, inData) (no-bits d none (firstAt N a b i))
-    ]
