@@ -1,7 +1,8 @@
 //! Counting, release, the two stores, and placing. What is placed or freed leaves the figures of its sections unknown.
 
 use super::blocks::{
-    clear_extent, get_count, mark_extent, naming_cells, object_size, set_bit, set_count,
+    any_of_four, clear_extent, get_count, mark_extent, naming_cells, object_size, set_bit,
+    set_count,
 };
 use super::sections::mark_unknown;
 use super::steps::{forget, is_open, meet, meet_store};
@@ -94,13 +95,18 @@ fn drop_object(
     if open {
         forget(m, i);
     }
-    for j in 4 * i..4 * i + named {
-        let v = m.cells[j];
-        m.cells[j] = 0;
-        if open {
-            meet(m, v);
+    for four in (4 * i..4 * i + named).step_by(4) {
+        if any_of_four(m.cells, four) == 0 {
+            continue;
         }
-        top = count_down(blocks, width, m.counts, m.waiting, v, top);
+        for j in four..four + 4 {
+            let v = m.cells[j];
+            m.cells[j] = 0;
+            if open {
+                meet(m, v);
+            }
+            top = count_down(blocks, width, m.counts, m.waiting, v, top);
+        }
     }
     for j in 4 * i + named..4 * i + 4 * n {
         m.cells[j] = 0;
