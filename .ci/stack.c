@@ -203,7 +203,6 @@ int main(void) {
     /* The most that a call that tests the heap takes, by its size, and that a list of calls, the walk of a reason or of a shape and a
      * copy do. */
 #define A_TEST {19000, 19000, 19000, 77000}
-#define A_REPLAY {20000, 20000, 28000, 86000}
 #define A_COPY {27000, 27000, 145000, 1070000}
 #define A_WALK {18000, 18000, 135000, 1060000}
     static const struct {
@@ -229,8 +228,8 @@ int main(void) {
         {"reason", reason, A_WALK, ANY},
         {"shape", shape, A_WALK, ANY},
         {"copy", copy, A_COPY, CLOSED | FULL},
-        {"replay", replay, A_REPLAY, ANY},
-        {"make_calls", make_calls, A_REPLAY, ANY},
+        {"replay", replay, {19000, 19000, 19000, 69000}, ANY},
+        {"make_calls", make_calls, {20000, 20000, 20000, 77000}, ANY},
         {"run_records", run_records, A_TEST, OPEN | CLOSED},
     };
     enum { EACH = sizeof each / sizeof *each };

@@ -50,11 +50,10 @@
  *
  *   - x86-64, and of a C library memset and memcpy alone. Nothing is allocated, nothing is printed, and there is no global state:
  *     heaps in different buffers may be used by different threads at once. Calls on one heap must not overlap in time.
- *   - Stack: less than 19,000 bytes on heaps of up to 8,192 blocks, and less than 77,000 on larger ones. Format takes less than
- *     2,000, whatever the size; replay and make_calls less than 20,000 up to 1,024 blocks, 28,000 up to 8,192, and 86,000 on larger
- *     heaps. The reason and the shape take less than 18,000 bytes up to 1,024 blocks, 135,000 up to 8,192, and 1,060,000 on
- *     larger heaps; a copy less than 27,000, 145,000 and 1,070,000. Recursion goes six deep at most, over the halves of a
- *     section.
+ *   - Stack: less than 19,000 bytes on heaps of up to 8,192 blocks, and less than 77,000 on larger ones; make_calls less than 20,000
+ *     and 77,000. Format takes less than 2,000, whatever the size. The reason and the shape take less than 18,000 bytes up to
+ *     1,024 blocks, 135,000 up to 8,192, and 1,060,000 on larger heaps; a copy less than 27,000, 145,000 and 1,070,000.
+ *     Recursion goes six deep at most, over the halves of a section.
  *   - Time: every call but format and replay tests the whole heap before it does anything, steps too; make_calls tests it once for
  *     all its calls, and a run of records once for each piece. Many calls at a time are therefore best made by make_calls, by
  *     replay, or by a run of records in long pieces.
