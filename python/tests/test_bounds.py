@@ -50,6 +50,7 @@ PLACES = {
 NO_BOUNDS = {
     "crates/calls/src/reading.rt": "the weight of a word's third byte",
     "crates/history_widening/proofs/OldForm.antt": "the weight of a number's third byte",
+    "crates/check_counts/src/lib.rt": "the weight of a word's third byte",
     "crates/section_words/src/lib.rt": "the weight of a word's third byte",
     "crates/rules/specs/Evidence/HeapCases.antt": "cases on both sides of the bound",
     "crates/rules_calls/specs/Evidence/WrongAnswers.antt": "a wrong figure",
