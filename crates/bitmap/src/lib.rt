@@ -1,4 +1,7 @@
 // Bitmaps in lent byte slices: one bit read or written, a run written, the zeros counted.
+
+#![tactic(auto)]
+
 ghost use Rattle.std.specs.Prelude.{◌≡◌, ◌+◌, ◌*◌, ◌^◌, ◌<◌, ◌≤◌, min, length, replicate};
 ghost use Rattle.bitmap.specs.Bit.{bit_at, set_bit, fill_bits, zeros};
 ghost use Rattle.bitmap.specs.Byte.{put_run};

@@ -1,4 +1,7 @@
 // A list of calls from standard input, made through the public calls. docs/FILES.md states the file's form and what is printed.
+
+#![tactic(auto)]
+
 mod reading;
 mod run;
 

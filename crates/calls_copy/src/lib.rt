@@ -1,5 +1,8 @@
 // The copy into a second heap (request U14), for the program `calls`. The second heap is made for the entry: all its bits are 1, so
 // that what a copy leaves is what it wrote.
+
+#![tactic(auto)]
+
 ghost use Rattle.std.specs.Prelude.{◌≤◌};
 
 use calls_lent::{MAX_BYTES, MAX_CELLS, MAX_COUNTS, MAX_LIST, MAX_ROOTS, MAX_SECTIONS};

@@ -1,4 +1,7 @@
 // The entries of a list of calls, performed: for the program `calls`.
+
+#![tactic(auto)]
+
 use types::{MAX_BLOCKS, MAX_ROOTS};
 
 mod outputs;
@@ -34,7 +37,7 @@ pub const NEW: usize = 255;
 pub const END: usize = 256;
 
 // An entry: how many of its bytes were read, its kind, and its numbers (of a call its arguments, of a heap its blocks, width and roots).
-#[derive(Drop)]
+#[derive(Clone, Copy)]
 pub struct Entry {
     pub bytes: usize,
     pub kind: usize,

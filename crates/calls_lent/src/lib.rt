@@ -1,4 +1,7 @@
 // How much of each buffer the program `calls` lends. Wrong lengths are allowed, within the largest, so that each refusal can be met.
+
+#![tactic(auto)]
+
 ghost use Rattle.std.specs.Prelude.{◌≡◌, false, ◌/◌, ◌≤◌};
 ghost use Rattle.rules.specs.Heap.{max_blocks};
 ghost use Rattle.calls_lent.specs.Within.{Within};

@@ -1,4 +1,7 @@
 // Standard output of the program `calls`. A failed write is said on standard error. A function says whether its last write was made.
+
+#![tactic(auto)]
+
 ghost use Rattle.std.specs.Prelude.{◌<◌};
 
 use libc::{STDERR_FILENO, STDOUT_FILENO};

@@ -1,5 +1,8 @@
 // The public calls for C, under the names of include/huwekapo.h: each slice is a pointer and a length, and each contract is the public
 // call's.
+
+#![tactic(auto)]
+
 ghost use Rattle.rules.specs.Lent.{before, after};
 ghost use Rattle.rules_calls.specs.Calls.{Call};
 ghost use Rattle.rules_calls.specs.Promise.{Promise};

@@ -1,6 +1,9 @@
 // Damage kinds 4 and 5 in one: all references are tallied once, in a local array, since no lent buffer may be written; then each block's
 // count is held to its tally. A tally where no object starts tells a reference that names no object, so no reference is looked up by
 // itself. The array is the shortest of three that has a place for each block, since it is cleared in every call.
+
+#![tactic(auto)]
+
 ghost use Rattle.std.specs.Prelude.{◌≡◌, [], ◌∷◌, ◌+◌, ◌*◌, ◌/◌, ◌^◌, ◌≤◌, ◌<◌, length, get_or};
 ghost use Rattle.bitmap.specs.Bit.{bit_of};
 ghost use Rattle.planes.specs.Plane.{count_at};

@@ -1,4 +1,7 @@
 // Number 2: the first damage kind that applies.
+
+#![tactic(auto)]
+
 ghost use Rattle.std.specs.Prelude.{◌≡◌, true, List, ℕ};
 ghost use Rattle.rules.specs.Heap.{shaped, lent_memory};
 ghost use Rattle.rules.specs.Damage.{damage};

@@ -1,4 +1,7 @@
 // Damage kinds 1, 2, 3 and 7: what the maps say against each other.
+
+#![tactic(auto)]
+
 ghost use Rattle.std.specs.Prelude.{◌≡◌, ◌||◌, [], ◌+◌, ◌-◌, ◌*◌, ◌/◌, ◌≤◌, leb, length};
 ghost use Rattle.rules.specs.Heap.{memory, lent_memory, max_blocks, is_free};
 ghost use Rattle.rules.specs.Tools.{some_below};

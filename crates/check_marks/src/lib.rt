@@ -1,5 +1,8 @@
 // Number 13 of request U8: whether the mark map and the second list are as they have to be. All lists are
 // only read.
+
+#![tactic(auto)]
+
 ghost use Rattle.std.specs.Prelude.{◌≡◌, not, ◌&&◌, List, ℕ, ◌+◌, ◌*◌, ◌/◌, ◌<◌, ◌≤◌, ◌-◌, eqb, leb, length, get_or};
 ghost use Rattle.rules.specs.Tools.{some_below};
 ghost use Rattle.rules.specs.Heap.{max_blocks, lent_memory};

@@ -1,6 +1,9 @@
 // The tally of all references, in one pass over cells and roots: a place for each block, in a lent array. A byte for each is enough: a
 // tally stops at 255, and a count below capacity is less. On the way those parts of damage kind 4 are told that need no look at what is
 // named: a cell of a free block that is not 0, and a cell or root beyond the heap. Whether each names a first block is told by the tally.
+
+#![tactic(auto)]
+
 ghost use Rattle.std.specs.Prelude.{◌≡◌, not, ◌||◌, ℕ, ◌+◌, ◌*◌, ◌/◌, ◌≤◌, ◌<◌, min, eqb, ltb, length, get_or};
 ghost use Rattle.bitmap.specs.Bit.{bit_of};
 ghost use Rattle.rules.specs.Heap.{max_blocks, in_data, ref_at};

@@ -1,4 +1,7 @@
 // Number 1: the number of blocks, the width, the number of roots and the lengths of the lent buffers.
+
+#![tactic(auto)]
+
 ghost use Rattle.std.specs.Prelude.{◌≡◌};
 ghost use Rattle.rules.specs.Heap.{is_blocks, shape};
 

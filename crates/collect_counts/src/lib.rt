@@ -1,4 +1,7 @@
 // Counts while marking: a byte for each block, in a list of their own. The count maps are written once, from these bytes.
+
+#![tactic(auto)]
+
 ghost use Rattle.std.specs.Prelude.{◌≡◌, ℕ, ◌+◌, ◌*◌, ◌<◌, ◌≤◌, length};
 ghost use Rattle.bitmap.specs.Bit.{bit_of};
 ghost use Rattle.rules.specs.Heap.{max_blocks};

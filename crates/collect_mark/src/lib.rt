@@ -2,6 +2,9 @@
 // block, and the count maps are then written from it. Cells of data are not looked at. A count that is not 0 is the mark. The waiting list,
 // cleared before and after, is the stack of objects still to be scanned. The array is the shortest of three that has a place for each block,
 // since it is cleared in every call.
+
+#![tactic(auto)]
+
 ghost use Rattle.std.specs.Prelude.{◌≡◌, [], ℕ, ◌*◌, ◌/◌, ◌≤◌, length, get_or, replicate};
 ghost use Rattle.rules.specs.Heap.{lent_memory, max_blocks};
 ghost use Rattle.count_up.specs.Ready.{Planes};

@@ -1,4 +1,7 @@
 // Objects of count 0 are freed, with no count-downs. The figures of sections in which blocks become free are left unknown.
+
+#![tactic(auto)]
+
 ghost use Rattle.std.specs.Prelude.{◌≡◌, true, not, [], ℕ, ◌+◌, ◌*◌, ◌/◌, ◌<◌, ◌≤◌, eqb, length};
 ghost use Rattle.bitmap.specs.Bit.{bit_of, set_bit};
 ghost use Rattle.section_figures.specs.Figures.{Coherent};

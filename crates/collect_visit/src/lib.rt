@@ -1,5 +1,8 @@
 // References visited, as marking does: what they name is counted up, in a list with a byte for each block. The waiting list is the stack of
 // objects whose count left 0.
+
+#![tactic(auto)]
+
 ghost use Rattle.std.specs.Prelude.{◌+◌, ◌*◌, ◌<◌, ◌≤◌, length};
 ghost use Rattle.rules.specs.Heap.{max_blocks};
 ghost use Rattle.rules_stores.specs.Store.{work};

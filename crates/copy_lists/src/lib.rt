@@ -1,5 +1,8 @@
 // The plan of a copy into a second heap (request U14), and, where each object has its place, the lists of the second heap that objects and roots
 // stand in, written by it. Where one finds no chunk nothing is written.
+
+#![tactic(auto)]
+
 ghost use Rattle.std.specs.Prelude.{◌≡◌, ◌/◌, ◌≤◌, length};
 ghost use Rattle.rules.specs.Heap.{max_blocks};
 ghost use Rattle.walk_objects.specs.Walking.{walked_heap, Walkable, Tracing};

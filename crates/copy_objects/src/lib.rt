@@ -1,5 +1,8 @@
 // The objects of the first heap written into the second (request U14), each at the place that the plan has for it. `moved` has at the first
 // block of an object the reference to its copy. Their counts are left stuck: the collection that follows counts anew.
+
+#![tactic(auto)]
+
 ghost use Rattle.std.specs.Prelude.{◌≡◌, [], ℕ, ◌+◌, ◌*◌, ◌≤◌, ◌<◌, length, get_or};
 ghost use Rattle.rules_copy.specs.Copy.{fill_cells};
 ghost use Rattle.copy_plan.specs.Plan.{block_in};

@@ -2,6 +2,9 @@
 // numbers, each in the lowest free chunk of a map that begins with nothing used. Blocks only become used here, so no chunk that was passed
 // over is free later: the search for chunks of a size goes on where it last found one, and looks at no block of the map more than twice for
 // one size.
+
+#![tactic(auto)]
+
 ghost use Rattle.std.specs.Prelude.{◌≡◌, ◌+◌, ◌*◌, ◌/◌, ◌≤◌, length, replicate, true};
 ghost use Rattle.rules.specs.Heap.{max_blocks, exponent, is_blocks};
 ghost use Rattle.copy_plan.specs.Laying.{Sought, LaidOne};

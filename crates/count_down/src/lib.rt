@@ -1,4 +1,7 @@
 // References dropped: what they name is counted down. The waiting list is the stack of objects whose count came to 0.
+
+#![tactic(auto)]
+
 ghost use Rattle.std.specs.Prelude.{◌≡◌, ◌+◌, ◌*◌, ◌%◌, ◌<◌, ◌≤◌, length};
 ghost use Rattle.bitmap.specs.Bit.{set_bit};
 ghost use Rattle.rules.specs.Heap.{max_blocks};

@@ -1,4 +1,7 @@
 // A count up. `specs` has besides what every crate that counts asks of the lent lists.
+
+#![tactic(auto)]
+
 ghost use Rattle.std.specs.Prelude.{◌≡◌, ◌≤◌};
 ghost use Rattle.rules_stores.specs.Store.{count_up, sticks};
 ghost use Rattle.count_up.specs.Ready.{Planes};

@@ -1,5 +1,8 @@
 // Recorded histories: the records of a piece of a file, run on a lent heap from where the run stands. The heap is checked once a piece;
 // calls keep a heap undamaged, so no record tests it.
+
+#![tactic(auto)]
+
 ghost use Rattle.std.specs.Prelude.{◌≡◌};
 ghost use Rattle.rules.specs.Lent.{before, after};
 ghost use Rattle.history_runs.specs.Promised.{run_reply, refusal, Promised};

@@ -1,4 +1,7 @@
 // One record of a history, on an undamaged heap with a cleared waiting list: the calls it asks for, and what they add to the run.
+
+#![tactic(auto)]
+
 ghost use Rattle.std.specs.Prelude.{◌≤◌};
 ghost use Rattle.rules.specs.Heap.{max_number};
 ghost use Rattle.rules.specs.Lent.{before, after, lent};

@@ -1,2 +1,5 @@
 // The figures of a run of records.
+
+#![tactic(auto)]
+
 pub mod tally;

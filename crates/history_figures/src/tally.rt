@@ -10,7 +10,7 @@ pub const MAX_RECORDS: usize = 4294967295;
 // Accepted allocations, blocks allocated in all, largest accepted size, full collections forced or recorded, most blocks in use after any
 // record, and how often an object became stuck. Laid out as in C, so that a run can be handed in and out there.
 #[repr(C)]
-#[derive(Drop)]
+#[derive(Clone, Copy)]
 pub struct Tally {
     pub allocations: u64,
     pub blocks: u64,
@@ -22,7 +22,7 @@ pub struct Tally {
 
 // A run so far: the number that stopped it or 0, the records run, the figures.
 #[repr(C)]
-#[derive(Drop)]
+#[derive(Clone, Copy)]
 pub struct Run {
     pub number: usize,
     pub records: usize,

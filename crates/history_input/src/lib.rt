@@ -1,10 +1,13 @@
 // Standard input in pieces. Every piece but the last is full, so that where a full one has whole records only the last may end inside a record.
+
+#![tactic(auto)]
+
 ghost use Rattle.io.specs.Counts.{IsPrefixLen};
 
 use libc::STDIN_FILENO;
 
 // The bytes of a piece, at the start of the buffer, and whether a read failed.
-#[derive(Drop)]
+#[derive(Clone, Copy)]
 pub struct Piece {
     pub length: usize,
     pub failed: bool,

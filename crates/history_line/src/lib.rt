@@ -1,4 +1,7 @@
 // The printed line of a run of records.
+
+#![tactic(auto)]
+
 ghost use Rattle.std.specs.Prelude.{◌≡◌, ◌++◌, ◌+◌, ◌≤◌, length, drop};
 ghost use Rattle.text.specs.Text.{Put};
 ghost use Rattle.history_line.specs.Line.{item, figures_line, refusal_line, line, longest_line};

@@ -1,4 +1,7 @@
 // What each record of a history asks for, as a plan.
+
+#![tactic(auto)]
+
 ghost use Rattle.std.specs.Prelude.{◌≡◌, [], ◌≤◌};
 ghost use Rattle.rules.specs.Heap.{memory, lent_memory, max_number};
 ghost use Rattle.history_plans.specs.Asked.{copying, writing, reading, clearing, writing_number, asked};
@@ -10,7 +13,7 @@ use map_objects::objects;
 use types::Ref;
 
 // What a record asks for: a call, or a number that stops the run.
-#[derive(Drop)]
+#[derive(Clone, Copy)]
 pub enum Plan {
     Stop(usize),
     Allocate { as_data: bool, n: usize, r: usize },

@@ -1,10 +1,13 @@
 // Records of a history: their fields, and whether those that the operation doesn't name are 0.
+
+#![tactic(auto)]
+
 ghost use Rattle.std.specs.Prelude.{◌≡◌, [], ◌∷◌, ◌+◌, ◌*◌, ◌≤◌, ◌<◌, length};
 ghost use Rattle.rules.specs.Heap.{max_number};
 ghost use Rattle.history_records.specs.Records.{wide, record_length, number, fields_at, are_zero, unnamed};
 
 // The fields of a record, by document 01's names: the operation, the roots d and s, byte 3, the cell number c and the size.
-#[derive(Drop)]
+#[derive(Clone, Copy)]
 pub struct Fields {
     pub operation: usize,
     pub d: usize,

@@ -1,5 +1,8 @@
 // An allocation of a record, on an undamaged heap with a cleared waiting list: its try, and where no chunk is free a collection and a
 // second one.
+
+#![tactic(auto)]
+
 ghost use Rattle.rules.specs.Lent.{before, after, lent};
 ghost use Rattle.rules_calls.specs.Calls.{allocate_as};
 ghost use Rattle.theory_memories.specs.Heaps.{Usable};

@@ -7,7 +7,7 @@ use crate::outcome::Done;
 use history_figures::tally::{Run, Tally};
 
 // A run under way: where it stands, and the blocks in use now.
-#[derive(Drop)]
+#[derive(Clone, Copy)]
 pub struct Running {
     pub run: Run,
     pub used: usize,

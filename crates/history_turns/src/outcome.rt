@@ -6,7 +6,7 @@ use types::Outcome;
 
 // What came of a record's calls: the number that stops the run or 0, the blocks allocated, whether a collection was made, the blocks freed,
 // whether an object became stuck.
-#[derive(Drop)]
+#[derive(Clone, Copy)]
 pub struct Done {
     pub number: usize,
     pub allocated: usize,

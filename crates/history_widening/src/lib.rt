@@ -1,4 +1,7 @@
 // Old histories, of eight-byte records, in the form of today. What a widened history comes to is stated in specs/Claims.antt.
+
+#![tactic(auto)]
+
 ghost use Rattle.std.specs.Prelude.{◌+◌, ◌*◌, ◌≤◌, length};
 ghost use Rattle.text.specs.Text.{Put};
 ghost use Rattle.history_records.specs.Records.{record_length, wide, old};

@@ -1,4 +1,7 @@
 // The extent of one object, written and cleared: its A bits, its last B bit, its cells.
+
+#![tactic(auto)]
+
 ghost use Rattle.std.specs.Prelude.{◌≡◌, ◌+◌, ◌-◌, ◌*◌, ◌^◌, ◌<◌, ◌≤◌, length};
 ghost use Rattle.bitmap.specs.Bit.{set_bit, fill_bits};
 ghost use Rattle.rules_stores.specs.Store.{clear_cells};

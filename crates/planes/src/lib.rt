@@ -1,5 +1,8 @@
 // Counts of `width` bits for each block, in `width` maps of `bytes` bytes that lie one after another in one lent buffer.
 // Each map is lent on as a middle part of that buffer.
+
+#![tactic(auto)]
+
 ghost use Rattle.std.specs.Prelude.{◌≡◌, ℕ, ◌+◌, ◌-◌, ◌*◌, ◌^◌, ◌<◌, ◌≤◌, eqb, length};
 ghost use Rattle.bitmap.specs.Bit.{bit_of};
 ghost use Rattle.planes.specs.Plane.{count_at, set_count};

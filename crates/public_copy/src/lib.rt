@@ -1,5 +1,8 @@
 // The public call on two heaps: what the roots of the first lead to is copied into the second, which the call formats (request U14). The first
 // is only read. All tests are on shared slices, and the second heap is written only where none refuses.
+
+#![tactic(auto)]
+
 ghost use Rattle.std.specs.Prelude.{length};
 ghost use Rattle.rules.specs.Heap.{shape};
 ghost use Rattle.rules.specs.Lent.{before, after};

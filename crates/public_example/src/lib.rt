@@ -1,5 +1,8 @@
 // Public calls made one after another on the same buffers, with demand 3's claim as the contract: an example for callers of what the promises
 // of single calls come to.
+
+#![tactic(auto)]
+
 ghost use Rattle.rules.specs.Lent.{before, after};
 ghost use Rattle.public_example.specs.Session.{Lived};
 

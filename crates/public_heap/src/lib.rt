@@ -1,5 +1,8 @@
 // The public calls that make and free objects: format, allocate, allocate data, collect. Each has all its tests on shared slices first, and
 // only then writes, so that a refusal can't write.
+
+#![tactic(auto)]
+
 ghost use Rattle.rules.specs.Lent.{before, after};
 ghost use Rattle.rules_calls.specs.Calls.{Call};
 ghost use Rattle.rules_calls.specs.Promise.{Promise};

@@ -1,5 +1,8 @@
 // The public calls that write into a lent output, which is no part of the heap: the reason why an object is
 // kept (request U11), and the heap's shape (request U13).
+
+#![tactic(auto)]
+
 ghost use Rattle.rules.specs.Lent.{before, after};
 ghost use Rattle.rules_calls.specs.Promise.{ReasonPromise, ShapePromise};
 

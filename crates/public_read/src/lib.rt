@@ -1,4 +1,7 @@
 // The public calls that only read: check, free blocks, look, and the read of a number.
+
+#![tactic(auto)]
+
 ghost use Rattle.rules.specs.Lent.{before, after};
 ghost use Rattle.rules_calls.specs.Calls.{Call};
 ghost use Rattle.rules_calls.specs.Promise.{Promise};

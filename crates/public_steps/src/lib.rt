@@ -1,5 +1,8 @@
 // The public calls of a collection in small steps (request U8): the opening and the steps. Each passes its gate first, which has all its
 // tests on shared slices, and only then writes, so that a refusal can't write.
+
+#![tactic(auto)]
+
 ghost use Rattle.rules.specs.Lent.{before, after};
 ghost use Rattle.rules_calls.specs.Calls.{Call};
 ghost use Rattle.rules_calls.specs.Promise.{Promise};

@@ -1,5 +1,8 @@
 // The public calls that assign references, the store in a root, the store in a cell, the return of a set of roots, and the write of a number.
 // Each passes its gate first, which has all its tests on shared slices, and only then writes, so that a refusal can't write.
+
+#![tactic(auto)]
+
 ghost use Rattle.rules.specs.Lent.{before, after};
 ghost use Rattle.rules_calls.specs.Calls.{Call};
 ghost use Rattle.rules_calls.specs.Promise.{Promise};

@@ -1,1 +1,3 @@
 // What the procedures of steps and close compute is what the rules say, on healthy heaps. Proofs are in proofs/.
+
+#![tactic(auto)]

@@ -1,6 +1,9 @@
 // Letting go of a reference: the object that it names is freed where no reference is left, and so is all that only freed objects name.
 // The figures of sections in which blocks become free are left unknown. While a collection in small steps is open (`shade`) the mark map
 // goes along.
+
+#![tactic(auto)]
+
 ghost use Rattle.std.specs.Prelude.{◌≡◌, [], ◌*◌, ◌/◌, ◌≤◌, length, replicate};
 ghost use Rattle.rules.specs.Heap.{max_blocks};
 ghost use Rattle.rules_stores.specs.Store.{release, let_go};

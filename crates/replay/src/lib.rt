@@ -1,5 +1,8 @@
 // A whole list of calls in one lent slice, run from a formatted heap: demand 3 as the contract of one function. The heap is formatted
 // here, so it is undamaged and its list of sections true, and calls keep it so: no call of the list tests it.
+
+#![tactic(auto)]
+
 ghost use Rattle.rules.specs.Lent.{before, after};
 ghost use Rattle.replay.specs.Replay.{Replayed};
 

@@ -1,4 +1,7 @@
 // A list of calls made on a heap as it stands. The heap is checked once; calls keep it undamaged, so no call of the list tests it.
+
+#![tactic(auto)]
+
 ghost use Rattle.std.specs.Prelude.{◌≡◌};
 ghost use Rattle.rules.specs.Lent.{before, after};
 ghost use Rattle.replay_batch.specs.Batch.{batch_reply, Batch};

@@ -1,4 +1,7 @@
 // One call of the list, on an undamaged heap.
+
+#![tactic(auto)]
+
 ghost use Rattle.rules.specs.Lent.{before, after, lent};
 ghost use Rattle.theory_memories.specs.Heaps.{Usable};
 ghost use Rattle.replay_call.specs.Dispatched.{Dispatched};

@@ -5,7 +5,7 @@ ghost use Rattle.replay_words.specs.Words.{words_at, with_reply};
 use types::Reply;
 
 // The four words of a call.
-#[derive(Drop)]
+#[derive(Clone, Copy)]
 pub struct Words {
     pub code: u64,
     pub x: u64,

@@ -1,4 +1,7 @@
 // The report of a recorded history: reads it from standard input, runs it on a new heap, and prints its line to standard output.
+
+#![tactic(auto)]
+
 mod output;
 mod run;
 

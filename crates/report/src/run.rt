@@ -13,7 +13,7 @@ use types::Ref;
 const PIECE: usize = 87381 * RECORD;
 
 // What came of the input: the run at its end; a read that failed; a heap that was refused, which a formatted one never is.
-#[derive(Drop)]
+#[derive(Clone, Copy)]
 pub enum Outcome {
     Ran(Run),
     ReadFailed,
@@ -21,7 +21,7 @@ pub enum Outcome {
 }
 
 // What came of a piece: a run that goes on, or an outcome.
-#[derive(Drop)]
+#[derive(Clone, Copy)]
 pub enum PieceOutcome {
     GoesOn(Run),
     Ends(Outcome),

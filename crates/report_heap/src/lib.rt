@@ -1,4 +1,7 @@
 // The heap of a report, and the lengths of its buffers.
+
+#![tactic(auto)]
+
 ghost use Rattle.std.specs.Prelude.{◌≡◌};
 ghost use Rattle.rules.specs.Lent.{after};
 ghost use Rattle.report_heap.specs.Heap.{new_heap};

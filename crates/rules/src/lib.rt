@@ -1,1 +1,3 @@
 // The rules of document 01 are the definitions in specs/. There is no code here.
+
+#![tactic(auto)]

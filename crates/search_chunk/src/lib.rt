@@ -1,4 +1,7 @@
 // The search of the A-map for the lowest free chunk.
+
+#![tactic(auto)]
+
 ghost use Rattle.std.specs.Prelude.{◌≡◌, true, ℕ, ◌*◌, ◌%◌, ◌^◌, ◌≤◌, length};
 ghost use Rattle.rules.specs.Heap.{max_blocks};
 ghost use Rattle.search_walk.specs.Search.{Part, lowest_in, Search};
@@ -6,7 +9,7 @@ ghost use Rattle.search_walk.specs.Search.{Part, lowest_in, Search};
 use search_walk::is_judged_free;
 
 // What a search found: the first block of a chunk, or the end of the part searched, and how many blocks it looked at.
-#[derive(Drop)]
+#[derive(Clone, Copy)]
 pub struct Searched {
     pub at: usize,
     pub looks: usize,

@@ -1,4 +1,7 @@
 // The size of chunk that an object asks for.
+
+#![tactic(auto)]
+
 ghost use Rattle.std.specs.Prelude.{◌≡◌, ◌^◌, ◌≤◌};
 ghost use Rattle.rules.specs.Heap.{max_blocks, exponent};
 

@@ -1,5 +1,8 @@
 // The walk up the A-map that searches a free chunk: a chunk is judged from the length of the free stretch where it ends. Its laws are in
 // proofs/.
+
+#![tactic(auto)]
+
 ghost use Rattle.std.specs.Prelude.{◌≡◌, ℕ, ◌^◌};
 ghost use Rattle.search_walk.specs.Search.{judged_free};
 

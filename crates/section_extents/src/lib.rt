@@ -1,5 +1,8 @@
 // The extent of an object, written and cleared, with the figures of the sections it lies in made unknown: they are found anew at the end of
 // the call (`renew`).
+
+#![tactic(auto)]
+
 ghost use Rattle.std.specs.Prelude.{◌≡◌, true, ◌+◌, ◌-◌, ◌/◌, ◌<◌, ◌≤◌, length};
 ghost use Rattle.bitmap.specs.Bit.{set_bit, fill_bits};
 ghost use Rattle.rules.specs.Heap.{is_blocks, section_length, section_count};

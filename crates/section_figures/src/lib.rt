@@ -1,4 +1,7 @@
 // Sections of the heap (request U4): the size of the largest free chunk of each, read off the A-map.
+
+#![tactic(auto)]
+
 ghost use Rattle.std.specs.Prelude.{◌≡◌, true, ℕ, ◌+◌, ◌*◌, ◌/◌, ◌<◌, ◌≤◌, length, get_or, replicate};
 ghost use Rattle.rules.specs.Heap.{is_blocks, section_length, section_count};
 ghost use Rattle.rules.specs.Sections.{figure, figures, stale_figures};

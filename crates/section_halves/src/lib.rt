@@ -1,5 +1,8 @@
 // The largest free chunk of a chunk's blocks (request U4), read off the A-map: by recursion on the chunk's halves, down to one block, or to
 // 64 blocks at once, which are one word, or 256, which are four.
+
+#![tactic(auto)]
+
 ghost use Rattle.std.specs.Prelude.{◌≡◌, ℕ, ◌+◌, ◌*◌, ◌%◌, ◌^◌, ◌<◌, ◌≤◌, length};
 ghost use Rattle.rules.specs.Sections.{largest_free};
 ghost use Rattle.section_halves.specs.Figures.{of_halves};

@@ -1,5 +1,8 @@
 // The search for a free chunk by sections: "Allocation of at most a section's length goes to the lowest section whose figure suffices.
 // Longer ones search as before."
+
+#![tactic(auto)]
+
 ghost use Rattle.std.specs.Prelude.{◌≡◌, true, ℕ, ◌*◌, ◌^◌, ◌≤◌, length};
 ghost use Rattle.rules.specs.Heap.{is_blocks};
 ghost use Rattle.rules.specs.Sections.{figures, suffices_from};

@@ -1,4 +1,7 @@
 // The figure of 64 blocks, found in one word: block n of them is its bit n; and that of 256, in four.
+
+#![tactic(auto)]
+
 ghost use Rattle.std.specs.Prelude.{◌≡◌, true, false, ◌≢◌, List, ℕ, suc, ◌+◌, ◌*◌, ◌^◌, ◌<◌, ◌≤◌, length};
 ghost use Rattle.rules.specs.Sections.{largest_free};
 ghost use Rattle.section_words.specs.Words.{Digits, Starts, FreeChunks, FourChunks, NoneOfFour};
@@ -118,7 +121,7 @@ pub fn figure(used: u64) -> usize
 }
 
 // Four words, of 256 blocks one behind the other.
-#[derive(Drop)]
+#[derive(Clone, Copy)]
 pub struct Four {
     pub first: u64,
     pub second: u64,

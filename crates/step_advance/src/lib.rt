@@ -1,5 +1,8 @@
 // The steps of a collection (request U8). The lowest listed object is looked for from a bound on, below which
 // none is listed, by flags of 256 blocks each: a step looks at N/256 flags, 32 bytes and 8 bits at most.
+
+#![tactic(auto)]
+
 ghost use Rattle.std.specs.Prelude.{◌≡◌, ◌+◌, ◌-◌, ◌*◌, ◌/◌, ◌<◌, ◌≤◌, eqb, leb, ltb, length, ◌&&◌};
 ghost use Rattle.rules.specs.Heap.{max_blocks};
 ghost use Rattle.rules_steps.specs.Steps.{closes};
@@ -210,7 +213,7 @@ fn is_done(blocks: usize, budget: usize, first: usize) -> bool
 }
 
 // What a call's steps come to: how many were taken, and whether the collection is to be closed.
-#[derive(Drop)]
+#[derive(Clone, Copy)]
 pub struct Moves {
     pub steps: usize,
     pub done: bool,

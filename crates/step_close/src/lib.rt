@@ -1,5 +1,8 @@
 // The close of a collection in small steps (request U8): unmarked objects are freed, and the survivors that
 // they named counted down.
+
+#![tactic(auto)]
+
 ghost use Rattle.std.specs.Prelude.{◌≡◌, false, [], ◌+◌, ◌*◌, ◌/◌, ◌<◌, ◌≤◌, length, replicate};
 ghost use Rattle.bitmap.specs.Bit.{set_bit};
 ghost use Rattle.rules.specs.Heap.{max_blocks};
@@ -115,7 +118,7 @@ fn drop_doomed(
 }
 
 // Where the pass stands: the stack's height, and the blocks freed.
-#[derive(Drop)]
+#[derive(Clone, Copy)]
 struct Pass {
     top: usize,
     freed: usize,

@@ -1,5 +1,8 @@
 // The mark map and the second list of a collection in small steps (request U8): sets of blocks as bits, and
 // as 1 + each block, rising.
+
+#![tactic(auto)]
+
 ghost use Rattle.std.specs.Prelude.{◌≡◌, true, not, ◌&&◌, ◌||◌, ℕ, ◌+◌, ◌*◌, ◌/◌, ◌<◌, ◌≤◌, length, get_or};
 ghost use Rattle.rules.specs.Heap.{max_blocks};
 ghost use Rattle.rules_steps.specs.Steps.{list_of};

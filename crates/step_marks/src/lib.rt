@@ -1,5 +1,8 @@
 // Marks written while a collection in small steps is open (request U8): of a reference, of what the cells of
 // an object name, and of an object that is freed.
+
+#![tactic(auto)]
+
 ghost use Rattle.std.specs.Prelude.{◌≡◌, ◌+◌, ◌*◌, ◌<◌, ◌≤◌, length};
 ghost use Rattle.bitmap.specs.Bit.{set_bit};
 ghost use Rattle.step_marks.specs.Marks.{mark_one, mark_named, freed_marks, mark_touched};

@@ -1,5 +1,8 @@
 // Letting go in a store: while a collection in small steps is open, what the store touches and what freed cells named is marked and
 // listed, and what is freed leaves map and list.
+
+#![tactic(auto)]
+
 ghost use Rattle.std.specs.Prelude.{[]};
 ghost use Rattle.rules.specs.Heap.{lent_memory};
 ghost use Rattle.count_up.specs.Ready.{Ready};

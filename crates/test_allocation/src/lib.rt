@@ -1,4 +1,7 @@
 // The tests of an allocation, which end with the search for a place. Nothing here writes.
+
+#![tactic(auto)]
+
 ghost use Rattle.std.specs.Prelude.{◌≡◌, true, ◌*◌, ◌≤◌, length};
 ghost use Rattle.rules.specs.Heap.{is_blocks, exponent};
 ghost use Rattle.rules.specs.Sections.{figures};

@@ -1,5 +1,8 @@
 // The gates of the calls that write: all tests of a call, those of the heap and those of its own arguments, on shared slices. A gate can't
 // write, and a call that is refused has done nothing but pass its gate.
+
+#![tactic(auto)]
+
 ghost use Rattle.std.specs.Prelude.{[], ℕ, length};
 ghost use Rattle.rules.specs.Heap.{memory, lent_memory};
 ghost use Rattle.rules.specs.Lent.{before};

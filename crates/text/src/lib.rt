@@ -1,4 +1,7 @@
 // Texts in a lent buffer: fixed byte strings and decimal numbers, one behind the other.
+
+#![tactic(auto)]
+
 ghost use Rattle.std.specs.Prelude.{◌+◌, ◌≤◌, length};
 ghost use Rattle.text.specs.Text.{decimal, Put};
 

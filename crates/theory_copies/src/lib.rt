@@ -1,1 +1,3 @@
 // Mathematics alone: the copy into a second heap.
+
+#![tactic(auto)]

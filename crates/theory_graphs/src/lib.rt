@@ -1,1 +1,3 @@
 // Mathematics alone: the object graph, and what its machine keeps.
+
+#![tactic(auto)]

@@ -1,1 +1,3 @@
 // Mathematics alone: what holds of heaps, whatever call is made.
+
+#![tactic(auto)]

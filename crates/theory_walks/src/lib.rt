@@ -1,1 +1,3 @@
 // Mathematics alone: the walk over what the roots lead to, and the sentence.
+
+#![tactic(auto)]

@@ -1,4 +1,7 @@
 // What rules and code share: references, the bounds of a heap, the capacity of a count, and the reply of a call.
+
+#![tactic(auto)]
+
 ghost use Rattle.std.specs.Prelude.{◌≡◌, ◌-◌, ◌^◌, ◌≤◌, ◌<◌};
 ghost use Rattle.bitmap.specs.Bit.{one};
 
@@ -32,7 +35,7 @@ pub fn capacity_of(width: usize) -> u8
 // call brought a count to the capacity (request U5), else 0. Of a call that takes steps it is the blocks freed (request U8). In every other
 // reply it is 0. It is laid out as in C, so that the exported calls hand it on as it is.
 #[repr(C)]
-#[derive(Drop)]
+#[derive(Clone, Copy)]
 pub struct Reply {
     pub number: usize,
     pub value: usize,
@@ -41,7 +44,7 @@ pub struct Reply {
 
 // What came of a call on an undamaged heap, accepted or refused: the number and the value of its reply, the blocks that it freed, and whether
 // it brought a count to the capacity. Code that works answers this, and who asked builds the reply.
-#[derive(Drop)]
+#[derive(Clone, Copy)]
 pub struct Outcome {
     pub number: usize,
     pub value: usize,

@@ -2,6 +2,9 @@
 // references in the order of their numbers, `numbers` at place b the number of the object at block b, or 0;
 // `owners` has at place n - 1 the number of the object in whose cell object n was first met, 0 for a root, and
 // `vias` that cell or root.
+
+#![tactic(auto)]
+
 ghost use Rattle.std.specs.Prelude.{◌≡◌, ℕ, ◌+◌, ◌*◌, ◌≤◌, ◌<◌, [], length, get_or, take};
 ghost use Rattle.rules.specs.Heap.{max_blocks};
 ghost use Rattle.rules_output.specs.Walk.{followed};

@@ -1,4 +1,7 @@
 // Reading a sentence of request U11 back: fixed byte strings and numbers of 32 bits.
+
+#![tactic(auto)]
+
 ghost use Rattle.std.specs.Prelude.{◌≡◌, ◌+◌, ◌≤◌, ◌<◌, length, drop};
 ghost use Rattle.rules_output.specs.Sentence.{behind, ended};
 ghost use Rattle.text.specs.Text.{Put};
@@ -7,7 +10,7 @@ ghost use Rattle.walk_reader.specs.Reader.{small_back, reading, reading_of, cell
 // What a text says: kind 0 is no sentence, 1 a chain, 2 that no root reaches the block, 3 a chain of more links
 // than there was room for. A chain has its root, how many links were followed, and the block.
 #[repr(C)]
-#[derive(Drop)]
+#[derive(Clone, Copy)]
 pub struct Reading {
     pub kind: usize,
     pub root: usize,
@@ -16,7 +19,7 @@ pub struct Reading {
 }
 
 // A number that was found or not, its value, and the place behind it.
-#[derive(Drop)]
+#[derive(Clone, Copy)]
 struct Number {
     found: bool,
     value: usize,
@@ -24,7 +27,7 @@ struct Number {
 }
 
 // The end of a chain's sentence, found or not: how many links, and the block.
-#[derive(Drop)]
+#[derive(Clone, Copy)]
 struct Rest {
     found: bool,
     links: usize,

@@ -1,5 +1,8 @@
 // The call of request U11: the sentence that gives the reason why an object is kept. The arrays of the walk are the shortest of three that
 // have a place for each block, since they are cleared in every call.
+
+#![tactic(auto)]
+
 ghost use Rattle.std.specs.Prelude.{◌≡◌, ◌++◌, ◌+◌, ◌/◌, ◌≤◌, ◌<◌, length};
 ghost use Rattle.rules.specs.Heap.{max_blocks};
 ghost use Rattle.rules.specs.Lent.{before, after, lent};

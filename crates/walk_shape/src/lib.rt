@@ -1,5 +1,8 @@
 // The call of request U13: the heap as a list of numbers, from the arrays of the walk. These are the shortest of three that have a place for
 // each block, since they are cleared in every call.
+
+#![tactic(auto)]
+
 ghost use Rattle.std.specs.Prelude.{◌≡◌, false, map, ℕ, ◌+◌, ◌-◌, ◌*◌, ◌/◌, ◌≤◌, ◌<◌, length, get_or};
 ghost use Rattle.rules.specs.Heap.{max_blocks, size_from, is_data};
 ghost use Rattle.rules.specs.Lent.{before, after, lent};

@@ -1,5 +1,8 @@
 // Widens an old history, of eight-byte records: reads it from standard input and writes it in the form of today to standard output. It
 // judges nothing: whatever the bytes are, whole records are widened, and a tail is copied.
+
+#![tactic(auto)]
+
 mod pieces;
 
 fn main() {

@@ -1,5 +1,8 @@
 // The allocation on an undamaged heap with a cleared waiting list, which it leaves cleared: the whole work of the call, at the place that its
 // search found.
+
+#![tactic(auto)]
+
 ghost use Rattle.std.specs.Prelude.{◌≡◌, length};
 ghost use Rattle.rules.specs.Lent.{before, after, lent};
 ghost use Rattle.rules_calls.specs.Calls.{allocate_as, reply};

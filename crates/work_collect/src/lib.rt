@@ -1,5 +1,8 @@
 // The full collection on an undamaged heap with a cleared waiting list, which it leaves cleared, and with no collection in small steps
 // open: all is counted anew from the roots, and what is left at 0 is freed.
+
+#![tactic(auto)]
+
 ghost use Rattle.std.specs.Prelude.{◌≡◌, false};
 ghost use Rattle.rules.specs.Lent.{before, after, lent};
 ghost use Rattle.rules_steps.specs.Steps.{is_open};

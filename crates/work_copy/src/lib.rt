@@ -1,5 +1,8 @@
 // The work of a copy into a second heap (request U14): the first heap is known to be undamaged with no collection open, and the second to
 // have the right shape and as many roots. It is written only where each object has its place: 17 changes nothing.
+
+#![tactic(auto)]
+
 ghost use Rattle.std.specs.Prelude.{◌≡◌, true, false, ◌*◌, ◌≤◌, length};
 ghost use Rattle.rules.specs.Heap.{is_blocks, section_count, shaped};
 ghost use Rattle.rules.specs.Sections.{figures};

@@ -1,4 +1,7 @@
 // The writing of an empty heap over whatever the buffers held: what format does once its shape is tested, and what a run of calls starts from.
+
+#![tactic(auto)]
+
 ghost use Rattle.std.specs.Prelude.{◌≡◌, true};
 ghost use Rattle.rules.specs.Heap.{shaped};
 ghost use Rattle.rules.specs.Lent.{before, after, lent};

@@ -1,4 +1,7 @@
 // The write of a number into a cell of data (request U6): the whole work of the call, once its test is passed. It is lent the cells alone.
+
+#![tactic(auto)]
+
 ghost use Rattle.std.specs.Prelude.{◌+◌, ◌*◌, ◌<◌, ◌≤◌, length};
 ghost use Rattle.rules.specs.Heap.{max_blocks};
 ghost use Rattle.work_number.specs.Written.{Written};

@@ -1,5 +1,8 @@
 // The opening of a collection in small steps (request U8): the whole work of the call, once its tests are
 // passed. It is lent the roots, and the mark map and the second list, which alone it writes.
+
+#![tactic(auto)]
+
 ghost use Rattle.std.specs.Prelude.{◌≡◌, ◌+◌, ◌*◌, ◌/◌, ◌≤◌, length};
 ghost use Rattle.rules.specs.Heap.{max_blocks};
 ghost use Rattle.work_open.specs.Opened.{Opened};

@@ -1,5 +1,8 @@
 // The making of an object: its blocks, its count, its cells, its kind and, while a collection is open, its mark. The figures of sections
 // that it lies in are left unknown.
+
+#![tactic(auto)]
+
 ghost use Rattle.std.specs.Prelude.{◌≡◌, [], ◌+◌, ◌*◌, ◌/◌, ◌<◌, ◌≤◌, length};
 ghost use Rattle.bitmap.specs.Bit.{one, set_bit};
 ghost use Rattle.rules_stores.specs.Store.{placed};

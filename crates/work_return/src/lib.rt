@@ -1,5 +1,8 @@
 // The return of a set of roots (request U10) on a heap that is known to be undamaged, with a cleared waiting list and a true list of sections:
 // its work, and its test with it. Bit r of `chosen` says whether root r is one of the set.
+
+#![tactic(auto)]
+
 ghost use Rattle.std.specs.Prelude.{◌≡◌, ◌<◌, length};
 ghost use Rattle.rules.specs.Lent.{before, after, lent};
 ghost use Rattle.rules_calls.specs.Calls.{Call};

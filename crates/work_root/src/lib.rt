@@ -1,5 +1,8 @@
 // The store in a root on an undamaged heap with a cleared waiting list, which it leaves cleared: the whole work of the call, once its test is
 // passed.
+
+#![tactic(auto)]
+
 ghost use Rattle.std.specs.Prelude.{◌≡◌};
 ghost use Rattle.rules.specs.Lent.{before, after, lent};
 ghost use Rattle.rules_calls.specs.Calls.{Call};

@@ -1,5 +1,8 @@
 // Steps of a collection (request U8) on an undamaged heap with a cleared waiting list: the whole act, the
 // close included.
+
+#![tactic(auto)]
+
 ghost use Rattle.std.specs.Prelude.{◌≡◌, true};
 ghost use Rattle.rules.specs.Lent.{before, after, lent};
 ghost use Rattle.rules_calls.specs.Calls.{Call};

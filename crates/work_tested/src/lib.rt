@@ -1,4 +1,7 @@
 // The calls that write, on an undamaged heap with a cleared waiting list: their tests, and their work where these pass.
+
+#![tactic(auto)]
+
 ghost use Rattle.rules.specs.Lent.{before, after, lent};
 ghost use Rattle.rules_calls.specs.Calls.{Call, allocate_as};
 ghost use Rattle.theory_memories.specs.Heaps.{Usable};
