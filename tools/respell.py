@@ -14,7 +14,7 @@ from collections import defaultdict
 
 WORD = r"A-Za-z0-9_'₀-₉"
 NAME = re.compile(rf"(?<![{WORD}-])[A-Za-z_][{WORD}]*(?:-[{WORD}]+)*(?![{WORD}-])")
-DECLARED = re.compile(rf"^(?P<indent>\s*)(?:(?:abbrev|unfoldable|pub|data|record)\s+)*(?P<names>[a-z][{WORD}-]*(?:\s+[a-z][{WORD}-]*)*)\s*:(?=\s)", re.M)
+DECLARED = re.compile(rf"^(?P<indent>[ \t]*)(?:(?:abbrev|unfoldable|pub|data|record)\s+)*(?P<names>[a-z][{WORD}-]*(?:\s+[a-z][{WORD}-]*)*)\s*:(?=\s)", re.M)
 IMPORT = re.compile(r"^\s*(?:pub )?(?:ghost )?use ([^\s{;]+?)\.?\{([^}]*)\}", re.M | re.S)
 
 
@@ -28,6 +28,7 @@ MOVED = {
     "map_of": "map_of_lem",
     "none_is": "none_is_lem",
     "read_back": "reads_itself_back",
+    "read_number": "read_number_lem",
     "same_memory": "same_memory_lem",
 }
 
@@ -72,7 +73,7 @@ def declared(root):
         text = re.sub(r"^\s*--.*$", "", text, flags=re.M)
         for found in DECLARED.finditer(text):
             # a declaration at the margin, in a section, or a field or a constructor of a type
-            if len(found["indent"]) > 4:
+            if len(found["indent"]) > 8:
                 continue
             for name in found["names"].split():
                 names[name].add(path)
@@ -85,7 +86,7 @@ def main():
     turned = {name: snake(name) for name in names if snake(name) != name}
     own = set(names)
     # a lemma that would have the name of a definition here, or of a word of std that its file imports, gets `_lem`
-    words = {"bit_and"} | {new for name, new in turned.items() if "-" not in name} | {name for name in own if "-" not in name and name not in turned}
+    words = {"bit_and", "cell_read"} | {new for name, new in turned.items() if "-" not in name} | {name for name in own if "-" not in name and name not in turned}
     turned |= {name: new + "_lem" for name, new in turned.items() if "-" in name and new in words}
     moved = {name: new for name, new in MOVED.items() if name in own}
     for path in files(root, (".antt", ".rt", ".edit")):

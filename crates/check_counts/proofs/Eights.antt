@@ -201,9 +201,9 @@ module _ (first bytes width : ℕ) (counts at : List ℕ) (k some : ℕ) (first-
 
   module _ (same : some ≡ first) where
     -- none starts, and no count is another than 0
-    pub eight-free : first ≡ 0 → some_below (off_in first bytes width counts at k) 8 ≡ false
+    pub eight_free : first ≡ 0 → some_below (off_in first bytes width counts at k) 8 ≡ false
     unfolding off_in
-    eight-free none =
+    eight_free none =
         false_some (off_in first bytes width counts at k) 8
         (λ s l.
         let zero_bit : bit_of first s ≡ 0 = ap (λ (x : ℕ). bit_of x s) none ∙ bit_zero s in
@@ -238,17 +238,17 @@ module _ (first bytes width : ℕ) (counts at : List ℕ) (k some : ℕ) (first-
           let most : 2 ^ width ≤ 2 ^ 4 = pow_mono wide in
           omega (arith, count_lt bytes width counts (8 * k + s))
 
-      lane-small : (t : ℕ → ℕ) → ((s : ℕ) → s < 8 → t s < 256) → (s : ℕ) → s < 8 → t s * bit_of these s < 256
-      lane-small t h s l =
+      lane_small : (t : ℕ → ℕ) → ((s : ℕ) → s < 8 → t s < 256) → (s : ℕ) → s < 8 → t s * bit_of these s < 256
+      lane_small t h s l =
           each_bit (λ (m : ℕ). t s * m < 256) (omega arith) (omega (arith, h s l)) (bit_of these s) (bit_lt these s)
 
-      pub eight-held : not (eqb (bit_and (pack tally 8) (pack (λ s. bit_of these s * 255) 8)) (bit_and (pack count 8) (pack (λ s. bit_of these s * 255) 8)))
+      pub eight_held : not (eqb (bit_and (pack tally 8) (pack (λ s. bit_of these s * 255) 8)) (bit_and (pack count 8) (pack (λ s. bit_of these s * 255) 8)))
           ≡ some_below (off_in first bytes width counts at k) 8
-      eight-held = rw (masked tally these small, masked count these count_small) (elim (ℕ_discrete (pack left 8) (pack right 8)) [
+      eight_held = rw (masked tally these small, masked count these count_small) (elim (ℕ_discrete (pack left 8) (pack right 8)) [
         | yes e ↦
             ap not (eq-eqb (pack left 8) (pack right 8) e)
             ∙ sym (false_some (off_in first bytes width counts at k) 8
-            (λ s l. off_at s l ∙ ap not (eq-eqb (left s) (right s) (pack_each left right 8 (lane-small tally small) (lane-small count count_small) e s l))))
+            (λ s l. off_at s l ∙ ap not (eq-eqb (left s) (right s) (pack_each left right 8 (lane_small tally small) (lane_small count count_small) e s l))))
         | no n ↦
             let found = pack_apart left right 8 n in
             ap not (ne_eqb (pack left 8) (pack right 8) n)

@@ -127,9 +127,9 @@ module _ (N : ℕ) (h : Memory) where
         ((or_false free (ltb N v) fails).0, wild_within N free v fails)
 
     -- a bad cell is read as none, of at most N
-    bad-names : (j : ℕ) → j < 4 * N → bad_cell N h j ≡ true → (cell j ≢ 0) × (cell j ≤ N) × (first_in N h.a h.b (cell j - 1) ≡ false)
+    bad_names : (j : ℕ) → j < 4 * N → bad_cell N h j ≡ true → (cell j ≢ 0) × (cell j ≤ N) × (first_in N h.a h.b (cell j - 1) ≡ false)
     unfolding bad_cell
-    bad-names j l e = elim (or_true (is_free h.a (j / 4) && not (eqb (get_or h.cells j 0) 0)) (not (ref_in N h.a h.b (cell j))) e) [
+    bad_names j l e = elim (or_true (is_free h.a (j / 4) && not (eqb (get_or h.cells j 0) 0)) (not (ref_in N h.a h.b (cell j))) e) [
       | inl p ↦
           let parts = and_true (is_free h.a (j / 4)) (not (eqb (get_or h.cells j 0) 0)) p in
           let holds = read_free N h.a h.b h.d h.cells j (eqb-true (bit_at h.a (j / 4)) 0 parts.0) in
@@ -141,10 +141,10 @@ module _ (N : ℕ) (h : Memory) where
           (other.0, (tame (is_free h.a (j / 4)) (cell j) (some_false wild_cell_of (4 * N) tame-cells j l) other.0).1, other.1)
     ]
 
-    bad-root-names : (r : ℕ) → r < length h.roots → bad_root N h r ≡ true
+    bad_root_names : (r : ℕ) → r < length h.roots → bad_root N h r ≡ true
         → (root r ≢ 0) × (root r ≤ N) × (first_in N h.a h.b (root r - 1) ≡ false)
     unfolding bad_root
-    bad-root-names r l e =
+    bad_root_names r l e =
         let other = other_ref N h.a h.b (root r) (not-true (ref_in N h.a h.b (root r)) e) in
         (other.0, (tame false (root r) (some_false wild_root_of (length h.roots) tame-roots r l) other.0).1, other.1)
 
@@ -153,9 +153,9 @@ module _ (N : ℕ) (h : Memory) where
       stray = stray_tally N h.a h.b at
 
       -- a place that a bad reference names
-      stray-there : (v : ℕ) → v ≢ 0 → v ≤ N → first_in N h.a h.b (v - 1) ≡ false → 1 ≤ references N h (v - 1)
+      stray_there : (v : ℕ) → v ≢ 0 → v ≤ N → first_in N h.a h.b (v - 1) ≡ false → 1 ≤ references N h (v - 1)
           → some_below stray N ≡ true
-      stray-there v some most other named =
+      stray_there v some most other named =
           true_some stray N (v - 1) (omega arith)
           (true_and (not (first_in N h.a h.b (v - 1))) (not (eqb (get_or at (v - 1) 0) 0)) (ap not other)
           (ap not (ne_eqb (get_or at (v - 1) 0) 0 (λ z. omega (arith, z, tallied (v - 1) (omega arith))))))
@@ -164,10 +164,10 @@ module _ (N : ℕ) (h : Memory) where
       names v some = eq-eqb v (v - 1 + 1) (omega arith)
 
       -- .. and the other way: what names a place where no object starts is bad
-      stray-bad : (i : ℕ) → i < N → stray i ≡ true
+      stray_bad : (i : ℕ) → i < N → stray i ≡ true
           → (some_below (bad_cell N h) (4 * N) ≡ true) ⊎ (some_below (bad_root N h) (length h.roots) ≡ true)
       unfolding holding
-      stray-bad i l e =
+      stray_bad i l e =
           let parts = and_true (not (first_in N h.a h.b i)) (not (eqb (get_or at i 0) 0)) e in
           let other = not-true (first_in N h.a h.b i) parts.0 in
           let some = eqb-false (get_or at i 0) 0 (not-true (eqb (get_or at i 0) 0) parts.1) in
@@ -187,12 +187,12 @@ module _ (N : ℕ) (h : Memory) where
               ref_other N h.a h.b v (λ z. omega arith) (ap (first_in N h.a h.b) back ∙ other)
 
       -- kind 4
-      pub late-four : some_below stray N ≡ (some_below (bad_cell N h) (4 * N) || some_below (bad_root N h) (length h.roots))
+      pub late_four : some_below stray N ≡ (some_below (bad_cell N h) (4 * N) || some_below (bad_root N h) (length h.roots))
       unfolding holding
-      late-four = elim (test_cases_lem (some_below stray N)) [
+      late_four = elim (test_cases_lem (some_below stray N)) [
         | inl e ↦
             let found = some_true stray N e in
-            e ∙ sym (true_or (some_below (bad_cell N h) (4 * N)) (some_below (bad_root N h) (length h.roots)) (stray-bad found.0 found.1 found.2))
+            e ∙ sym (true_or (some_below (bad_cell N h) (4 * N)) (some_below (bad_root N h) (length h.roots)) (stray_bad found.0 found.1 found.2))
         | inr e ↦
             e
             ∙ sym (false_unless (some_below (bad_cell N h) (4 * N) || some_below (bad_root N h) (length h.roots))
@@ -203,14 +203,14 @@ module _ (N : ℕ) (h : Memory) where
           shown (inl p) =
               let found = some_true (bad_cell N h) (4 * N) p in
               let j : ℕ = found.0 in
-              let bad = bad-names j found.1 found.2 in
-              stray-there (cell j) bad.0 bad.1 bad.2
+              let bad = bad_names j found.1 found.2 in
+              stray_there (cell j) bad.0 bad.1 bad.2
               (omega (arith, found_count (λ i. eqb (cell i) (cell j - 1 + 1)) (4 * N) j found.1 (names (cell j) bad.0)))
           shown (inr p) =
               let found = some_true (bad_root N h) (length h.roots) p in
               let r : ℕ = found.0 in
-              let bad = bad-root-names r found.1 found.2 in
-              stray-there (root r) bad.0 bad.1 bad.2
+              let bad = bad_root_names r found.1 found.2 in
+              stray_there (root r) bad.0 bad.1 bad.2
               (omega (arith, found_count (λ i. eqb (root i) (root r - 1 + 1)) (length h.roots) r found.1 (names (root r) bad.0)))
 
   -- ---- kind 5
@@ -221,24 +221,24 @@ module _ (N : ℕ) (h : Memory) where
     held_same true c t r e = ap (λ (x : Bool). eqb c 0 || (ltb c (capacity w) && not x)) e
     held_same false c t r e = refl
 
-    bad-is : (i : ℕ) → count_off (is_first N h i) w (count_of N w h i) (references N h i) ≡ bad_count N w h i
+    bad_is : (i : ℕ) → count_off (is_first N h i) w (count_of N w h i) (references N h i) ≡ bad_count N w h i
     unfolding bad_count count_off
-    bad-is i = refl
+    bad_is i = refl
 
-    off-same : (i : ℕ) → i < N → off_tally N w h.a h.b h.counts at i ≡ bad_count N w h i
-    off-same i l =
+    off_same : (i : ℕ) → i < N → off_tally N w h.a h.b h.counts at i ≡ bad_count N w h i
+    off_same i l =
         let c : ℕ = count_of N w h i in
         let most : 2 ^ w ≤ 2 ^ 4 = pow_mono wide in
         let less : c < 2 ^ w = count_lt (N / 8) w h.counts i in
         held_same (is_first N h i) c (get_or at i 0) (references N h i)
         (same_test c (get_or at i 0) c (references N h i) (λ e. omega (arith, tallied i l)) (λ e. omega (arith, tallied i l)))
-        ∙ bad-is i
+        ∙ bad_is i
 
-    pub late-five : some_below (off_tally N w h.a h.b h.counts at) N ≡ some_below (bad_count N w h) N
-    late-five = elim (test_cases_lem (some_below (bad_count N w h) N)) [
+    pub late_five : some_below (off_tally N w h.a h.b h.counts at) N ≡ some_below (bad_count N w h) N
+    late_five = elim (test_cases_lem (some_below (bad_count N w h) N)) [
       | inl e ↦
           let found = some_true (bad_count N w h) N e in
-          true_some (off_tally N w h.a h.b h.counts at) N found.0 found.1 (off-same found.0 found.1 ∙ found.2) ∙ sym e
+          true_some (off_tally N w h.a h.b h.counts at) N found.0 found.1 (off_same found.0 found.1 ∙ found.2) ∙ sym e
       | inr e ↦
-          false_some (off_tally N w h.a h.b h.counts at) N (λ i l. off-same i l ∙ some_false (bad_count N w h) N e i l) ∙ sym e
+          false_some (off_tally N w h.a h.b h.counts at) N (λ i l. off_same i l ∙ some_false (bad_count N w h) N e i l) ∙ sym e
     ]

@@ -90,10 +90,10 @@ module _ {N : ℕ} {list : List ℕ} where
         }
 
     module _ (l : k < N) where
-      pub reading-next : before < get_or list k 0 → get_or list k 0 ≤ N → N ≤ 8 * length map → {after : List ℕ}
+      pub reading_next : before < get_or list k 0 → get_or list k 0 ≤ N → N ≤ 8 * length map → {after : List ℕ}
           → after ≡ set_bit map (get_or list k 0 - 1) 1 → Reading N list (get_or list k 0) (k + 1) after
       unfolding bad_next
-      reading-next up most long e =
+      reading_next up most long e =
           let v : ℕ = get_or list k 0 in
           let named : v ≢ 0 = λ z. omega arith in
           record {
@@ -118,9 +118,9 @@ module _ {N : ℕ} {list : List ℕ} where
           }
 
       -- the two ways out for a number that may not stand there
-      pub reading-falls : get_or list k 0 ≢ 0 → get_or list k 0 ≤ before → Read N list map false
+      pub reading_falls : get_or list k 0 ≢ 0 → get_or list k 0 ≤ before → Read N list map false
       unfolding bad_next
-      reading-falls n down =
+      reading_falls n down =
           let place : k ≢ 0 = λ z. n (omega (arith, g.first z)) in
           let next : k - 1 + 1 ≡ k = elim (dec_lt 0 k) [ yes u ↦ omega arith | no u ↦ absurd (place (omega arith)) ] in
           let here : get_or list (k - 1 + 1) 0 ≡ get_or list k 0 = ap (λ (m : ℕ). get_or list m 0) next in
@@ -133,8 +133,8 @@ module _ {N : ℕ} {list : List ℕ} where
                 (bad_falls (get_or list (k - 1) 0) (get_or list (k - 1 + 1) 0) (λ z. n (sym here ∙ z)) (omega (arith, here, g.last (k - 1) next))));
           }
 
-      pub reading-past : N < get_or list k 0 → Read N list map false
-      reading-past past = record {
+      pub reading_past : N < get_or list k 0 → Read N list map false
+      reading_past past = record {
         rises = λ e. absurd (false≢true e);
         low = λ e. absurd (false≢true e);
         shown = λ e. absurd (false≢true e);
@@ -142,10 +142,10 @@ module _ {N : ℕ} {list : List ℕ} where
       }
 
       -- at a 0: whether all numbers from there on are 0
-      pub reading-ends : get_or list k 0 ≡ 0 → {t : Bool} → t ≡ some_below (λ j. not (eqb (get_or list (k + j) 0) 0)) (N - k)
+      pub reading_ends : get_or list k 0 ≡ 0 → {t : Bool} → t ≡ some_below (λ j. not (eqb (get_or list (k + j) 0) 0)) (N - k)
           → Read N list map (not t)
       unfolding bad_next listed_in
-      reading-ends z {t} e = record {
+      reading_ends z {t} e = record {
         rises = λ f j u. elim (dec_lt (j + 1) k) [
           | yes s ↦ g.rises j s
           | no s ↦ bad_none (get_or list j 0) (get_or list (j + 1) 0) (zeros f (j + 1) (omega arith) (omega arith))

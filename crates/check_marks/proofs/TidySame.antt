@@ -160,9 +160,9 @@ module _ {N w : ℕ} (h : Memory) (intact : Intact N w h) (opened : get_or h.lis
         (not-true (is_set h.marks found.0) parts.1)))
 
     module _ (none : false ≡ some_below (stray_data N (lent_memory h.a h.b [] [] [] [] [] h.marks [] [])) N) where
-      on-first : (i : ℕ) → i < N → is_set h.marks i ≡ true → is_first N h i ≡ true
+      on_first : (i : ℕ) → i < N → is_set h.marks i ≡ true → is_first N h i ≡ true
       unfolding stray_mark
-      on-first i l e =
+      on_first i l e =
           not-false (is_first N h i)
           (and_false (is_set h.marks i) (not (is_first N h i))
           (some_false (stray_mark_in N h.a h.b h.marks) N (sym (none ∙ stray_same)) i l) e)
@@ -177,14 +177,14 @@ module _ {N w : ℕ} (h : Memory) (intact : Intact N w h) (opened : get_or h.lis
             not-false (is_set h.marks i)
             (and_false (is_set map i) (not (is_set h.marks i))
             (some_false (λ i. is_set map i && not (is_set h.marks i)) N (sym all) i l) ((r.shown refl).bits i l ∙ on)) in
-            (on-first i l marked, marked)))
+            (on_first i l marked, marked)))
 
-        pub missed-root : true ≡ test_4 → true ≡ is_untidy N h
-        missed-root e = untidy_4 risen placed (none ∙ stray_same) e
+        pub missed_root : true ≡ test_4 → true ≡ is_untidy N h
+        missed_root e = untidy_4 risen placed (none ∙ stray_same) e
 
-        pub missed-cell : false ≡ test_4 → {t : Bool} → t ≡ some_below (missed_apart N h.b h.d h.cells h.marks map) N → t ≡ is_untidy N h
-        missed-cell e {t} f =
+        pub missed_cell : false ≡ test_4 → {t : Bool} → t ≡ some_below (missed_apart N h.b h.d h.cells h.marks map) N → t ≡ is_untidy N h
+        missed_cell e {t} f =
             untidy_5 risen placed (none ∙ stray_same) e
             (f ∙ some_same (missed_apart N h.b h.d h.cells h.marks map)
             (cell_missed_in N h.a h.b h.d h.cells h.marks h.list) N
-            (λ x l. apart_same N h.b h.d h.cells h.marks h.a h.list map x ((r.shown refl).bits x l) (on-first x l)))
+            (λ x l. apart_same N h.b h.d h.cells h.marks h.a h.list map x ((r.shown refl).bits x l) (on_first x l)))

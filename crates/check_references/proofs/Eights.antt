@@ -96,8 +96,8 @@ module _ (N : ℕ) (a b d : List ℕ) (k : ℕ) (inside : 8 * (k + 1) ≤ N) whe
     own : (j : ℕ) → j < 32 → (32 * k + j) / 4 ≡ 8 * k + j / 4
     own j l = omega arith
 
-    pub eight-read : (j : ℕ) → j < 32 → ref_at N a b d cells (32 * k + j) ≡ read_in made cells k j
-    eight-read j l = elim (ℕ_discrete (bit_of made (j / 4)) 0) [
+    pub eight_read : (j : ℕ) → j < 32 → ref_at N a b d cells (32 * k + j) ≡ read_in made cells k j
+    eight_read j l = elim (ℕ_discrete (bit_of made (j / 4)) 0) [
       | yes e ↦
           read_other N a b d cells (32 * k + j)
           (ap (in_data N a b d) (own j l) ∙ h (j / 4) (omega arith) ∙ ap not (eq-eqb (bit_of made (j / 4)) 0 e))
@@ -108,8 +108,8 @@ module _ (N : ℕ) (a b d : List ℕ) (k : ℕ) (inside : 8 * (k + 1) ≤ N) whe
           ∙ sym (read_made made cells k j n)
     ]
 
-    pub eight-wild : (j : ℕ) → j < 32 → wild_cell N a b d cells (32 * k + j) ≡ wild_in N (get_or a k 0) made cells k j
-    eight-wild j l =
+    pub eight_wild : (j : ℕ) → j < 32 → wild_cell N a b d cells (32 * k + j) ≡ wild_in N (get_or a k 0) made cells k j
+    eight_wild j l =
         ap (λ (x : ℕ). wild N (eqb x 0) (ref_at N a b d cells (32 * k + j)))
         (ap (bit_at a) (own j l) ∙ bit_of_byte a k (j / 4) (omega arith))
-        ∙ ap (wild N (eqb (bit_of (get_or a k 0) (j / 4)) 0)) (eight-read j l)
+        ∙ ap (wild N (eqb (bit_of (get_or a k 0) (j / 4)) 0)) (eight_read j l)

@@ -50,17 +50,17 @@ module _ (N used made : ℕ) (cells : List ℕ) (k these : ℕ) (at₀ : List �
 
   module _ (filled : FilledCells cells k these) where
     -- cells whose bits are 0 are read as 0
-    cells-none : (left : ℕ) (at : List ℕ) (v : Visited left at) (t : ℕ) → t ≤ 32 → ((s : ℕ) → v.p ≤ s → s < t → bit_of left s ≡ 0)
+    cells_none : (left : ℕ) (at : List ℕ) (v : Visited left at) (t : ℕ) → t ≤ 32 → ((s : ℕ) → v.p ≤ s → s < t → bit_of left s ≡ 0)
         → (j : ℕ) → v.p ≤ j → j < t → read j ≡ 0
-    cells-none left at v t most none j l u =
+    cells_none left at v t most none j l u =
         read_empty made cells k j
         (filled j (omega arith) (sym (v.behind j l (omega arith)) ∙ none j l u))
 
     -- up to there
-    pub tallied-to : (left : ℕ) (at : List ℕ) (v : Visited left at) (t : ℕ) → v.p ≤ t → t ≤ 32
+    pub tallied_to : (left : ℕ) (at : List ℕ) (v : Visited left at) (t : ℕ) → v.p ≤ t → t ≤ 32
         → ((s : ℕ) → v.p ≤ s → s < t → bit_of left s ≡ 0) → Tallied read t at₀ at × (some_below wild_at t ≡ false)
-    tallied-to left at v t from most none =
-        let zeros = cells-none left at v t most none in (
+    tallied_to left at v t from most none =
+        let zeros = cells_none left at v t most none in (
           tallied_past read at₀ at v.p t from zeros v.tallied,
           none_further wild_at v.p t v.fine (λ j l u. wild_zero N (eqb (bit_of used (j / 4)) 0) (read j) (zeros j l u)),
         )
@@ -77,17 +77,17 @@ module _ (N used made : ℕ) (cells : List ℕ) (k these : ℕ) (at₀ : List �
       ]
 
       -- what stands before it is tallied ..
-      pub visited-come : Tallied read bit at₀ at × (some_below wild_at bit ≡ false)
-      visited-come =
+      pub visited_come : Tallied read bit at₀ at × (some_below wild_at bit ≡ false)
+      visited_come =
           let low = trailing_lowest 32 left small some in
-          tallied-to left at v bit first (omega (arith, low.inside)) (λ s l u. low.below s u)
+          tallied_to left at v bit first (omega (arith, low.inside)) (λ s l u. low.below s u)
 
       cleared : (s : ℕ) → bit_of (bit_and left (left - 1)) s ≡ bit_of (put_bit left bit 0) s
       cleared s = ap (λ (x : ℕ). bit_of x s) (clear_lowest 32 left small some)
 
       -- .. and where its cell is tallied and not wild, its bit goes
-      pub visited-next : (next : List ℕ) → wild_at bit ≡ false → Tallied read (bit + 1) at₀ next → Visited (bit_and left (left - 1)) next
-      visited-next next fails t =
+      pub visited_next : (next : List ℕ) → wild_at bit ≡ false → Tallied read (bit + 1) at₀ next → Visited (bit_and left (left - 1)) next
+      visited_next next fails t =
           let low = trailing_lowest 32 left small some in
           record {
             p = bit + 1;
@@ -98,11 +98,11 @@ module _ (N used made : ℕ) (cells : List ℕ) (k these : ℕ) (at₀ : List �
             ];
             behind = λ s l u.
                 cleared s ∙ bit_put_other left bit 0 s (λ e. omega arith) (omega arith) ∙ v.behind s (omega (arith, first)) u;
-            fine = (searched_next wild_at 32 bit (omega (arith, low.inside), visited-come.1) low.inside fails).1;
+            fine = (searched_next wild_at 32 bit (omega (arith, low.inside), visited_come.1) low.inside fails).1;
             tallied = t;
           }
 
     -- none left: all are tallied
-    pub visited-all : (left : ℕ) (at : List ℕ) → left ≡ 0 → Visited left at → Tallied read 32 at₀ at × (some_below wild_at 32 ≡ false)
-    visited-all left at e v =
-        tallied-to left at v 32 v.inside (omega arith) (λ s l u. ap (λ (x : ℕ). bit_of x s) e ∙ bit_zero s)
+    pub visited_all : (left : ℕ) (at : List ℕ) → left ≡ 0 → Visited left at → Tallied read 32 at₀ at × (some_below wild_at 32 ≡ false)
+    visited_all left at e v =
+        tallied_to left at v 32 v.inside (omega arith) (λ s l u. ap (λ (x : ℕ). bit_of x s) e ∙ bit_zero s)

@@ -54,13 +54,13 @@ module _ {N w : ℕ} {h : Memory} {counts waiting : List ℕ} {top : ℕ} where
 
   module _ {result : List ℕ} (before : Leading N w h result counts waiting top) where
     -- the object on top of the stack is scanned
-    pub leading-next : 0 < top → {n named : ℕ} → n ≡ size_at N h (get_or waiting (top - 1) 0)
+    pub leading_next : 0 < top → {n named : ℕ} → n ≡ size_at N h (get_or waiting (top - 1) 0)
         → named ≡ naming_cells h.d (get_or waiting (top - 1) 0) n → {counts' waiting' : List ℕ} {top' : ℕ}
         → Worked uncounted N w
         (visit_each N w (work counts (top_first (set waiting (top - 1) 0) (top - 1))) h.cells (4 * get_or waiting (top - 1) 0) named)
         (remaining uncounted N w counts (top - 1)) counts' waiting' top'
         → Leading N w h result counts' waiting' top'
-    leading-next some size names next =
+    leading_next some size names next =
         let i : ℕ = get_or waiting (top - 1) 0 in
         let after : List ℕ → ℕ → Work = λ rest k. visit_each N w (work counts rest) h.cells (4 * i) k in
         let popped = top_first_kept waiting (top - 1) (top - 1) 0 (omega arith) in
@@ -74,9 +74,9 @@ module _ {N w : ℕ} {h : Memory} {counts waiting : List ℕ} {top : ℕ} where
               ∙ before.leads;
         }
 
-    pub leading-done : top ≡ 0 → counts ≡ result
+    pub leading_done : top ≡ 0 → counts ≡ result
     unfolding top_first
-    leading-done e =
+    leading_done e =
         sym (scan_empty before.steps N w h counts)
         ∙ ap (λ (k : ℕ). scan before.steps N w h counts (top_first waiting k)) (sym e)
         ∙ before.leads

@@ -57,15 +57,15 @@ module _ (N w : ℕ) (start : Memory) {h : Memory} where
       ap (λ (x : Memory). sweep_one_blocks N w x i) (sym swept) ∙ rw (none, sweep_one_blocks) in
       omega arith
 
-  pub sweep-to : (i r : ℕ) → i ≤ r → ((j : ℕ) → i ≤ j → j < r → is_unmarked N w h j ≡ false) → h ≡ sweep N w start i
+  pub sweep_to : (i r : ℕ) → i ≤ r → ((j : ℕ) → i ≤ j → j < r → is_unmarked N w h j ≡ false) → h ≡ sweep N w start i
       → (h ≡ sweep N w start r) × (sweep_blocks N w start i ≡ sweep_blocks N w start r)
-  sweep-to i zero l none swept =
+  sweep_to i zero l none swept =
       let e : i ≡ zero = omega arith in
       (swept ∙ ap (sweep N w start) e, ap (sweep_blocks N w start) e)
-  sweep-to i (suc r) l none swept = elim (ℕ_discrete i (suc r)) [
+  sweep_to i (suc r) l none swept = elim (ℕ_discrete i (suc r)) [
     | yes e ↦ (swept ∙ ap (sweep N w start) e, ap (sweep_blocks N w start) e)
     | no d ↦
-        let to = sweep-to i r (omega arith) (λ j p q. none j p (omega arith)) swept in
+        let to = sweep_to i r (omega arith) (λ j p q. none j p (omega arith)) swept in
         let last = none r (omega arith) (omega arith) in
         (sweep_pass r last to.0, to.1 ∙ sweep_blocks_pass r last to.0)
   ]
@@ -75,7 +75,7 @@ pub sweep_to_next : (N w : ℕ) (start : Memory) {a b counts cells d : List ℕ}
     → NextUnmarked N w (part_memory a b counts [] [] []) i r → part_memory a b counts cells [] d ≡ sweep N w start i
     → (part_memory a b counts cells [] d ≡ sweep N w start r) × (sweep_blocks N w start i ≡ sweep_blocks N w start r)
 unfolding is_unmarked
-sweep_to_next N w start {i = i} {r} next swept = sweep-to N w start i r next.from next.none_before swept
+sweep_to_next N w start {i = i} {r} next swept = sweep_to N w start i r next.from next.none_before swept
 
 -- a turn of the loop, from what stands swept below i
 module _ (N w : ℕ) (start : Memory) (i : ℕ) {h : Memory} (swept : h ≡ sweep N w start i) where

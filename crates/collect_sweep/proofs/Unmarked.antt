@@ -69,13 +69,13 @@ module _ (test : ℕ → Bool) (at x : ℕ) (small : x < 256) (eight : EightTest
           | no s ↦ absurd (omega (arith, low.here, bit_from x (at % 8) t, digit_past 8 x (at % 8 + t) small (omega arith)))
         ]
 
-    pub rest-here : test (at + count_trailing_zeros 8 (rest_at x at)) ≡ true
-    rest-here =
+    pub rest_here : test (at + count_trailing_zeros 8 (rest_at x at)) ≡ true
+    rest_here =
         let low = trailing_lowest 8 (rest_at x at) rest_lt some in
         let t : ℕ = count_trailing_zeros 8 (rest_at x at) in
         rest_digit t rest_inside ∙ ap not (ne_eqb (bit_of (rest_at x at) t) 0 (λ e. omega (arith, low.here)))
 
-    pub rest-before : (j : ℕ) → at ≤ j → j < at + count_trailing_zeros 8 (rest_at x at) → test j ≡ false
-    rest-before j l u =
+    pub rest_before : (j : ℕ) → at ≤ j → j < at + count_trailing_zeros 8 (rest_at x at) → test j ≡ false
+    rest_before j l u =
         let low = trailing_lowest 8 (rest_at x at) rest_lt some in
         digit_none j l (omega (arith, rest_inside)) (low.below (j - at) (omega arith))

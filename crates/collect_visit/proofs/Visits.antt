@@ -14,7 +14,7 @@ use Rattle.rules.specs.Heap.{capacity}
 use Rattle.rules_stores.specs.Store.{Work, work, count_up}
 use Rattle.count_up.specs.Ready.{Planes}
 use Rattle.count_up.specs.Stack.{top_first, uncounted, remaining, Stack, Worked}
-use Rattle.count_up.proofs.Worked.{unchanged, kept, push-room, pushed, worked_next}
+use Rattle.count_up.proofs.Worked.{unchanged, kept, push_room, pushed, worked_next}
 use Rattle.collect_counts.specs.Counts.{count_maps}
 use Rattle.collect_counts.proofs.Counts.{maps_count, maps_set, counting_set}
 use Rattle.collect_visit.specs.Visit.{visit, visit_each, Counted, VisitedTo}
@@ -38,9 +38,9 @@ module _ {N w : ℕ} {counts waiting : List ℕ} {top v : ℕ} (p : Planes N w c
     unfolding count_up
     count_goes_up d = rw (ne_eqb v 0 named, ← reads, ne_eqb count (capacity w) d, count_up, ← reads)
 
-    count-stays : count ≡ capacity w → count_up N w counts v ≡ counts
+    count_stays : count ≡ capacity w → count_up N w counts v ≡ counts
     unfolding count_up
-    count-stays e = rw (ne_eqb v 0 named, ← reads, eq-eqb count (capacity w) e, count_up)
+    count_stays e = rw (ne_eqb v 0 named, ← reads, eq-eqb count (capacity w) e, count_up)
 
     pushes : (stack : List ℕ) → count ≡ 0 → visit N w (work counts stack) v ≡ work (count_up N w counts v) ((v - 1) ∷ stack)
     unfolding visit
@@ -58,27 +58,27 @@ module _ {N w : ℕ} {counts waiting : List ℕ} {top v : ℕ} (p : Planes N w c
       fits : 1 < 2 ^ w
       fits = omega (arith, pow_mono {i = 1} {j = w} p.some)
 
-      pub room-to-push : top < N
-      room-to-push = omega (arith, push-room p s (v - 1) 1 (omega arith) fits refl none refl, s.length_is)
+      pub room_to_push : top < N
+      room_to_push = omega (arith, push_room p s (v - 1) 1 (omega arith) fits refl none refl, s.length_is)
 
-      pub visit-first : {counts' : List ℕ} → counts' ≡ set_count (N / 8) w counts (v - 1) 1
+      pub visit_first : {counts' : List ℕ} → counts' ≡ set_count (N / 8) w counts (v - 1) 1
           → Visited N w counts waiting top v counts' (set waiting top (v - 1)) (top + 1)
-      visit-first e =
+      visit_first e =
           let up = count_goes_up (λ full. omega (arith, fits)) in
           let one_is : count + 1 ≡ 1 = omega arith in
           pushed p s (v - 1) 1 (omega arith) fits e none refl (cc (pushes (top_first waiting top) z))
 
-    pub visit-again : count ≢ 0 → {most : ℕ} → most ≡ capacity w → count < most → {counts' : List ℕ} → counts' ≡ set_count (N / 8) w counts (v - 1) (count + 1)
+    pub visit_again : count ≢ 0 → {most : ℕ} → most ≡ capacity w → count < most → {counts' : List ℕ} → counts' ≡ set_count (N / 8) w counts (v - 1) (count + 1)
         → Visited N w counts waiting top v counts' waiting top
-    visit-again n most-is below e =
+    visit_again n most-is below e =
         let up = count_goes_up (λ full. omega arith) in
         let some = ne_eqb (count + 1) 0 (λ d. omega arith) ∙ sym (ne_eqb (count_at (N / 8) w counts (v - 1)) 0 (λ d. n (reads ∙ d))) in
         kept p s (v - 1) (count + 1) (omega arith) (omega arith) e some (cc (keeps (top_first waiting top) n))
 
-    pub visit-stuck : count ≢ 0 → {most : ℕ} → most ≡ capacity w → most ≤ count → count < 2 ^ w
+    pub visit_stuck : count ≢ 0 → {most : ℕ} → most ≡ capacity w → most ≤ count → count < 2 ^ w
         → Visited N w counts waiting top v counts waiting top
-    visit-stuck n most-is full fits =
-        let stays = count-stays (omega arith) in
+    visit_stuck n most-is full fits =
+        let stays = count_stays (omega arith) in
         unchanged p s (cc (keeps (top_first waiting top) n))
 
 -- one visit more
@@ -114,29 +114,29 @@ module _ {N w : ℕ} {at waiting : List ℕ} {top v : ℕ} (c : Counted N w at w
     counted = reads ∙ maps_count c.planes.eighths c.counting (v - 1) (omega arith)
 
     pub to_room : count ≡ 0 → top < N
-    to_room z = room-to-push c.planes c.stack within named counted z
+    to_room z = room_to_push c.planes c.stack within named counted z
 
-    pub to-first : count ≡ 0 → To N w at waiting top v (set at (v - 1) 1) (set waiting top (v - 1)) (top + 1)
-    to-first z =
+    pub to_first : count ≡ 0 → To N w at waiting top v (set at (v - 1) 1) (set waiting top (v - 1)) (top + 1)
+    to_first z =
         let fits : 1 < 2 ^ w = omega (arith, pow_mono {i = 1} {j = w} c.planes.some) in
         record {
-          worked = visit-first c.planes c.stack within named counted z (maps_set c.planes.eighths c.counting (v - 1) 1 (omega arith) fits);
+          worked = visit_first c.planes c.stack within named counted z (maps_set c.planes.eighths c.counting (v - 1) 1 (omega arith) fits);
           counting = counting_set c.planes.eighths c.counting (v - 1) 1 (omega arith) fits;
         }
 
-    pub to-again : count ≢ 0 → {most : ℕ} → most ≡ capacity w → count < most → To N w at waiting top v (set at (v - 1) (count + 1)) waiting top
-    to-again n most-is below =
+    pub to_again : count ≢ 0 → {most : ℕ} → most ≡ capacity w → count < most → To N w at waiting top v (set at (v - 1) (count + 1)) waiting top
+    to_again n most-is below =
         let fits : count + 1 < 2 ^ w = omega arith in
         record {
           worked =
-              visit-again c.planes c.stack within named counted n most-is below
+              visit_again c.planes c.stack within named counted n most-is below
               (maps_set c.planes.eighths c.counting (v - 1) (count + 1) (omega arith) fits);
           counting = counting_set c.planes.eighths c.counting (v - 1) (count + 1) (omega arith) fits;
         }
 
-    pub to-stuck : count ≢ 0 → {most : ℕ} → most ≡ capacity w → most ≤ count → To N w at waiting top v at waiting top
-    to-stuck n most-is full = record {
-      worked = visit-stuck c.planes c.stack within named counted n most-is full (omega (arith, c.counting.fits (v - 1)));
+    pub to_stuck : count ≢ 0 → {most : ℕ} → most ≡ capacity w → most ≤ count → To N w at waiting top v at waiting top
+    to_stuck n most-is full = record {
+      worked = visit_stuck c.planes c.stack within named counted n most-is full (omega (arith, c.counting.fits (v - 1)));
       counting = c.counting;
     }
 

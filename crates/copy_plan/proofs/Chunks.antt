@@ -163,8 +163,8 @@ module _ (M n : ℕ) (a from : List ℕ) (s : Sought M a from) where
     chunk : 2 ^ k ≤ M
     chunk = chunk_fits M n s.blocks fits
 
-    pub search-part : Part (get_or from k 0) M (2 ^ k)
-    search-part = (s.passed k chunk).part
+    pub search_part : Part (get_or from k 0) M (2 ^ k)
+    search_part = (s.passed k chunk).part
 
     -- what the search from there on found is the heap's lowest free chunk
     pub search_is : (at looks : ℕ) → Search (get_or from k 0) M k (lowest_in (get_or from k 0) M k a) at looks → at ≡ or_else M (lowest_free M k a)
@@ -191,8 +191,8 @@ module _ (M n : ℕ) (a from : List ℕ) (s : Sought M a from) where
       pub place_inside : at ≢ M → at + n ≤ M
       place_inside d = omega (arith, (lowest_some M k a at (some_found d)).inside, exponent_covers n)
 
-      pub laid-there : at ≢ M → LaidOne M n a (fill_bits a at n 1) (set from k (at - at % 8)) at
-      laid-there d =
+      pub laid_there : at ≢ M → LaidOne M n a (fill_bits a at n 1) (set from k (at - at % 8)) at
+      laid_there d =
           record {
             nowhere = λ e. absurd (d e);
             lowest = some_found;
@@ -233,7 +233,7 @@ module _ (M n : ℕ) (a from : List ℕ) (s : Sought M a from) (fits : n ≤ M) 
       shl_exact 1 r 64 (omega arith) (omega arith) ∙ omega arith
 
   pub part_there : Part (get_or from r 0) M (1 * 2 ^ r % 2 ^ 64)
-  part_there = rw (power_is, r-is) (search-part M n a from s fits)
+  part_there = rw (power_is, r-is) (search_part M n a from s fits)
 
   module _ (at looks : ℕ)
       (found : (k : ℕ) → 1 * 2 ^ r % 2 ^ 64 ≡ 2 ^ k → Search (get_or from r 0) M k (lowest_in (get_or from r 0) M k a) at looks) where
@@ -245,8 +245,8 @@ module _ (M n : ℕ) (a from : List ℕ) (s : Sought M a from) (fits : n ≤ M) 
     pub laid_none : (a' from' : List ℕ) → at ≡ M → LaidOne M n a a' from' M
     laid_none a' from' e = laid_nowhere M n a from s a' from' (none_found M n a from s fits at place e)
 
-    pub fill-inside : at ≢ M → at + n ≤ 8 * length a
-    fill-inside d = omega (arith, place_inside M n a from s fits at place d, s.length_map, (blocks_facts M s.blocks).2)
+    pub fill_inside : at ≢ M → at + n ≤ 8 * length a
+    fill_inside d = omega (arith, place_inside M n a from s fits at place d, s.length_map, (blocks_facts M s.blocks).2)
 
-    pub laid-some : at ≢ M → LaidOne M n a (fill_bits a at n 1) (set from r (at - at % 8)) at
-    laid-some d = rw r-is (laid-there M n a from s fits at place d)
+    pub laid_some : at ≢ M → LaidOne M n a (fill_bits a at n 1) (set from r (at - at % 8)) at
+    laid_some d = rw r-is (laid_there M n a from s fits at place d)

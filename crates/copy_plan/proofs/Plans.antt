@@ -42,15 +42,15 @@ module _ (M : ℕ) (sizes : ℕ → ℕ) (N met : ℕ) (order numbers : List ℕ
     place_same : (i : ℕ) → i < k → get_or (p.places ++ (at ∷ [])) i 0 ≡ get_or p.places i 0
     place_same i u = get_or-append p.places (at ∷ []) 0 i (omega (arith, p.long))
 
-    place-last : get_or (p.places ++ (at ∷ [])) k 0 ≡ at
-    place-last = ap (λ (x : ℕ). get_or (p.places ++ (at ∷ [])) x 0) (sym p.long) ∙ get_or-append_seam p.places at [] 0
+    place_last : get_or (p.places ++ (at ∷ [])) k 0 ≡ at
+    place_last = ap (λ (x : ℕ). get_or (p.places ++ (at ∷ [])) x 0) (sym p.long) ∙ get_or-append_seam p.places at [] 0
 
     here : block_in order k < length moved
     here = omega (arith, p.kept, n.long_numbers, n.some k l, n.below k l)
 
-    pub plan-next : at ≢ M → PlanTo M sizes N order numbers (k + 1) (set moved (block_in order k) (at + 1)) map'
+    pub plan_next : at ≢ M → PlanTo M sizes N order numbers (k + 1) (set moved (block_in order k) (at + 1)) map'
     unfolding lay_first lay_next lay_one
-    plan-next d =
+    plan_next d =
         record {
           places = p.places ++ (at ∷ []);
           laid_is =
@@ -63,7 +63,7 @@ module _ (M : ℕ) (sizes : ℕ → ℕ) (N met : ℕ) (order numbers : List ℕ
             | yes e ↦
                 ap (λ (x : ℕ). get_or (set moved (block_in order k) (at + 1)) (block_in order x) 0) e
                 ∙ get_or-set_same moved (block_in order k) (at + 1) 0 here
-                ∙ omega (arith, place-last, ap (λ (x : ℕ). get_or (p.places ++ (at ∷ [])) x 0) e)
+                ∙ omega (arith, place_last, ap (λ (x : ℕ). get_or (p.places ++ (at ∷ [])) x 0) e)
             | no o ↦
                 get_or-set_other moved (block_in order k) (block_in order i) (at + 1) 0 (apart i (omega arith))
                 ∙ p.done i (omega arith)
@@ -77,24 +77,24 @@ module _ (M : ℕ) (sizes : ℕ → ℕ) (N met : ℕ) (order numbers : List ℕ
         apart i u e = omega (arith, n.number i (omega arith), n.number k l, ap (λ (x : ℕ). get_or numbers x 0) e)
 
     -- where it finds no chunk, there is no plan ..
-    none-next : at ≡ M → lay_first M sizes (suc k) ≡ none
+    none_next : at ≡ M → lay_first M sizes (suc k) ≡ none
     unfolding lay_first lay_next lay_one
-    none-next e = ap (lay_next M (sizes k)) p.laid_is ∙ rw (one.nowhere e, lay_one) refl
+    none_next e = ap (lay_next M (sizes k)) p.laid_is ∙ rw (one.nowhere e, lay_one) refl
 
     -- .. whatever follows
-    none-later : (j : ℕ) → at ≡ M → lay_first M sizes (j + suc k) ≡ none
+    none_later : (j : ℕ) → at ≡ M → lay_first M sizes (j + suc k) ≡ none
     unfolding lay_first lay_next
-    none-later zero e = let same : 0 + suc k ≡ suc k = omega arith in ap (lay_first M sizes) same ∙ none-next e
-    none-later (suc j) e =
+    none_later zero e = let same : 0 + suc k ≡ suc k = omega arith in ap (lay_first M sizes) same ∙ none_next e
+    none_later (suc j) e =
         let same : suc j + suc k ≡ suc (j + suc k) = omega arith in
-        ap (lay_first M sizes) same ∙ ap (lay_next M (sizes (j + suc k))) (none-later j e)
+        ap (lay_first M sizes) same ∙ ap (lay_next M (sizes (j + suc k))) (none_later j e)
 
-    pub plan-missed : at ≡ M → (left : List ℕ) → Planned M sizes met N numbers left false
+    pub plan_missed : at ≡ M → (left : List ℕ) → Planned M sizes met N numbers left false
     unfolding all_laid
-    plan-missed e left =
+    plan_missed e left =
         let all : met - suc k + suc k ≡ met = omega arith in
         record {
-          laid_all = sym (ap all_laid (ap (lay_first M sizes) (sym all) ∙ none-later (met - suc k) e));
+          laid_all = sym (ap all_laid (ap (lay_first M sizes) (sym all) ∙ none_later (met - suc k) e));
           moved_is = λ t. absurd (false≢true t);
         }
 

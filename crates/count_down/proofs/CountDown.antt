@@ -17,7 +17,7 @@ use Rattle.rules.specs.Heap.{capacity}
 use Rattle.rules_stores.specs.Store.{Work, work, count_down, count_down_each, clear_cells}
 use Rattle.count_up.specs.Ready.{Planes}
 use Rattle.count_up.specs.Stack.{top_first, counted, remaining, Stack, Worked}
-use Rattle.count_up.proofs.Worked.{unchanged, kept, push-room, pushed, worked_next}
+use Rattle.count_up.proofs.Worked.{unchanged, kept, push_room, pushed, worked_next}
 
 -- what counting down v has to leave
 abbrev Down : (N w : ℕ) → (counts waiting : List ℕ) → (top v : ℕ) → (counts' waiting' : List ℕ) → (top' : ℕ) → Type 0
@@ -74,25 +74,25 @@ module _ {N w : ℕ} {counts waiting : List ℕ} {top : ℕ} (p : Planes N w cou
       none e = rw e
 
       place : x ≡ 1 → top < length waiting
-      place e = push-room p s (v - 1) (x - 1) block fits written had (none e)
+      place e = push_room p s (v - 1) (x - 1) block fits written had (none e)
 
-      down-last : x ≡ 1 → Down N w counts waiting top v counts' (set waiting top (v - 1)) (top + 1)
+      down_last : x ≡ 1 → Down N w counts waiting top v counts' (set waiting top (v - 1)) (top + 1)
       unfolding count_down
-      down-last e =
+      down_last e =
           pushed p s (v - 1) (x - 1) block fits written had (none e)
           (rw (ne_eqb v 0 nv, le-ltb N v inside, ne_eqb _ _ below, eq-eqb _ 1 (sym ex ∙ e), ← ex, count_down)
           (ap (λ (c : List ℕ). work c ((v - 1) ∷ top_first waiting top)) written))
 
-      down-more : x ≢ 1 → Down N w counts waiting top v counts' waiting top
+      down_more : x ≢ 1 → Down N w counts waiting top v counts' waiting top
       unfolding count_down
-      down-more d =
+      down_more d =
           let some : counted (x - 1) ≡ true = rw (ne_eqb (x - 1) 0 (λ e. omega arith)) in
           kept p s (v - 1) (x - 1) block fits written (some ∙ sym had)
           (rw (ne_eqb v 0 nv, le-ltb N v inside, ne_eqb _ _ below, ne_eqb _ 1 (λ e. d (ex ∙ e)), ← ex, count_down)
           (ap (λ (c : List ℕ). work c (top_first waiting top)) written))
 
       pub lowered : Lowered N w counts waiting top v x counts'
-      lowered = record { place = place; last = down-last; more = down-more }
+      lowered = record { place = place; last = down_last; more = down_more }
 
 -- ---- the cells of a run, counted down one by one
 

@@ -34,11 +34,11 @@ module _ {test : ℕ → Bool} {N w : ℕ} {counts waiting : List ℕ} {top : �
     -- what had come, has come still
     still : (test (count_at (N / 8) w counts i) ≡ false → test v ≡ false) → (b : ℕ) → b < N
         → test (count_at (N / 8) w counts b) ≡ false → test (count_at (N / 8) w counts' b) ≡ false
-    still h b l e = rw written (by-block (ℕ_discrete b i))
+    still h b l e = rw written (by_block (ℕ_discrete b i))
       where
-        by-block : Dec (b ≡ i) → test (count_at (N / 8) w (set_count (N / 8) w counts i v) b) ≡ false
-        by-block (yes d) = rw d (ap test (count_written p i v inside fits) ∙ h (rw d at e))
-        by-block (no d) = ap test (count_kept p i v inside b l d) ∙ e
+        by_block : Dec (b ≡ i) → test (count_at (N / 8) w (set_count (N / 8) w counts i v) b) ≡ false
+        by_block (yes d) = rw d (ap test (count_written p i v inside fits) ∙ h (rw d at e))
+        by_block (no d) = ap test (count_kept p i v inside b l d) ∙ e
 
     -- whether the block can still come is as before
     pub kept : test v ≡ test (count_at (N / 8) w counts i) → {s : Work} → work counts' (top_first waiting top) ≡ s
@@ -61,13 +61,13 @@ module _ {test : ℕ → Bool} {N w : ℕ} {counts waiting : List ℕ} {top : �
       one_fewer : passing test N w counts' + 1 ≡ passing test N w counts
       one_fewer = omega (arith, change, ap one could, ap one came)
 
-      pub push-room : top < length waiting
-      push-room = omega (arith, one_fewer, stack.length_is, stack.room)
+      pub push_room : top < length waiting
+      push_room = omega (arith, one_fewer, stack.length_is, stack.room)
 
       pub pushed : {s : Work} → work counts' (i ∷ top_first waiting top) ≡ s
           → Worked test N w s (remaining test N w counts top) counts' (set waiting top i) (top + 1)
       pushed e = record {
-        result = ap (λ (l : List ℕ). work counts' l) (top_first_push waiting top i push-room) ∙ e;
+        result = ap (λ (l : List ℕ). work counts' l) (top_first_push waiting top i push_room) ∙ e;
         planes = planes_left;
         stack = record {
           length_is = length-set waiting top i ∙ stack.length_is;
@@ -80,7 +80,7 @@ module _ {test : ℕ → Bool} {N w : ℕ} {counts waiting : List ℕ} {top : �
       }
         where
           at_top : get_or (set waiting top i) top 0 ≡ i
-          at_top = get_or-set_same waiting top i 0 push-room
+          at_top = get_or-set_same waiting top i 0 push_room
 
           at_block : (k : ℕ) → k < top + 1 → Dec (k ≡ top) → get_or (set waiting top i) k 0 < N
           at_block k l (yes d) = rw (d, at_top) inside

@@ -6,7 +6,7 @@ use native.Mathlib.Omega.{arith}
 use Rattle.rules.specs.Heap.{Memory, lent_memory}
 use Rattle.theory_memories.specs.Heaps.{Usable}
 use Rattle.theory_memories.proofs.Memories.Stores.{roots_named}
-use Rattle.theory.proofs.Usable.UsableHeap.{usable-healthy}
+use Rattle.theory.proofs.Usable.UsableHeap.{usable_healthy}
 use Rattle.history_records.specs.declared.Fields.{Fields}
 use Rattle.history_plans.specs.declared.Plan.{Plan}
 use Rattle.history_plans.specs.Meaning.{meaning}
@@ -18,13 +18,13 @@ use Rattle.history_turns.specs.Steps.{Acted}
 
 pub usable_readable : {N w : ℕ} {h : Memory} → Usable N w h → Readable N h.b h.cells h.roots h.d
 usable_readable {N} {w} {h} usable =
-    let shape = (usable-healthy usable).shape in
+    let shape = (usable_healthy usable).shape in
     record {
       most = shape.blocks_max;
       b_length = omega (arith, shape.length_b, shape.whole_bytes);
       cells_length = shape.length_cells;
       d_length = omega (arith, shape.length_d, shape.whole_bytes);
-      named = roots_named N w h (usable-healthy usable);
+      named = roots_named N w h (usable_healthy usable);
     }
 
 -- what is asked for on the four buffers is what is asked for on the heap

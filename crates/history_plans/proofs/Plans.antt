@@ -63,10 +63,10 @@ module _ (h : Memory) (f : Fields) where
     number_empty e =
         rw (lt-ltb f.d (length h.roots) target, eq-eqb (root h f.d) 0 e, writing_number, unless)
 
-    pub number-asked :
+    pub number_asked :
         (root h f.d ≡ 0 → ⊥) → writing_number h f ≡ makes (write_number (object_in h f.d) f.c f.size)
     unfolding writing_number unless
-    number-asked some =
+    number_asked some =
         rw (lt-ltb f.d (length h.roots) target, ne_eqb (root h f.d) 0 some, writing_number, unless)
 
   module _ (out : are_roots h.roots f ≡ false) where
@@ -74,9 +74,9 @@ module _ (h : Memory) (f : Fields) where
     unfolding copying
     copy_out = no_root h f _ out
 
-    pub write-out : writing h f ≡ stops 4
+    pub write_out : writing h f ≡ stops 4
     unfolding writing
-    write-out = no_root h f _ out
+    write_out = no_root h f _ out
 
     pub read_out : (N : ℕ) → reading N h f ≡ stops 4
     unfolding reading
@@ -87,13 +87,13 @@ module _ (h : Memory) (f : Fields) where
     unfolding copying
     copy_asked = both_roots h f _ inside
 
-    pub write-empty : root h f.d ≡ 0 → writing h f ≡ stops 6
+    pub write_empty : root h f.d ≡ 0 → writing h f ≡ stops 6
     unfolding writing unless
-    write-empty e = both_roots h f _ inside ∙ rw (eq-eqb (root h f.d) 0 e, unless)
+    write_empty e = both_roots h f _ inside ∙ rw (eq-eqb (root h f.d) 0 e, unless)
 
-    pub write-asked : (root h f.d ≡ 0 → ⊥) → writing h f ≡ makes (store_cell (object_in h f.d) f.c (root h f.s))
+    pub write_asked : (root h f.d ≡ 0 → ⊥) → writing h f ≡ makes (store_cell (object_in h f.d) f.c (root h f.s))
     unfolding writing unless
-    write-asked some = both_roots h f _ inside ∙ rw (ne_eqb (root h f.d) 0 some, unless)
+    write_asked some = both_roots h f _ inside ∙ rw (ne_eqb (root h f.d) 0 some, unless)
 
     pub read_empty : (N : ℕ) → root h f.s ≡ 0 → reading N h f ≡ stops 6
     unfolding reading unless
@@ -107,9 +107,9 @@ module _ (h : Memory) (f : Fields) where
           ∙ rw (ne_eqb (root h f.s) 0 some, le-ltb f.c (4 * size_at N h (object_in h f.s)) past, unless)
 
       module _ (within : f.c < 4 * size_at N h (object_in h f.s)) where
-        pub read_number : bit_at h.d (object_in h f.s) ≡ 1 → reading N h f ≡ stops 12
+        pub read_number_lem : bit_at h.d (object_in h f.s) ≡ 1 → reading N h f ≡ stops 12
         unfolding reading unless
-        read_number e =
+        read_number_lem e =
             both_roots h f _ inside
             ∙ rw (
               ne_eqb (root h f.s) 0 some,

@@ -17,15 +17,15 @@ module _ (x y : List ℕ) where
     same_byte m p q l e f = ap (λ (k : ℕ). get_or x k 0) e ∙ same m l ∙ ap (λ (k : ℕ). get_or y k 0) (sym f)
 
     -- k of them, from the one at m on
-    same-part : (m k : ℕ) → m + k < n + 1 → Same k (i + m) (j + m)
-    same-part m k l p b = same_byte (m + p) (i + m + p) (j + m + p) (omega arith) (omega arith) (omega arith)
+    same_part : (m k : ℕ) → m + k < n + 1 → Same k (i + m) (j + m)
+    same_part m k l p b = same_byte (m + p) (i + m + p) (j + m + p) (omega arith) (omega arith) (omega arith)
 
   number_alike : (k i j : ℕ) → Same k i j → number k x i ≡ number k y j
   unfolding number
   number_alike zero i j same = refl
   number_alike (suc k) i j same =
       let first = same_byte (suc k) i j same 0 i j (omega arith) (omega arith) (omega arith) in
-      let rest = number_alike k (i + 1) (j + 1) (same-part (suc k) i j same 1 k (omega arith)) in
+      let rest = number_alike k (i + 1) (j + 1) (same_part (suc k) i j same 1 k (omega arith)) in
       omega (arith, first, rest)
 
   pub fields_alike : (form : Form) (i j : ℕ) → Same (record_length form) i j → fields_at form x i ≡ fields_at form y j
@@ -33,7 +33,7 @@ module _ (x y : List ℕ) where
   fields_alike form i j same =
       let k = form.number_bytes in
       let numbers : (m : ℕ) → m + k < record_length form + 1 → number k x (i + m) ≡ number k y (j + m) =
-      λ m l. number_alike k (i + m) (j + m) (same-part (record_length form) i j same m k l) in
+      λ m l. number_alike k (i + m) (j + m) (same_part (record_length form) i j same m k l) in
       λ t.
       record {
         operation = same_byte (record_length form) i j same 0 i j (omega arith) (omega arith) (omega arith) t;

@@ -14,13 +14,13 @@ use Rattle.rules_calls.specs.Promise.{Promise}
 use Rattle.types.specs.declared.Reply.{Reply}
 use Rattle.rules.proofs.Shape.{shape_facts}
 use Rattle.rules.proofs.Tests.{test_cases_lem}
-use Rattle.rules_calls.proofs.Replies.{accepted-none, Passed, undamaged-passed}
+use Rattle.rules_calls.proofs.Replies.{accepted_none, Passed, undamaged_passed}
 use Rattle.theory_memories.specs.Heaps.{Undamaged}
 use Rattle.theory_memories.specs.Words.{in_use}
 use Rattle.theory_memories.specs.Heaps.{Usable}
 use Rattle.theory_memories.proofs.Memories.Fit.{undamaged_fit}
-use Rattle.theory_memories.proofs.Memories.Accepted.{fit-accepted}
-use Rattle.theory.proofs.Usable.UsableHeap.{cleared_usable as UsableHeap·cleared_usable, usable-fit}
+use Rattle.theory_memories.proofs.Memories.Accepted.{fit_accepted}
+use Rattle.theory.proofs.Usable.UsableHeap.{cleared_usable as UsableHeap·cleared_usable, usable_fit}
 use Rattle.history_records.specs.Records.{record_length, wide}
 use Rattle.history_figures.specs.declared.tally.Run.{Run}
 use Rattle.history_figures.specs.Figures.{in_range}
@@ -109,7 +109,7 @@ module _ {N w : ℕ} {h : Memory} {y : Reply} (checked : Promise N w check h y h
 pub undamaged_accepted : {N w : ℕ} {h : Memory} → Undamaged N w h → (r : Run) → in_range r ≡ true → run_reply N w h r ≡ reply 0 0 0
 unfolding outcome Passed
 undamaged_accepted {N} {w} {h} undamaged r range =
-    reply_right N w h r (ap (λ (x : Answer). x.0.number) (fit-accepted N w h (undamaged_fit N w h undamaged) check refl tt)) range
+    reply_right N w h r (ap (λ (x : Answer). x.0.number) (fit_accepted N w h (undamaged_fit N w h undamaged) check refl tt)) range
 
 -- what an accepted run of records starts from
 pub record Accepted (N w : ℕ) (h : Memory) (r : Run) : Type 0 where
@@ -123,7 +123,7 @@ accepted {N} {w} {h} {r} is accepts = elim (ℕ_discrete (answer N w h check).0.
   | no refused ↦ absurd (refused (rw (ne_eqb (answer N w h check).0.number 0 refused, run_reply) at zero))
   | yes passed ↦ elim (test_cases_lem (in_range r)) [
     | inl range ↦
-        let tests = undamaged-passed N w h check refl (accepted-none N w h check passed) in
+        let tests = undamaged_passed N w h check refl (accepted_none N w h check passed) in
         record {
           reply_is = reply_right N w h r passed range;
           undamaged = record { intact = record { right_shape = tests.0; no_damage = tests.1 }; true_list = tests.2; tidy = tests.3 };
@@ -180,7 +180,7 @@ module _ {N w : ℕ} {bytes : List ℕ} {h : Memory} {r : Run} {x : Reply} (is :
         run_is = ran-by.run_is ∙ sym (rw zero);
         after_is = ran-by.memory_is ∙ sym (rw zero);
         idle = λ _. ran-by.usable.idle;
-        listed = λ _. (usable-fit ran-by.usable).listed;
+        listed = λ _. (usable_fit ran-by.usable).listed;
         again = λ _. ran-by.in_range_lem;
         calls = λ _. runs_are_calls N w bytes (cleared N h) r (UsableHeap·cleared_usable from.undamaged).undamaged;
       }

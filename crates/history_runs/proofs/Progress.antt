@@ -74,8 +74,8 @@ module _ {n N w : ℕ} {bytes : List ℕ} {start : Memory} {r : Run} where
     more = omega arith
 
     -- one record can be run
-    pub step-going : Going N h 1 state
-    step-going =
+    pub step_going : Going N h 1 state
+    step_going =
         let going = p.going in
         record { goes_on = going.goes_on; in_range_lem = going.in_range_lem; more = omega (arith, going.more); used_is = going.used_is }
 
@@ -87,15 +87,15 @@ module _ {n N w : ℕ} {bytes : List ℕ} {start : Memory} {r : Run} where
       number_is : next.run.number ≡ (record_at wide N w bytes i h).number
       number_is = ap (λ (y : Run). y.number) turned.run_is ∙ after_number N (record_at wide N w bytes i h) state.run
 
-      pub next-usable : Usable N w g
-      next-usable =
+      pub next_usable : Usable N w g
+      next_usable =
           subst (λ (m : Memory). Usable N w m) (sym turned.after_is)
           (turn_usable N w h p.usable (asked N h (fields_at wide bytes (record_length wide * i))))
 
       -- the record was accepted
-      records-next : next.run.number ≡ 0 → next.run.records ≡ state.run.records + 1
+      records_next : next.run.number ≡ 0 → next.run.records ≡ state.run.records + 1
       unfolding after_turn
-      records-next e =
+      records_next e =
           ap (λ (y : Run). y.records) turned.run_is ∙ rw (eq-eqb (record_at wide N w bytes i h).number 0 (sym number_is ∙ e), after_turn)
 
       pub progress_next :
@@ -103,12 +103,12 @@ module _ {n N w : ℕ} {bytes : List ℕ} {start : Memory} {r : Run} where
       progress_next kept e =
           let accepted = sym number_is ∙ e in
           record {
-            usable = next-usable;
+            usable = next_usable;
             going =
                 record {
                   goes_on = e;
                   in_range_lem = turned.in_range_lem;
-                  more = omega (arith, p.going.more, records-next e);
+                  more = omega (arith, p.going.more, records_next e);
                   used_is = turned.used_is;
                 };
             made = omega arith;
@@ -126,8 +126,8 @@ module _ {n N w : ℕ} {bytes : List ℕ} {start : Memory} {r : Run} where
           }
 
       -- the record stopped the run
-      pub progress-stop : (next.run.number ≡ 0 → ⊥) → RunBy N w (ran_from wide n N w bytes 0 start r) next.run g
-      progress-stop stopped =
+      pub progress_stop : (next.run.number ≡ 0 → ⊥) → RunBy N w (ran_from wide n N w bytes 0 start r) next.run g
+      progress_stop stopped =
           let refused : (record_at wide N w bytes i h).number ≡ 0 → ⊥ = λ e. stopped (number_is ∙ e) in
           record {
             run_is =
@@ -143,7 +143,7 @@ module _ {n N w : ℕ} {bytes : List ℕ} {start : Memory} {r : Run} where
                 ∙ ap (λ (k : ℕ). (ran_from wide k N w bytes i h state.run).memory) more
                 ∙ stop_memory left N w bytes i h state.run refused);
             in_range_lem = turned.in_range_lem;
-            usable = next-usable;
+            usable = next_usable;
           }
 
   -- all records are run

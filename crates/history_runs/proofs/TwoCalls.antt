@@ -104,15 +104,15 @@ module _ (N w : ℕ) (first rest : List ℕ) (h found : Memory) (r : Run) (x y :
 
   both_promised : Promised N w (first ++ rest) h r y k
   both_promised =
-      let start-accepted : run_reply N w h r ≡ reply 0 0 0 = (from N w first h r x g one accepts).reply_is in
+      let start_accepted : run_reply N w h r ≡ reply 0 0 0 = (from N w first h r x g one accepts).reply_is in
       let number : y.reply.number ≡ 0 = ap (λ (v : Reply). v.number) (two.reply_is ∙ second_accepted) in
       let run_is : y.run ≡ (ran wide N w rest (cleared N found) x.run).run = rw second_accepted at two.run_is in
       let after_is : k ≡ (ran wide N w rest (cleared N found) x.run).memory = rw second_accepted at two.after_is in
       record {
-        reply_is = two.reply_is ∙ second_accepted ∙ sym start-accepted;
-        run_is = run_is ∙ ap (λ (z : Came). z.run) same_start ∙ ap (λ (z : Came). z.run) (sym whole) ∙ sym (rw start-accepted);
+        reply_is = two.reply_is ∙ second_accepted ∙ sym start_accepted;
+        run_is = run_is ∙ ap (λ (z : Came). z.run) same_start ∙ ap (λ (z : Came). z.run) (sym whole) ∙ sym (rw start_accepted);
         after_is =
-            after_is ∙ ap (λ (z : Came). z.memory) same_start ∙ ap (λ (z : Came). z.memory) (sym whole) ∙ sym (rw start-accepted);
+            after_is ∙ ap (λ (z : Came). z.memory) same_start ∙ ap (λ (z : Came). z.memory) (sym whole) ∙ sym (rw start_accepted);
         idle = λ _. two.idle number;
         listed = λ _. two.listed number;
         again = λ _. two.again number;

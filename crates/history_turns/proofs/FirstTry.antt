@@ -10,7 +10,7 @@ use Rattle.rules.specs.Heap.{Memory}
 use Rattle.rules_calls.specs.Calls.{Call, allocate, allocate_data, allocate_as, Alone, answer}
 use Rattle.types.specs.declared.Reply.{Reply}
 use Rattle.types.specs.declared.Outcome.{Outcome}
-use Rattle.rules_calls.proofs.Replies.{accepted-none, Passed, passed}
+use Rattle.rules_calls.proofs.Replies.{accepted_none, Passed, passed}
 use Rattle.theory_memories.specs.Words.{in_use}
 use Rattle.theory.specs.Balance.{allocates, allocated_by}
 use Rattle.theory_memories.specs.Heaps.{Usable}
@@ -38,14 +38,14 @@ pub record Allocation (c : Call) (n : ℕ) : Type 0 where
 accepted_size : (N w : ℕ) (h : Memory) (n r : ℕ) → (answer N w h (allocate n r)).0.number ≡ 0 → (1 ≤ n) × (n ≤ N)
 unfolding Passed
 accepted_size N w h n r accepted =
-    let all = passed N w h (allocate n r) (accepted-none N w h (allocate n r) accepted) in
+    let all = passed N w h (allocate n r) (accepted_none N w h (allocate n r) accepted) in
     (all.0, all.1)
 
 accepted_data_size :
     (N w : ℕ) (h : Memory) (n r : ℕ) → (answer N w h (allocate_data n r)).0.number ≡ 0 → (1 ≤ n) × (n ≤ N)
 unfolding Passed
 accepted_data_size N w h n r accepted =
-    let all = passed N w h (allocate_data n r) (accepted-none N w h (allocate_data n r) accepted) in
+    let all = passed N w h (allocate_data n r) (accepted_none N w h (allocate_data n r) accepted) in
     (all.0, all.1)
 
 pub allocation : (asData : Bool) (n r : ℕ) → Allocation (allocate_as asData n r) n
@@ -68,22 +68,22 @@ module _ {N w : ℕ} {h : Memory} (usable : Usable N w h) {c : Call} {n : ℕ} (
     pub refused_noted : (t : Tally) → noted (made_on N w h c) t ≡ t
     refused_noted t = noted_refused (made_on N w h c) t (λ e. refused (sym reply_number ∙ e))
 
-    pub refused-balance : in_use N h ≡ done'.freed + in_use N g
-    refused-balance = omega (arith, tried_balance, refused_allocates c (reply_of done') refused)
+    pub refused_balance : in_use N h ≡ done'.freed + in_use N g
+    refused_balance = omega (arith, tried_balance, refused_allocates c (reply_of done') refused)
 
   -- .. or accepted
   module _ (accepted : done'.number ≡ 0) where
     pub size_fits : (1 ≤ n) × (n ≤ N)
     size_fits = new.sized N w h (reply_number ∙ accepted)
 
-    pub accepted-noted : (t : Tally) → noted (made_on N w h c) t ≡ moment_in done'.stuck (allocated n t)
-    accepted-noted t =
+    pub accepted_noted : (t : Tally) → noted (made_on N w h c) t ≡ moment_in done'.stuck (allocated n t)
+    accepted_noted t =
         let told = new.told (answer N w h c).0 ∙ ap (λ (x : Reply). eqb x.second 1) (sym tried.promise.reply_is) in
         noted_accepted (made_on N w h c) t (reply_number ∙ accepted)
         ∙ ap₂ moment_in (told ∙ told_stuck_lem done'.stuck) (new.counted (answer N w h c).0 t)
 
-    pub accepted-balance : in_use N h + n ≡ done'.freed + in_use N g
-    accepted-balance = omega (arith, tried_balance, accepted_allocates c (reply_of done') accepted, new.new (reply_of done'))
+    pub accepted_balance : in_use N h + n ≡ done'.freed + in_use N g
+    accepted_balance = omega (arith, tried_balance, accepted_allocates c (reply_of done') accepted, new.new (reply_of done'))
 
   once : (done'.number ≡ 5 → ⊥) → (answer N w h c).0.number ≡ 5 → ⊥
   once other e = other (sym reply_number ∙ e)
@@ -98,7 +98,7 @@ module _ {N w : ℕ} {h : Memory} (usable : Usable N w h) {c : Call} {n : ℕ} (
         number_is = sym reply_number;
         after_is = tried.promise.after_is;
         figures_are = λ t. sym (refused_noted refused t);
-        balance = omega (arith, refused-balance refused);
+        balance = omega (arith, refused_balance refused);
         allocated_few = omega arith;
         refused_none = λ _. (refl, refl);
       }
@@ -113,8 +113,8 @@ module _ {N w : ℕ} {h : Memory} (usable : Usable N w h) {c : Call} {n : ℕ} (
         after_is = tried.promise.after_is;
         figures_are = λ t.
             ap (moment_in done'.stuck) (with_allocated n false 0 (0 + done'.freed) done'.stuck t (size_fits accepted).0)
-            ∙ sym (accepted-noted accepted t);
-        balance = omega (arith, accepted-balance accepted);
+            ∙ sym (accepted_noted accepted t);
+        balance = omega (arith, accepted_balance accepted);
         allocated_few = (size_fits accepted).1;
         refused_none = λ some. absurd (some refl);
       }

@@ -12,7 +12,7 @@ use Rattle.rules_calls.specs.Calls.{Call, collect, answer}
 use Rattle.types.specs.declared.Outcome.{Outcome}
 use Rattle.theory_memories.specs.Heaps.{Usable}
 use Rattle.theory.specs.Usable.{Worked}
-use Rattle.theory.proofs.Usable.UsableHeap.{usable-healthy}
+use Rattle.theory.proofs.Usable.UsableHeap.{usable_healthy}
 use Rattle.theory.proofs.Usable.UsableAfterCalls.{usable_kept}
 use Rattle.history_plans.specs.Asked.{makes}
 use Rattle.history_figures.specs.declared.tally.Tally.{Tally}
@@ -23,7 +23,7 @@ use Rattle.history_turns.specs.Steps.{Acted}
 use Rattle.history_turns.proofs.Figures.{with_allocated}
 use Rattle.history_turns.proofs.Turns.{acted_as}
 use Rattle.history_turns.proofs.Collections.{with_accepted, collect_noted, collect_balance}
-use Rattle.history_turns.proofs.FirstTry.{Allocation, reply_number, refused_noted, refused-balance, size_fits, accepted-noted, accepted-balance, acted_again}
+use Rattle.history_turns.proofs.FirstTry.{Allocation, reply_number, refused_noted, refused_balance, size_fits, accepted_noted, accepted_balance, acted_again}
 
 module _ {N w : ℕ} {h : Memory} (usable : Usable N w h) {c : Call} {n : ℕ} (new : Allocation c n) {y : Outcome} {k : Memory}
     (forced : Worked N w collect h y k) {second : Outcome} {g : Memory} (tried : Worked N w c k second g) where
@@ -56,10 +56,10 @@ module _ {N w : ℕ} {h : Memory} (usable : Usable N w h) {c : Call} {n : ℕ} (
         omega (
           arith,
           collect_balance usable forced,
-          accepted-balance forced_usable new tried e,
+          accepted_balance forced_usable new tried e,
           (size_fits forced_usable new tried e).1,
         )
-    | no e ↦ omega (arith, collect_balance usable forced, refused-balance forced_usable new tried e)
+    | no e ↦ omega (arith, collect_balance usable forced, refused_balance forced_usable new tried e)
   ]
 
   again_refused :
@@ -73,7 +73,7 @@ module _ {N w : ℕ} {h : Memory} (usable : Usable N w h) {c : Call} {n : ℕ} (
         after_is = tried.promise.after_is;
         figures_are = λ t. sym (both_noted t ∙ refused_noted forced_usable new tried refused (with_accepted y t));
         balance =
-            omega (arith, collect_balance usable forced, refused-balance forced_usable new tried refused);
+            omega (arith, collect_balance usable forced, refused_balance forced_usable new tried refused);
         allocated_few = omega arith;
         refused_none = λ _. (refl, refl);
       }
@@ -90,9 +90,9 @@ module _ {N w : ℕ} {h : Memory} (usable : Usable N w h) {c : Call} {n : ℕ} (
         figures_are = λ t.
             ap (moment_in second.stuck)
             (with_allocated n (eqb y.number 0) 0 (y.freed + second.freed) second.stuck (with_accepted y t) size.0)
-            ∙ sym (both_noted t ∙ accepted-noted forced_usable new tried accepted (with_accepted y t));
+            ∙ sym (both_noted t ∙ accepted_noted forced_usable new tried accepted (with_accepted y t));
         balance =
-            omega (arith, collect_balance usable forced, accepted-balance forced_usable new tried accepted);
+            omega (arith, collect_balance usable forced, accepted_balance forced_usable new tried accepted);
         allocated_few = size.1;
         refused_none = λ some. absurd (some refl);
       }
@@ -114,7 +114,7 @@ module _ {N w : ℕ} {h : Memory} (usable : Usable N w h) {c : Call} {n : ℕ} (
 
   pub freed_fits : y.freed + second.freed < 2 ^ 64
   freed_fits =
-      omega (arith, freed_few tried_usable new forced retried, (usable-healthy usable).shape.blocks_max)
+      omega (arith, freed_few tried_usable new forced retried, (usable_healthy usable).shape.blocks_max)
 
   pub acted_twice : first.number ≡ 5 → Acted N h (turn_of N w h (makes c)) (done_after second n (eqb y.number 0) y.freed) g
   acted_twice none_free =

@@ -12,7 +12,7 @@ use Rattle.rules.specs.Heap.{Memory}
 use Rattle.rules_steps.specs.Steps.{is_open}
 use Rattle.rules_calls.specs.Calls.{Call, collect, Answer, reply, own_refusals, answer}
 use Rattle.rules.proofs.Tests.{first_found}
-use Rattle.rules_calls.proofs.Replies.{answer-either, outcome_accepts}
+use Rattle.rules_calls.proofs.Replies.{answer_either, outcome_accepts}
 use Rattle.theory_memories.specs.Heaps.{Undamaged}
 use Rattle.theory_memories.proofs.Memories.Fit.{undamaged_fit}
 use Rattle.theory_memories.proofs.Memories.Accepted.{fit_refused}
@@ -28,7 +28,7 @@ use Rattle.history_turns.proofs.Turns.{turn_once, turn_again}
 -- a refused call changes no buffer
 unchanged : (N w : ℕ) (h : Memory) (c : Call) → ((answer N w h c).0.number ≡ 0 → ⊥) → (answer N w h c).1 ≡ h
 unchanged N w h c =
-    answer-either N w h c (λ x. (x.0.number ≡ 0 → ⊥) → x.1 ≡ h) (λ number nonzero _. refl)
+    answer_either N w h c (λ x. (x.0.number ≡ 0 → ⊥) → x.1 ≡ h) (λ number nonzero _. refl)
     (λ _ refused. absurd (refused (outcome_accepts N w h c)))
 
 -- ---- on any heap
@@ -98,8 +98,8 @@ module _ (N w : ℕ) (h : Memory) (fine : Undamaged N w h) (was_open : is_open N
     stands : (answer N w h c).1 ≡ h
     stands = unchanged N w h c (λ z. omega (arith, none_free, z))
 
-    call-uncounted : (t : Tally) → noted (made_on N w h c) t ≡ t
-    call-uncounted t = noted_refused (made_on N w h c) t (λ z. omega (arith, none_free, z))
+    call_uncounted : (t : Tally) → noted (made_on N w h c) t ≡ t
+    call_uncounted t = noted_refused (made_on N w h c) t (λ z. omega (arith, none_free, z))
 
     -- the second try finds the heap of the first
     twice : tried_again N w (answer N w h c).1 c ≡ turn (answer N w h c).0.number (made_on N w h collect ∷ made_on N w h c ∷ []) (answer N w h c).1
@@ -116,9 +116,9 @@ module _ (N w : ℕ) (h : Memory) (fine : Undamaged N w h) (was_open : is_open N
         (sym (turn_again N w h c none_free ∙ ap (λ (y : Turn). turn y.number (made_on N w h c ∷ y.made) y.after) twice))
         (just_stops _ (omega arith) none_free stands
         (λ t.
-        ap (λ (u : Tally). noted (made_on N w h c) (noted (made_on N w h collect) u)) (call-uncounted t)
+        ap (λ (u : Tally). noted (made_on N w h c) (noted (made_on N w h collect) u)) (call_uncounted t)
         ∙ ap (noted (made_on N w h c)) (collection_uncounted t)
-        ∙ call-uncounted t))
+        ∙ call_uncounted t))
 
 pub stops_while_open : StopsWhileOpen
 stops_while_open N w h fine was_open = record { recorded = recorded N w h fine was_open; forced = forced N w h fine was_open }

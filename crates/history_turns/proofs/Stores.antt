@@ -10,7 +10,7 @@ use Rattle.bitmap.specs.Bit.{one}
 use Rattle.rules.specs.Heap.{Memory}
 use Rattle.rules_calls.specs.Calls.{Call, store_root, store_cell, write_number, Alone, own_refusals, outcome, answer}
 use Rattle.rules.proofs.Tests.{also, done as no_more}
-use Rattle.rules_calls.proofs.Replies.{answer-either}
+use Rattle.rules_calls.proofs.Replies.{answer_either}
 use Rattle.types.specs.declared.Reply.{Reply}
 use Rattle.types.specs.declared.Outcome.{Outcome}
 use Rattle.theory.specs.Balance.{allocates, allocated_by}
@@ -66,7 +66,7 @@ number_plain a j v =
       uncounted = λ x t. refl;
       told = λ N w h.
           sym
-          (answer-either N w h (write_number a j v) (λ x. eqb x.0.second 1 ≡ false) (λ number nonzero. refl) (λ _. refl));
+          (answer_either N w h (write_number a j v) (λ x. eqb x.0.second 1 ≡ false) (λ number nonzero. refl) (λ _. refl));
       none_new = λ x. refl;
       not_five = λ N w h.
           not_five N w h (write_number a j v) (also (omega arith) (also (omega arith) (also (omega arith) no_more)));

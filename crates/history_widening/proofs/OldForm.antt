@@ -14,7 +14,7 @@ use Rattle.rules.specs.Heap.{Memory}
 use Rattle.rules_stores.specs.Store.{formatted}
 use Rattle.rules_calls.specs.Calls.{Call, allocate, allocate_data, answer}
 use Rattle.rules.proofs.Tests.{test_cases_lem, all_at}
-use Rattle.rules_calls.proofs.Replies.{accepted-none, Passed, passed}
+use Rattle.rules_calls.proofs.Replies.{accepted_none, Passed, passed}
 use Rattle.history_records.specs.declared.Fields.{Fields}
 use Rattle.history_records.specs.Records.{record_length, number, fields_at, wide, old, unnamed_by, unnamed, are_zero}
 use Rattle.history_plans.specs.Asked.{Asked, makes, stops, root, allocating, allocating_data, writing_number, operations, asked}
@@ -56,13 +56,13 @@ module _ (N w : ℕ) (h : Memory) (f : Fields) (accepted : (turn_of N w h (asked
   unfolding allocating Passed
   some_blocks e none =
       not_refused (allocate f.size f.d) (as_known 1 e)
-      (λ g a. omega (arith, none, (passed N w g (allocate f.size f.d) (accepted-none N w g (allocate f.size f.d) a)).0))
+      (λ g a. omega (arith, none, (passed N w g (allocate f.size f.d) (accepted_none N w g (allocate f.size f.d) a)).0))
 
   some_data : f.operation ≡ 7 → f.size ≢ 0
   unfolding allocating_data Passed
   some_data e none =
       not_refused (allocate_data f.size f.d) (as_known 7 e)
-      (λ g a. omega (arith, none, (passed N w g (allocate_data f.size f.d) (accepted-none N w g (allocate_data f.size f.d) a)).0))
+      (λ g a. omega (arith, none, (passed N w g (allocate_data f.size f.d) (accepted_none N w g (allocate_data f.size f.d) a)).0))
 
 -- a number is written to no new heap: its roots are empty
 no_number : (N w roots : ℕ) (f : Fields) → (turn_of N w (formatted N w roots) (asked N (formatted N w roots) f)).number ≡ 0 → f.operation ≢ 8

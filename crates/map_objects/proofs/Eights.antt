@@ -105,8 +105,8 @@ first_eight a b k N byte n h s l = at s l ∙ ap (λ (x : ℕ). not (eqb x 0)) (
     into : ℕ
     into = bit_or (own_links a b k) (last_link a b (k - 1))
 
-    into-lt : into < 256
-    into-lt =
+    into_lt : into < 256
+    into_lt =
         or_lt 8 (own_links a b k) (last_link a b (k - 1)) (omega arith)
         (omega (arith, shr_le (bit_and (get_or a (k - 1) 0) (get_or b (k - 1) 0)) 7, and_le_l (get_or a (k - 1) 0) (get_or b (k - 1) 0)))
 
@@ -114,7 +114,7 @@ first_eight a b k N byte n h s l = at s l ∙ ap (λ (x : ℕ). not (eqb x 0)) (
     parts s l =
         digit_and (get_or a k 0) (255 - into) s
         ∙ ap (λ (x : ℕ). min x (bit_of (255 - into) s)) (sym (bit_of_byte a k s l))
-        ∙ ap (min (bit_at a (8 * k + s))) (digit_not 8 into s into-lt l)
+        ∙ ap (min (bit_at a (8 * k + s))) (digit_not 8 into s into_lt l)
 
     link : (s : ℕ) → s < 8 → bit_of into s ≡ min (bit_at a (8 * k + s - 1)) (bit_at b (8 * k + s - 1))
     link zero l =

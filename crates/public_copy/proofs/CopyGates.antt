@@ -15,7 +15,7 @@ use Rattle.rules.proofs.Tests.{false_and}
 use Rattle.test_arguments.specs.Replies.{shut_test}
 use Rattle.test_calls.specs.Gated.{Gated}
 use Rattle.test_calls.proofs.CheckAtGate.{gate_none_open}
-use Rattle.refinement_copy.proofs.CopyAnswer.{copy_misshapen, copy-refused}
+use Rattle.refinement_copy.proofs.CopyAnswer.{copy_misshapen, copy_refused}
 use Rattle.public_copy.specs.Gated.{CopyGated}
 
 module _ {N w : ℕ} {h : Memory} {M v : ℕ} {rightShape : Bool} {rootCount : ℕ} {x : Reply} where
@@ -53,7 +53,7 @@ module _ {N w : ℕ} {h : Memory} {M v : ℕ} {rightShape : Bool} {rootCount : �
   pub gate_tested : rightShape ≡ true → length h.roots ≡ rootCount → Gated N w collect h x (shut_test N h.list) → CopyGated N w h M v rightShape rootCount x
   gate_tested right as_many gated =
       record {
-        refused = λ fails g shape roots. copy-refused (shape ∙ right) (as_many ∙ sym roots) (gated.refused fails) fails;
+        refused = λ fails g shape roots. copy_refused (shape ∙ right) (as_many ∙ sym roots) (gated.refused fails) fails;
         fit = gated.fit;
         shut = λ z. gate_none_open N h.list (gated.tested z) z;
         fits = λ _. right;

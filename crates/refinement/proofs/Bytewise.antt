@@ -45,23 +45,23 @@ module _ (N w : ℕ) where
     swept_bytes marks (suc n) =
         choose Bytewise (is_first N h n && not (marked marks n)) (freed_bytes (swept N w h marks n) n (size_at N h n) (swept_bytes marks n)) (swept_bytes marks n)
 
-    recounted-bytes : (marks : List Bool) (counts : List ℕ) → Bytes counts → (n : ℕ) → Bytes (recounted N w h marks counts n)
+    recounted_bytes : (marks : List Bool) (counts : List ℕ) → Bytes counts → (n : ℕ) → Bytes (recounted N w h marks counts n)
     unfolding recounted
-    recounted-bytes marks counts b zero = b
-    recounted-bytes marks counts b (suc n) =
-        let before = recounted-bytes marks counts b n in
+    recounted_bytes marks counts b zero = b
+    recounted_bytes marks counts b (suc n) =
+        let before = recounted_bytes marks counts b n in
         choose Bytes (marked marks n)
         (bytes_set_count (N / 8) w (recounted N w h marks counts n) n (min (capacity w) (references_from N h (marked marks) n)) before)
         before
 
-    pub collected-bytes : Bytewise (collected N w h)
+    pub collected_bytes : Bytewise (collected N w h)
     unfolding collected
-    collected-bytes =
+    collected_bytes =
         let left = swept_bytes (reached N h) N in
         record {
           a = left.a;
           b = left.b;
-          counts = recounted-bytes (reached N h) (swept N w h (reached N h) N).counts left.counts N;
+          counts = recounted_bytes (reached N h) (swept N w h (reached N h) N).counts left.counts N;
           d = left.d;
         }
 
@@ -108,7 +108,7 @@ module _ (N w : ℕ) where
       (freed_bytes (sweep N w h n) n (size_at N (sweep N w h n) n) before)
       before
 
-  pub collect-by-bytes : (h : Memory) → Bytewise h → Bytewise (collect_by N w h)
+  pub collect_by_bytes : (h : Memory) → Bytewise h → Bytewise (collect_by N w h)
   unfolding collect_by
-  collect-by-bytes h bytes =
+  collect_by_bytes h bytes =
       sweep_bytes (with_counts (mark_counts N w h) h) N (record { a = bytes.a; b = bytes.b; counts = mark_bytes h; d = bytes.d })

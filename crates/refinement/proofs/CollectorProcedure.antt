@@ -29,7 +29,7 @@ use Rattle.theory_memories.proofs.Memories.ViewSweep.{sweep_counts}
 use Rattle.theory_memories.proofs.Memories.ViewCollection.{collect_swept, collected_shows}
 use Rattle.refinement.proofs.ViewMarking.{mark_counts_shows}
 use Rattle.refinement.proofs.CollectorSweep.{Stage, sweep_stage}
-use Rattle.refinement.proofs.Bytewise.{Bytewise, collected-bytes, collect-by-bytes}
+use Rattle.refinement.proofs.Bytewise.{Bytewise, collected_bytes, collect_by_bytes}
 
 module _ (N w : ℕ) (h : Memory) (healthy : Healthy N w h) where
   abbrev r : ℕ
@@ -50,14 +50,14 @@ module _ (N w : ℕ) (h : Memory) (healthy : Healthy N w h) where
       refl
       refl
 
-  remarked-view : view N w remarked ≡ marked_graph (capacity w) r (view N w h)
-  remarked-view = graph_is refl (mark_counts_shows N w h healthy).1 refl
+  remarked_view : view N w remarked ≡ marked_graph (capacity w) r (view N w h)
+  remarked_view = graph_is refl (mark_counts_shows N w h healthy).1 refl
 
   end_stage : Stage N w remarked (collect_by N w h) after (collect_blocks N w h)
   unfolding collect_by collect_blocks graph.collect
   end_stage =
       subst (λ (k : Graph). Stage N w remarked (collect_by N w h) k (collect_blocks N w h))
-      (ap (λ (m : Graph). graph.sweep r m N) remarked-view
+      (ap (λ (m : Graph). graph.sweep r m N) remarked_view
       ∙ ap (graph.sweep r (marked_graph (capacity w) r (view N w h))) (sym (length_sizes_of N h.a h.b)))
       (sweep_stage N w remarked remarked_shape healthy.represents healthy.bare N (omega arith))
 
@@ -68,7 +68,7 @@ module _ (N w : ℕ) (h : Memory) (healthy : Healthy N w h) where
   count_by b l =
       ap (λ (c : List ℕ). count_at (N / 8) w c b) end_stage.same_counts
       ∙ sym (view_count N w remarked b l)
-      ∙ ap (λ (k : Graph). count k b) remarked-view
+      ∙ ap (λ (k : Graph). count k b) remarked_view
       ∙ ap (λ (c : List ℕ). get_or c b 0)
       (sym (sweep_counts r (marked_graph (capacity w) r (view N w h)) (length (view N w h).sizes)))
 
@@ -87,16 +87,16 @@ module _ (N w : ℕ) (h : Memory) (healthy : Healthy N w h) where
         roots = (end_stage.swept.same_roots ∙ sym (collect_swept N w h healthy).same_roots) i;
         waiting = (end_stage.swept.same_waiting ∙ sym (collect_swept N w h healthy).same_waiting) i;
         sections = (end_stage.swept.same_sections ∙ sym (collect_swept N w h healthy).same_sections) i;
-        d = same-d i;
+        d = same_d i;
         marks = (end_stage.swept.same_marks ∙ sym (collect_swept N w h healthy).same_marks) i;
         list = (end_stage.swept.same_list ∙ sym (collect_swept N w h healthy).same_list) i;
       }
     where
       by : Bytewise (collect_by N w h)
-      by = collect-by-bytes N w h bytes
+      by = collect_by_bytes N w h bytes
 
       is : Bytewise (collected N w h)
-      is = collected-bytes N w h bytes
+      is = collected_bytes N w h bytes
 
       maps : ((collect_by N w h).a ≡ (collected N w h).a) × ((collect_by N w h).b ≡ (collected N w h).b)
       maps =
@@ -118,8 +118,8 @@ module _ (N w : ℕ) (h : Memory) (healthy : Healthy N w h) where
           count_by b inside ∙ sym (count_is b inside))
 
       -- marking leaves all but the counts: what stands after the sweep is as it was before the marking
-      by-keeps : (x : ℕ) → get_or (sizes_in N (collect_by N w h)) x 0 ≢ 0 → Kept N h (collect_by N w h) x
-      by-keeps x stands =
+      by_keeps : (x : ℕ) → get_or (sizes_in N (collect_by N w h)) x 0 ≢ 0 → Kept N h (collect_by N w h) x
+      by_keeps x stands =
           let kept = end_stage.swept.keeps x stands in
           record { size = kept.size; kind = kept.kind; cells = kept.cells }
 
@@ -134,15 +134,15 @@ module _ (N w : ℕ) (h : Memory) (healthy : Healthy N w h) where
           ext_get_or 0 (collect_by N w h).cells (collected N w h).cells
           (end_stage.swept.shape.length_cells ∙ sym (collect_swept N w h healthy).shape.length_cells)
           (λ j l.
-          kept_cell N h represents end_stage.swept.bare (collect_swept N w h healthy).bare by-keeps (collect_swept N w h healthy).keeps
+          kept_cell N h represents end_stage.swept.bare (collect_swept N w h healthy).bare by_keeps (collect_swept N w h healthy).keeps
           maps.0 maps.1 j)
 
-      same-d : (collect_by N w h).d ≡ (collected N w h).d
-      same-d =
+      same_d : (collect_by N w h).d ≡ (collected N w h).d
+      same_d =
           map_ext (collect_by N w h).d (collected N w h).d by.d is.d
           (end_stage.swept.shape.length_d ∙ sym (collect_swept N w h healthy).shape.length_d)
           (λ x l.
-          kept_kind N h represents end_stage.swept.bare (collect_swept N w h healthy).bare by-keeps (collect_swept N w h healthy).keeps
+          kept_kind N h represents end_stage.swept.bare (collect_swept N w h healthy).bare by_keeps (collect_swept N w h healthy).keeps
           maps.0 maps.1 x)
 
   -- ---- the blocks freed

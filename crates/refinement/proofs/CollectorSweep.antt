@@ -69,9 +69,9 @@ module _ (N w : ℕ) (h g : Memory) (k : Graph) (blocks n : ℕ) (stage : Stage 
     there : size_at N g n ≡ size k n
     there = extent N g.a g.b k.sizes stage.swept.represents n some
 
-    freed-stage : Stage N w h (freed N w g n (size_at N g n)) (sweep_one r k n) (blocks + size_at N g n)
+    freed_stage : Stage N w h (freed N w g n (size_at N g n)) (sweep_one r k n) (blocks + size_at N g n)
     unfolding freed
-    freed-stage =
+    freed_stage =
         record {
           swept =
               rw (sweep_gone r k n (same_count ∙ uncounted))
@@ -120,7 +120,7 @@ module _ (N w : ℕ) (h : Memory) (shape : Shaped N w h) (represents : Represent
         | inl e ↦
             let facts = and_true (is_first N g n) (eqb (count_of N w g n) 0) e in
             rw (sweep_goes N w h n e, blocks_go N w h n e)
-            (freed-stage N w h g k (sweep_blocks N w h n) n stage same_count facts.0 (eqb-true (count_of N w g n) 0 facts.1))
+            (freed_stage N w h g k (sweep_blocks N w h n) n stage same_count facts.0 (eqb-true (count_of N w g n) 0 facts.1))
         | inr e ↦ rw (sweep_stays N w h n e, blocks_stay N w h n e) (same_stage N w h g k (sweep_blocks N w h n) n stage same_count e)
       ]
     where

@@ -12,7 +12,7 @@ use Rattle.section_figures.proofs.Lists.{coherent_true}
 use Rattle.count_up.specs.Ready.{Ready}
 use Rattle.theory_memories.specs.Heaps.{Usable}
 use Rattle.theory_memories.proofs.Memories.Fit.{Fit}
-use Rattle.theory.proofs.Usable.UsableHeap.{cleared_same, usable-fit}
+use Rattle.theory.proofs.Usable.UsableHeap.{cleared_same, usable_fit}
 
 fit_ready : (N w : ℕ) (h : Memory) → Fit N w h → Ready N w (with_waiting (replicate N 0) h)
 fit_ready N w h fit =
@@ -40,10 +40,10 @@ fit_ready N w h fit =
 
 module _ {N w : ℕ} {h : Memory} (usable : Usable N w h) where
   pub usable_ready : Ready N w h
-  usable_ready = subst (λ (g : Memory). Ready N w g) (cleared_same usable) (fit_ready N w h (usable-fit usable))
+  usable_ready = subst (λ (g : Memory). Ready N w g) (cleared_same usable) (fit_ready N w h (usable_fit usable))
 
   -- where nothing was freed, the list is the true one still
   pub list_untouched : {freed : ℕ} {a sections : List ℕ} → Upkeep N freed h.a h.sections a sections → freed ≡ 0 → sections ≡ figures N a
   list_untouched upkeep none =
       let same = upkeep.untouched none in
-      same.1 ∙ (usable-fit usable).listed ∙ ap (figures N) (sym same.0)
+      same.1 ∙ (usable_fit usable).listed ∙ ap (figures N) (sym same.0)

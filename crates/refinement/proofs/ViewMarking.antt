@@ -25,7 +25,7 @@ use Rattle.theory_graphs.proofs.Graphs.Graph.{first_slot}
 use Rattle.theory_graphs.proofs.Graphs.Marking as graph-marking
 use Rattle.theory_graphs.proofs.Graphs.Marking.{meet_stack, count_up_each, count_up_each_stack, mark, Marking, Markable, reach_object, marking_start, marking_step}
 use Rattle.theory_graphs.proofs.Graphs.Calls.{whole_markable}
-use Rattle.theory_memories.proofs.Memories.Reading.{data-read, ordinary-read}
+use Rattle.theory_memories.proofs.Memories.Reading.{data_read, ordinary_read}
 use Rattle.theory_memories.proofs.Memories.View.{slots_in, view}
 use Rattle.theory_memories.proofs.Memories.Slots.{root_slot, cell_slot}
 use Rattle.theory_memories.proofs.Memories.Healthy.{Healthy}
@@ -141,7 +141,7 @@ module _ (N w : ℕ) (h : Memory) (healthy : Healthy N w h) where
       visit_each_none (capacity w) (counts_of N w counts) stack (slots_in N h) (first_slot r x) (4 * get_or sizes x 0)
       (λ k l.
       slot_of x object k l
-      ∙ data-read N h.a h.b sizes healthy.represents h.d h.cells x (4 * x + k) (omega arith, omega arith) e) in
+      ∙ data_read N h.a h.b sizes healthy.represents h.d h.cells x (4 * x + k) (omega arith, omega arith) e) in
       record { length_is = len; counts_are = sym none.0; stack_is = sym none.1 }
   naming counts len stack x object false e =
       rw (extent N h.a h.b sizes healthy.represents x object)
@@ -150,7 +150,7 @@ module _ (N w : ℕ) (h : Memory) (healthy : Healthy N w h) where
       (λ k l.
       sym
       (slot_of x object k l
-      ∙ ordinary-read N h.a h.b sizes healthy.represents h.d h.cells x (4 * x + k) (omega arith, omega arith) e))
+      ∙ ordinary_read N h.a h.b sizes healthy.represents h.d h.cells x (4 * x + k) (omega arith, omega arith) e))
       (slots_named N w h healthy))
 
   scan_shows :

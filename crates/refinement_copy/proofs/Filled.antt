@@ -20,7 +20,7 @@ use Rattle.walk_objects.specs.Walking.{walked_heap, Walkable}
 use Rattle.copy_plan.specs.Plan.{block_in}
 use Rattle.copy_objects.specs.Copying.{moved_to, copy_object, copy_objects}
 use Rattle.refinement_copy.specs.Routed.{Routed, copied_lists, lists_of, filled_lists}
-use Rattle.refinement_copy.proofs.Routes.{places, reference-is, object-is}
+use Rattle.refinement_copy.proofs.Routes.{places, reference_is, object_is}
 
 -- the lists that objects are written into
 abbrev part : Memory → Memory
@@ -48,13 +48,13 @@ module _ (N : ℕ) (a b d cells roots : List ℕ) (walkable : Walkable N a b d c
     abbrev empty : Memory
     empty = formatted M v (length h.roots)
 
-    objects-are : (k : ℕ) → k ≤ met
+    objects_are : (k : ℕ) → k ≤ met
         → copy_objects N h.b h.d h.cells order moved M v empty k ≡ copy_first N h all (places N a b d cells roots walkable r) M v k
     unfolding copy_objects copy_first
-    objects-are zero l = refl
-    objects-are (suc k) l =
-        ap (λ (g : Memory). copy_object N h.b h.d h.cells moved M v g (block_in order k)) (objects-are k (omega arith))
-        ∙ object-is N a b d cells roots walkable r v (copy_first N h all (places N a b d cells roots walkable r) M v k) k (omega arith)
+    objects_are zero l = refl
+    objects_are (suc k) l =
+        ap (λ (g : Memory). copy_object N h.b h.d h.cells moved M v g (block_in order k)) (objects_are k (omega arith))
+        ∙ object_is N a b d cells roots walkable r v (copy_first N h all (places N a b d cells roots walkable r) M v k) k (omega arith)
 
     -- ---- the roots
 
@@ -74,12 +74,12 @@ module _ (N : ℕ) (a b d cells roots : List ℕ) (walkable : Walkable N a b d c
         ap (λ (x : ℕ). get_or (fill_cells f roots₀ 0 n) x 0) (sym here)
         ∙ fill_in f roots₀ 0 n i (omega (arith, as_many)) (omega (arith, fill_length f roots₀ 0 n, as_many))
         ∙ ap (λ (x : ℕ). moved_to moved (get_or h.roots x 0)) here
-        ∙ reference-is N a b d cells roots walkable r (get_or h.roots i 0) (roots_below N h walkable.named i)
+        ∙ reference_is N a b d cells roots walkable r (get_or h.roots i 0) (roots_below N h walkable.named i)
         ∙ sym (ap (λ (d : ℕ). get_or (map new_root h.roots) i d) (sym zero_root) ∙ get_or-map new_root h.roots i 0))
 
     -- ---- the six lists: five cleared, the objects written, the roots written over what they were
 
-    pub lists-written :
+    pub lists_written :
         (roots₀ : List ℕ) {a₀ b₀ counts₀ cells₀ d₀ a2 b2 counts2 cells2 roots2 d2 : List ℕ}
         → a₀ ≡ replicate (M / 8) 0 → b₀ ≡ replicate (M / 8) 255 → counts₀ ≡ replicate (v * (M / 8)) 0 → cells₀ ≡ replicate (4 * M) 0
         → d₀ ≡ replicate (M / 8) 0 → length roots₀ ≡ length h.roots
@@ -87,12 +87,12 @@ module _ (N : ℕ) (a b d cells roots : List ℕ) (walkable : Walkable N a b d c
         → roots2 ≡ fill_cells (λ i. moved_to moved (get_or h.roots (0 + i) 0)) roots₀ 0 (length h.roots)
         → copied_lists a2 b2 counts2 cells2 roots2 d2 ≡ filled_lists N h M v
     unfolding copy_all formatted places_in
-    lists-written roots₀ {roots2 = roots2} a-is b-is counts_are cells_are d-is as_many objects rooted =
+    lists_written roots₀ {roots2 = roots2} a-is b-is counts_are cells_are d-is as_many objects rooted =
         ap (with_roots roots2)
         (objects
         ∙ (λ t. copy_objects N h.b h.d h.cells order moved M v (part_memory (a-is t) (b-is t) (counts_are t) (cells_are t) [] (d-is t)) met)
         ∙ objects_part N h.b h.d h.cells order moved M v empty met
-        ∙ ap part (objects-are met (omega arith) ∙ ap (copy_first N h all (places N a b d cells roots walkable r) M v) r.all))
+        ∙ ap part (objects_are met (omega arith) ∙ ap (copy_first N h all (places N a b d cells roots walkable r) M v) r.all))
         ∙ ap (λ (l : List ℕ). with_roots l (part (copy_first N h all (places N a b d cells roots walkable r) M v (length all)))) (rooted ∙ roots_are roots₀ as_many)
         ∙ ap (λ (p : List ℕ). lists_of (copy_all N h all p M v)) (sym (ap places_in r.laid_by))
 

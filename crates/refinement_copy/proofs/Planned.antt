@@ -46,13 +46,13 @@ module _ (N : ℕ) (a b d cells roots : List ℕ) (walkable : Walkable N a b d c
     number b l = w.walking.numbers_are b l ∙ ap (λ (x : List ℕ). number_in x (suc b)) w.is
 
     module _ (k : ℕ) (l : k < met) where
-      number-of : number_in all (get_or order k 0) ≡ suc k
-      number-of =
+      number_of_lem : number_in all (get_or order k 0) ≡ suc k
+      number_of_lem =
           ap (number_in all) (object k l) ∙ object_number (numbered_distinct N h walkable.named) (suc k) (omega arith) (omega (arith, as_many))
 
       block : (get_or order k 0 ≢ 0) × (block_in order k < N)
       block =
-          let led = met_led N h walkable.named (get_or order k 0) k number-of in
+          let led = met_led N h walkable.named (get_or order k 0) k number_of_lem in
           (led.0, (first_facts N h.a h.b (block_in order k) (led_first N h led.1)).inside)
 
     pub numbering : Numbering N order numbers met
@@ -65,7 +65,7 @@ module _ (N : ℕ) (a b d cells roots : List ℕ) (walkable : Walkable N a b d c
       number = λ k l.
           let whole : suc (block_in order k) ≡ get_or order k 0 = omega (arith, (block k l).0) in
           let one : suc k ≡ k + 1 = omega arith in
-          number (block_in order k) (block k l).1 ∙ ap (number_in all) whole ∙ number-of k l ∙ one;
+          number (block_in order k) (block k l).1 ∙ ap (number_in all) whole ∙ number_of_lem k l ∙ one;
       object = λ b l s.
           let n : ℕ = get_or numbers b 0 - 1 in
           let whole : suc n ≡ get_or numbers b 0 = omega arith in
@@ -76,19 +76,19 @@ module _ (N : ℕ) (a b d cells roots : List ℕ) (walkable : Walkable N a b d c
 
     -- ---- after the plan
 
-    sizes-same : (M k : ℕ) → k ≤ met → lay_first M (sizes_in N h.b order) k ≡ lay_first M (size_of N h all) k
-    sizes-same M k l =
+    sizes_same : (M k : ℕ) → k ≤ met → lay_first M (sizes_in N h.b order) k ≡ lay_first M (size_of N h all) k
+    sizes_same M k l =
         lay_same M (sizes_in N h.b order) (size_of N h all) k (λ i u. ap (λ (x : ℕ). size_at N h (x - 1)) (object i (omega arith)))
 
-    pub plan-is : (M : ℕ) → lay_first M (sizes_in N h.b order) met ≡ lay_all N h M
+    pub plan_is : (M : ℕ) → lay_first M (sizes_in N h.b order) met ≡ lay_all N h M
     unfolding lay_all
-    plan-is M = sizes-same M met (omega arith) ∙ ap (lay_first M (size_of N h all)) as_many
+    plan_is M = sizes_same M met (omega arith) ∙ ap (lay_first M (size_of N h all)) as_many
 
     pub routed : {M : ℕ} {moved : List ℕ} {r : Bool} → Planned M (sizes_in N b order) met N numbers moved r → r ≡ true → length moved ≡ length numbers
         → Routed N h M order moved met
     unfolding places_in
     routed {M} p e kept =
-        let found = there_laid (lay_all N h M) (sym (sym e ∙ p.laid_all ∙ ap all_laid (plan-is M))) in
+        let found = there_laid (lay_all N h M) (sym (sym e ∙ p.laid_all ∙ ap all_laid (plan_is M))) in
         record {
           all = as_many;
           long_order = omega (arith, as_many, numbered_length N h walkable.named, w.walking.long_order);
@@ -96,5 +96,5 @@ module _ (N : ℕ) (a b d cells roots : List ℕ) (walkable : Walkable N a b d c
           object = object;
           laid = found.0;
           laid_by = found.1;
-          moved_is = λ b l. p.moved_is e b l ∙ ap₂ new_reference (ap places_in (plan-is M ∙ found.1)) (number b l);
+          moved_is = λ b l. p.moved_is e b l ∙ ap₂ new_reference (ap places_in (plan_is M ∙ found.1)) (number b l);
         }

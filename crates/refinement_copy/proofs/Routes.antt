@@ -47,20 +47,20 @@ module _ (N : ℕ) (a b d cells roots : List ℕ) (walkable : Walkable N a b d c
       abbrev at : ℕ
       at = block_in order k
 
-      pub block-is : at ≡ block_at all (suc k)
-      block-is = ap (λ (x : ℕ). x - 1) (r.object k l)
+      pub block_is : at ≡ block_at all (suc k)
+      block_is = ap (λ (x : ℕ). x - 1) (r.object k l)
 
-      inside-all : k < length all
-      inside-all = omega (arith, r.all)
+      inside_all : k < length all
+      inside_all = omega (arith, r.all)
 
-      pub some-object : get_or order k 0 ≢ 0
-      some-object z = object_some (numbered_distinct N h walkable.named) (suc k) (omega arith) (omega (arith, inside-all)) (sym (r.object k l) ∙ z)
+      pub some_object : get_or order k 0 ≢ 0
+      some_object z = object_some (numbered_distinct N h walkable.named) (suc k) (omega arith) (omega (arith, inside_all)) (sym (r.object k l) ∙ z)
 
       number_at : number_in all (suc at) ≡ suc k
       number_at =
-          let whole : suc at ≡ get_or order k 0 = omega (arith, some-object) in
+          let whole : suc at ≡ get_or order k 0 = omega (arith, some_object) in
           ap (number_in all) (whole ∙ r.object k l)
-          ∙ object_number (numbered_distinct N h walkable.named) (suc k) (omega arith) (omega (arith, inside-all))
+          ∙ object_number (numbered_distinct N h walkable.named) (suc k) (omega arith) (omega (arith, inside_all))
 
       led : Leads N h at
       led =
@@ -81,11 +81,11 @@ module _ (N : ℕ) (a b d cells roots : List ℕ) (walkable : Walkable N a b d c
 
       inside : get_or moved at 0 - 1 + size_at N h at ≤ M
       inside =
-          omega (arith, (room M _ (size_of N h all k) (get_or places k 0) (out.found k inside-all)).inside, place_is, ap (size_at N h) block-is)
+          omega (arith, (room M _ (size_of N h all k) (get_or places k 0) (out.found k inside_all)).inside, place_is, ap (size_at N h) block_is)
 
       -- an ordinary cell names a block of the heap, or nothing
-      cell-small : bit_at h.d at ≢ 1 → (i : ℕ) → i < 4 * size_at N h at → get_or h.cells (4 * at + i) 0 ≤ N
-      cell-small other i inside-object =
+      cell_small : bit_at h.d at ≢ 1 → (i : ℕ) → i < 4 * size_at N h at → get_or h.cells (4 * at + i) 0 ≤ N
+      cell_small other i inside-object =
           omega (
             arith,
             walkable.named.read.of_others at (size_at N h at) i (record { first = first; size = refl }) (ne_eqb (bit_at h.d at) 1 other) inside-object,
@@ -105,13 +105,13 @@ module _ (N : ℕ) (a b d cells roots : List ℕ) (walkable : Walkable N a b d c
             below = below;
             some = omega (arith, place_at);
             inside = inside;
-            of_cells = cell-small;
+            of_cells = cell_small;
           }
 
     -- ---- references
 
-    pub reference-is : (x : ℕ) → x ≤ N → moved_to moved x ≡ new_reference places (number_in all x)
-    reference-is x l = elim (ℕ_discrete x 0) [
+    pub reference_is : (x : ℕ) → x ≤ N → moved_to moved x ≡ new_reference places (number_in all x)
+    reference_is x l = elim (ℕ_discrete x 0) [
       | yes z ↦
           sym (moved_nothing moved x z)
           ∙ sym (new_none places (number_in all x) (ap (number_in all) z ∙ number_zero (numbered_distinct N h walkable.named)))
@@ -128,23 +128,23 @@ module _ (N : ℕ) (a b d cells roots : List ℕ) (walkable : Walkable N a b d c
       | yes e ↦ rw (eq-eqb (bit_at h.d (block_in order k)) 1 e, moved_cells, new_cell) refl
       | no d ↦
           rw (ne_eqb (bit_at h.d (block_in order k)) 1 d, moved_cells, new_cell)
-          (reference-is (get_or h.cells (4 * block_in order k + j) 0) (cell-small k l d j inside-object))
+          (reference_is (get_or h.cells (4 * block_in order k + j) 0) (cell_small k l d j inside-object))
     ]
 
     -- the object is the rule's
-    pub object-is : (v : ℕ) (g : Memory) (k : ℕ) → k < met
+    pub object_is : (v : ℕ) (g : Memory) (k : ℕ) → k < met
         → copy_object N h.b h.d h.cells moved M v g (block_in order k) ≡ copy_one N h all places M v g (block_at all (suc k)) (get_or places k 0)
     unfolding copy_object copy_one
-    object-is v g k l =
+    object_is v g k l =
         let at : ℕ = block_in order k in
         let to : ℕ = get_or moved at 0 - 1 in
         let n : ℕ = size_at N h at in
         let cells : fill_cells (moved_cells (bit_at h.d at) moved h.cells (4 * at)) g.cells (4 * to) (4 * n)
         ≡ fill_cells (new_cell h all places at) g.cells (4 * to) (4 * n) =
         fill_same (moved_cells (bit_at h.d at) moved h.cells (4 * at)) (new_cell h all places at) g.cells (4 * to) (4 * n) (cells_are k l) in
-        let i-is : at ≡ block_at all (suc k) = block-is k l in
+        let i_is : at ≡ block_at all (suc k) = block_is k l in
         let to_is : to ≡ get_or places k 0 = place_is k l in
         (λ t. made_at M v g to n (capacity v) (cells t) (bit_at h.d at))
         ∙ (λ t.
-        made_at M v g (to_is t) (size_at N h (i-is t)) (capacity v)
-        (fill_cells (new_cell h all places (i-is t)) g.cells (4 * to_is t) (4 * size_at N h (i-is t))) (bit_at h.d (i-is t)))
+        made_at M v g (to_is t) (size_at N h (i_is t)) (capacity v)
+        (fill_cells (new_cell h all places (i_is t)) g.cells (4 * to_is t) (4 * size_at N h (i_is t))) (bit_at h.d (i_is t)))

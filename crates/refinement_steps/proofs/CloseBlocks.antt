@@ -121,12 +121,12 @@ module _ (N w : ℕ) (h : Memory) (healthy : Healthy N w h) (ms : List Bool) (ma
         ∙ ap (λ (s : Closing). zeros (at N).a + released_blocks N N w s.heap s.stack)
         (sym (pass_is N w h healthy ms marks agrees within N (omega arith)))
 
-    pub close-blocks-are : {r : ℕ}
+    pub close_blocks_are : {r : ℕ}
         → r ≡ close_blocks N w marks (closing (part_memory h.a h.b h.counts h.cells [] h.d) []) N
         + released_after N w (close_below N w marks (closing (part_memory h.a h.b h.counts h.cells [] h.d) []) N)
         → r ≡ zeros (unmarked_freed N w ms h).a - zeros h.a
     unfolding released_after
-    close-blocks-are {r} e =
+    close_blocks_are {r} e =
         let lent : Closing = closing (part_memory h.a h.b h.counts h.cells [] h.d) [] in
         let first : close_blocks N w marks lent N ≡ close_blocks N w marks (closing h []) N = sym (blocks_beside N w marks (λ _. h) lent N) in
         let then : released_after N w (close_below N w marks lent N) ≡ released_after N w (close_below N w marks (closing h []) N) =

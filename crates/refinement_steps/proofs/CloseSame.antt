@@ -75,22 +75,22 @@ module _ (N w : ℕ) (h : Memory) (healthy : Healthy N w h) (ms : List Bool) (ma
         ap (λ (v : ℕ). count_down N w (theirs n) (to_survivor ms v)) (of_data N h healthy.represents x first made n (omega arith))
         ∙ ap (λ (t : Work). count_down N w t (to_survivor ms 0)) (down_none made n (omega arith)) ∙ down_zero s
 
-    down-each : is_data h.d x ≡ false → (n : ℕ) → n ≤ 4 * size_at N h x → theirs n ≡ ours n
+    down_each : is_data h.d x ≡ false → (n : ℕ) → n ≤ 4 * size_at N h x → theirs n ≡ ours n
     unfolding survivors_down count_down_survivors
-    down-each ordinary zero l = refl
-    down-each ordinary (suc n) l =
+    down_each ordinary zero l = refl
+    down_each ordinary (suc n) l =
         ap (λ (v : ℕ). count_down N w (theirs n) (to_survivor ms v)) (of_others N h healthy.represents x first ordinary n (omega arith))
-        ∙ ap₂ (λ (t : Work) (v : ℕ). count_down N w t v) (down-each ordinary n (omega arith))
+        ∙ ap₂ (λ (t : Work) (v : ℕ). count_down N w t v) (down_each ordinary n (omega arith))
         (survivor_same (get_or h.cells (4 * x + n) 0))
 
     -- what is counted down for an object: of data nothing
-    down-same : theirs (4 * size_at N h x) ≡ ours (naming_cells h.d x (size_at N h x))
+    down_same : theirs (4 * size_at N h x) ≡ ours (naming_cells h.d x (size_at N h x))
     unfolding count_down_survivors
-    down-same =
+    down_same =
         elim (test_cases_lem (is_data h.d x)) [
           | inl made ↦ down_none made (4 * size_at N h x) (omega arith) ∙ sym (ap ours (naming_data h.d x (size_at N h x) made))
           | inr ordinary ↦
-              down-each ordinary (4 * size_at N h x) (omega arith)
+              down_each ordinary (4 * size_at N h x) (omega arith)
               ∙ sym (ap ours (naming_ordinary h.d x (size_at N h x) ordinary))
         ]
 
@@ -113,7 +113,7 @@ module _ (N w : ℕ) (h : Memory) (healthy : Healthy N w h) (ms : List Bool) (ma
           let ours : order.survivors_let_go N w marks h s (suc n)
           ≡ count_down_survivors N w marks (order.survivors_let_go N w marks h s n) h.cells (4 * n) (naming_cells h.d n (size_at N h n)) =
           rw (e, order.survivors_let_go) in
-          theirs ∙ down-same n first (survivors_let_go N w ms h s n)
+          theirs ∙ down_same n first (survivors_let_go N w ms h s n)
           ∙ ap (λ (t : Work). count_down_survivors N w marks t h.cells (4 * n) (naming_cells h.d n (size_at N h n))) before
           ∙ sym ours
       go before (inr e) =

@@ -28,24 +28,24 @@ use Rattle.theory_memories.proofs.Memories.View.{view}
 use Rattle.theory_memories.proofs.Memories.Healthy.{Healthy}
 use Rattle.theory_memories.proofs.Memories.Fit.{Fit}
 use Rattle.theory_memories.proofs.Memories.TidyHeap.{some_inside}
-use Rattle.theory_memories.proofs.Memories.Scanning.{progress-tidy, steps-from-open, list-empty}
-use Rattle.theory_memories.proofs.Memories.Accepted.{fit-accepted}
+use Rattle.theory_memories.proofs.Memories.Scanning.{progress_tidy, steps_from_open, list_empty}
+use Rattle.theory_memories.proofs.Memories.Accepted.{fit_accepted}
 use Rattle.theory_memories.specs.Heaps.{Usable}
-use Rattle.theory.proofs.Usable.UsableHeap.{usable-fit}
+use Rattle.theory.proofs.Usable.UsableHeap.{usable_fit}
 use Rattle.refinement_steps.proofs.StepsSame.{code_names, steps_same, progress_same}
 use Rattle.refinement_steps.proofs.CloseSame.{close_left}
-use Rattle.refinement_steps.proofs.CloseBlocks.{close-blocks-are}
+use Rattle.refinement_steps.proofs.CloseBlocks.{close_blocks_are}
 
 module _ {N w : ℕ} {h : Memory} (budget : ℕ) (usable : Usable N w h) (was_open : is_open N h ≡ true) where
   fit : Fit N w h
-  fit = usable-fit usable
+  fit = usable_fit usable
 
   healthy : Healthy N w h
   healthy = fit.healthy
 
   -- the steps of the code and of the rules
   abbrev coded : StepsTaken
-  coded = steps_by budget N (code_names N w h (usable-fit usable).healthy) (progress_at N h.marks h.list)
+  coded = steps_by budget N (code_names N w h (usable_fit usable).healthy) (progress_at N h.marks h.list)
 
   abbrev all : StepsTaken
   all = steps_from budget N h (progress_of N h)
@@ -53,18 +53,18 @@ module _ {N w : ℕ} {h : Memory} (budget : ℕ) (usable : Usable N w h) (was_op
   coded_is : coded ≡ all
   coded_is =
       ap (steps_by budget N (code_names N w h healthy)) (progress_same N h)
-      ∙ steps_same N w h healthy budget (progress_of N h) (progress-tidy N w h healthy was_open fit.tidy)
+      ∙ steps_same N w h healthy budget (progress_of N h) (progress_tidy N w h healthy was_open fit.tidy)
 
   abbrev reached : Progress
   reached = all.reached
 
   tidy : Tidy (length h.roots) (view N w h) (marked reached.marks) (marked reached.list)
-  tidy = (steps-from-open N w h healthy was_open fit.tidy budget).tidy
+  tidy = (steps_from_open N w h healthy was_open fit.tidy budget).tidy
 
   answered : answer N w h (take_steps budget)
       ≡ (reply 0 all.steps (zeros (stepped N w h budget reached).a - zeros h.a), settled N (stepped N w h budget reached))
   unfolding outcome Passed
-  answered = fit-accepted N w h fit (take_steps budget) refl was_open
+  answered = fit_accepted N w h fit (take_steps budget) refl was_open
 
   module _ {steps : ℕ} {done : Bool} {marks list : List ℕ} (counted : steps ≡ coded.steps) (told : done ≡ closes budget coded.reached)
       (holds : Holding N coded.reached h.marks marks list) where
@@ -88,8 +88,8 @@ module _ {N w : ℕ} {h : Memory} (budget : ℕ) (usable : Usable N w h) (was_op
         left ∙ ap (λ (t : StepsTaken). with_progress N (marked t.reached.marks) (marked t.reached.list) h) coded_is
         ∙ rw (sym closes_is ∙ e, stepped)
 
-    pub steps-promised : done ≡ false → {x : Reply} → x ≡ reply 0 steps 0 → Promise N w (take_steps budget) h x (with_marks marks (with_list list h))
-    steps-promised e {x} replied =
+    pub steps_promised : done ≡ false → {x : Reply} → x ≡ reply 0 steps 0 → Promise N w (take_steps budget) h x (with_marks marks (with_list list h))
+    steps_promised e {x} replied =
         let end : Memory = stepped N w h budget reached in
         let same_map : h.a ≡ end.a = ap (λ (m : Memory). m.a) (goes_on e) in
         let none : 0 ≡ zeros end.a - zeros h.a = omega (arith, ap zeros same_map) in
@@ -124,7 +124,7 @@ module _ {N w : ℕ} {h : Memory} (budget : ℕ) (usable : Usable N w h) (was_op
     ends e = rw (sym closes_is ∙ e, stepped)
 
     -- k is what is left, and `freed` the number of blocks counted
-    pub close-promised : done ≡ true → (k : Memory) {freed : ℕ} {x : Reply}
+    pub close_promised : done ≡ true → (k : Memory) {freed : ℕ} {x : Reply}
         → part_memory k.a k.b k.counts k.cells [] k.d
         ≡ released N w (close_below N w marks (untouched h.a h.b h.counts h.cells h.d) N)
         → freed ≡ close_blocks N w marks (untouched h.a h.b h.counts h.cells h.d) N
@@ -132,17 +132,17 @@ module _ {N w : ℕ} {h : Memory} (budget : ℕ) (usable : Usable N w h) (was_op
         → k.roots ≡ h.roots → k.waiting ≡ replicate N 0 → k.sections ≡ figures N k.a → k.marks ≡ replicate (N / 8) 0
         → k.list ≡ replicate (N + 1) 0 → x ≡ reply 0 steps freed → Promise N w (take_steps budget) h x k
     unfolding closed with_none
-    close-promised e k {freed} {x} left blocks roots idle listed cleared emptied replied =
+    close_promised e k {freed} {x} left blocks roots idle listed cleared emptied replied =
         let end : Memory = stepped N w h budget reached in
         let u : Memory = unmarked_freed N w reached.marks h in
-        let beside-is : beside (λ _. h) (part_memory k.a k.b k.counts k.cells [] k.d) ≡ u =
+        let beside_is : beside (λ _. h) (part_memory k.a k.b k.counts k.cells [] k.d) ≡ u =
         close_left N w h healthy reached.marks marks agrees inside left in
         let freed_is : freed ≡ zeros u.a - zeros h.a =
-        close-blocks-are N w h healthy reached.marks marks agrees inside
-        (list-empty N w h healthy was_open fit.tidy budget reached tidy (sym closes_is ∙ e)) blocks in
+        close_blocks_are N w h healthy reached.marks marks agrees inside
+        (list_empty N w h healthy was_open fit.tidy budget reached tidy (sym closes_is ∙ e)) blocks in
         let second : freed ≡ zeros end.a - zeros h.a = freed_is ∙ ap (λ (m : Memory). zeros m.a - zeros h.a) (ends e) in
         let kept : k ≡ settled N (with_none N (beside (λ _. h) (part_memory k.a k.b k.counts k.cells [] k.d))) =
         λ i. with_sections (listed i) (with_waiting (idle i) (with_marks (cleared i) (with_list (emptied i) (with_roots (roots i) k)))) in
         promised N w h (take_steps budget) (reply 0 all.steps (zeros end.a - zeros h.a), settled N end) answered x k
         (replied ∙ (λ i. reply 0 (steps_are i) (second i)))
-        (kept ∙ ap (λ (m : Memory). settled N (with_none N m)) beside-is ∙ ap (settled N) (ends e))
+        (kept ∙ ap (λ (m : Memory). settled N (with_none N m)) beside_is ∙ ap (settled N) (ends e))

@@ -30,8 +30,8 @@ use Rattle.theory_graphs.proofs.Graphs.Graph.{Graph, size}
 use Rattle.theory_memories.proofs.Memories.View.{view}
 use Rattle.theory_memories.proofs.Memories.Fit.{Fit}
 use Rattle.theory_memories.proofs.Memories.Shades.{was_facts, facts_was}
-use Rattle.theory_memories.proofs.Memories.Events.{allocate-fresh}
-use Rattle.theory_memories.proofs.Memories.Stores.{roots_named, maps-placed, placed-shows, allocate-root}
+use Rattle.theory_memories.proofs.Memories.Events.{allocate_fresh}
+use Rattle.theory_memories.proofs.Memories.Stores.{roots_named, maps_placed, placed_shows, allocate_root}
 use Rattle.theory_memories.proofs.Memories.MarksAnyOrder.{tidy, first_objects, stays, new_touched}
 use Rattle.refinement_stores.proofs.Touched.{two_held}
 use Rattle.refinement_stores.proofs.Shaded.{Storing, handed, gone_of, shaded_left}
@@ -88,16 +88,16 @@ module _ (N w : ℕ) (h : Memory) (asData : Bool) (n r i : ℕ) where
     inside = omega (arith, space.inside, fit.healthy.shape.length_marks, fit.healthy.shape.whole_bytes)
 
     fresh : (size (view N w h) i ≡ 0) × (size (view N w (placed N w asData h i n)) i ≢ 0)
-    fresh = allocate-fresh N w h fit.healthy n i nonzero space asData
+    fresh = allocate_fresh N w h fit.healthy n i nonzero space asData
 
     -- every other object stood before
-    other-size : (b : ℕ) → b ≢ i → size (view N w root_placed) b ≡ size (view N w h) b
-    other-size b d =
-        ap (λ (g : Graph). size g b) (placed-shows N w h fit.healthy n i nonzero space asData).view_is
+    other_size : (b : ℕ) → b ≢ i → size (view N w root_placed) b ≡ size (view N w h) b
+    other_size b d =
+        ap (λ (g : Graph). size g b) (placed_shows N w h fit.healthy n i nonzero space asData).view_is
         ∙ get_or-set_other (sizes_of N h.a h.b) i b n 0 d
 
-    was-born : (g : Memory) (b : ℕ) → is_set (set_bit h.marks i 1) b ≡ was_marked N h root_placed touched g b
-    was-born g b =
+    was_born : (g : Memory) (b : ℕ) → is_set (set_bit h.marks i 1) b ≡ was_marked N h root_placed touched g b
+    was_born g b =
         alike (is_set (set_bit h.marks i 1) b) (was_marked N h root_placed touched g b)
         (λ e.
         elim (ℕ_discrete b i) [
@@ -112,16 +112,16 @@ module _ (N w : ℕ) (h : Memory) (asData : Bool) (n r i : ℕ) where
           | inr new ↦
               elim (ℕ_discrete b i) [
                 | yes q ↦ ap (is_set (set_bit h.marks i 1)) q ∙ made_set h.marks i inside
-                | no d ↦ absurd (new.1 (other-size b d ∙ new.0))
+                | no d ↦ absurd (new.1 (other_size b d ∙ new.0))
               ]
         ])
 
-    allocate-storing : is_open N h ≡ true → Storing N w h root_placed root_placed born 0 old_one (i + 1) touched
+    allocate_storing : is_open N h ≡ true → Storing N w h root_placed root_placed born 0 old_one (i + 1) touched
     unfolding let_go placed
-    allocate-storing was_open =
+    allocate_storing was_open =
         let is = born_open N h.marks h.list i was_open in
         record {
-          releasing = (allocate-root N w h fit.healthy n i nonzero space asData r place).releasing;
+          releasing = (allocate_root N w h fit.healthy n i nonzero space asData r place).releasing;
           roots_are = refl;
           sizes_are = refl;
           slots_are = refl;
@@ -131,7 +131,7 @@ module _ (N w : ℕ) (h : Memory) (asData : Bool) (n r i : ℕ) where
           listed = (tidy N w h fit was_open).listed_marked;
           long = omega (arith, fit.healthy.shape.length_marks, fit.healthy.shape.whole_bytes);
           from = subst (λ (m : List ℕ). Rewritten h.marks m) (sym is) (bit i 1 (omega arith) Rewritten.same);
-          was = λ b. ap (λ (m : List ℕ). is_set m b) is ∙ was-born _ b;
+          was = λ b. ap (λ (m : List ℕ). is_set m b) is ∙ was_born _ b;
           owner_le = omega arith;
           old_le = roots_named N w h fit.healthy r;
           new_le = omega (arith, space.inside);
@@ -139,14 +139,14 @@ module _ (N w : ℕ) (h : Memory) (asData : Bool) (n r i : ℕ) where
         }
 
     -- the new object's blocks were free
-    placed-zeros : zeros (fill_bits h.a i n 1) + n ≡ zeros h.a
-    placed-zeros =
+    placed_zeros : zeros (fill_bits h.a i n 1) + n ≡ zeros h.a
+    placed_zeros =
         let sizes : List ℕ = sizes_of N h.a h.b in
         omega (
           arith,
           free_and_sizes N h.a h.b sizes fit.healthy.represents,
           free_and_sizes N (fill_bits h.a i n 1) (set_bit h.b (i + n - 1) 0) (set sizes i n)
-              (maps-placed N w h fit.healthy n i nonzero space),
+              (maps_placed N w h fit.healthy n i nonzero space),
           sum_set sizes i n (omega (arith, space.inside, length_sizes_of N h.a h.b)),
           fresh.0,
         )
@@ -156,37 +156,37 @@ module _ (N w : ℕ) (h : Memory) (asData : Bool) (n r i : ℕ) where
       (made : part_memory a b counts cells [] d ≡ placed N w asData (part_memory h.a h.b h.counts h.cells [] h.d) i n)
       (marked : marks ≡ born) where
     -- as the code lends it on
-    abbrev lentOn : Memory
-    lentOn = lent_memory a b counts cells [] h.waiting sections d marks h.list
+    abbrev lent_on : Memory
+    lent_on = lent_memory a b counts cells [] h.waiting sections d marks h.list
 
-    lent-on : lentOn ≡ with_sections sections (handed born root_placed)
+    lent_on_lem : lent_on ≡ with_sections sections (handed born root_placed)
     unfolding placed
-    lent-on = λ k.
+    lent_on_lem = λ k.
         let m : Memory = made k in
         lent_memory m.a m.b m.counts m.cells [] h.waiting sections m.d (marked k) h.list
 
     module _ (fit : Fit N w h) (low : 1 ≤ n) (place : r < length h.roots) (found : lowest_free N (exponent n) h.a ≡ some i)
-        {g : Memory} {freed : ℕ} (gone : LetGo N w lentOn 0 old_one (i + 1) g freed) where
-      gone-on : LetGo N w (with_sections sections (handed born root_placed)) 0 old_one (i + 1) g freed
-      gone-on = subst (λ (m : Memory). LetGo N w m 0 old_one (i + 1) g freed) lent-on gone
+        {g : Memory} {freed : ℕ} (gone : LetGo N w lent_on 0 old_one (i + 1) g freed) where
+      gone_on : LetGo N w (with_sections sections (handed born root_placed)) 0 old_one (i + 1) g freed
+      gone_on = subst (λ (m : Memory). LetGo N w m 0 old_one (i + 1) g freed) lent_on_lem gone
 
-      pub allocate-changed :
+      pub allocate_changed :
           with_marks g.marks (with_list g.list (lent_again (with_roots (set h.roots r (i + 1)) h) g))
           ≡ allocate_shading N w asData h n r i
       unfolding allocate_shading allocate_in put_root placed
-      allocate-changed =
+      allocate_changed =
           shaded_left N w h root_placed root_placed born 0 old_one (i + 1) touched refl refl
-          (λ e. born_shut N h.marks h.list i e) (allocate-storing fit low place found)
-          (gone_of N w (handed born root_placed) sections gone-on)
+          (λ e. born_shut N h.marks h.list i e) (allocate_storing fit low place found)
+          (gone_of N w (handed born root_placed) sections gone_on)
 
-      pub allocate-freed : zeros (allocate_shading N w asData h n r i).a + n ≡ zeros h.a + freed
+      pub allocate_freed : zeros (allocate_shading N w asData h n r i).a + n ≡ zeros h.a + freed
       unfolding let_go placed
-      allocate-freed =
+      allocate_freed =
           omega (
             arith,
             freed_zeros N w root_placed old_one
-                (allocate-root N w h fit.healthy n i (omega arith) (room N h.a n i found) asData r place).releasing g
-                gone-on.part_is gone-on.freed_is,
-            placed-zeros fit low place found,
-            ap (λ (m : Memory). zeros m.a) allocate-changed,
+                (allocate_root N w h fit.healthy n i (omega arith) (room N h.a n i found) asData r place).releasing g
+                gone_on.part_is gone_on.freed_is,
+            placed_zeros fit low place found,
+            ap (λ (m : Memory). zeros m.a) allocate_changed,
           )

@@ -17,7 +17,7 @@ use Rattle.rules.proofs.Objects.{first_facts}
 use Rattle.release.proofs.OtherBuffers.{lent_again}
 use Rattle.step_release.specs.Left.{LetGo}
 use Rattle.theory_memories.proofs.Memories.Fit.{Fit}
-use Rattle.theory_memories.proofs.Memories.Stores.{slots_named, cell-read, store_cell_lem}
+use Rattle.theory_memories.proofs.Memories.Stores.{slots_named, cell_read_lem, store_cell_lem}
 use Rattle.theory_memories.proofs.Memories.MarksAnyOrder.{tidy, first_objects, cell_touched}
 use Rattle.refinement_stores.proofs.Touched.{three_held, was_same}
 use Rattle.refinement_stores.proofs.Shaded.{Storing, handed, gone_of, shaded_left}
@@ -41,8 +41,8 @@ module _ (N w : ℕ) (h : Memory) (at j : ℕ) where
     abbrev pub cell_written : Memory
     cell_written = with_cells (set h.cells (4 * at + j) v) h
 
-    abbrev pub cellCounted : List ℕ → Memory
-    cellCounted counts = with_cells (set h.cells (4 * at + j) v) (with_counts counts h)
+    abbrev pub cell_counted : List ℕ → Memory
+    cell_counted counts = with_cells (set h.cells (4 * at + j) v) (with_counts counts h)
 
     module _ (fit : Fit N w h) (first : is_first N h at ≡ true) (place : j < 4 * size_at N h at) (ordinary : is_data h.d at ≡ false)
         (ref : is_ref N h v ≡ true) (inside : v ≤ N) where
@@ -52,9 +52,9 @@ module _ (N w : ℕ) (h : Memory) (at j : ℕ) where
       abbrev touched : List ℕ
       touched = (at + 1) ∷ old_cell ∷ v ∷ []
 
-      cell-storing : is_open N h ≡ true → Storing N w h cell_written (cellCounted up) h.marks (at + 1) old_cell v touched
+      cell_storing : is_open N h ≡ true → Storing N w h cell_written (cell_counted up) h.marks (at + 1) old_cell v touched
       unfolding let_go
-      cell-storing was_open =
+      cell_storing was_open =
           record {
             releasing = (store_cell_lem N w h fit.healthy v ref at j first place ordinary).releasing;
             roots_are = refl;
@@ -72,30 +72,30 @@ module _ (N w : ℕ) (h : Memory) (at j : ℕ) where
                 omega (
                   arith,
                   slots_named N w h fit.healthy (length h.roots + (4 * at + j)),
-                  cell-read N w h fit.healthy at j first place ordinary,
+                  cell_read_lem N w h fit.healthy at j first place ordinary,
                 );
             new_le = inside;
             among = λ b. three_held (at + 1) old_cell v b;
           }
 
       module _ (other : old_cell ≢ v) {counts : List ℕ} (counted : counts ≡ up) {g : Memory} {freed : ℕ}
-          (gone : LetGo N w (handed h.marks (cellCounted counts)) (at + 1) old_cell v g freed) where
-        gone-up : LetGo N w (handed h.marks (cellCounted up)) (at + 1) old_cell v g freed
-        gone-up = subst (λ (c : List ℕ). LetGo N w (handed h.marks (cellCounted c)) (at + 1) old_cell v g freed) counted gone
+          (gone : LetGo N w (handed h.marks (cell_counted counts)) (at + 1) old_cell v g freed) where
+        gone_up : LetGo N w (handed h.marks (cell_counted up)) (at + 1) old_cell v g freed
+        gone_up = subst (λ (c : List ℕ). LetGo N w (handed h.marks (cell_counted c)) (at + 1) old_cell v g freed) counted gone
 
-        pub cell-changed : with_marks g.marks (with_list g.list (lent_again (cellCounted counts) g)) ≡ store_cell_shading N w h at j v
+        pub cell_changed : with_marks g.marks (with_list g.list (lent_again (cell_counted counts) g)) ≡ store_cell_shading N w h at j v
         unfolding store_cell_shading change_cell put_cell
-        cell-changed =
+        cell_changed =
             rw (ne_eqb old_cell v other, store_cell_shading)
-            (shaded_left N w h cell_written (cellCounted up) h.marks (at + 1) old_cell v touched refl refl (λ _. refl) cell-storing
-            (gone_of N w (handed h.marks (cellCounted up)) h.sections gone-up))
+            (shaded_left N w h cell_written (cell_counted up) h.marks (at + 1) old_cell v touched refl refl (λ _. refl) cell_storing
+            (gone_of N w (handed h.marks (cell_counted up)) h.sections gone_up))
 
-        pub cell-freed : freed ≡ zeros (store_cell_shading N w h at j v).a - zeros h.a
+        pub cell_freed : freed ≡ zeros (store_cell_shading N w h at j v).a - zeros h.a
         unfolding let_go
-        cell-freed =
+        cell_freed =
             omega (
               arith,
-              freed_zeros N w (cellCounted up) old_cell (store_cell_lem N w h fit.healthy v ref at j first place ordinary).releasing g
-                  gone-up.part_is gone-up.freed_is,
-              ap (λ (m : Memory). zeros m.a) cell-changed,
+              freed_zeros N w (cell_counted up) old_cell (store_cell_lem N w h fit.healthy v ref at j first place ordinary).releasing g
+                  gone_up.part_is gone_up.freed_is,
+              ap (λ (m : Memory). zeros m.a) cell_changed,
             )

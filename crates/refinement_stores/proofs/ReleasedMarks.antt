@@ -31,7 +31,7 @@ use Rattle.theory_memories.proofs.Memories.Naming.{names_cells}
 use Rattle.theory_memories.proofs.Memories.TidyHeap.{some_first, some_inside, names_slot}
 use Rattle.theory_memories.proofs.Memories.ViewRelease.{Releasing, releasing_next}
 use Rattle.theory_memories.proofs.Memories.Orders.{fewer_objects}
-use Rattle.theory_memories.proofs.Memories.MarkOrders.{in-any-order}
+use Rattle.theory_memories.proofs.Memories.MarkOrders.{in_any_order}
 use Rattle.refinement_stores.proofs.MarkBits.{named_rewritten, named_bits}
 
 -- ---- along a release
@@ -70,8 +70,8 @@ module _ (N w : ℕ) where
       within : i < N
       within = some_inside N w h i object
 
-      none-past : (b : ℕ) → ¬ (b < N) → names N h i b ≡ false
-      none-past b u =
+      none_past : (b : ℕ) → ¬ (b < N) → names N h i b ≡ false
+      none_past b u =
           false_unless (names N h i b)
           (λ e.
           let found = names_slot N w h i b (some_first N w h i object) e in
@@ -100,7 +100,7 @@ module _ (N w : ℕ) where
           ∙ ap (λ (t : Bool). t || names N h i b) (cleared b)
       at b (no u) =
           past b u (next_marks h i marks) (next_long h i marks long)
-          ∙ sym (false_or _ (names N h i b) (ap (λ (s : Bool). s && not (eqb b i)) (past b u marks long)) (none-past b u))
+          ∙ sym (false_or _ (names N h i b) (ap (λ (s : Bool). s && not (eqb b i)) (past b u marks long)) (none_past b u))
 
   -- the rules' own order, with the map
   taken_marks :
@@ -137,7 +137,7 @@ module _ (N w : ℕ) (h k : Memory) (touched : List ℕ) (start : Memory) (stack
   pub released_bits : (b : ℕ) → is_set (released_marks true N N w start stack first) b ≡ marks_after N h k touched end b
   released_bits b =
       let order = taken_marks N w N start stack releasing (omega arith) first first_long (first_list N h k touched end) in
-      (in-any-order N w h k touched start stack releasing roots_are sizes_are slots_are objects marked end
+      (in_any_order N w h k touched start stack releasing roots_are sizes_are slots_are objects marked end
       (is_set (released_marks true N N w start stack first)) order.0
       (subst
       (λ (m : ℕ → Bool).

@@ -39,16 +39,16 @@ module _ (N w : ℕ) (h : Memory) (r : ℕ) where
     abbrev pub root_written : Memory
     root_written = with_roots (set h.roots r v) h
 
-    abbrev pub rootCounted : List ℕ → Memory
-    rootCounted counts = with_roots (set h.roots r v) (with_counts counts h)
+    abbrev pub root_counted : List ℕ → Memory
+    root_counted counts = with_roots (set h.roots r v) (with_counts counts h)
 
     module _ (fit : Fit N w h) (place : r < length h.roots) (ref : is_ref N h v ≡ true) (inside : v ≤ N) where
       abbrev up : List ℕ
       up = count_up N w h.counts v
 
-      root-storing : is_open N h ≡ true → Storing N w h root_written (rootCounted up) h.marks 0 old_root v (old_root ∷ v ∷ [])
+      root_storing : is_open N h ≡ true → Storing N w h root_written (root_counted up) h.marks 0 old_root v (old_root ∷ v ∷ [])
       unfolding let_go
-      root-storing was_open =
+      root_storing was_open =
           record {
             releasing = (store_root_lem N w h fit.healthy v ref r place).releasing;
             roots_are = refl;
@@ -67,23 +67,23 @@ module _ (N w : ℕ) (h : Memory) (r : ℕ) where
           }
 
       module _ (other : old_root ≢ v) {counts : List ℕ} (counted : counts ≡ up) {g : Memory} {freed : ℕ}
-          (gone : LetGo N w (handed h.marks (rootCounted counts)) 0 old_root v g freed) where
-        gone-up : LetGo N w (handed h.marks (rootCounted up)) 0 old_root v g freed
-        gone-up = subst (λ (c : List ℕ). LetGo N w (handed h.marks (rootCounted c)) 0 old_root v g freed) counted gone
+          (gone : LetGo N w (handed h.marks (root_counted counts)) 0 old_root v g freed) where
+        gone_up : LetGo N w (handed h.marks (root_counted up)) 0 old_root v g freed
+        gone_up = subst (λ (c : List ℕ). LetGo N w (handed h.marks (root_counted c)) 0 old_root v g freed) counted gone
 
-        pub root-changed : with_marks g.marks (with_list g.list (lent_again (rootCounted counts) g)) ≡ store_root_shading N w h r v
+        pub root_changed : with_marks g.marks (with_list g.list (lent_again (root_counted counts) g)) ≡ store_root_shading N w h r v
         unfolding store_root_shading change_root put_root
-        root-changed =
+        root_changed =
             rw (ne_eqb old_root v other, store_root_shading)
-            (shaded_left N w h root_written (rootCounted up) h.marks 0 old_root v (old_root ∷ v ∷ []) refl refl (λ _. refl) root-storing
-            (gone_of N w (handed h.marks (rootCounted up)) h.sections gone-up))
+            (shaded_left N w h root_written (root_counted up) h.marks 0 old_root v (old_root ∷ v ∷ []) refl refl (λ _. refl) root_storing
+            (gone_of N w (handed h.marks (root_counted up)) h.sections gone_up))
 
-        pub root-freed : freed ≡ zeros (store_root_shading N w h r v).a - zeros h.a
+        pub root_freed : freed ≡ zeros (store_root_shading N w h r v).a - zeros h.a
         unfolding let_go
-        root-freed =
+        root_freed =
             omega (
               arith,
-              freed_zeros N w (rootCounted up) old_root (store_root_lem N w h fit.healthy v ref r place).releasing g gone-up.part_is
-                  gone-up.freed_is,
-              ap (λ (m : Memory). zeros m.a) root-changed,
+              freed_zeros N w (root_counted up) old_root (store_root_lem N w h fit.healthy v ref r place).releasing g gone_up.part_is
+                  gone_up.freed_is,
+              ap (λ (m : Memory). zeros m.a) root_changed,
             )

@@ -223,12 +223,12 @@ sections_find_lowest N k a blocks short =
     length_is : 2 ^ (t + k) ≡ section_length N
     length_is = ap (λ (x : ℕ). 2 ^ x) sum ∙ d.exponent_is
 
-    in-section : section_length N / 2 ^ k ≡ 2 ^ t
-    in-section = div-eq_of_eq-mul_left {n = 2 ^ k} {m = section_length N} {k = 2 ^ t} (pow_pos k) (sym length_is ∙ pow-add 2 t k)
+    in_section : section_length N / 2 ^ k ≡ 2 ^ t
+    in_section = div-eq_of_eq-mul_left {n = 2 ^ k} {m = section_length N} {k = 2 ^ t} (pow_pos k) (sym length_is ∙ pow-add 2 t k)
 
     searched : (s : Option ℕ) → lowest_in_section N k a s ≡ within t k a (figures N a) s
     searched none = refl
-    searched (some s) = ap₂ (λ (n i : ℕ). lowest_from n k a i) in-section (ap (λ (x : ℕ). s * x) (sym length_is))
+    searched (some s) = ap₂ (λ (n i : ℕ). lowest_from n k a i) in_section (ap (λ (x : ℕ). s * x) (sym length_is))
 
     true_list : (j : ℕ) → 0 ≤ j → j < 0 + section_count N → get_or (figures N a) j 0 ≡ largest_free (t + k) a (j * 2 ^ (t + k))
     true_list j l u =

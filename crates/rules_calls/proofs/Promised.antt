@@ -13,7 +13,7 @@ use Rattle.rules_calls.specs.Calls.{Call, copy_from, copy_into, Answer, own_refu
 use Rattle.rules_calls.specs.Promise.{Promise, CopyPromise}
 use Rattle.types.specs.declared.Reply.{Reply}
 use Rattle.rules.proofs.Tests.{eqb_either_way}
-use Rattle.rules_calls.proofs.Replies.{none_applies, one-applies}
+use Rattle.rules_calls.proofs.Replies.{none_applies, one_applies}
 
 pub promised :
     (N w : ℕ) (h : Memory) (c : Call) (y : Answer) → answer N w h c ≡ y → (x : Reply) (g : Memory) → x ≡ y.0 → g ≡ y.1
@@ -51,9 +51,9 @@ module _ (N w : ℕ) (first : Memory) (M v : ℕ) (second : Memory) where
         none_applies N w first (copy_into M v second) (same_number ∙ e)
         ∙ ap {B = Answer} (λ (x : Answer). (x.0, first)) (sym (none_applies M v second (copy_from N w first) e))
     | no n ↦
-        one-applies N w first (copy_into M v second) (λ e. n (sym same_number ∙ e))
+        one_applies N w first (copy_into M v second) (λ e. n (sym same_number ∙ e))
         ∙ ap (refused (damage N w first) first) same_number
-        ∙ ap {B = Answer} (λ (x : Answer). (x.0, first)) (sym (one-applies M v second (copy_from N w first) n))
+        ∙ ap {B = Answer} (λ (x : Answer). (x.0, first)) (sym (one_applies M v second (copy_from N w first) n))
   ]
 
   -- what is promised of the second heap is enough

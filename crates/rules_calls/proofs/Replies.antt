@@ -56,34 +56,34 @@ module _ (N w : ℕ) (h : Memory) where
     unfolding answer
     none_applies e = rw (eq-eqb (refused_with N w h c) 0 e, answer)
 
-    pub one-applies : refused_with N w h c ≢ 0 → answer N w h c ≡ refused (damage_told N w h c) h (refused_with N w h c)
+    pub one_applies : refused_with N w h c ≢ 0 → answer N w h c ≡ refused (damage_told N w h c) h (refused_with N w h c)
     unfolding answer
-    one-applies n = rw (ne_eqb (refused_with N w h c) 0 n, answer)
+    one_applies n = rw (ne_eqb (refused_with N w h c) 0 n, answer)
 
-    pub refused-with : (number : ℕ) → number ≢ 0 → refused_with N w h c ≡ number → answer N w h c ≡ refused (damage_told N w h c) h number
-    refused-with number nonzero is = one-applies (λ e. nonzero (sym is ∙ e)) ∙ ap (refused (damage_told N w h c) h) is
+    pub refused_with_lem : (number : ℕ) → number ≢ 0 → refused_with N w h c ≡ number → answer N w h c ≡ refused (damage_told N w h c) h number
+    refused_with_lem number nonzero is = one_applies (λ e. nonzero (sym is ∙ e)) ∙ ap (refused (damage_told N w h c) h) is
 
     -- what holds of every refusal, and of the outcome where no number applies, holds of the answer
-    pub answer-either :
+    pub answer_either :
         (P : Answer → Type 0) → ((number : ℕ) → number ≢ 0 → P (refused (damage_told N w h c) h number)) → (refused_with N w h c ≡ 0 → P (outcome N w h c))
         → P (answer N w h c)
-    answer-either P refusal accepted = elim (ℕ_discrete (refused_with N w h c) 0) [
+    answer_either P refusal accepted = elim (ℕ_discrete (refused_with N w h c) 0) [
       | yes e ↦ subst P (sym (none_applies e)) (accepted e)
-      | no n ↦ subst P (sym (one-applies n)) (refusal (refused_with N w h c) n)
+      | no n ↦ subst P (sym (one_applies n)) (refusal (refused_with N w h c) n)
     ]
 
     pub number_is : (answer N w h c).0.number ≡ refused_with N w h c
     number_is = elim (ℕ_discrete (refused_with N w h c) 0) [
       | yes e ↦ ap (λ (x : Answer). x.0.number) (none_applies e) ∙ outcome_accepts c ∙ sym e
-      | no n ↦ ap (λ (x : Answer). x.0.number) (one-applies n)
+      | no n ↦ ap (λ (x : Answer). x.0.number) (one_applies n)
     ]
 
     -- an accepted answer is the outcome
-    pub accepted-none : (answer N w h c).0.number ≡ 0 → refused_with N w h c ≡ 0
-    accepted-none e = sym number_is ∙ e
+    pub accepted_none : (answer N w h c).0.number ≡ 0 → refused_with N w h c ≡ 0
+    accepted_none e = sym number_is ∙ e
 
-    pub accepted-outcome : (answer N w h c).0.number ≡ 0 → answer N w h c ≡ outcome N w h c
-    accepted-outcome e = none_applies (accepted-none e)
+    pub accepted_outcome : (answer N w h c).0.number ≡ 0 → answer N w h c ≡ outcome N w h c
+    accepted_outcome e = none_applies (accepted_none e)
 
 -- ---- the call's own numbers
 
@@ -239,25 +239,25 @@ module _ (N w : ℕ) (h : Memory) where
 
   module _ (c : Call) where
     -- where no number applies: 1 does not, 2, 11 and 13 don't where the call tests for them, its own don't
-    heap-passed : refused_with N w h c ≡ 0
+    heap_passed : refused_with N w h c ≡ 0
         → (other_shaped h c && shaped N w h ≡ true) × (tests_heap c && not (eqb (damage N w h) 0) ≡ false) × (tests_heap c && stale ≡ false)
         × (tests_heap c && is_untidy N h ≡ false) × (first_number (own_refusals N h c) ≡ 0)
     unfolding refused_with refusals
-    heap-passed e =
+    heap_passed e =
         let shape = first_not 1 (other_shaped h c && shaped N w h) _ (omega arith) e in
         let kind = first_no 2 (tests_heap c && not (eqb (damage N w h) 0)) _ (omega arith) shape.1 in
         let list = first_no 11 (tests_heap c && stale) _ (omega arith) kind.1 in
         let marks = first_no 13 (tests_heap c && is_untidy N h) _ (omega arith) list.1 in
         (shape.0, kind.0, list.0, marks.0, marks.1)
 
-    pub shape-passed : refused_with N w h c ≡ 0 → shaped N w h ≡ true
-    shape-passed e = (and_true (other_shaped h c) (shaped N w h) (heap-passed e).0).1
+    pub shape_passed : refused_with N w h c ≡ 0 → shaped N w h ≡ true
+    shape_passed e = (and_true (other_shaped h c) (shaped N w h) (heap_passed e).0).1
 
-    pub other-passed : refused_with N w h c ≡ 0 → other_shaped h c ≡ true
-    other-passed e = (and_true (other_shaped h c) (shaped N w h) (heap-passed e).0).0
+    pub other_passed : refused_with N w h c ≡ 0 → other_shaped h c ≡ true
+    other_passed e = (and_true (other_shaped h c) (shaped N w h) (heap_passed e).0).0
 
     pub passed : refused_with N w h c ≡ 0 → Passed N h c
-    passed e = own_passed N h c (other-passed e) (heap-passed e).4
+    passed e = own_passed N h c (other_passed e) (heap_passed e).4
 
     -- an undamaged heap is answered by the call's own numbers
     pub own_number :
@@ -287,18 +287,18 @@ module _ (N w : ℕ) (h : Memory) where
 
   module _ (c : Call) (tests : tests_heap c ≡ true) where
     -- what is accepted by a call that tests the heap is undamaged
-    pub undamaged-passed : refused_with N w h c ≡ 0 → (shaped N w h ≡ true) × (damage N w h ≡ 0) × (stale ≡ false) × (is_untidy N h ≡ false)
-    undamaged-passed e =
-        let all = heap-passed c e in (
-          shape-passed c e,
-          eqb-true (damage N w h) 0 (not-no _ (and_false (tests_heap c) _ all.1 tests)),
+    pub undamaged_passed : refused_with N w h c ≡ 0 → (shaped N w h ≡ true) × (damage N w h ≡ 0) × (stale ≡ false) × (is_untidy N h ≡ false)
+    undamaged_passed e =
+        let all = heap_passed c e in (
+          shape_passed c e,
+          eqb-true (damage N w h) 0 (not_no _ (and_false (tests_heap c) _ all.1 tests)),
           and_false (tests_heap c) stale all.2 tests,
           and_false (tests_heap c) (is_untidy N h) all.3 tests,
         )
       where
-        not-no : (t : Bool) → not t ≡ false → t ≡ true
-        not-no true e = refl
-        not-no false e = absurd (true≢false e)
+        not_no : (t : Bool) → not t ≡ false → t ≡ true
+        not_no true e = refl
+        not_no false e = absurd (true≢false e)
 
     same_number : other_shaped h c ≡ true → refused_with N w h check ≢ 0 → refused_with N w h c ≡ refused_with N w h check
     unfolding refused_with refusals own_refusals first_number
@@ -315,13 +315,13 @@ module _ (N w : ℕ) (h : Memory) where
         go false t u v p = refl
 
     -- number 2 of a call that tests the heap tells of its damage
-    pub own-damage : damage_told N w h c ≡ damage N w h
-    own-damage = rw (tests, damage_told) refl
+    pub own_damage : damage_told N w h c ≡ damage N w h
+    own_damage = rw (tests, damage_told) refl
 
     -- where the check refuses, the call is refused alike
     pub refused_as_check : other_shaped h c ≡ true → ((answer N w h check).0.number ≡ 0 → ⊥) → answer N w h c ≡ answer N w h check
     refused_as_check other fails =
         let n : refused_with N w h check ≢ 0 = λ e. fails (number_is N w h check ∙ e) in
         let same = same_number other n in
-        one-applies N w h c (λ e. n (sym same ∙ e)) ∙ ap (λ (kind : ℕ). refused kind h (refused_with N w h c)) own-damage
-        ∙ ap (refused (damage N w h) h) same ∙ sym (one-applies N w h check n)
+        one_applies N w h c (λ e. n (sym same ∙ e)) ∙ ap (λ (kind : ℕ). refused kind h (refused_with N w h c)) own_damage
+        ∙ ap (refused (damage N w h) h) same ∙ sym (one_applies N w h check n)

@@ -16,7 +16,7 @@ use Rattle.rules_stores.specs.Store.{change_root, change_cell, is_chosen, alloca
 use Rattle.rules_stores.proofs.Plain.{store_root_in, clear_chosen, return_in}
 use Rattle.rules_stores.specs.Collection.{is_cell_of, cell_of_chosen, references_from, marked, reached_next, reached_in, reached, swept, recounted, collected}
 use Rattle.rules_steps.specs.Steps.{names, is_listed, is_open, with_progress, with_none, root_names, opened, Progress, lowest, scanned, StepsTaken}
-use Rattle.rules_steps.specs.Steps.{taken, steps_from, survivors_down, survivors_let_go, unmarked_freed, closed, closes, stepped, was_marked, namedByFreed}
+use Rattle.rules_steps.specs.Steps.{taken, steps_from, survivors_down, survivors_let_go, unmarked_freed, closed, closes, stepped, was_marked, named_by_freed}
 use Rattle.rules_steps.specs.Steps.{to_survivor, marks_after, list_after, shaded, store_root_shading, store_cell_shading, allocate_shading}
 use Rattle.rules_steps.specs.Steps.{clear_shading, return_shading}
 use Rattle.rules_copy.specs.Copy.{Laid, size_of, lay_first, lay_all, places_in, new_reference, new_cell, copy_one, copy_first, copy_all, copied}
@@ -72,31 +72,31 @@ module _ (N w : ℕ) (others : Memory → Memory) where
 
     -- ---- the collection
 
-    reached-beside : (k : ℕ) → reached_in k N (other h) ≡ reached_in k N h
+    reached_beside : (k : ℕ) → reached_in k N (other h) ≡ reached_in k N h
     unfolding reached_in reached_next references_from cell_of_chosen is_cell_of
-    reached-beside zero = refl
-    reached-beside (suc k) = ap (reached_next N h) (reached-beside k)
+    reached_beside zero = refl
+    reached_beside (suc k) = ap (reached_next N h) (reached_beside k)
 
-    swept-beside : (marks : List Bool) (n : ℕ) → swept N w (other h) marks n ≡ other (swept N w h marks n)
+    swept_beside : (marks : List Bool) (n : ℕ) → swept N w (other h) marks n ≡ other (swept N w h marks n)
     unfolding swept freed
-    swept-beside marks zero = refl
-    swept-beside marks (suc n) =
+    swept_beside marks zero = refl
+    swept_beside marks (suc n) =
         let before : Memory = swept N w h marks n in
         choose_both other (is_first N h n && not (marked marks n)) (freed N w before n (size_at N h n)) before
-        (ap (λ (g : Memory). freed N w g n (size_at N h n)) (swept-beside marks n)) (swept-beside marks n)
+        (ap (λ (g : Memory). freed N w g n (size_at N h n)) (swept_beside marks n)) (swept_beside marks n)
 
-    recounted-beside :
+    recounted_beside :
         (marks : List Bool) (counts : List ℕ) (n : ℕ) → recounted N w (other h) marks counts n ≡ recounted N w h marks counts n
     unfolding recounted references_from cell_of_chosen is_cell_of
-    recounted-beside marks counts zero = refl
-    recounted-beside marks counts (suc n) =
+    recounted_beside marks counts zero = refl
+    recounted_beside marks counts (suc n) =
         let count : ℕ = min (capacity w) (references_from N h (marked marks) n) in
-        ap (λ (c : List ℕ). elim (marked marks n) [ true ↦ set_count (N / 8) w c n count | false ↦ c ]) (recounted-beside marks counts n)
+        ap (λ (c : List ℕ). elim (marked marks n) [ true ↦ set_count (N / 8) w c n count | false ↦ c ]) (recounted_beside marks counts n)
 
-    pub collect-beside : collected N w (other h) ≡ other (collected N w h)
+    pub collect_beside : collected N w (other h) ≡ other (collected N w h)
     unfolding collected reached
-    collect-beside =
-        rw (reached-beside N, swept-beside (reached_in N N h) N, recounted-beside (reached_in N N h) (swept N w h (reached_in N N h) N).counts N)
+    collect_beside =
+        rw (reached_beside N, swept_beside (reached_in N N h) N, recounted_beside (reached_in N N h) (swept N w h (reached_in N N h) N).counts N)
 
 -- ---- what document 01's rules leave of the lists that they don't read
 
@@ -137,7 +137,7 @@ module _ (N w : ℕ) (h : Memory) where
 
   pub collect_keeps : Keeps h (collected N w h)
   collect_keeps =
-      let e = collect-beside N w (λ g. h) h in
+      let e = collect_beside N w (λ g. h) h in
       record { marks = ap (λ (g : Memory). g.marks) e; list = ap (λ (g : Memory). g.list) e }
 
 pub return_keeps : (N w : ℕ) (h : Memory) (chosen n : ℕ) → Keeps h (return_in N w h chosen n)
@@ -164,7 +164,7 @@ module _ (N w : ℕ) (others : Memory → Memory) where
   let_go_aside h v = let_go_beside N w (rooted (kept others)) h v
 
   shaded_aside : (h k : Memory) (touched : List ℕ) (g : Memory) → shaded N (aside h) (aside k) touched (aside g) ≡ aside (shaded N h k touched g)
-  unfolding shaded with_progress marks_after list_after was_marked namedByFreed names is_listed
+  unfolding shaded with_progress marks_after list_after was_marked named_by_freed names is_listed
   shaded_aside h k touched g =
       choose_both aside (is_open N h) (with_progress N (marks_after N h k touched g) (list_after N h k touched g) g) g refl refl
 
@@ -179,9 +179,9 @@ module _ (N w : ℕ) (others : Memory → Memory) where
         (let_go_aside (with_roots (set h.roots r v) (with_counts (count_up N w h.counts v) h)) old)
         ∙ shaded_aside h k (old ∷ v ∷ []) (change_root N w h r v))
 
-    pub store-cell-aside : (a j v : ℕ) → store_cell_shading N w (aside h) a j v ≡ aside (store_cell_shading N w h a j v)
+    pub store_cell_aside : (a j v : ℕ) → store_cell_shading N w (aside h) a j v ≡ aside (store_cell_shading N w h a j v)
     unfolding store_cell_shading change_cell put_cell
-    store-cell-aside a j v =
+    store_cell_aside a j v =
         let c : ℕ = 4 * a + j in
         let old : ℕ = get_or h.cells c 0 in
         let k : Memory = with_cells (set h.cells c v) h in
@@ -190,25 +190,25 @@ module _ (N w : ℕ) (others : Memory → Memory) where
         (let_go_aside (with_cells (set h.cells c v) (with_counts (count_up N w h.counts v) h)) old)
         ∙ shaded_aside h k ((a + 1) ∷ old ∷ v ∷ []) (change_cell N w h c v))
 
-    pub allocate-aside :
+    pub allocate_aside :
         (asData : Bool) (n r i : ℕ) → allocate_shading N w asData (aside h) n r i ≡ aside (allocate_shading N w asData h n r i)
     unfolding allocate_shading allocate_in put_root placed
-    allocate-aside asData n r i =
+    allocate_aside asData n r i =
         let old : ℕ = get_or h.roots r 0 in
         let k : Memory = with_roots (set h.roots r (i + 1)) (placed N w asData h i n) in
         ap (λ (g : Memory). shaded N (aside h) (aside k) (old ∷ (i + 1) ∷ []) g) (let_go_aside k old)
         ∙ shaded_aside h k (old ∷ (i + 1) ∷ []) (allocate_in N w asData h n r i)
 
-    pub open-aside : opened N (aside h) ≡ aside (opened N h)
+    pub open_aside : opened N (aside h) ≡ aside (opened N h)
     unfolding opened with_progress root_names
-    open-aside = refl
+    open_aside = refl
 
     -- ---- steps and the close
 
-    pub steps-aside : (budget : ℕ) (p : Progress) → steps_from budget N (aside h) p ≡ steps_from budget N h p
+    pub steps_aside : (budget : ℕ) (p : Progress) → steps_from budget N (aside h) p ≡ steps_from budget N h p
     unfolding steps_from scanned names
-    steps-aside zero p = refl
-    steps-aside (suc k) p = go (λ x. steps-aside k (scanned N h p x)) (lowest p.list 0)
+    steps_aside zero p = refl
+    steps_aside (suc k) p = go (λ x. steps_aside k (scanned N h p x)) (lowest p.list 0)
       where
         go : ((x : ℕ) → steps_from k N (aside h) (scanned N h p x) ≡ steps_from k N h (scanned N h p x)) → (o : Option ℕ)
             → ◌≡◌ {A = StepsTaken}
@@ -223,17 +223,17 @@ module _ (N w : ℕ) (others : Memory → Memory) where
         go more none = refl
         go more (some x) = ap (λ (t : StepsTaken). taken (suc t.steps) t.reached) (more x)
 
-    down-aside :
+    down_aside :
         (marks : List Bool) (s : Work) (j n : ℕ) → survivors_down N w marks (aside h) s j n ≡ survivors_down N w marks h s j n
     unfolding survivors_down
-    down-aside marks s j zero = refl
-    down-aside marks s j (suc n) =
-        ap (λ (t : Work). count_down N w t (to_survivor marks (reference N h (j + n)))) (down-aside marks s j n)
+    down_aside marks s j zero = refl
+    down_aside marks s j (suc n) =
+        ap (λ (t : Work). count_down N w t (to_survivor marks (reference N h (j + n)))) (down_aside marks s j n)
 
-    survivors-aside : (marks : List Bool) (s : Work) (n : ℕ) → survivors_let_go N w marks (aside h) s n ≡ survivors_let_go N w marks h s n
+    survivors_aside : (marks : List Bool) (s : Work) (n : ℕ) → survivors_let_go N w marks (aside h) s n ≡ survivors_let_go N w marks h s n
     unfolding survivors_let_go
-    survivors-aside marks s zero = refl
-    survivors-aside marks s (suc n) =
+    survivors_aside marks s zero = refl
+    survivors_aside marks s (suc n) =
         let t : Work = survivors_let_go N w marks h s n in
         ap
         (λ (t : Work).
@@ -241,29 +241,29 @@ module _ (N w : ℕ) (others : Memory → Memory) where
           | true ↦ survivors_down N w marks (aside h) t (4 * n) (4 * size_at N h n)
           | false ↦ t
         ])
-        (survivors-aside marks s n)
+        (survivors_aside marks s n)
         ∙ ap
         (λ (m : Work). elim (is_first N h n && not (marked marks n)) [ true ↦ m | false ↦ t ])
-        (down-aside marks t (4 * n) (4 * size_at N h n))
+        (down_aside marks t (4 * n) (4 * size_at N h n))
 
-    freed-aside : (marks : List Bool) → unmarked_freed N w marks (aside h) ≡ aside (unmarked_freed N w marks h)
+    freed_aside : (marks : List Bool) → unmarked_freed N w marks (aside h) ≡ aside (unmarked_freed N w marks h)
     unfolding unmarked_freed
-    freed-aside marks =
+    freed_aside marks =
         let g : Memory = swept N w h marks N in
         let s : Work = survivors_let_go N w marks h (work g.counts []) N in
         ap
         (λ (m : Memory).
         let s = survivors_let_go N w marks (aside h) (work m.counts []) N in
         release N N w (with_counts s.counts m) s.stack)
-        (swept-beside N w (kept others) h marks N)
-        ∙ ap (λ (t : Work). release N N w (with_counts t.counts (aside g)) t.stack) (survivors-aside marks (work g.counts []) N)
+        (swept_beside N w (kept others) h marks N)
+        ∙ ap (λ (t : Work). release N N w (with_counts t.counts (aside g)) t.stack) (survivors_aside marks (work g.counts []) N)
         ∙ release_beside N w (rooted (kept others)) N (with_counts s.counts g) s.stack
 
-    pub stepped-aside : (budget : ℕ) (p : Progress) → stepped N w (aside h) budget p ≡ aside (stepped N w h budget p)
+    pub stepped_aside : (budget : ℕ) (p : Progress) → stepped N w (aside h) budget p ≡ aside (stepped N w h budget p)
     unfolding stepped closed with_none with_progress
-    stepped-aside budget p =
+    stepped_aside budget p =
         choose_both aside (closes budget p) (closed N w p.marks h) (with_progress N (marked p.marks) (marked p.list) h)
-        (ap (with_none N) (freed-aside p.marks)) refl
+        (ap (with_none N) (freed_aside p.marks)) refl
 
   -- a return
   clear_aside : (h : Memory) (chosen r : ℕ) → clear_shading N w (aside h) chosen r ≡ aside (clear_shading N w h chosen r)

@@ -252,9 +252,9 @@ module _ (N : ℕ) (test : ℕ → Bool) where
               ∙ sym t
         ]
 
-    pub next-right : (k : ℕ) → k < N - 1 → bad_next h k ≡ false
+    pub next_right : (k : ℕ) → k < N - 1 → bad_next h k ≡ false
     unfolding bad_next
-    next-right k l =
+    next_right k l =
         let v = get_or h.list k 0 in
         let next = get_or h.list (k + 1) 0 in
         false_and (not (eqb next 0)) (eqb v 0 || leb next v)

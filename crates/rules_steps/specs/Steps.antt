@@ -201,12 +201,12 @@ module _ (N : ℕ) (h k : Memory) (touched : List ℕ) (g : Memory) where
   -- "clearing a freed object's cells marks and lists the unmarked ones they named": a cell of an object that
   -- this call freed names it. An object's cells stay as they are written until it is freed, so this needs no
   -- order of freeing.
-  unfoldable pub namedByFreed : ℕ → Bool
-  namedByFreed i = some_below (λ x. is_first N k x && not (is_first N g x) && names N k x i) N
+  unfoldable pub named_by_freed : ℕ → Bool
+  named_by_freed i = some_below (λ x. is_first N k x && not (is_first N g x) && names N k x i) N
 
   -- what is marked then: "a freed object leaves map and list"
   unfoldable pub marks_after : ℕ → Bool
-  marks_after i = is_first N g i && (was_marked i || ltb 0 (holding (i + 1) touched) || namedByFreed i)
+  marks_after i = is_first N g i && (was_marked i || ltb 0 (holding (i + 1) touched) || named_by_freed i)
 
   -- "marks and lists what is unmarked": what was marked before is not listed again, nor is the new object,
   -- which is born marked

@@ -17,7 +17,7 @@ use Rattle.rules.proofs.Tests.{test_cases_lem, false_unless}
 use Rattle.rules.proofs.Chunks.{Used, chunk_free_lem, chunk_used, free_chunk, free_not_used}
 use Rattle.search_size.proofs.Powers.{exponent_lt}
 use Rattle.search_walk.specs.Search.{judged_free, Part, lowest_in, Search}
-use Rattle.search_walk.proofs.LowestChunk.{Missed, multiples_apart, sum_multiple, multiple_lower, search-found, search-none}
+use Rattle.search_walk.proofs.LowestChunk.{Missed, multiples_apart, sum_multiple, multiple_lower, search_found, search_none}
 use Rattle.search_walk.proofs.Walk.{Walked, size_positive, judged_true, judged_false}
 use Rattle.section_words.specs.Words.{Digits, FreeChunks}
 use Rattle.section_words.proofs.Words.{free_blocks_lem, same_exponent}
@@ -47,7 +47,7 @@ passed_start from to a size part starts = record {
 pub passed_none : (from to : ℕ) (a : List ℕ) (size looks : ℕ) → Passed from to a size looks → Part from to size → from + looks ≡ to
     → (k : ℕ) → size ≡ 2 ^ k → Search from to k (lowest_in from to k a) to looks
 passed_none from to a size looks passed part done k e =
-    search-none k a from to looks (subst (Part from to) e part) done
+    search_none k a from to looks (subst (Part from to) e part) done
     (λ end l u m. subst (λ (s : ℕ). Missed a s from (from + looks + 1)) e passed.missed end l (omega arith) m)
 
 -- ---- the chunks of a word, of ever larger sizes
@@ -94,9 +94,9 @@ module _ (j k : ℕ) (a : List ℕ) (p w : ℕ) (f : FreeChunks k a p w) where
 
   module _ (small : j ≤ 6) (starts : p % 64 ≡ 0) (within : k ≤ j) where
     -- the chunks of this word that end at block `end` or before
-    pub used-in : (end : ℕ) → end ≤ p + 64 → ((n : ℕ) → p + n + 2 ^ j ≤ end → bit_of w n ≡ 0)
+    pub used_in : (end : ℕ) → end ≤ p + 64 → ((n : ℕ) → p + n + 2 ^ j ≤ end → bit_of w n ≡ 0)
         → (e : ℕ) → p < e → e ≤ end → e % 2 ^ j ≡ 0 → Used a (e - 2 ^ j) (2 ^ j)
-    used-in end room zero e l u m =
+    used_in end room zero e l u m =
         let start : p % 2 ^ j ≡ 0 = multiple_lower j 6 p small starts in
         let apart = multiples_apart (2 ^ j) p e start m l in
         let n : ℕ = e - 2 ^ j - p in
@@ -115,7 +115,7 @@ word_passed from to a size looks s w part small passed c zero room =
     let k : ℕ = c.exponent in
     let at_most : j ≤ 6 = exponent_le j 6 (omega arith) in
     let within : k ≤ j = exponent_le k j (omega (arith, c.power, c.most)) in
-    let used = used-in j k a (from + looks) w c.free at_most passed.starts within (from + looks + 64) (omega arith)
+    let used = used_in j k a (from + looks) w c.free at_most passed.starts within (from + looks + 64) (omega arith)
     (λ n _. ap (λ (x : ℕ). bit_of x n) zero ∙ bit_zero n) in
     record {
       inside = omega arith;
@@ -152,21 +152,21 @@ module _ (from to : ℕ) (a : List ℕ) (size looks w : ℕ) (part : Part from t
       let t : ℕ = count_trailing_zeros 64 w in
       let p : ℕ = from + looks in
       let f : FreeChunks k a p w = subst (λ (x : ℕ). FreeChunks x a p w) (same_exponent c.exponent k (sym c.power ∙ e)) c.free in
-      let t-multiple : t % 2 ^ k ≡ 0 = ap (λ (x : ℕ). t % x) (sym e) ∙ multiple in
+      let t_multiple : t % 2 ^ k ≡ 0 = ap (λ (x : ℕ). t % x) (sym e) ∙ multiple in
       let free : chunk_free k a (p + t) ≡ true =
       elim (test_cases_lem (chunk_free k a (p + t))) [
         | inl is ↦ is
-        | inr is ↦ absurd (omega (arith, lowest.here, f.chunk t lowest.inside t-multiple, ap one is))
+        | inr is ↦ absurd (omega (arith, lowest.here, f.chunk t lowest.inside t_multiple, ap one is))
       ] in
       let at_most : k ≤ 6 = exponent_le k 6 (omega arith) in
-      let used = used-in k k a p w f at_most passed.starts (omega arith) (p + t + 2 ^ k - 1) (omega (arith, lowest_inside))
+      let used = used_in k k a p w f at_most passed.starts (omega arith) (p + t + 2 ^ k - 1) (omega (arith, lowest_inside))
       (λ n l. lowest.below n (omega (arith, pow_pos k))) in
       let starts : p % 2 ^ k ≡ 0 = multiple_lower k 6 p at_most passed.starts in
       let ends : (from + (looks + (t + 2 ^ k))) % 2 ^ k ≡ 0 =
-      ap (λ (x : ℕ). x % 2 ^ k) (omega arith) ∙ sum_multiple (2 ^ k) (p + t) (2 ^ k) (sum_multiple (2 ^ k) p t starts t-multiple) (mod_self (2 ^ k)) in
+      ap (λ (x : ℕ). x % 2 ^ k) (omega arith) ∙ sum_multiple (2 ^ k) (p + t) (2 ^ k) (sum_multiple (2 ^ k) p t starts t_multiple) (mod_self (2 ^ k)) in
       let missed = subst (λ (x : ℕ). Missed a x from (p + 1)) e passed.missed in
       subst⁻¹ (λ (x : ℕ). Search from to k (lowest_in from to k a) (from + (looks + (t + x)) - x) (looks + (t + x))) e
-      (search-found k a from to (looks + (t + 2 ^ k)) (subst (Part from to) e part) (omega (arith, lowest_inside)) (omega arith) ends
+      (search_found k a from to (looks + (t + 2 ^ k)) (subst (Part from to) e part) (omega (arith, lowest_inside)) (omega arith) ends
       (λ end l u m. elim (dec_lt end (p + 1)) [
         | yes v ↦ missed end l v m
         | no v ↦ used end (omega arith) (omega arith) m

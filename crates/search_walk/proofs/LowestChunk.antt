@@ -87,10 +87,10 @@ module _ (k : ℕ) (a : List ℕ) where
 
   module _ (from to looks : ℕ) (part : Part from to (2 ^ k)) where
     -- .. and the chunk that ends there is the first free one
-    pub search-found : from + looks ≤ to → 2 ^ k ≤ looks → (from + looks) % 2 ^ k ≡ 0 → Missed a (2 ^ k) from (from + looks)
+    pub search_found : from + looks ≤ to → 2 ^ k ≤ looks → (from + looks) % 2 ^ k ≡ 0 → Missed a (2 ^ k) from (from + looks)
         → Free a (from + looks - 2 ^ k) (2 ^ k) → Search from to k (lowest_in from to k a) (from + looks - 2 ^ k) looks
     unfolding lowest_in
-    search-found inside all ends missed free =
+    search_found inside all ends missed free =
         let at : ℕ = from + looks - 2 ^ k in
         let end_is : at + 2 ^ k ≡ from + looks = omega arith in
         let starts : at % 2 ^ k ≡ 0 = sym (add-mod_right at (2 ^ k)) ∙ ap (λ (x : ℕ). x % 2 ^ k) end_is ∙ ends in
@@ -99,9 +99,9 @@ module _ (k : ℕ) (a : List ℕ) where
         rw found (record { at_is = refl; looks_is = omega arith })
 
     -- .. and they are all there are
-    pub search-none : from + looks ≡ to → Missed a (2 ^ k) from (to + 1) → Search from to k (lowest_in from to k a) to looks
+    pub search_none : from + looks ≡ to → Missed a (2 ^ k) from (to + 1) → Search from to k (lowest_in from to k a) to looks
     unfolding lowest_in
-    search-none done missed =
+    search_none done missed =
         let chunks = part_chunks from to k part in
         let none_free = none_from ((to - from) / 2 ^ k) from part.from_chunk (λ e l u. missed e l (omega arith)) in
         rw none_free (record { at_is = refl; looks_is = omega arith })

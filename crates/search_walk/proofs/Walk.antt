@@ -18,7 +18,7 @@ use Rattle.rules.proofs.Chunks.{Free, Used}
 use Rattle.search_walk.specs.Search.{judged_free, Part, lowest_in, Search}
 use Rattle.search_walk.proofs.Parts.{Tail, part_of, part_whole, part_free, part_used, byte_free, byte_full}
 use Rattle.search_size.proofs.Powers.{exponent_lt}
-use Rattle.search_walk.proofs.LowestChunk.{Missed, multiples_apart, sum_multiple, multiple_lower, search-found, search-none}
+use Rattle.search_walk.proofs.LowestChunk.{Missed, multiples_apart, sum_multiple, multiple_lower, search_found, search_none}
 
 -- `looks` blocks are looked at, the free stretch that ends there is `stretch` blocks long, and no chunk that ends before block `judged` is free
 pub record Walked (from to : ℕ) (a : List ℕ) (size looks stretch judged : ℕ) : Type 0 where
@@ -58,9 +58,9 @@ module _ (from to : ℕ) (a : List ℕ) (size looks stretch : ℕ) where
 
   module _ (walk : Walked from to a size looks stretch (from + looks + 1)) (n : ℕ) (inside : from + (looks + n) ≤ to) where
     -- all of them free, and no chunk ends among them but at the last
-    pub more-free : Free a (from + looks) n → ((e : ℕ) → from + looks < e → e < from + (looks + n) → e % size ≡ 0 → ⊥)
+    pub more_free : Free a (from + looks) n → ((e : ℕ) → from + looks < e → e < from + (looks + n) → e % size ≡ 0 → ⊥)
         → Walked from to a size (looks + n) (stretch + n) (from + (looks + n))
-    more-free free between =
+    more_free free between =
         record {
           inside = inside;
           within = omega (arith, walk.within);
@@ -78,10 +78,10 @@ module _ (from to : ℕ) (a : List ℕ) (size looks stretch : ℕ) where
         }
 
     -- the last `zeros` of them free, the one before them used, and no chunk that ends among them free
-    pub more-used : (zeros : ℕ) → Tail a (from + looks) n zeros
+    pub more_used : (zeros : ℕ) → Tail a (from + looks) n zeros
         → ((e : ℕ) → from + looks < e → e ≤ from + (looks + n) → e % size ≡ 0 → Used a (e - size) size)
         → Walked from to a size (looks + n) zeros (from + (looks + n) + 1)
-    more-used zeros tail among =
+    more_used zeros tail among =
         let end_is : from + looks + n ≡ from + (looks + n) = omega arith in
         record {
           inside = inside;
@@ -103,12 +103,12 @@ module _ (from to : ℕ) (a : List ℕ) (size looks stretch : ℕ) where
         let (enough, ends) = judged_true (from + looks) size stretch judged in
         let walk' = subst (λ (s : ℕ). Walked from to a s looks stretch (from + looks)) e walk in
         subst⁻¹ (λ (s : ℕ). Search from to k (lowest_in from to k a) (from + looks - s) looks) e
-        (search-found k a from to looks (subst (Part from to) e part) walk.inside (omega (arith, walk.within))
+        (search_found k a from to looks (subst (Part from to) e part) walk.inside (omega (arith, walk.within))
         (subst (λ (s : ℕ). (from + looks) % s ≡ 0) e ends) walk'.missed
         (λ j l u. walk.free j (omega (arith, walk.within)) (omega (arith, walk.within))))
 
-    pub judged-used : judged_free (from + looks) size stretch ≡ false → Walked from to a size looks stretch (from + looks + 1)
-    judged-used judged =
+    pub judged_used : judged_free (from + looks) size stretch ≡ false → Walked from to a size looks stretch (from + looks + 1)
+    judged_used judged =
         record {
           inside = walk.inside;
           within = walk.within;
@@ -130,7 +130,7 @@ module _ (from to : ℕ) (a : List ℕ) (size looks stretch : ℕ) where
   pub walked_none : Walked from to a size looks stretch (from + looks + 1) → Part from to size → from + looks ≡ to
       → (k : ℕ) → size ≡ 2 ^ k → Search from to k (lowest_in from to k a) to looks
   walked_none walk part done k e =
-      search-none k a from to looks (subst (Part from to) e part) done
+      search_none k a from to looks (subst (Part from to) e part) done
       (λ end l u m. subst (λ (s : ℕ). Missed a s from (from + looks + 1)) e walk.missed end l (omega arith) m)
 
 -- ---- the steps of the search: at a byte's first block ..
@@ -173,7 +173,7 @@ module _ (from to : ℕ) (a : List ℕ) (size looks stretch : ℕ) (part : Part 
   -- its blocks are free, and no chunk ends before the last: eight are looked at
   pub free_byte : 8 ≤ size → get_or a ((from + looks) / 8) 0 ≡ 0 → Walked from to a size (looks + 8) (stretch + 8) (from + (looks + 8))
   free_byte large zero =
-      more-free from to a size looks stretch walk 8 (omega (arith, byte_inside)) (byte_free a (from + looks) starts zero)
+      more_free from to a size looks stretch walk 8 (omega (arith, byte_inside)) (byte_free a (from + looks) starts zero)
       (λ e l u m. omega (arith, large_ends large e m))
 
   -- all are used, and so are the chunks that end among them
@@ -192,7 +192,7 @@ module _ (from to : ℕ) (a : List ℕ) (size looks stretch : ℕ) (part : Part 
       subst (λ (x : ℕ). Tail a x 8 (count_leading_zeros 8 b)) first
       (subst (λ (x : ℕ). Tail a (from + looks + 0) 8 (count_leading_zeros 8 x)) value
       (part_used a (from + looks) 0 8 starts (omega arith) (λ z. some-used (sym value ∙ z)))) in
-      more-used from to a size looks stretch walk 8 (omega (arith, byte_inside)) (count_leading_zeros 8 b) tail
+      more_used from to a size looks stretch walk 8 (omega (arith, byte_inside)) (count_leading_zeros 8 b) tail
       (λ e l u m. elim whole [
         | inl large ↦
             let end_is : e ≡ from + looks + 8 = omega (arith, large_ends large e m) in
@@ -222,7 +222,7 @@ module _ (from to : ℕ) (a : List ℕ) (size looks stretch p i : ℕ) (walk : W
     (chunk : ChunkAt from to size looks p i) where
   pub free_chunk : part_of (get_or a (p / 8) 0) i size ≡ 0 → Walked from to a size (looks + size) (stretch + size) (from + (looks + size))
   free_chunk zero =
-      more-free from to a size looks stretch walk size chunk.inside
+      more_free from to a size looks stretch walk size chunk.inside
       (λ j l u. part_free a p i size chunk.byte_starts chunk.within zero j (omega (arith, chunk.at)) (omega (arith, chunk.at)))
       (λ e l u m. omega (arith, multiples_apart size (from + looks) e chunk.starts m l))
 
@@ -232,7 +232,7 @@ module _ (from to : ℕ) (a : List ℕ) (size looks stretch p i : ℕ) (walk : W
       let zeros : ℕ = count_leading_zeros 8 (part_of (get_or a (p / 8) 0) i size) in
       let tail : Tail a (from + looks) size zeros =
       subst⁻¹ (λ (x : ℕ). Tail a x size zeros) chunk.at (part_used a p i size chunk.byte_starts chunk.within some-used) in
-      more-used from to a size looks stretch walk size chunk.inside zeros tail
+      more_used from to a size looks stretch walk size chunk.inside zeros tail
       (λ e l u m.
       let end_is : e ≡ from + looks + size = omega (arith, multiples_apart size (from + looks) e chunk.starts m l) in
       subst⁻¹ (λ (x : ℕ). Used a (x - size) size) end_is (tail_covered a (from + looks) size zeros size (omega arith) tail))

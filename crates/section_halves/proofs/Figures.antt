@@ -32,7 +32,7 @@ pub of_halves_lem :
     (k : ℕ) (a : List ℕ) (i j half x y : ℕ) → half ≡ 2 ^ k → j ≡ i + half → x ≡ largest_free k a i → y ≡ largest_free k a j
     → of_halves half x y ≡ largest_free (suc k) a i
 unfolding of_halves
-of_halves_lem k a i j half x y size place x-is y-is =
+of_halves_lem k a i j half x y size place x_is y-is =
     let upper : y ≡ largest_free k a (i + 2 ^ k) = y-is ∙ ap (largest_free k a) (place ∙ ap (λ (z : ℕ). i + z) size) in
     let laws = figure_of_halves k a i in
     let x_le : x ≤ 2 ^ k = omega (arith, (figure_le k a i).0) in

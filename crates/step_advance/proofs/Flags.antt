@@ -172,14 +172,14 @@ module _ {N : ℕ} {listed flags : List ℕ} where
     past : (i : ℕ) → i < r → is_set listed i ≡ false
     past i l = elim (dec_lt i from) [ yes u ↦ s.clear i u | no u ↦ k.next.clear i (omega arith) l ]
 
-    pub sought-found : r < end → Looked N 0 N listed flags' r
-    sought-found l = record {
+    pub sought_found : r < end → Looked N 0 N listed flags' r
+    sought_found l = record {
       next = record { from_le = omega arith; end_le = omega (arith, p.within); clear = λ i u v. past i v; found = λ u. k.next.found l };
       flagged = k.flagged;
     }
 
-    pub sought-next : end ≤ r → Sought N listed flags' end
-    sought-next l = record { within = p.within; clear = λ i u. past i (omega arith); flagged = k.flagged }
+    pub sought_next : end ≤ r → Sought N listed flags' end
+    sought_next l = record { within = p.within; clear = λ i u. past i (omega arith); flagged = k.flagged }
 
   pub sought_all : {from : ℕ} → Sought N listed flags from → N ≤ from → Looked N 0 N listed flags N
   sought_all s l = record {

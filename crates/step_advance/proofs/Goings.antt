@@ -93,20 +93,20 @@ module _ {N : ℕ} {names : ℕ → ℕ → Bool} {budget : ℕ} where
         let rest : ℕ = budget - (made + 1) in
         let less : budget - made - 1 ≡ rest = omega arith in
         let next : StepsTaken = steps_by rest N names (progress_in N marks' listed') in
-        let made-is : steps_by (budget - made) N names p ≡ taken (suc next.steps) next.reached =
+        let made_is : steps_by (budget - made) N names p ≡ taken (suc next.steps) next.reached =
         steps_next N names (budget - made) p x (omega arith) found
         ∙ ap (λ (t : StepsTaken). taken (suc t.steps) t.reached)
         (ap₂ (λ (k : ℕ) (q : Progress). steps_by k N names q) less (sym (scanned_is N names s))) in
         record {
           within = omega arith;
-          steps_are = omega (arith, g.steps_are, ap (λ (t : StepsTaken). t.steps) made-is);
-          reached_is = g.reached_is ∙ ap (λ (t : StepsTaken). t.reached) made-is;
+          steps_are = omega (arith, g.steps_are, ap (λ (t : StepsTaken). t.steps) made_is);
+          reached_is = g.reached_is ∙ ap (λ (t : StepsTaken). t.reached) made_is;
         }
 
     -- none is listed any more
-    pub going-empty : {x : ℕ} → NextBit listed 0 N x → N ≤ x → Went N whole made marks listed
+    pub going_empty : {x : ℕ} → NextBit listed 0 N x → N ≤ x → Went N whole made marks listed
     unfolding progress_in
-    going-empty {x} n l =
+    going_empty {x} n l =
         let gone : lowest (tabulate N (is_set listed)) 0 ≡ none = lowest_none N (is_set listed) 0 (λ i u. n.clear i (omega arith) (omega arith)) in
         let ended = steps_none N names (budget - made) (progress_in N marks listed) gone in
         record {
@@ -115,9 +115,9 @@ module _ {N : ℕ} {names : ℕ → ℕ → Bool} {budget : ℕ} where
         }
 
     -- the budget is spent
-    pub going-spent : budget ≤ made → Went N whole made marks listed
+    pub going_spent : budget ≤ made → Went N whole made marks listed
     unfolding steps_by
-    going-spent l =
+    going_spent l =
         let end : budget - made ≡ 0 = omega (arith, g.within) in
         let ended = ap (λ (k : ℕ). steps_by k N names (progress_in N marks listed)) end in
         record {

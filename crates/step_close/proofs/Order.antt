@@ -103,28 +103,28 @@ module _ (N w : ℕ) (marks : List ℕ) (h : Memory) where
     unfolding close_one
     one_spared s e = rw (e, close_one)
 
-    one-freed : (s : Closing) → is_doomed N marks s.heap n ≡ true → close_one N w marks s n ≡ doomed_freed N w marks s n (size_at N s.heap n)
+    one_freed : (s : Closing) → is_doomed N marks s.heap n ≡ true → close_one N w marks s n ≡ doomed_freed N w marks s n (size_at N s.heap n)
     unfolding close_one
-    one-freed s e = rw (e, close_one)
+    one_freed s e = rw (e, close_one)
 
-    go-spared : (s : Work) → is_doomed N marks h n ≡ false → survivors_let_go N w marks h s (suc n) ≡ survivors_let_go N w marks h s n
+    go_spared : (s : Work) → is_doomed N marks h n ≡ false → survivors_let_go N w marks h s (suc n) ≡ survivors_let_go N w marks h s n
     unfolding survivors_let_go
-    go-spared s e = rw (e, survivors_let_go)
+    go_spared s e = rw (e, survivors_let_go)
 
-    go-freed : (s : Work) → is_doomed N marks h n ≡ true
+    go_freed : (s : Work) → is_doomed N marks h n ≡ true
         → survivors_let_go N w marks h s (suc n)
         ≡ count_down_survivors N w marks (survivors_let_go N w marks h s n) h.cells (4 * n) (naming_cells h.d n (size_at N h n))
     unfolding survivors_let_go
-    go-freed s e = rw (e, survivors_let_go)
+    go_freed s e = rw (e, survivors_let_go)
 
     module _ (ms : List Bool) (agrees : marked ms n ≡ is_set marks n) where
-      swept-spared : is_doomed N marks h n ≡ false → swept N w h ms (suc n) ≡ swept N w h ms n
+      swept_spared : is_doomed N marks h n ≡ false → swept N w h ms (suc n) ≡ swept N w h ms n
       unfolding swept is_doomed
-      swept-spared e = rw (ap (λ (t : Bool). is_first N h n && not t) agrees ∙ e, swept)
+      swept_spared e = rw (ap (λ (t : Bool). is_first N h n && not t) agrees ∙ e, swept)
 
-      swept-freed : is_doomed N marks h n ≡ true → swept N w h ms (suc n) ≡ freed N w (swept N w h ms n) n (size_at N h n)
+      swept_freed : is_doomed N marks h n ≡ true → swept N w h ms (suc n) ≡ freed N w (swept N w h ms n) n (size_at N h n)
       unfolding swept is_doomed
-      swept-freed e = rw (ap (λ (t : Bool). is_first N h n && not t) agrees ∙ e, swept)
+      swept_freed e = rw (ap (λ (t : Bool). is_first N h n && not t) agrees ∙ e, swept)
 
   one_more : (ms : List Bool) → Undisturbed ms → (n : ℕ) → n < N → close_one N w marks (in_turn ms n) n ≡ in_turn ms (suc n)
   unfolding in_turn is_doomed freed
@@ -148,21 +148,21 @@ module _ (N w : ℕ) (marks : List ℕ) (h : Memory) where
       go : (is_doomed N marks h n ≡ true) ⊎ (is_doomed N marks h n ≡ false) → close_one N w marks (in_turn ms n) n ≡ in_turn ms (suc n)
       go (inr e) =
           one_spared n (joint g x) (same ∙ e)
-          ∙ ap (joint g) (sym (go-spared n (work g.counts []) e))
-          ∙ ap (λ (m : Memory). joint m (survivors_let_go N w marks h (work m.counts []) (suc n))) (sym (swept-spared n ms (u.agrees n l) e))
+          ∙ ap (joint g) (sym (go_spared n (work g.counts []) e))
+          ∙ ap (λ (m : Memory). joint m (survivors_let_go N w marks h (work m.counts []) (suc n))) (sym (swept_spared n ms (u.agrees n l) e))
       go (inl e) =
           let parts = and_true (is_first N h n) (not (is_set marks n)) e in
           let dead = not-true (is_set marks n) parts.1 in
           let after : Memory = freed N w g n z in
-          one-freed n (joint g x) (same ∙ e)
+          one_freed n (joint g x) (same ∙ e)
           ∙ ap (doomed_freed N w marks (joint g x) n) (u.size n l parts.0)
           ∙ ap (λ (m : ℕ). joint after (count_down_survivors N w marks (zeroed N w n x) g.cells (4 * n) m)) (same_naming g.d h.d n z (u.kind n l parts.0))
           ∙ ap (joint after)
           (cells_same N w marks (zeroed N w n x) g.cells h.cells (4 * n) (naming_cells h.d n z)
           (λ k v. u.cells n l parts.0 k (omega (arith, naming_le h.d n z))))
           ∙ ap (λ (t : Work). joint after (down h.cells t)) (sym (let_go_comm (work g.counts []) n n (u.planes n (omega arith)) l dead))
-          ∙ ap (joint after) (sym (go-freed n (zeroed N w n (work g.counts [])) e))
-          ∙ ap (λ (m : Memory). joint m (survivors_let_go N w marks h (work m.counts []) (suc n))) (sym (swept-freed n ms (u.agrees n l) e))
+          ∙ ap (joint after) (sym (go_freed n (zeroed N w n (work g.counts [])) e))
+          ∙ ap (λ (m : Memory). joint m (survivors_let_go N w marks h (work m.counts []) (suc n))) (sym (swept_freed n ms (u.agrees n l) e))
 
   pub close_in_order : (ms : List Bool) → Undisturbed ms → (n : ℕ) → n ≤ N → close_below N w marks (closing h []) n ≡ in_turn ms n
   unfolding close_below in_turn survivors_let_go swept

@@ -81,8 +81,8 @@ module _ {N w : ℕ} {counts waiting : List ℕ} {top : ℕ} (p : Planes N w cou
       fewer = rw written (passing_set p i 0 inside counted fits)
 
       came : (b : ℕ) → b < N → counted (count_at (N / 8) w counts b) ≡ false → counted (count_at (N / 8) w counts' b) ≡ false
-      came b l e = rw written (by-block (ℕ_discrete b i))
+      came b l e = rw written (by_block (ℕ_discrete b i))
         where
-          by-block : Dec (b ≡ i) → counted (count_at (N / 8) w (set_count (N / 8) w counts i 0) b) ≡ false
-          by-block (yes d) = rw d (ap counted (count_written p i 0 inside fits))
-          by-block (no d) = ap counted (count_kept p i 0 inside b l d) ∙ e
+          by_block : Dec (b ≡ i) → counted (count_at (N / 8) w (set_count (N / 8) w counts i 0) b) ≡ false
+          by_block (yes d) = rw d (ap counted (count_written p i 0 inside fits))
+          by_block (no d) = ap counted (count_kept p i 0 inside b l d) ∙ e

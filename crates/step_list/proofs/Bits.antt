@@ -69,8 +69,8 @@ module _ {map : List ℕ} {from end : ℕ} where
       ];
     }
 
-    pub passed-byte : end ≡ 8 * (end / 8) → get_or map (i / 8) 0 ≡ 0 → Passed map from end ((i / 8 + 1) * 8)
-    passed-byte whole e = record {
+    pub passed_byte : end ≡ 8 * (end / 8) → get_or map (i / 8) 0 ≡ 0 → Passed map from end ((i / 8 + 1) * 8)
+    passed_byte whole e = record {
       from_le = omega (arith, p.from_le);
       end_le = omega arith;
       clear = λ j u v. elim (dec_lt j i) [
@@ -81,8 +81,8 @@ module _ {map : List ℕ} {from end : ℕ} where
       ];
     }
 
-    pub passed-found : is_set map i ≡ true → NextBit map from end i
-    passed-found e = record { from_le = p.from_le; end_le = p.end_le; clear = p.clear; found = λ u. e }
+    pub passed_found : is_set map i ≡ true → NextBit map from end i
+    passed_found e = record { from_le = p.from_le; end_le = p.end_le; clear = p.clear; found = λ u. e }
 
   -- none up to r
   pub passed_more : {i : ℕ} → Passed map from end i → (r : ℕ) → i ≤ r → r ≤ end → ((j : ℕ) → i ≤ j → j < r → is_set map j ≡ false) → Passed map from end r
@@ -106,7 +106,7 @@ pub passed_bytes : {map : List ℕ} {from end i : ℕ} (r : ℕ) → Passed map 
 passed_bytes {map} {from} {end} {i} r p l whole e q =
     let low = q.from_le in
     let high = q.end_le in
-    passed_more (passed-byte p l whole e) (r * 8) (omega arith) (omega arith) (λ j s v. q.clear j (omega arith) (omega arith))
+    passed_more (passed_byte p l whole e) (r * 8) (omega arith) (omega arith) (λ j s v. q.clear j (omega arith) (omega arith))
 
 -- eight bytes that are 0 as one number
 pub passed_eight : {map : List ℕ} {from end w : ℕ} (k : ℕ) → Passed map from end (8 * k) → 8 * (k + 8) ≤ end → Digits 64 map (8 * k) w → w ≡ 0

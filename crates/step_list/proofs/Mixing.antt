@@ -88,9 +88,9 @@ module _ {N : ℕ} {old marks start : List ℕ} where
       rest = λ j u. x.others j (λ q. omega arith) ∙ m.rest j (omega arith);
     }
 
-    pub mixing-byte : N ≡ 8 * (N / 8) → ((j : ℕ) → j < N → is_set start j ≡ true → is_set old j ≡ true)
+    pub mixing_byte : N ≡ 8 * (N / 8) → ((j : ℕ) → j < N → is_set start j ≡ true → is_set old j ≡ true)
         → get_or old (i / 8) 0 ≡ get_or marks (i / 8) 0 → Mixing N old marks start ((i / 8 + 1) * 8) map
-    mixing-byte whole marked e = record {
+    mixing_byte whole marked e = record {
       within = omega arith;
       done = λ j u. elim (dec_lt j i) [
         | yes q ↦ m.done j q

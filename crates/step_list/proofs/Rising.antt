@@ -85,8 +85,8 @@ module _ {N : ℕ} {map : List ℕ} where
 
   module _ {i k : ℕ} {list : List ℕ} (w : Written N map i k list) where
     -- none up to r
-    pub written-past : (r : ℕ) → i ≤ r → r ≤ N → ((j : ℕ) → i ≤ j → j < r → is_set map j ≡ false) → Written N map r k list
-    written-past r l u none =
+    pub written_past : (r : ℕ) → i ≤ r → r ≤ N → ((j : ℕ) → i ≤ j → j < r → is_set map j ≡ false) → Written N map r k list
+    written_past r l u none =
         let same : rising (is_set map) r [] ≡ rising (is_set map) i [] = rising_between (is_set map) i r l none in
         record {
           within = u;
@@ -96,9 +96,9 @@ module _ {N : ℕ} {map : List ℕ} where
         }
 
     -- the next one is t
-    pub written-hit : (t : ℕ) → i ≤ t → t < N → ((j : ℕ) → i ≤ j → j < t → is_set map j ≡ false) → is_set map t ≡ true
+    pub written_hit : (t : ℕ) → i ≤ t → t < N → ((j : ℕ) → i ≤ j → j < t → is_set map j ≡ false) → is_set map t ≡ true
         → Written N map (t + 1) (k + 1) (set list k (t + 1))
-    written-hit t l u none hit =
+    written_hit t l u none hit =
         let few = w.few in
         let before : List ℕ = rising (is_set map) i [] in
         let m : ℕ = N - (k + 1) in
@@ -118,8 +118,8 @@ module _ {N : ℕ} {map : List ℕ} where
               ∙ ap (λ (x : List ℕ). x ++ replicate m 0 ++ 1 ∷ []) (sym longer);
         }
 
-    pub written-length : length list ≡ N + 1
-    written-length =
+    pub written_length : length list ≡ N + 1
+    written_length =
         let few = w.few in
         let within = w.within in
         ap length w.list_is ∙ length-append (rising (is_set map) i [] ++ replicate (N - k) 0) (1 ∷ [])
@@ -163,9 +163,9 @@ module _ {N : ℕ} {map : List ℕ} {j place : ℕ} {list : List ℕ} where
     here : (i t : ℕ) → i ≡ 8 * j + t → g.at ≤ t → t < 8 → bit_at map i ≡ bit_of left t
     here i t e l u = ap (bit_at map) e ∙ sym (g.rest t l u)
 
-    pub writing-next : (some : left ≢ 0)
+    pub writing_next : (some : left ≢ 0)
         → Writing N map j (place + 1) (bit_and left (left - 1)) (set list place (8 * j + count_trailing_zeros 8 left + 1))
-    writing-next some =
+    writing_next some =
         let low = trailing_lowest 8 left g.small some in
         let t : ℕ = count_trailing_zeros 8 left in
         let within = low.inside in
@@ -185,15 +185,15 @@ module _ {N : ℕ} {map : List ℕ} {j place : ℕ} {list : List ℕ} where
           rest = λ s l u. other s (λ e. omega arith) ∙ g.rest s (omega arith) u;
           written =
               subst (λ (i : ℕ). Written N map i (place + 1) (set list place (8 * j + t + 1))) next
-              (written-hit g.written (8 * j + t) (omega arith) (omega arith)
+              (written_hit g.written (8 * j + t) (omega arith) (omega arith)
               (λ i l u. zero_is map i (here i (i - 8 * j) (omega arith) (omega arith) (omega arith) ∙ low.below (i - 8 * j) (omega arith)))
               (set_is map (8 * j + t) (here (8 * j + t) t refl from within ∙ low.here)));
         }
 
-    pub writing-end : left ≡ 0 → Written N map (8 * (j + 1)) place list
-    writing-end none =
+    pub writing_end : left ≡ 0 → Written N map (8 * (j + 1)) place list
+    writing_end none =
         let at_most = g.inside in
-        written-past g.written (8 * (j + 1)) (omega arith) inside
+        written_past g.written (8 * (j + 1)) (omega arith) inside
         (λ i l u.
         zero_is map i
         (here i (i - 8 * j) (omega arith) (omega arith) (omega arith) ∙ ap (λ (x : ℕ). bit_of x (i - 8 * j)) none ∙ bit_zero (i - 8 * j)))

@@ -126,11 +126,11 @@ module _ (N : ℕ) (h : Memory) (c : Call) (alone : Alone c) (n r : ℕ) (own : 
       (stopped w fit (λ e. fails (ap (λ (y : Reply). y.number) tested ∙ e)))
       x h tested refl
 
-pub allocate-goes-on :
+pub allocate_goes_on :
     (h : Memory) {N n r : ℕ} {x : Reply} → Replied N h.a (length h.roots) n r x → x.number ≡ 0
     → (own_test N h (allocate n r)).number ≡ 0
 unfolding own_refusals
-allocate-goes-on h {N} {n} {r} = goes_on N h (allocate n r) refl n r refl
+allocate_goes_on h {N} {n} {r} = goes_on N h (allocate n r) refl n r refl
 
 pub allocate_data_goes_on :
     (h : Memory) {N n r : ℕ} {x : Reply} → Replied N h.a (length h.roots) n r x → x.number ≡ 0

@@ -22,7 +22,7 @@ use Rattle.rules.proofs.Tests.{test_cases_lem, first_found, first_not}
 use Rattle.rules.proofs.Objects.{first_facts, size_le, ref_facts}
 use Rattle.rules_calls.proofs.Promised.{promised}
 use Rattle.theory_memories.proofs.Memories.Fit.{Fit}
-use Rattle.theory_memories.proofs.Memories.Accepted.{fit-accepted, fit_refused}
+use Rattle.theory_memories.proofs.Memories.Accepted.{fit_accepted, fit_refused}
 use Rattle.test_arguments.specs.Replies.{own_test, store_root_test, store_cell_test, cell_test, number_test, read_reply}
 use Rattle.test_arguments.specs.Replies.{return_test, shut_test, open_test, look_reply}
 
@@ -187,7 +187,7 @@ module _ (N w : ℕ) (h : Memory) (fit : Fit N w h) (a j : ℕ) where
   pub read_answered : answer N w h (read_number a j) ≡ (read_reply N (lent_memory h.a h.b [] h.cells [] [] [] h.d [] []) a j, h)
   unfolding outcome own_test own_refusals read_reply
   read_answered = elim (ℕ_discrete (first_number (own_refusals N h (read_number a j))) 0) [
-    | yes e ↦ fit-accepted N w h fit (read_number a j) refl (own_passed N h (read_number a j) refl e) ∙ ap {B = Answer} (λ t. (read t, h)) (sym (eq-eqb _ 0 e))
+    | yes e ↦ fit_accepted N w h fit (read_number a j) refl (own_passed N h (read_number a j) refl e) ∙ ap {B = Answer} (λ t. (read t, h)) (sym (eq-eqb _ 0 e))
     | no n ↦ fit_refused N w h fit (read_number a j) refl n ∙ ap {B = Answer} (λ t. (read t, h)) (sym (ne_eqb _ 0 n))
   ]
     where
@@ -235,7 +235,7 @@ module _ (N w : ℕ) (h : Memory) (fit : Fit N w h) (a : ℕ) where
   pub look_answered : answer N w h (look a) ≡ (look_reply N w (memory h.a h.b h.counts [] [] []) a, h)
   unfolding outcome Passed own_refusals look_reply
   look_answered = elim (test_cases_lem (is_first N h a)) [
-    | inl first ↦ fit-accepted N w h fit (look a) refl first ∙ ap {B = Answer} (λ t. (read t, h)) (sym first)
+    | inl first ↦ fit_accepted N w h fit (look a) refl first ∙ ap {B = Answer} (λ t. (read t, h)) (sym first)
     | inr other ↦
         let six = first_found 6 (not (is_first N h a)) [] (ap not other) in
         fit_refused N w h fit (look a) refl (λ e. absurd (omega (arith, six, e))) ∙ ap {B = Answer} (λ k. (reply k 0 0, h)) six

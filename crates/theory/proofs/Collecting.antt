@@ -22,7 +22,7 @@ use Rattle.rules_calls.specs.Calls.{allocate_data, write_number, read_number, wr
 use Rattle.rules_calls.specs.Calls.{copy_from, copy_into}
 use Rattle.rules_calls.specs.Promise.{Promise}
 use Rattle.types.specs.declared.Reply.{Reply}
-use Rattle.rules_calls.proofs.Replies.{answer-either, accepted-outcome, Passed, passed}
+use Rattle.rules_calls.proofs.Replies.{answer_either, accepted_outcome, Passed, passed}
 use Rattle.theory_memories.specs.Words.{Object, Leads}
 use Rattle.theory.specs.CallWords.{roots_without, written, Made, left_by}
 use Rattle.theory.specs.Steps.{LeadsFrom, Party, Touched, Untouched, until_closed, steps_of, steps_in, Closes, Collecting}
@@ -39,14 +39,14 @@ use Rattle.theory_memories.proofs.Memories.View.{cell_refs, slots_in, view}
 use Rattle.theory_memories.proofs.Memories.Slots.{root_slot, cell_slot, cell_within}
 use Rattle.theory_memories.proofs.Memories.Fit.{Fit}
 use Rattle.theory_memories.proofs.Memories.Leads.{size_object}
-use Rattle.theory_memories.proofs.Memories.TidyHeap.{first_some, some_first, open_after, marked-after, listed-after, none_after}
+use Rattle.theory_memories.proofs.Memories.TidyHeap.{first_some, some_first, open_after, marked_after, listed_after, none_after}
 use Rattle.theory_memories.proofs.Memories.Shades.{Among}
-use Rattle.theory_memories.proofs.Memories.Events.{among_none, among_cases, allocate-slots, allocate-placed}
-use Rattle.theory_memories.proofs.Memories.Scanning.{Stepped, steps-from-open, list-empty, marked-progress, listed-progress, opened_tidy, opened_names}
-use Rattle.theory_memories.proofs.Memories.Stores.{placed-shows}
+use Rattle.theory_memories.proofs.Memories.Events.{among_none, among_cases, allocate_slots, allocate_placed}
+use Rattle.theory_memories.proofs.Memories.Scanning.{Stepped, steps_from_open, list_empty, marked_progress, listed_progress, opened_tidy, opened_names}
+use Rattle.theory_memories.proofs.Memories.Stores.{placed_shows}
 use Rattle.theory_memories.proofs.Memories.ViewClose.{close_shows, close_stands}
-use Rattle.theory.proofs.EachCall.Open.{pale_in, ApartIn, Open, Goes, to_grows, root_goes, cell-goes, allocate_goes, return_goes}
-use Rattle.theory.proofs.EachCall.Served.{number-view}
+use Rattle.theory.proofs.EachCall.Open.{pale_in, ApartIn, Open, Goes, to_grows, root_goes, cell_goes, allocate_goes, return_goes}
+use Rattle.theory.proofs.EachCall.Served.{number_view}
 use Rattle.theory.proofs.EachCall.ReturnsServed.{length_without}
 use Rattle.theory.proofs.Calls.{finds_fit, promised, stays_fit}
 use Rattle.theory_copies.proofs.Copies.Accepted.{copy_shut}
@@ -76,11 +76,11 @@ module _ (N w : ℕ) (k : Memory) (represents : Represents N k.a k.b (sizes_of N
       (size_object N k (view N w k).sizes represents c (omega (arith, own))) place.1 place.2)
       rest
 
-  pub to-led : {c : ℕ} → Leads N k c → To R (view N w k).sizes (view N w k).slots b c → Leads N k b
-  to-led from self = from
-  to-led {c} from (link d s own e rest) =
+  pub to_led : {c : ℕ} → Leads N k c → To R (view N w k).sizes (view N w k).slots b c → Leads N k b
+  to_led from self = from
+  to_led {c} from (link d s own e rest) =
       let place = place_of c d s own e in
-      to-led
+      to_led
       (Leads.cell d (size (view N w k) d) c (size (view N w k) c) place.0
       (size_object N k (view N w k).sizes represents d (to_sized stood rest)) from
       (size_object N k (view N w k).sizes represents c (omega (arith, own))) place.1 place.2)
@@ -207,18 +207,18 @@ module _ (N w : ℕ) (h : Memory) (before : Open N w h) (fit : Fit N w h) where
       p = (steps_from budget N h (progress_of N h)).reached
 
       steps : Stepped N w h fit.healthy (progress_of N h) (steps_from budget N h (progress_of N h))
-      steps = steps-from-open N w h fit.healthy before.was_open fit.tidy budget
+      steps = steps_from_open N w h fit.healthy before.was_open fit.tidy budget
 
       start : count_below (is_pale (view N w h) (marked (progress_of N h).marks) (marked (progress_of N h).list)) N ≤ pale_in N w h
       start =
           pale_same (view N w h) (is_marked h) (is_listed N h) (marked (progress_of N h).marks) (marked (progress_of N h).list)
-          (marked-progress N w h fit.healthy before.was_open fit.tidy) (listed-progress N w h fit.healthy before.was_open fit.tidy) N
+          (marked_progress N w h fit.healthy before.was_open fit.tidy) (listed_progress N w h fit.healthy before.was_open fit.tidy) N
 
-      reached-apart : (b : ℕ) → ApartIn N w h b → Apart (length h.roots) (view N w h) (marked p.marks) b
-      reached-apart b a =
+      reached_apart : (b : ℕ) → ApartIn N w h b → Apart (length h.roots) (view N w h) (marked p.marks) b
+      reached_apart b a =
           steps.apart b
           (apart_same (length h.roots) (view N w h) (is_marked h) (marked (progress_of N h).marks) b
-          (marked-progress N w h fit.healthy before.was_open fit.tidy) a)
+          (marked_progress N w h fit.healthy before.was_open fit.tidy) a)
 
       go : (t : Bool) → closes budget p ≡ t
           → During N w
@@ -230,11 +230,11 @@ module _ (N w : ℕ) (h : Memory) (before : Open N w h) (fit : Fit N w h) where
             fewer = λ f. absurd (true≢false (sym f ∙ shut));
             apart = λ f. absurd (true≢false (sym f ∙ shut));
             stays = λ f. absurd (true≢false (sym f ∙ shut));
-            gone = λ budget is accepted none b a. unmarked b (λ m. (reached-apart b a).marked b m self);
+            gone = λ budget is accepted none b a. unmarked b (λ m. (reached_apart b a).marked b m self);
           }
         where
           tidy : Tidy (length h.roots) (view N w h) (marked p.marks) (λ b. false)
-          tidy = list-empty N w h fit.healthy before.was_open fit.tidy budget p steps.tidy e
+          tidy = list_empty N w h fit.healthy before.was_open fit.tidy budget p steps.tidy e
 
           shut : is_open N (closed N w p.marks h) ≡ false
           shut = none_after N (unmarked_freed N w p.marks h)
@@ -253,7 +253,7 @@ module _ (N w : ℕ) (h : Memory) (before : Open N w h) (fit : Fit N w h) where
             fewer = λ f. omega (arith, steps.fewer, start, less);
             apart = λ f b u was is a.
                 apart_same (length h.roots) (view N w h) (marked p.marks) (is_marked g) b
-                (marked-after N w h fit.healthy (marked p.marks) (marked p.list) steps.tidy) (reached-apart b a);
+                (marked_after N w h fit.healthy (marked p.marks) (marked p.list) steps.tidy) (reached_apart b a);
             stays = λ f b u was. was;
             gone = λ budget is accepted none b a.
                 absurd (true≢false (sym (open_after N w h fit.healthy (marked p.marks) (marked p.list) steps.tidy) ∙ none));
@@ -266,8 +266,8 @@ module _ (N w : ℕ) (h : Memory) (before : Open N w h) (fit : Fit N w h) where
               ≤ count_below (is_pale (view N w h) (marked p.marks) (marked p.list)) N
           less =
               pale_same (view N w h) (marked p.marks) (marked p.list) (is_marked g) (is_listed N g)
-              (marked-after N w h fit.healthy (marked p.marks) (marked p.list) steps.tidy)
-              (listed-after N w h fit.healthy (marked p.marks) (marked p.list) steps.tidy) N
+              (marked_after N w h fit.healthy (marked p.marks) (marked p.list) steps.tidy)
+              (listed_after N w h fit.healthy (marked p.marks) (marked p.list) steps.tidy) N
 
   -- ---- stores
 
@@ -300,7 +300,7 @@ module _ (N w : ℕ) (h : Memory) (before : Open N w h) (fit : Fit N w h) where
       → let y = freeing N h (store_cell_shading N w h a j v) second in During N w (made (store_cell a j v) h y.0 y.1)
   unfolding freeing written
   cell_during a j v second first l ordinary ref =
-      goes_during (store_cell a j v) _ _ (store_cell_shading N w h a j v) refl (cell-goes N w h before v ref a j first l ordinary)
+      goes_during (store_cell a j v) _ _ (store_cell_shading N w h a j v) refl (cell_goes N w h before v ref a j first l ordinary)
       (λ b stood untouched new c among to.
       untouched
       (record {
@@ -360,7 +360,7 @@ module _ (N w : ℕ) (h : Memory) (before : Open N w h) (fit : Fit N w h) where
           → slot (view N w (with_roots (set h.roots r (i + 1)) (placed N w asData h i n))) s ≡ suc a
           → size (view N w (with_roots (set h.roots r (i + 1)) (placed N w asData h i n))) x ≡ size (view N w h) x
       same x s a own e =
-          elim (allocate-placed N w h before.healthy n i (omega arith) (room N h.a n i found) asData r l x) [
+          elim (allocate_placed N w h before.healthy n i (omega arith) (room N h.a n i found) asData r l x) [
             | inl q ↦ q
             | inr q ↦ absurd (omega (arith, q.1 s own, e))
           ]
@@ -372,8 +372,8 @@ module _ (N w : ℕ) (h : Memory) (before : Open N w h) (fit : Fit N w h) where
           let next : suc i ≡ 1 + i = omega arith in
           ap (λ (m : List ℕ). get_or m s 0)
           (sym (set-append_left h.roots (cell_refs N h) r (1 + i) l) ∙ ap (set (slots_in N h) r) (sym next)
-          ∙ sym (allocate-slots N w h before.healthy n i (omega arith) (room N h.a n i found) asData r l
-          (placed-shows N w h before.healthy n i (omega arith) (room N h.a n i found) asData)))
+          ∙ sym (allocate_slots N w h before.healthy n i (omega arith) (room N h.a n i found) asData r l
+          (placed_shows N w h before.healthy n i (omega arith) (room N h.a n i found) asData)))
           ∙ e
 
       party : (c : ℕ) → Among (get_or h.roots r 0 ∷ (i + 1) ∷ []) c → Party h (reply 0 i second) call c
@@ -421,7 +421,7 @@ module _ (N w : ℕ) (h : Memory) (before : Open N w h) (fit : Fit N w h) where
       → During N w (made (write_number a j x) h (reply 0 0 0) (with_cells (set h.cells (4 * a + j) x) h))
   unfolding is_listed
   number_during a j x first l kind =
-      let same = number-view N w h fit.healthy a j x first l kind in
+      let same = number_view N w h fit.healthy a j x first l kind in
       let none = no_steps (write_number a j x) (reply 0 0 0) refl in
       let pale = ap (λ (k : Graph). count_below (is_pale k (is_marked h) (is_listed N h)) N) same in
       record {
@@ -470,7 +470,7 @@ module _ (N w : ℕ) (h : Memory) (before : Open N w h) (fit : Fit N w h) where
 
   answer_during : (c : Call) → let y = answer N w h c in During N w (made c h y.0 y.1)
   answer_during c =
-      answer-either N w h c (λ y. During N w (made c h y.0 y.1))
+      answer_either N w h c (λ y. During N w (made c h y.0 y.1))
       (λ number nonzero. same_during c _ (refused_steps c _ nonzero) (λ z. absurd (nonzero z)))
       (λ e. outcome_during c (passed N w h c e))
 
@@ -590,14 +590,14 @@ module _ (N w : ℕ) (h : Memory) (fit : Fit N w h) where
   unfolding opened with_progress
   opened_apart b n object unled =
       apart_same (length h.roots) (view N w h) (root_names h) (is_marked (with_progress N (root_names h) (root_names h) h)) b
-      (marked-after N w h fit.healthy (root_names h) (root_names h) (opened_tidy N w h fit.healthy))
+      (marked_after N w h fit.healthy (root_names h) (root_names h) (opened_tidy N w h fit.healthy))
       (apart_opened (length h.roots) (view N w h) (root_names h) b roots (opened_names N w h fit.healthy))
     where
       roots : (s c : ℕ) → s < length h.roots → slot (view N w h) s ≡ suc c → ¬ (To (length h.roots) (view N w h).sizes (view N w h).slots b c)
       roots s c l e to =
           let stood = first_some N w h b object.first in
           unled
-          (to-led N w h fit.healthy.represents b stood
+          (to_led N w h fit.healthy.represents b stood
           (Leads.root c (size (view N w h) c) s
           (size_object N h (view N w h).sizes fit.healthy.represents c (to_sized stood to)) l (omega (arith, root_slot N h s l))) to)
 
@@ -616,7 +616,7 @@ collected_in_steps N w m later fit (Chain.next finds promise rest) is accepted =
     let number : (answer N w m.before open_collection).0.number ≡ 0 =
     sym (ap (λ (y : Answer). y.0.number) answered) ∙ sym (ap (λ (x : Reply). x.number) promise.reply_is) ∙ accepted in
     let left : m.after ≡ opened N m.before =
-    promise.after_is ∙ ap (λ (y : Answer). y.1) (answered ∙ accepted-outcome N w m.before open_collection number) in
+    promise.after_is ∙ ap (λ (y : Answer). y.1) (answered ∙ accepted_outcome N w m.before open_collection number) in
     let open_now : is_open N m.after ≡ true = subst (λ (k : Memory). is_open N k ≡ true) (sym left) (opened_open N w m.before here) in
     record {
       bounded =

@@ -12,7 +12,7 @@ use Rattle.rules.specs.Heap.{Memory, is_data}
 use Rattle.rules_calls.specs.Calls.{Call, allocate_data, write_number, read_number, Answer, outcome, answer, last_memory}
 use Rattle.rules_calls.specs.Promise.{Promise}
 use Rattle.types.specs.declared.Reply.{Reply}
-use Rattle.rules_calls.proofs.Replies.{one-applies, number_is, accepted-outcome}
+use Rattle.rules_calls.proofs.Replies.{one_applies, number_is, accepted_outcome}
 use Rattle.theory_memories.specs.Words.{Object}
 use Rattle.theory.specs.CallWords.{copied_over, Made, left_by}
 use Rattle.theory.specs.Stuck.{LivesOn}
@@ -32,7 +32,7 @@ use Rattle.theory.proofs.Demand.{found, stands}
 -- a refused call changes nothing
 refused_same : (N w : ℕ) (h : Memory) (c : Call) → (answer N w h c).0.number ≢ 0 → (answer N w h c).1 ≡ h
 refused_same N w h c refusal =
-    ap (λ (x : Answer). x.1) (one-applies N w h c (λ e. refusal (number_is N w h c ∙ e)))
+    ap (λ (x : Answer). x.1) (one_applies N w h c (λ e. refusal (number_is N w h c ∙ e)))
 
 -- cell j of the data at block b, in whatever memory
 abbrev cell_of : ℕ → ℕ → Memory → ℕ
@@ -80,7 +80,7 @@ module _ (N w b n : ℕ) {h : Memory} (fit : Fit N w h) (m : Made) (finds : Find
       let g : Memory = (answer N w m.before c).1 in
       let read = (numbers_written N w m.before b j x accepted).reads_itself_back in
       let value =
-      ap (λ (y : Answer). y.0.value) (sym (accepted-outcome N w g (read_number b j) (ap (λ (y : Reply). y.number) read)))
+      ap (λ (y : Answer). y.0.value) (sym (accepted_outcome N w g (read_number b j) (ap (λ (y : Reply). y.number) read)))
       ∙ ap (λ (y : Reply). y.value) read in
       ap (λ (k : Memory). cell_of b j k) (promise.after_is ∙ ap (λ (d : Call). (answer N w m.before d).1) is) ∙ value
 

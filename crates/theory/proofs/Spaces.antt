@@ -13,7 +13,7 @@ use Rattle.rules_calls.specs.Calls.{Call, Answer, reply, other_shaped, refusals,
 use Rattle.rules_calls.specs.Promise.{Promise}
 use Rattle.rules.proofs.Tests.{false_unless, false_and, first_found}
 use Rattle.rules.proofs.Shape.{shape_facts}
-use Rattle.rules_calls.proofs.Replies.{refused-with}
+use Rattle.rules_calls.proofs.Replies.{refused_with_lem}
 use Rattle.theory_memories.specs.Words.{heap_of}
 use Rattle.theory.specs.CallWords.{Made, left_by}
 use Rattle.theory.specs.Demand.{Chain}
@@ -27,7 +27,7 @@ other_space : (N w : ℕ) (h : Memory) (c : Call) → length h.waiting ≢ N →
 unfolding refused_with refusals
 other_space N w h c other =
     let misshapen = false_unless (shaped N w h) (λ e. other (shape_facts N w h e).length_waiting) in
-    refused-with N w h c 1 (omega arith)
+    refused_with_lem N w h c 1 (omega arith)
     (first_found 1 (not (other_shaped h c && shaped N w h)) _ (ap not (false_and (other_shaped h c) (shaped N w h) (λ _. misshapen))))
 
 refused_space :

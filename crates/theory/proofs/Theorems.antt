@@ -12,7 +12,7 @@ use Rattle.types.specs.declared.Reply.{Reply}
 use Rattle.rules_calls.specs.Promise.{Promise}
 use Rattle.rules_calls.specs.Calls.{Call, format, allocate, allocate_data, allocate_as, Answer, allocation_refusals, own_refusals, outcome, answer}
 use Rattle.theory.specs.Demand.{Demand3}
-use Rattle.rules_calls.proofs.Replies.{number_is, accepted-none, accepted-outcome, Passed, shape-passed, passed, allocation_alone, refused_as_check}
+use Rattle.rules_calls.proofs.Replies.{number_is, accepted_none, accepted_outcome, Passed, shape_passed, passed, allocation_alone, refused_as_check}
 use Rattle.rules.proofs.Tests.{true_and, first_past}
 use Rattle.rules.proofs.Shape.{shape_facts}
 use Rattle.theory_memories.specs.Heaps.{Undamaged, Lowest}
@@ -89,12 +89,12 @@ pub lowest_taken : LowestTaken
 unfolding outcome Passed
 lowest_taken N w h true n r accepted =
     let c : Call = allocate_data n r in
-    subst (λ (x : Answer). Lowest N (exponent n) h.a x.0.value) (sym (accepted-outcome N w h c accepted))
-    (lowest_some N (exponent n) h.a _ (passed N w h c (accepted-none N w h c accepted)).3)
+    subst (λ (x : Answer). Lowest N (exponent n) h.a x.0.value) (sym (accepted_outcome N w h c accepted))
+    (lowest_some N (exponent n) h.a _ (passed N w h c (accepted_none N w h c accepted)).3)
 lowest_taken N w h false n r accepted =
     let c : Call = allocate n r in
-    subst (λ (x : Answer). Lowest N (exponent n) h.a x.0.value) (sym (accepted-outcome N w h c accepted))
-    (lowest_some N (exponent n) h.a _ (passed N w h c (accepted-none N w h c accepted)).3)
+    subst (λ (x : Answer). Lowest N (exponent n) h.a x.0.value) (sym (accepted_outcome N w h c accepted))
+    (lowest_some N (exponent n) h.a _ (passed N w h c (accepted_none N w h c accepted)).3)
 
 -- request U10
 pub return_in_any_order : ReturnInAnyOrder
@@ -120,8 +120,8 @@ accepted_format :
 unfolding outcome
 accepted_format N w lent x left promise taken =
     let accepted = ap (λ (r : Reply). r.number) (sym promise.reply_is) ∙ taken in (
-      shape-passed N w lent format (accepted-none N w lent format accepted),
-      promise.after_is ∙ ap (λ (y : Answer). y.1) (accepted-outcome N w lent format accepted),
+      shape_passed N w lent format (accepted_none N w lent format accepted),
+      promise.after_is ∙ ap (λ (y : Answer). y.1) (accepted_outcome N w lent format accepted),
     )
 
 pub accepted_format_undamaged :

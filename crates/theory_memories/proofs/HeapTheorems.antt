@@ -28,8 +28,8 @@ use Rattle.theory_memories.proofs.Memories.Naming.{data_names}
 use Rattle.theory_memories.proofs.Memories.Fuel.{steps_suffice}
 use Rattle.theory_memories.proofs.Memories.Orders.{one_end}
 use Rattle.theory_memories.proofs.Memories.ViewClose as close
-use Rattle.theory_memories.proofs.Memories.Scanning.{steps-from-open, list-empty}
-use Rattle.theory_memories.proofs.Memories.Stores.{store_root_lem, store_cell_lem, allocate-root}
+use Rattle.theory_memories.proofs.Memories.Scanning.{steps_from_open, list_empty}
+use Rattle.theory_memories.proofs.Memories.Stores.{store_root_lem, store_cell_lem, allocate_root}
 use Rattle.theory_memories.proofs.Memories.Rounds.{reached_led, led_reached}
 use Rattle.theory_memories.proofs.Memories.Leads.{object_size, size_object}
 use Rattle.theory_memories.proofs.Memories.Cells.{cells_read}
@@ -53,7 +53,7 @@ n_steps_suffice N w h u steps enough =
           steps_suffice N w steps _ _ (store_cell_lem N w h fine v ref a j first l ordinary).releasing enough;
       new = λ asData n r i some_blocks l found.
           steps_suffice N w steps _ _
-          (allocate-root N w h fine n i (omega arith) (room N h.a n i found) asData r l).releasing enough;
+          (allocate_root N w h fine n i (omega arith) (room N h.a n i found) asData r l).releasing enough;
     }
 
 -- request U7
@@ -65,7 +65,7 @@ order_unseen N w h u =
       in_root = λ r v l ref. one_end N w _ _ (store_root_lem N w h fine v ref r l).releasing;
       in_cell = λ a j v first l ordinary ref. one_end N w _ _ (store_cell_lem N w h fine v ref a j first l ordinary).releasing;
       new = λ asData n r i some_blocks l found.
-          one_end N w _ _ (allocate-root N w h fine n i (omega arith) (room N h.a n i found) asData r l).releasing;
+          one_end N w _ _ (allocate_root N w h fine n i (omega arith) (room N h.a n i found) asData r l).releasing;
     }
 
 pub close_order_unseen : CloseOrderUnseen
@@ -73,8 +73,8 @@ unfolding unmarked_freed
 close_order_unseen N w h u was_open budget e =
     let fit = undamaged_fit N w h u in
     let reached : Progress = (steps_from budget N h (progress_of N h)).reached in
-    let steps = steps-from-open N w h fit.healthy was_open fit.tidy budget in
-    let tidy = list-empty N w h fit.healthy was_open fit.tidy budget reached steps.tidy e in
+    let steps = steps_from_open N w h fit.healthy was_open fit.tidy budget in
+    let tidy = list_empty N w h fit.healthy was_open fit.tidy budget reached steps.tidy e in
     let ready = close.releasing N w h fit.healthy reached.marks tidy in
     record { order = one_end N w _ _ ready; enough = λ steps more. steps_suffice N w steps _ _ ready more }
 

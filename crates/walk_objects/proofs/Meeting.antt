@@ -37,8 +37,8 @@ module _ (N : ℕ) (order numbers : List ℕ) (met v : ℕ) (w : Walking N order
     pub room : met < N
     room = omega (arith, distinct_length N (more fresh s w.distinct) (cons l w.below), top_length order met)
 
-    pub walks-on : Walking N (set order met v) (set numbers (v - 1) (met + 1)) (met + 1)
-    walks-on =
+    pub walks_on : Walking N (set order met v) (set numbers (v - 1) (met + 1)) (met + 1)
+    walks_on =
         let push : last_first (set order met v) (met + 1) ≡ v ∷ last_first order met = last_first_push order met v (omega (arith, room, w.long_order)) in
         record {
           small = w.small;

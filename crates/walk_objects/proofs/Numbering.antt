@@ -15,7 +15,7 @@ use Rattle.rules.proofs.Objects.{first_facts}
 use Rattle.rules.proofs.Tests.{test_cases_lem}
 use Rattle.theory_memories.specs.Words.{Leads}
 use Rattle.theory_walks.proofs.Walks.Numbers.{object_same, object_other, object_some}
-use Rattle.theory_walks.proofs.Walks.Steps.{all_at, walk-all, distinct_length}
+use Rattle.theory_walks.proofs.Walks.Steps.{all_at, walk_all, distinct_length}
 use Rattle.theory_walks.proofs.Walks.Reached.{references_length, references_at, followed_zero, followed_block, follows, led_first, Named}
 use Rattle.theory_walks.proofs.Walks.Reached.{root_led, cell_led, roots_below, cells_below}
 use Rattle.walk_objects.specs.Walking.{Walked, walked_heap, last_first, part}
@@ -86,13 +86,13 @@ module _ (N : ℕ) (a b d cells roots : List ℕ) (named : Named N (walked_heap 
         sym (named.read.of_others at size i (record { first = first; size = refl }) e l) ∙ sym (references_at N heap at i l)
 
     -- of data none is read
-    pub data-zeros : is_data d at ≡ true → (j : ℕ) → j < length (references_of N heap at) → get_or (references_of N heap at) j 0 ≡ 0
-    data-zeros made j l =
+    pub data_zeros : is_data d at ≡ true → (j : ℕ) → j < length (references_of N heap at) → get_or (references_of N heap at) j 0 ≡ 0
+    data_zeros made j l =
         let low : j < 4 * size = omega (arith, references_length N heap at) in
         references_at N heap at j low ∙ named.read.of_data at size j (record { first = first; size = refl }) made low
 
-    pub cells-list : is_data d at ≡ false → part cells (4 * at) (4 * size) ≡ references_of N heap at
-    cells-list other =
+    pub cells_list : is_data d at ≡ false → part cells (4 * at) (4 * size) ≡ references_of N heap at
+    cells_list other =
         ext_get_or 0 (part cells (4 * at) (4 * size)) (references_of N heap at) (part_length cells (4 * at) (4 * size) ∙ sym (references_length N heap at))
         (λ i l.
         let low : i < 4 * size = omega (arith, part_length cells (4 * at) (4 * size)) in
@@ -138,7 +138,7 @@ module _ (N : ℕ) (a b d cells roots : List ℕ) (named : Named N (walked_heap 
       let object : object_at (steps k) (suc k) ≡ get_or order k 0 = ap (λ (l : List ℕ). object_at l (suc k)) (sym w.is) ∙ at in
       let led : Led (get_or order k 0) =
       subst Led object
-      (all_at (walk-all roots (followed N heap) (followed_zero N heap) {P = Led} (λ r s. (s, root_led N heap named r s)) led_next k)
+      (all_at (walk_all roots (followed N heap) (followed_zero N heap) {P = Led} (λ r s. (s, root_led N heap named r s)) led_next k)
       (suc k) (omega arith) (omega (arith, ap length w.is))) in
       let first = led_first N heap led.1 in
       record {

@@ -13,14 +13,14 @@ use Rattle.rules_stores.specs.Store.{naming_cells}
 use Rattle.rules_output.specs.Walk.{object_at, walk, references_of, followed, numbered}
 use Rattle.theory_walks.specs.Trail.{Entry, met_in, meet_each_at, trail, links_to}
 use Rattle.theory_walks.proofs.Walks.Numbers.{object_past}
-use Rattle.theory_walks.proofs.Walks.Least.{trail-settled}
+use Rattle.theory_walks.proofs.Walks.Least.{trail_settled}
 use Rattle.theory_walks.proofs.Walks.Trails.{Owned, met_length, MetAt, nothing, again, new, met_at_cases, trail_met}
 use Rattle.theory_walks.proofs.Walks.Reached.{followed_zero, followed_block, Named}
 use Rattle.walk_objects.specs.Walking.{Walked, walked_heap, part}
 use Rattle.walk_objects.specs.Walking.{entries, Traced}
 use Rattle.walk_objects.proofs.Tracing.{entries_met}
 use Rattle.walk_objects.proofs.Linking.{entries_length, later}
-use Rattle.walk_objects.proofs.Numbering.{part_whole, Taken, taken, data-zeros, cells-list, cells_count}
+use Rattle.walk_objects.proofs.Numbering.{part_whole, Taken, taken, data_zeros, cells_list, cells_count}
 
 each_zeros_at : (l : List Entry) (p j : ℕ) (vs : List ℕ) → ((i : ℕ) → i < length vs → get_or vs i 0 ≡ 0) → meet_each_at l p j vs ≡ l
 unfolding meet_each_at
@@ -59,10 +59,10 @@ module _ (N : ℕ) (a b d cells roots : List ℕ) (named : Named N (walked_heap 
     | inl (made, none) ↦
         ap (λ (k : ℕ). meet_each_at l p 0 (part cells (4 * at) k)) none
         ∙ each_zeros_at l p 0 [] (λ j b. absurd (omega arith))
-        ∙ sym (each_zeros_at l p 0 (references_of N heap at) (data-zeros N a b d cells roots named at first made))
+        ∙ sym (each_zeros_at l p 0 (references_of N heap at) (data_zeros N a b d cells roots named at first made))
     | inr (other, all) ↦
         ap (λ (k : ℕ). meet_each_at l p 0 (part cells (4 * at) k)) all
-        ∙ ap (meet_each_at l p 0) (cells-list N a b d cells roots named at first other)
+        ∙ ap (meet_each_at l p 0) (cells_list N a b d cells roots named at first other)
   ]
 
   pub start_at : (order order₀ numbers owners owners₀ vias vias₀ : List ℕ) (met : ℕ)
@@ -140,7 +140,7 @@ module _ (N : ℕ) (a b d cells roots : List ℕ) (named : Named N (walked_heap 
 
   pub owners_before : (order numbers owners vias : List ℕ) (met : ℕ) → Traced N (turns N) order numbers owners vias met → (i : ℕ) → i < met → get_or owners i 0 ≤ i
   owners_before order numbers owners vias met t =
-      owned_at order owners vias met (subst Owned (sym t.is) (trail-settled roots (followed N heap) (followed_zero N heap) N).owned)
+      owned_at order owners vias met (subst Owned (sym t.is) (trail_settled roots (followed N heap) (followed_zero N heap) N).owned)
 
   -- so what is written is what `WalkFindsChain` (theory_walks/specs/Reason.antt) turns round into the chain
   pub links_found_lem : (order numbers owners vias : List ℕ) (met n : ℕ) → Traced N (turns N) order numbers owners vias met → n ≤ met

@@ -12,7 +12,7 @@ use Rattle.theory_walks.specs.Trail.{Entry, entry, met_in, meet_at, meet_each_at
 use Rattle.theory_walks.proofs.Walks.Trails.{MetAt, nothing, again, new, met_at_cases}
 use Rattle.walk_objects.specs.Walking.{last_first, part}
 use Rattle.walk_objects.specs.Walking.{entries, Tracing, Traced}
-use Rattle.walk_objects.proofs.Meeting.{room, walks-on}
+use Rattle.walk_objects.proofs.Meeting.{room, walks_on}
 use Rattle.walk_objects.proofs.Numbering.{part_length}
 
 -- the arrays are as long as they were
@@ -80,8 +80,8 @@ module _ (N : ℕ) (order numbers owners vias : List ℕ) (met v p j : ℕ) (t :
     pub space : met < N
     space = room N order numbers met v t.walking s l unmet
 
-    pub trace-new : Traced N (meet_at so_far p j v) (set order met v) (set numbers (v - 1) (met + 1)) (set owners met p) (set vias met j) (met + 1)
-    trace-new =
+    pub trace_new : Traced N (meet_at so_far p j v) (set order met v) (set numbers (v - 1) (met + 1)) (set owners met p) (set vias met j) (met + 1)
+    trace_new =
         let w = t.walking in
         record {
           is =
@@ -89,7 +89,7 @@ module _ (N : ℕ) (order numbers owners vias : List ℕ) (met v p j : ℕ) (t :
               (omega (arith, space, t.long_vias))
               ∙ same (met_at_cases so_far p j v);
           tracing = record {
-            walking = walks-on N order numbers met v w s l unmet;
+            walking = walks_on N order numbers met v w s l unmet;
             long_owners = omega (arith, length-set owners met p, t.long_owners);
             long_vias = omega (arith, length-set vias met j, t.long_vias);
           };

@@ -29,17 +29,17 @@ ended_fits m = number (number_at m)
     line_end_lem n true false e = refl
     line_end_lem n false false e = refl
 
-    behind-it : (n : ℕ) (rest : List ℕ) (t : Bool) → is_small n ≡ t → ended (when t (n, rest)) ≡ one_fits (ended (some (n, rest)))
-    behind-it n [] true e = refl
-    behind-it n [] false e = refl
-    behind-it n (c ∷ []) true e = line_end_lem n true (eqb c 10) e
-    behind-it n (c ∷ []) false e = line_end_lem n false (eqb c 10) e
-    behind-it n (c ∷ d ∷ l) true e = refl
-    behind-it n (c ∷ d ∷ l) false e = refl
+    behind_it : (n : ℕ) (rest : List ℕ) (t : Bool) → is_small n ≡ t → ended (when t (n, rest)) ≡ one_fits (ended (some (n, rest)))
+    behind_it n [] true e = refl
+    behind_it n [] false e = refl
+    behind_it n (c ∷ []) true e = line_end_lem n true (eqb c 10) e
+    behind_it n (c ∷ []) false e = line_end_lem n false (eqb c 10) e
+    behind_it n (c ∷ d ∷ l) true e = refl
+    behind_it n (c ∷ d ∷ l) false e = refl
 
     number : (o : Option (ℕ × List ℕ)) → ended (limited o) ≡ one_fits (ended o)
     number none = refl
-    number (some (n, rest)) = behind-it n rest (is_small n) refl
+    number (some (n, rest)) = behind_it n rest (is_small n) refl
 
 small_is : (m : List ℕ) (r : ℕ) (rest : List ℕ) → small_at m ≡ some (r, rest) → (number_at m ≡ some (r, rest)) × (is_small r ≡ true)
 unfolding small_at limited when
@@ -187,19 +187,19 @@ module _ (l : List ℕ) where
     unfolding read_back keep when
     back_other e = let is : read_back l ≡ none = rw (no_root, e, read_back) refl in back_is l ∙ ap keep is
 
-    pub back-chain : (k : List ℕ) (r : ℕ) (rest : List ℕ) → behind root_text l ≡ some k → small_at k ≡ some (r, rest)
+    pub back_chain : (k : List ℕ) (r : ℕ) (rest : List ℕ) → behind root_text l ≡ some k → small_at k ≡ some (r, rest)
         → small_back l ≡ chained r (links_in rest)
     unfolding read_back when
-    back-chain k r rest e number =
+    back_chain k r rest e number =
         let is = small_is k r rest number in
         back_is l
         ∙ ap keep (rw (no_root, e, is.0, read_back) refl)
         ∙ chained_fits r (links_of (length rest) rest) is.1
         ∙ ap (chained r) (sym (links_fit_lem (length rest) rest))
 
-    pub back-no-number : (k : List ℕ) → behind root_text l ≡ some k → small_at k ≡ none → small_back l ≡ none
+    pub back_no_number : (k : List ℕ) → behind root_text l ≡ some k → small_at k ≡ none → small_back l ≡ none
     unfolding read_back small_at limited keep when
-    back-no-number k e number =
+    back_no_number k e number =
         let is : ◌≡◌ {A = Option (Reason × ℕ)} (read_back l) (elim (number_at k) [ some x ↦ chained x.0 (links_of (length x.1) x.1) | none ↦ none ]) =
         rw (no_root, e, read_back) refl in
         back_is l ∙ ap keep is ∙ large (number_at k) refl number

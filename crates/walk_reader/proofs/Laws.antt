@@ -103,23 +103,23 @@ module _ (text : List ℕ) (at : ℕ) where
     abbrev c : ℕ
     c = get_or text at 0
 
-    pub small-zero : c ≡ 48 → small_at (drop at text) ≡ some (0, drop (at + 1) text)
+    pub small_zero : c ≡ 48 → small_at (drop at text) ≡ some (0, drop (at + 1) text)
     unfolding small_at number_at when limited
-    small-zero e = ap small_at (drop_one text at inside) ∙ rw (eq-eqb c 48 e, number_at, small_at) refl
+    small_zero e = ap small_at (drop_one text at inside) ∙ rw (eq-eqb c 48 e, number_at, small_at) refl
 
     pub small_low : c < 48 → small_at (drop at text) ≡ none
     unfolding small_at number_at limited when
     small_low h =
         ap small_at (drop_one text at inside) ∙ rw (ne_eqb c 48 (λ e. omega arith), no_digit_low c h, number_at, small_at) refl
 
-    pub small-high : 57 < c → small_at (drop at text) ≡ none
+    pub small_high : 57 < c → small_at (drop at text) ≡ none
     unfolding small_at number_at limited when
-    small-high h =
+    small_high h =
         ap small_at (drop_one text at inside) ∙ rw (ne_eqb c 48 (λ e. omega arith), no_digit_high c h, number_at, small_at) refl
 
-    pub small-start : c ≢ 48 → 48 ≤ c → c ≤ 57 → Counted at 0
+    pub small_start : c ≢ 48 → 48 ≤ c → c ≤ 57 → Counted at 0
     unfolding small_at number_at limited
-    small-start e h k =
+    small_start e h k =
         ap small_at (drop_one text at inside)
         ∙ rw (ne_eqb c 48 e, a_digit c h k, number_at, small_at) refl
         ∙ ap (λ (l : List ℕ). limited (some (number_from 0 l))) (sym (drop_one text at inside))

@@ -87,32 +87,32 @@ module _ (text : List ℕ) where
     whole : (x : Option (List ℕ × ℕ)) → small_links c.fuel (drop p text) ≡ x → counted (links_in (drop at text)) ≡ more n (counted x)
     whole x e = c.is ∙ ap (λ (x : Option (List ℕ × ℕ)). more n (counted x)) e
 
-    no-links : small_links c.fuel (drop p text) ≡ none → counted (links_in (drop at text)) ≡ none
+    no_links : small_links c.fuel (drop p text) ≡ none → counted (links_in (drop at text)) ≡ none
     unfolding more counted
-    no-links e = whole none e
+    no_links e = whole none e
 
-    pub count-no-number : behind cell_text (drop p text) ≡ some (drop (p + 6) text)
+    pub count_no_number : behind cell_text (drop p text) ≡ some (drop (p + 6) text)
         → small_at (drop (p + 6) text) ≡ none → counted (links_in (drop at text)) ≡ none
     unfolding small_links
-    count-no-number stands number = no-links (go c.fuel)
+    count_no_number stands number = no_links (go c.fuel)
       where
         go : (f : ℕ) → small_links f (drop p text) ≡ none
         go zero = refl
         go (suc f) = rw (stands, number, small_links) refl
 
-    pub count-no-block : behind cell_text (drop p text) ≡ none → behind block_text (drop p text) ≡ none
+    pub count_no_block : behind cell_text (drop p text) ≡ none → behind block_text (drop p text) ≡ none
         → counted (links_in (drop at text)) ≡ none
     unfolding small_links
-    count-no-block no_cell no_block = no-links (go c.fuel)
+    count_no_block no_cell no_block = no_links (go c.fuel)
       where
         go : (f : ℕ) → small_links f (drop p text) ≡ none
         go zero = refl
         go (suc f) = rw (no_cell, no_block, small_links) refl
 
     module _ (m : List ℕ) (inside : p < length text) (no_cell : behind cell_text (drop p text) ≡ none) (block : behind block_text (drop p text) ≡ some m) where
-      at-end : (x : Option ℕ) → ended (small_at m) ≡ x → counted (links_in (drop at text)) ≡ more n (counted (lone x))
+      at_end : (x : Option ℕ) → ended (small_at m) ≡ x → counted (links_in (drop at text)) ≡ more n (counted (lone x))
       unfolding small_links
-      at-end x end = go c.fuel refl
+      at_end x end = go c.fuel refl
         where
           go : (f : ℕ) → c.fuel ≡ f → counted (links_in (drop at text)) ≡ more n (counted (lone x))
           go zero e = absurd (omega (arith, c.enough))
@@ -123,8 +123,8 @@ module _ (text : List ℕ) where
       count_end v found f =
           let same : n + 0 ≡ n = omega arith in
           record {
-            there = λ e. at-end (some v) (f.there e) ∙ ap (λ (k : ℕ). some (k, v)) same;
-            missing = λ e. at-end none (f.missing e);
+            there = λ e. at_end (some v) (f.there e) ∙ ap (λ (k : ℕ). some (k, v)) same;
+            missing = λ e. at_end none (f.missing e);
           }
 
 -- ---- links written
@@ -151,10 +151,10 @@ link_is (suc f) l x rest e = cell (behind cell_text l) refl e
     block (some m) e = none_left (ended (small_at m)) e
     block none e = let z : ◌≡◌ {A = ℕ} 0 1 = cc in absurd (omega arith)
 
-    more-links : (m : List ℕ) → behind cell_text l ≡ some m → (v : ℕ) (after : List ℕ) → small_at m ≡ some (v, after)
+    more_links : (m : List ℕ) → behind cell_text l ≡ some m → (v : ℕ) (after : List ℕ) → small_at m ≡ some (v, after)
         → (o : Option (List ℕ × ℕ)) → small_links f after ≡ o → links_found (map (λ y. (v ∷ y.0, y.1)) o) ≡ x ∷ rest → Link l x rest
-    more-links m p v after q none r e = let z : ◌≡◌ {A = ℕ} 0 1 = cc in absurd (omega arith)
-    more-links m p v after q (some (cells, at)) r e =
+    more_links m p v after q none r e = let z : ◌≡◌ {A = ℕ} 0 1 = cc in absurd (omega arith)
+    more_links m p v after q (some (cells, at)) r e =
         let same : v ≡ x = cc in
         let tail : cells ≡ rest = cc in
         record {
@@ -168,7 +168,7 @@ link_is (suc f) l x rest e = cell (behind cell_text l) refl e
 
     number : (m : List ℕ) → behind cell_text l ≡ some m → (o : Option (ℕ × List ℕ)) → small_at m ≡ o
         → links_found (elim o [ some x ↦ map (λ y. (x.0 ∷ y.0, y.1)) (small_links f x.1) | none ↦ none ]) ≡ x ∷ rest → Link l x rest
-    number m p (some (v, after)) q e = more-links m p v after q (small_links f after) refl e
+    number m p (some (v, after)) q e = more_links m p v after q (small_links f after) refl e
     number m p none q e = let z : ◌≡◌ {A = ℕ} 0 1 = cc in absurd (omega arith)
 
     cell : (b : Option (List ℕ)) → behind cell_text l ≡ b

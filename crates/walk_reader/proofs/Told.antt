@@ -13,7 +13,7 @@ use Rattle.text.specs.Text.{Put}
 use Rattle.walk_reader.specs.declared.Reading.{Reading}
 use Rattle.walk_reader.specs.Reader.{small_back, reading, reading_of, cells_after, small_at, links_in, counted, links_found}
 use Rattle.walk_reader.proofs.Laws.{drop_one, drop_all_lem}
-use Rattle.walk_reader.proofs.Fits.{chained, unreached, back_no_root, back_other, back-chain, back-no-number}
+use Rattle.walk_reader.proofs.Fits.{chained, unreached, back_no_root, back_other, back_chain, back_no_number}
 
 -- ---- a number and its line end
 
@@ -38,9 +38,9 @@ module _ (text : List ℕ) (at v q : ℕ) (number : small_at (drop at text) ≡ 
         number
         ∙ ap (λ (l : List ℕ). some (v, l)) (drop_one text q (omega arith) ∙ ap (λ (l : List ℕ). get_or text q 0 ∷ l) (drop_all_lem text (q + 1) (omega arith)))
 
-    pub end-other-byte : get_or text q 0 ≢ 10 → ended (small_at (drop at text)) ≡ none
+    pub end_other_byte : get_or text q 0 ≢ 10 → ended (small_at (drop at text)) ≡ none
     unfolding ended
-    end-other-byte n = ap ended left ∙ rw (ne_eqb (get_or text q 0) 10 n, ended) refl
+    end_other_byte n = ap ended left ∙ rw (ne_eqb (get_or text q 0) 10 n, ended) refl
 
     pub end_line : get_or text q 0 ≡ 10 → ended (small_at (drop at text)) ≡ some v
     unfolding ended
@@ -86,14 +86,14 @@ module _ (text lent : List ℕ) (r : Reading) where
 
     module _ {k : List ℕ} (root : behind root_text text ≡ some k) where
       pub no_number : small_at k ≡ none → r ≡ reading 0 0 0 0 → Told lent
-      no_number e = nothing (back-no-number text other k root e)
+      no_number e = nothing (back_no_number text other k root e)
 
       module _ {v : ℕ} {rest : List ℕ} (number : small_at k ≡ some (v, rest)) where
         chain : small_back text ≡ chained v (links_in rest)
-        chain = back-chain text other k v rest root number
+        chain = back_chain text other k v rest root number
 
-        pub no-rest : counted (links_in rest) ≡ none → r ≡ reading 0 0 0 0 → Told lent
-        no-rest e = nothing (chain ∙ ap (chained v) (counted_none (links_in rest) e))
+        pub no_rest : counted (links_in rest) ≡ none → r ≡ reading 0 0 0 0 → Told lent
+        no_rest e = nothing (chain ∙ ap (chained v) (counted_none (links_in rest) e))
 
         module _ {n at : ℕ} (links : counted (links_in rest) ≡ some (n, at)) where
           found-cells : (cells : List ℕ) × (links_in rest ≡ some (cells, at)) × (length cells ≡ n)

@@ -145,18 +145,18 @@ module _ {N w : ℕ} {h : Memory} (u : Undamaged N w h) (at : ℕ) where
     number_is_length : n ≡ length (sentence_for N h at)
     number_is_length = told.number ∙ ap length made
 
-    pub refused-short : (r : Reply) → length out < n → r ≡ reply 15 0 0 → ReasonPromise N w at h out r h left
+    pub refused_short : (r : Reply) → length out < n → r ≡ reply 15 0 0 → ReasonPromise N w at h out r h left
     unfolding own_refusals
-    refused-short r short reply =
+    refused_short r short reply =
         let long : length out < length (sentence_for N h at) = omega (arith, number_is_length) in
         rw (told.short short)
         (output_refused N w h u (write_reason at (length out)) refl (sentence_for N h at) out r 15 (omega arith)
         (first_past 6 (not (is_first N h at)) _ (ap not first)
         ∙ first_found 15 (ltb (length out) (length (sentence_for N h at))) [] (lt-ltb (length out) (length (sentence_for N h at)) long)) reply)
 
-    pub accepted-long : (r : Reply) → n ≤ length out → r ≡ reply 0 n 0 → ReasonPromise N w at h out r h left
+    pub accepted_long : (r : Reply) → n ≤ length out → r ≡ reply 0 n 0 → ReasonPromise N w at h out r h left
     unfolding outcome Passed
-    accepted-long r long reply =
+    accepted_long r long reply =
         let passed : length (sentence_for N h at) ≤ length out = omega (arith, number_is_length) in
         output_accepted N w h u (write_reason at (length out)) refl (sentence_for N h at) out r left n (first, passed) refl (put_as made refl (told.long long))
         reply

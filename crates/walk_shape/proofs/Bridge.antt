@@ -31,7 +31,7 @@ use Rattle.theory_walks.proofs.Walks.Equal.{cells_length, cells_at, described_da
 use Rattle.theory_walks.proofs.Walks.Joined.{joined_same}
 use Rattle.walk_objects.specs.Walking.{Walkable, Walked, walked_heap, part}
 use Rattle.walk_objects.proofs.Meeting.{top_length}
-use Rattle.walk_objects.proofs.Numbering.{top_object, part_length, part_at, cells-list}
+use Rattle.walk_objects.proofs.Numbering.{top_object, part_length, part_at, cells_list}
 use Rattle.walk_shape.specs.Listing.{number_of, Known, cells_from, described_in, shape_up_to, Listed, Shaped}
 use Rattle.walk_shape.proofs.Laws.{number_nothing, number_some}
 
@@ -95,10 +95,10 @@ module _ (N : ℕ) (a b d cells roots : List ℕ) (named : Named N (walked_heap 
       below : get_or order k 0 ≤ N
       below = subst (λ (x : ℕ). x ≤ N) (top_object order met k h) (all_at w.walking.below (suc k) (omega arith) (omega (arith, top_length order met)))
 
-      cells-fit-other : is_data d (get_or order k 0 - 1) ≡ false → (i : ℕ) → i < 4 * size_at N heap (get_or order k 0 - 1) → get_or cells (4 * (get_or order k 0 - 1) + i) 0 ≤ N
-      cells-fit-other other i l =
+      cells_fit_other : is_data d (get_or order k 0 - 1) ≡ false → (i : ℕ) → i < 4 * size_at N heap (get_or order k 0 - 1) → get_or cells (4 * (get_or order k 0 - 1) + i) 0 ≤ N
+      cells_fit_other other i l =
           let at : ℕ = get_or order k 0 - 1 in
-          let list = cells-list N a b d cells roots named at first other in
+          let list = cells_list N a b d cells roots named at first other in
           omega (
             arith,
             sym (part_at cells (4 * at) (4 * size_at N heap at) i l) ∙ ap (λ (x : List ℕ). get_or x i 0) list,
@@ -106,8 +106,8 @@ module _ (N : ℕ) (a b d cells roots : List ℕ) (named : Named N (walked_heap 
             cells_below N heap named (suc at) i,
           )
 
-      described-is : described_in N b d cells numbers (get_or order k 0 - 1) ≡ described N heap (numbered N heap) (block_at (numbered N heap) (suc k))
-      described-is =
+      described_is : described_in N b d cells numbers (get_or order k 0 - 1) ≡ described N heap (numbered N heap) (block_at (numbered N heap) (suc k))
+      described_is =
           let at : ℕ = get_or order k 0 - 1 in
           let size : ℕ = size_at N heap at in
           let place : at ≡ block_at (numbered N heap) (suc k) = ap (λ (v : ℕ). v - 1) (sym object) in
@@ -122,7 +122,7 @@ module _ (N : ℕ) (a b d cells roots : List ℕ) (named : Named N (walked_heap 
                 ∙ sym (described_data N heap (numbered N heap) at made)
             | inr other ↦
                 in_other N b d cells numbers at other
-                ∙ ap (λ (l : List ℕ). size ∷ bit_at d at ∷ map (number_of numbers) l) (cells-list N a b d cells roots named at first other)
+                ∙ ap (λ (l : List ℕ). size ∷ bit_at d at ∷ map (number_of numbers) l) (cells_list N a b d cells roots named at first other)
                 ∙ ap (λ (l : List ℕ). size ∷ bit_at d at ∷ l)
                 (map_same (number_of numbers) (number_in (numbered N heap)) (references_of N heap at)
                 (λ i l.
@@ -140,7 +140,7 @@ module _ (N : ℕ) (a b d cells roots : List ℕ) (named : Named N (walked_heap 
         let each' : ℕ → List ℕ = λ i. described N heap (numbered N heap) (block_at (numbered N heap) (suc i)) in
         let heads : map (number_of numbers) roots ≡ map (number_in (numbered N heap)) roots =
         map_same (number_of numbers) (number_in (numbered N heap)) roots (λ i l. number_is (get_or roots i 0) (roots_below N heap named i)) in
-        let rest : joined each met ≡ joined each' (length (numbered N heap)) = joined_same each each' met described-is ∙ ap (joined each') count in
+        let rest : joined each met ≡ joined each' (length (numbered N heap)) = joined_same each each' met described_is ∙ ap (joined each') count in
         ap (λ (l : List ℕ). length roots ∷ (l ++ joined each met)) heads
         ∙ ap (λ (l : List ℕ). length roots ∷ (map (number_in (numbered N heap)) roots ++ l)) rest
 
@@ -157,7 +157,7 @@ module _ (N : ℕ) (a b d cells roots : List ℕ) (named : Named N (walked_heap 
           of_roots = λ i l. known (get_or roots i 0) (roots_below N heap named i);
           some = λ k h. (led k h).0;
           below = below;
-          of_cells = λ k h other i l. known (get_or cells (4 * (get_or order k 0 - 1) + i) 0) (cells-fit-other k h other i l);
+          of_cells = λ k h other i l. known (get_or cells (4 * (get_or order k 0 - 1) + i) 0) (cells_fit_other k h other i l);
         }
 
 -- ---- the call
@@ -179,16 +179,16 @@ module _ {N w : ℕ} {h : Memory} (u : Undamaged N w h) where
     number_is_length : n ≡ length (shape_of N h)
     number_is_length = shaped.number ∙ ap length same_shape
 
-    pub refused-short : (r : Reply) → length out < n → r ≡ reply 16 0 0 → ShapePromise N w h out r h left
+    pub refused_short : (r : Reply) → length out < n → r ≡ reply 16 0 0 → ShapePromise N w h out r h left
     unfolding own_refusals
-    refused-short r short reply =
+    refused_short r short reply =
         let long : length out < length (shape_of N h) = omega (arith, number_is_length) in
         rw (shaped.short short)
         (output_refused N w h u (write_shape (length out)) refl (shape_of N h) out r 16 (omega arith)
         (first_found 16 (ltb (length out) (length (shape_of N h))) [] (lt-ltb (length out) (length (shape_of N h)) long)) reply)
 
-    pub accepted-long : (r : Reply) → n ≤ length out → r ≡ reply 0 n 0 → ShapePromise N w h out r h left
+    pub accepted_long : (r : Reply) → n ≤ length out → r ≡ reply 0 n 0 → ShapePromise N w h out r h left
     unfolding outcome Passed
-    accepted-long r long reply =
+    accepted_long r long reply =
         let passed : length (shape_of N h) ≤ length out = omega (arith, number_is_length) in
         output_accepted N w h u (write_shape (length out)) refl (shape_of N h) out r left n passed refl (put_as same_shape refl (shaped.long long)) reply

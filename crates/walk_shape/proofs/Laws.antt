@@ -60,9 +60,9 @@ module _ (N : ℕ) (b d cells numbers : List ℕ) (at : ℕ) where
         put_as (ap (λ (x : ℕ). x ∷ bit ∷ rest) n-is ∙ ap (λ (x : ℕ). size ∷ x ∷ rest) bit_is) refl
         (put_both (omega (arith, described_length)) (put_as refl (omega arith) front) put)
 
-    pub object-data : bit ≡ 1 → Put (set (set out to n) (to + 1) bit) (to + 2) (part cells (4 * at) (4 * n)) out' end
+    pub object_data : bit ≡ 1 → Put (set (set out to n) (to + 1) bit) (to + 2) (part cells (4 * at) (4 * n)) out' end
         → Put out to (described_in N b d cells numbers at) out' end
-    object-data one put =
+    object_data one put =
         put_as (sym (described_data (sym bit_is ∙ one))) refl
         (whole (cells_from N b cells at) (put_as (ap (λ (k : ℕ). part cells (4 * at) (4 * k)) n-is) refl put))
 
@@ -138,22 +138,22 @@ module _ (N : ℕ) (b d cells roots order numbers : List ℕ) where
     start_kept : length out₀ ≡ length out
     start_kept = put_length {before = out} {text = up_to 0} {after = out₀} {at = 0} {end = to₀} (omega (arith, shape_upto 0 met (omega arith))) first
 
-    start-room : (k : ℕ) → k ≤ met → to₀ + length (objects k) ≤ length out₀
-    start-room k l = omega (arith, start_kept, first.end_is, objects_length k, shape_upto k met l)
+    start_room : (k : ℕ) → k ≤ met → to₀ + length (objects k) ≤ length out₀
+    start_room k l = omega (arith, start_kept, first.end_is, objects_length k, shape_upto k met l)
 
-    pub objects-kept : (out' : List ℕ) (k to : ℕ) → k ≤ met → Put out₀ to₀ (objects k) out' to → length out' ≡ length out
-    objects-kept out' k to l put =
-        put_length {before = out₀} {text = objects k} {after = out'} {at = to₀} {end = to} (start-room k l) put ∙ start_kept
+    pub objects_kept : (out' : List ℕ) (k to : ℕ) → k ≤ met → Put out₀ to₀ (objects k) out' to → length out' ≡ length out
+    objects_kept out' k to l put =
+        put_length {before = out₀} {text = objects k} {after = out'} {at = to₀} {end = to} (start_room k l) put ∙ start_kept
 
     -- there is room for the next object
-    pub object-room : (out' : List ℕ) (k to : ℕ) → k < met → Put out₀ to₀ (objects k) out' to → to + length (object k) ≤ length out'
-    object-room out' k to l put =
+    pub object_room : (out' : List ℕ) (k to : ℕ) → k < met → Put out₀ to₀ (objects k) out' to → to + length (object k) ≤ length out'
+    object_room out' k to l put =
         omega (
           arith,
           put.end_is,
           start_kept,
-          objects-kept out' k to (omega arith) put,
-          start-room (k + 1) (omega arith),
+          objects_kept out' k to (omega arith) put,
+          start_room (k + 1) (omega arith),
           ap length (objects_next k),
           length-append (objects k) (object k),
         )
@@ -161,10 +161,10 @@ module _ (N : ℕ) (b d cells roots order numbers : List ℕ) where
     pub put_next : (out' out'' : List ℕ) (k to to' : ℕ) → k < met → Put out₀ to₀ (objects k) out' to → Put out' to (object k) out'' to'
         → Put out₀ to₀ (objects (k + 1)) out'' to'
     put_next out' out'' k to to' l put more =
-        put_as (objects_next k) refl (put_both {s = objects k} {t = object k} (start-room k (omega arith)) put more)
+        put_as (objects_next k) refl (put_both {s = objects k} {t = object k} (start_room k (omega arith)) put more)
 
-    pub put-end : (out' : List ℕ) (k to : ℕ) → met ≤ k → k ≤ met → Put out₀ to₀ (objects k) out' to → Put out 0 (up_to met) out' to
-    put-end out' k to l m put =
+    pub put_end : (out' : List ℕ) (k to : ℕ) → met ≤ k → k ≤ met → Put out₀ to₀ (objects k) out' to → Put out 0 (up_to met) out' to
+    put_end out' k to l m put =
         let done : k ≡ met = omega arith in
         put_as (whole_list k ∙ ap up_to done) refl
         (put_both {s = up_to 0} {t = objects k} (omega (arith, shape_upto 0 met (omega arith))) first put)

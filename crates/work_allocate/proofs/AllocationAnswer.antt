@@ -16,14 +16,14 @@ use Rattle.rules_calls.specs.Promise.{Promise}
 use Rattle.types.specs.declared.Reply.{Reply}
 use Rattle.rules_calls.proofs.Replies.{Passed}
 use Rattle.rules_calls.proofs.Promised.{promised}
-use Rattle.rules_calls.proofs.Unread.{allocate-aside}
+use Rattle.rules_calls.proofs.Unread.{allocate_aside}
 use Rattle.theory.specs.Balance.{freed_blocks}
 use Rattle.theory_memories.specs.Heaps.{Usable}
 use Rattle.theory.specs.Usable.{outcome_of, Worked}
 use Rattle.theory_memories.proofs.Memories.Fit.{Fit}
-use Rattle.theory_memories.proofs.Memories.Accepted.{fit-accepted}
+use Rattle.theory_memories.proofs.Memories.Accepted.{fit_accepted}
 use Rattle.theory.proofs.EachCall.Balance.{blocks_add_up}
-use Rattle.theory.proofs.Usable.UsableHeap.{usable-fit, left-settled}
+use Rattle.theory.proofs.Usable.UsableHeap.{usable_fit, left_settled}
 use Rattle.test_allocation.proofs.AllocationReply.{AllocationPassed}
 
 found_so : {o : Option ℕ} {at : ℕ} → o ≡ some at → o ≡ some (get_or o 0)
@@ -33,8 +33,8 @@ module _ {N w : ℕ} {h : Memory} {n r at : ℕ} (free : AllocationPassed N h.a 
   -- on a fit heap the call is accepted, whatever kind is asked for
   kind_answered : Fit N w h → (asData : Bool) → answer N w h (allocate_as asData n r) ≡ allocated N w asData h n r
   unfolding outcome Passed
-  kind_answered fit true = fit-accepted N w h fit (allocate_data n r) refl (free.some_blocks, free.not_more, free.place, found_so free.lowest)
-  kind_answered fit false = fit-accepted N w h fit (allocate n r) refl (free.some_blocks, free.not_more, free.place, found_so free.lowest)
+  kind_answered fit true = fit_accepted N w h fit (allocate_data n r) refl (free.some_blocks, free.not_more, free.place, found_so free.lowest)
+  kind_answered fit false = fit_accepted N w h fit (allocate n r) refl (free.some_blocks, free.not_more, free.place, found_so free.lowest)
 
   pub allocate_answered :
       Fit N w h → (asData : Bool)
@@ -50,14 +50,14 @@ module _ {N w : ℕ} {h : Memory} {n r at : ℕ} (free : AllocationPassed N h.a 
     allocate_promised : Promise N w (allocate_as asData n r) h (reply 0 at (one stuck)) g
     allocate_promised =
         promised N w h (allocate_as asData n r) (reply 0 at (one (birth_sticks w)), settled N (allocate_shading N w asData h n r at))
-        (allocate_answered (usable-fit usable) asData) (reply 0 at (one stuck)) g
+        (allocate_answered (usable_fit usable) asData) (reply 0 at (one stuck)) g
         (ap (λ (t : Bool). reply 0 at (one t)) told)
-        (left-settled usable left (allocate-aside N w (with_waiting h.waiting) h asData n r at) listed)
+        (left_settled usable left (allocate_aside N w (with_waiting h.waiting) h asData n r at) listed)
 
-    pub allocate-worked :
+    pub allocate_worked :
         {freed : ℕ} → zeros (allocate_shading N w asData h n r at).a + n ≡ zeros h.a + freed
         → Worked N w (allocate_as asData n r) h (outcome_of 0 at freed stuck) g
-    allocate-worked counted =
+    allocate_worked counted =
         let even : zeros h.a + freed_blocks N h g ≡ zeros g.a + n =
         subst (λ (k : Memory). zeros h.a + freed_blocks N h k ≡ zeros k.a + n) (sym allocate_promised.after_is)
         ((blocks_add_up N w h).allocation asData n r (ap (λ (y : Reply). y.number) (sym allocate_promised.reply_is))) in

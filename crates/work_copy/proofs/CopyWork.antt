@@ -22,7 +22,7 @@ use Rattle.rules_stores.proofs.FormattedShape.{formatted_shaped}
 use Rattle.theory_memories.specs.Heaps.{Undamaged}
 use Rattle.theory_memories.specs.Heaps.{Usable}
 use Rattle.theory.specs.Usable.{Worked}
-use Rattle.theory.proofs.Usable.UsableHeap.{usable-fit}
+use Rattle.theory.proofs.Usable.UsableHeap.{usable_fit}
 use Rattle.theory.proofs.Usable.WorkDone.{collect_answered}
 use Rattle.theory_copies.proofs.Copies.Accepted.{there_laid}
 use Rattle.theory_copies.proofs.Copies.Copied.{filled_usable, filled_shut, filled_collected}
@@ -30,7 +30,7 @@ use Rattle.walk_objects.specs.Walking.{walked_heap}
 use Rattle.walk_objects.proofs.Beginning.{walkable}
 use Rattle.refinement_copy.specs.Routed.{copied_lists, lists_of}
 use Rattle.refinement_copy.proofs.Filled.{all_written}
-use Rattle.refinement_copy.proofs.CopyAnswer.{copy-nowhere, copy_done}
+use Rattle.refinement_copy.proofs.CopyAnswer.{copy_nowhere, copy_done}
 use Rattle.copy_lists.specs.Written.{Fillable, CopyWritten}
 
 -- ---- what a copy reads
@@ -91,9 +91,9 @@ module _ {N w : ℕ} {h : Memory} (u : Undamaged N w h) (M v : ℕ) (g : Memory)
 
   pub copy_unplaced : is_open N h ≡ false → {p : Memory} {r : Bool} → CopyWritten N (read h) M v (lists_of g) p r → r ≡ false → {x : Reply} → x ≡ reply 17 0 0
       → Promise M v (copy_from N w h) g x (over p)
-  copy_unplaced shut {p} written e {x} x-is =
+  copy_unplaced shut {p} written e {x} x_is =
       subst (λ (q : Memory). Promise M v (copy_from N w h) g x (over q)) (sym (written.kept e))
-      (copy-nowhere u shut fits as_many (sym (ap all_laid (laid_read N h M)) ∙ sym written.found ∙ e) x-is)
+      (copy_nowhere u shut fits as_many (sym (ap all_laid (laid_read N h M)) ∙ sym written.found ∙ e) x_is)
 
   -- ---- all have their places
 
@@ -113,20 +113,20 @@ module _ {N w : ℕ} {h : Memory} (u : Undamaged N w h) (M v : ℕ) (g : Memory)
         (ap lists_of (written.filled e)) idle marks_are list_is true_list
         ∙ ap (λ (q : List ℕ). settled M (copy_all N (read h) (numbered N (read h)) q M v)) (ap places_in placed.1)
 
-    pub full-usable : Usable M v before
-    full-usable = subst (Usable M v) (sym full) (filled_usable N (read h) (walkable u).named M v empty_shaped placed.0 placed.1)
+    pub full_usable : Usable M v before
+    full_usable = subst (Usable M v) (sym full) (filled_usable N (read h) (walkable u).named M v empty_shaped placed.0 placed.1)
 
-    pub full-shut : is_open M before ≡ false
-    full-shut = ap (is_open M) full ∙ filled_shut N (read h) (walkable u).named M v empty_shaped placed.0 placed.1
+    pub full_shut : is_open M before ≡ false
+    full_shut = ap (is_open M) full ∙ filled_shut N (read h) (walkable u).named M v empty_shaped placed.0 placed.1
 
-    pub copy-collected : is_open N h ≡ false → {done : Outcome} {after : Memory} → Worked M v collect before done after
+    pub copy_collected : is_open N h ≡ false → {done : Outcome} {after : Memory} → Worked M v collect before done after
         → {x : Reply} → x ≡ reply 0 (M - zeros after.a) 0 → Promise M v (copy_from N w h) g x after
     unfolding freeing
-    copy-collected shut {done} {after} worked x-is =
+    copy_collected shut {done} {after} worked x_is =
         let left : after ≡ settled M (copied N h M v) =
         worked.promise.after_is
-        ∙ ap (λ (y : Answer). y.1) (collect_answered (usable-fit full-usable) full-shut)
+        ∙ ap (λ (y : Answer). y.1) (collect_answered (usable_fit full_usable) full_shut)
         ∙ ap (λ (m : Memory). settled M (collected M v m)) full
         ∙ filled_collected N (read h) (walkable u).named M v empty_shaped placed.0 placed.1
         ∙ ap (settled M) (copied_read N h M v) in
-        copy_done u shut fits as_many (sym (laid_read N h M) ∙ placed.1) left x-is
+        copy_done u shut fits as_many (sym (laid_read N h M) ∙ placed.1) left x_is

@@ -12,15 +12,15 @@ use Rattle.rules_calls.specs.Calls.{format, reply, accepted, refusals, refused_w
 use Rattle.rules_calls.specs.Promise.{Promise}
 use Rattle.types.specs.declared.Reply.{Reply}
 use Rattle.rules.proofs.Tests.{first_found}
-use Rattle.rules_calls.proofs.Replies.{refused-with, format_accepted}
+use Rattle.rules_calls.proofs.Replies.{refused_with_lem, format_accepted}
 use Rattle.rules.proofs.Shape.{shape_facts}
 use Rattle.rules_calls.proofs.Promised.{promised}
 
 module _ {N w : ℕ} {h : Memory} where
   pub format_refused : {x : Reply} → shaped N w h ≡ false → x ≡ reply 1 0 0 → Promise N w format h x h
   unfolding refused_with refusals
-  format_refused {x} fails x-is =
-      promised N w h format (reply 1 0 0, h) (refused-with N w h format 1 (omega arith) (first_found 1 (not (shaped N w h)) _ (ap not fails))) x h x-is refl
+  format_refused {x} fails x_is =
+      promised N w h format (reply 1 0 0, h) (refused_with_lem N w h format 1 (omega arith) (first_found 1 (not (shaped N w h)) _ (ap not fails))) x h x_is refl
 
   pub format_done :
       shaped N w h ≡ true → {x : Reply} → x ≡ reply 0 0 0 → {a b counts cells roots waiting sections d marks list : List ℕ}
@@ -30,9 +30,9 @@ module _ {N w : ℕ} {h : Memory} where
       → marks ≡ replicate (length h.marks) 0 → list ≡ replicate (length h.list) 0
       → Promise N w format h x (lent_memory a b counts cells roots waiting sections d marks list)
   unfolding outcome formatted
-  format_done fits {x} x-is a-is b-is counts_are cells_are roots_are waiting-is sections-are d-is marks_are list_is =
+  format_done fits {x} x_is a-is b-is counts_are cells_are roots_are waiting-is sections-are d-is marks_are list_is =
       let lengths = shape_facts N w h fits in
-      promised N w h format (accepted (formatted N w (length h.roots)) 0) (format_accepted N w h fits) x _ x-is
+      promised N w h format (accepted (formatted N w (length h.roots)) 0) (format_accepted N w h fits) x _ x_is
       (λ i.
       record {
         a = (a-is ∙ ap (λ (n : ℕ). replicate n 0) lengths.length_a) i;

@@ -14,7 +14,7 @@ use Rattle.theory.specs.Balance.{freed_blocks, allocates, allocated_by}
 use Rattle.theory_memories.specs.Words.{in_use}
 use Rattle.theory.specs.Usable.{outcome_of, Worked}
 use Rattle.theory_memories.proofs.Memories.Fit.{Fit, undamaged_fit}
-use Rattle.theory_memories.proofs.Memories.Accepted.{fit-accepted}
+use Rattle.theory_memories.proofs.Memories.Accepted.{fit_accepted}
 use Rattle.theory.proofs.EachCall.Balance.{even_alone}
 use Rattle.theory.proofs.Usable.WorkDone.{accepted_allocates}
 use Rattle.test_arguments.specs.Replies.{own_test}
@@ -30,7 +30,7 @@ module _ (N w : ℕ) (h : Memory) (fit : Fit N w h) (a j x : ℕ) (passes : (own
 
   number_answered : answer N w h call ≡ accepted left 0
   unfolding outcome own_test
-  number_answered = fit-accepted N w h fit call refl (own_passed N h call refl passes)
+  number_answered = fit_accepted N w h fit call refl (own_passed N h call refl passes)
 
   number_freed : 0 ≡ freed_blocks N h left
   unfolding allocates

@@ -23,7 +23,7 @@ use Rattle.step_list.proofs.Rising.{list_same}
 use Rattle.step_list.proofs.MapOf.{map_of_lem}
 use Rattle.theory_memories.specs.Heaps.{Undamaged}
 use Rattle.theory_memories.proofs.Memories.Fit.{undamaged_fit}
-use Rattle.theory_memories.proofs.Memories.Accepted.{fit-accepted}
+use Rattle.theory_memories.proofs.Memories.Accepted.{fit_accepted}
 use Rattle.work_open.specs.Opened.{root_names_in, Opened}
 
 -- some are counted where one passes
@@ -62,6 +62,6 @@ pub open_promised :
     → Opened N h.roots h.marks told marks list → Promise N w open_collection h told (with_marks marks (with_list list h))
 unfolding opened with_progress root_names outcome Passed
 open_promised {N} {w} {h} undamaged shut {told} {marks} {list} done =
-    promised N w h open_collection (accepted (opened N h) 0) (fit-accepted N w h (undamaged_fit N w h undamaged) open_collection refl shut) told
+    promised N w h open_collection (accepted (opened N h) 0) (fit_accepted N w h (undamaged_fit N w h undamaged) open_collection refl shut) told
     (with_marks marks (with_list list h)) done.told_is
     (ap₂ (λ (m l : List ℕ). with_marks m (with_list l h)) done.marks_are done.list_is)

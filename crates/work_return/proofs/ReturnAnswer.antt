@@ -18,7 +18,7 @@ use Rattle.rules_calls.proofs.Replies.{Passed, passed_own}
 use Rattle.rules.proofs.Tests.{first_not}
 use Rattle.rules_calls.proofs.Unread.{store_root_aside}
 use Rattle.theory_memories.proofs.Memories.Fit.{Fit}
-use Rattle.theory_memories.proofs.Memories.Accepted.{fit-accepted}
+use Rattle.theory_memories.proofs.Memories.Accepted.{fit_accepted}
 use Rattle.theory.proofs.EachCall.Clearing.{none_ref}
 use Rattle.test_arguments.specs.Replies.{own_test, store_root_test, return_test}
 use Rattle.test_arguments.proofs.ArgumentTests.{root_passed}
@@ -26,7 +26,7 @@ use Rattle.theory.specs.Balance.{freed_blocks}
 use Rattle.theory_memories.specs.Heaps.{Usable}
 use Rattle.theory.specs.Usable.{outcome_of, Worked}
 use Rattle.theory.proofs.EachCall.Balance.{blocks_add_up}
-use Rattle.theory.proofs.Usable.UsableHeap.{cleared_same, usable-fit, left-settled}
+use Rattle.theory.proofs.Usable.UsableHeap.{cleared_same, usable_fit, left_settled}
 use Rattle.theory.proofs.Usable.UsableAfterCalls.{usable_kept}
 use Rattle.theory.proofs.Usable.WorkDone.{worked_freeing}
 use Rattle.work_root.proofs.RootAnswer.{root_answered}
@@ -41,7 +41,7 @@ module _ (N w : ℕ) (h : Memory) (fit : Fit N w h) (chosen : ℕ) where
   pub return_answered : test.number ≡ 0 → answer N w h (return_roots chosen) ≡ freeing N h (return_shading N w h chosen (length h.roots)) 0
   unfolding outcome Passed return_test
   return_answered passes =
-      fit-accepted N w h fit (return_roots chosen) refl (first_not 4 (chosen_below chosen (length h.roots)) [] (omega arith) passes).0
+      fit_accepted N w h fit (return_roots chosen) refl (first_not 4 (chosen_below chosen (length h.roots)) [] (omega arith) passes).0
 
 -- ---- one root
 
@@ -62,7 +62,7 @@ module _ {N w : ℕ} {h : Memory} (usable : Usable N w h) {chosen r : ℕ} where
   unfolding freeing clear_shading
   chosen_cleared inside e {done} {g} worked =
       let promise = worked.promise in
-      let stored = root_answered (root_passed (zero_passes N h r inside)) (usable-fit usable) in
+      let stored = root_answered (root_passed (zero_passes N h r inside)) (usable_fit usable) in
       let is : g ≡ settled N (store_root_shading N w h r 0) = promise.after_is ∙ ap (λ (y : Answer). y.1) stored in
       let value = (blocks_add_up N w h).store_root_lem r 0 (ap (λ (y : Answer). y.0.number) stored) in
       record {
@@ -119,6 +119,6 @@ module _ {N w : ℕ} {start : Memory} {chosen : ℕ} where
       let end : Memory = return_shading N w start chosen (length start.roots) in
       let all : r ≡ length start.roots = omega (arith, p.made, p.roots_length) in
       let is : with_sections start.sections h ≡ end = p.after_is ∙ ap (return_shading N w start chosen) all in
-      worked_freeing ((blocks_add_up N w start).return_roots_lem chosen) end (return_answered N w start (usable-fit usable) chosen passes)
+      worked_freeing ((blocks_add_up N w start).return_roots_lem chosen) end (return_answered N w start (usable_fit usable) chosen passes)
       (omega (arith, p.blocks, ap (λ (k : Memory). zeros k.a) is))
-      (left-settled p.usable {k = h} refl refl (usable-fit p.usable).listed ∙ ap (settled N) is)
+      (left_settled p.usable {k = h} refl refl (usable_fit p.usable).listed ∙ ap (settled N) is)

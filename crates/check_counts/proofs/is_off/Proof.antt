@@ -6,7 +6,7 @@ use mathlib.Core.Bool.{not}
 use Prim.Native.Nat.{ℕ, ◌+◌, ◌*◌}
 use lib.Bits.{bit_and}
 use lib.Dec.{eqb}
-use Rattle.check_counts.proofs.Eights.{eight_apart, eight-free, eight-held}
+use Rattle.check_counts.proofs.Eights.{eight_apart, eight_free, eight_held}
 use Rattle.check_counts.proofs.is_off.Statement.{statement}
 use Rattle.check_counts.proofs.is_off.Tie as tie
 
@@ -26,7 +26,7 @@ returns-2 c =
     let s : tie.Start = search in
     let some : tie.After-some-byte = search in
     sym
-    (eight-free s.args.first s.args.bytes s.args.width s.args.counts.now s.args.at.now s.args.k
+    (eight_free s.args.first s.args.bytes s.args.width s.args.counts.now s.args.at.now s.args.k
     some.some_byte.result (omega arith) (omega arith) some.some_byte.ensures c.before.if1.false c.if2.true)
 
 full-byte-requires : tie.Need-full-byte-requires
@@ -51,7 +51,7 @@ returns-3 c =
     let alike : tie.Else1 = search in
     ap₂ (λ (x y : ℕ). not (eqb x y)) (ap₂ bit_and tallied.tallies.ensures masked.mask.ensures)
     (ap₂ bit_and c.count-lanes.ensures masked.mask.ensures)
-    ∙ eight-held s.args.first s.args.bytes s.args.width s.args.counts.now s.args.at.now s.args.k
+    ∙ eight_held s.args.first s.args.bytes s.args.width s.args.counts.now s.args.at.now s.args.k
     some.some_byte.result (omega arith) (omega arith) some.some_byte.ensures alike.if1.left full.full_byte.result (omega arith)
     full.full_byte.ensures (omega arith) (λ i l. omega (arith, s.pre.6 (8 * s.args.k + i) (omega arith)))
 

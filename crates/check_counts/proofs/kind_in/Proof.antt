@@ -13,7 +13,7 @@ use Rattle.rules.specs.Damage.{bad_cell, bad_root}
 use Rattle.rules.proofs.Tests.{true_or, first_found}
 use Rattle.check_references.specs.Tally.{Tallied}
 use Rattle.check_references.proofs.Tallies.{tallied_room}
-use Rattle.check_counts.proofs.Late.{wild_cells, wild_roots, tallied_all, late-four, late-five}
+use Rattle.check_counts.proofs.Late.{wild_cells, wild_roots, tallied_all, late_four, late_five}
 use Rattle.check_counts.proofs.kind_in.Statement.{statement}
 use Rattle.check_counts.proofs.kind_in.Tie as tie
 
@@ -115,9 +115,9 @@ returns-3 c =
     (roots.tally-roots.ensures.tallied done.if2.left) in
     late.late-kind.ensures
     ∙ ap₂ (λ (x y : Bool). first_number ((4, x) ∷ (5, y) ∷ []))
-    (late-four N (whole s) (sym cells.tally-cells.ensures.told ∙ past.if1.left) (sym roots.tally-roots.ensures.told ∙ done.if2.left)
+    (late_four N (whole s) (sym cells.tally-cells.ensures.told ∙ past.if1.left) (sym roots.tally-roots.ensures.told ∙ done.if2.left)
     at tallied)
-    (late-five N (whole s) s.args.width s.pre.0.width_max at tallied)
+    (late_five N (whole s) s.args.width s.pre.0.width_max at tallied)
 
 pub kind-in-spec : {M : Type 1} → statement M
 kind-in-spec =

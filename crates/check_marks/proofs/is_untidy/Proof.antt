@@ -12,7 +12,7 @@ use Rattle.rules_steps.specs.Steps.{is_untidy}
 use Rattle.rules.proofs.Shape.{Shaped, shape_facts}
 use Rattle.step_list.proofs.Bits.{shows_none}
 use Rattle.check_marks.specs.Tidy.{Read}
-use Rattle.check_marks.proofs.TidySame.{unread, remains_marked, remains_listed, unread_list, stray_mark_lem, unmarked_listed, missed-root, missed-cell}
+use Rattle.check_marks.proofs.TidySame.{unread, remains_marked, remains_listed, unread_list, stray_mark_lem, unmarked_listed, missed_root, missed_cell}
 use Rattle.check_marks.proofs.is_untidy.Statement.{statement}
 use Rattle.check_marks.proofs.is_untidy.Tie as tie
 
@@ -154,7 +154,7 @@ returns-6 c =
     let none : tie.Else4 = search in
     let all : tie.Else5 = search in
     for-all s
-    (missed-root (heap s) s.pre.4 was_open.if1.left
+    (missed_root (heap s) s.pre.4 was_open.if1.left
     (subst (Read s.args.blocks s.args.list.now _) (not-false _ formed.if3.left) read.read-list.ensures)
     (sym none.if4.left ∙ none.before.has-stray-data.ensures) (sym all.if5.left ∙ all.before.has-unmarked.ensures)
     (sym c.if6.true ∙ c.before.has-missed-root.ensures))
@@ -186,7 +186,7 @@ returns-7 c =
     let all : tie.Else5 = search in
     let rooted : tie.Else6 = search in
     for-all s
-    (missed-cell (heap s) s.pre.4 was_open.if1.left
+    (missed_cell (heap s) s.pre.4 was_open.if1.left
     (subst (Read s.args.blocks s.args.list.now _) (not-false _ formed.if3.left) read.read-list.ensures)
     (sym none.if4.left ∙ none.before.has-stray-data.ensures) (sym all.if5.left ∙ all.before.has-unmarked.ensures)
     (sym rooted.if6.left ∙ rooted.before.has-missed-root.ensures) c.has-missed-cell.ensures)

@@ -3,7 +3,7 @@ use mathlib.Core.Path.{◌≡◌, refl, ◌∙◌}
 use Prim.Native.Nat.{◌-◌}
 use native.Mathlib.Omega.{arith}
 use lib.ListN.{length}
-use Rattle.check_marks.proofs.Reading.{Reading, reading_start, reading-next, reading-falls, reading-past, reading-ends, reading_all}
+use Rattle.check_marks.proofs.Reading.{Reading, reading_start, reading_next, reading_falls, reading_past, reading_ends, reading_all}
 use Rattle.check_marks.proofs.read_list.Statement.{statement}
 use Rattle.check_marks.proofs.read_list.Tie as tie
 
@@ -38,7 +38,7 @@ returns c =
     let l : tie.In-loop invariant-loop decreases-loop = search in
     let z : tie.Then1 invariant-loop decreases-loop = search in
     let h : tie.After-has-number invariant-loop decreases-loop = search in
-    reading-ends l.before.loop.inv.0 l.loop-test.taken z.if1.taken h.has-number.ensures
+    reading_ends l.before.loop.inv.0 l.loop-test.taken z.if1.taken h.has-number.ensures
 
 same-length-2 : tie.Need-same-length-2 invariant-loop decreases-loop
 same-length-2 c = let l : tie.In-loop invariant-loop decreases-loop = search in l.before.loop.inv.1
@@ -47,7 +47,7 @@ returns-2 : tie.Need-returns-2 invariant-loop decreases-loop
 returns-2 c =
     let l : tie.In-loop invariant-loop decreases-loop = search in
     let z : tie.Else1 invariant-loop decreases-loop = search in
-    reading-falls l.before.loop.inv.0 l.loop-test.taken z.if1.left c.if2.true
+    reading_falls l.before.loop.inv.0 l.loop-test.taken z.if1.left c.if2.true
 
 cast-if3 : tie.Need-overflow-cast-if3 invariant-loop decreases-loop
 cast-if3 c =
@@ -61,7 +61,7 @@ same-length-3 c = let l : tie.In-loop invariant-loop decreases-loop = search in 
 returns-3 : tie.Need-returns-3 invariant-loop decreases-loop
 returns-3 c =
     let l : tie.In-loop invariant-loop decreases-loop = search in
-    reading-past l.before.loop.inv.0 l.loop-test.taken c.if3.true
+    reading_past l.before.loop.inv.0 l.loop-test.taken c.if3.true
 
 cast-set-mark : tie.Need-overflow-cast-set-mark invariant-loop decreases-loop
 cast-set-mark c = omega arith
@@ -82,7 +82,7 @@ loop-again : tie.Need-loop-preserved invariant-loop decreases-loop
 loop-again c =
     let l : tie.In-loop invariant-loop decreases-loop = search in
     let m : tie.After-set-mark invariant-loop decreases-loop = search in
-    (reading-next l.before.loop.inv.0 l.loop-test.taken (omega arith) (omega arith) (omega arith) m.set-mark.ensures, m.set-mark.kept.0 ∙ l.before.loop.inv.1)
+    (reading_next l.before.loop.inv.0 l.loop-test.taken (omega arith) (omega arith) (omega arith) m.set-mark.ensures, m.set-mark.kept.0 ∙ l.before.loop.inv.1)
 
 same-length-4 : tie.Need-same-length-4 invariant-loop decreases-loop
 same-length-4 c = c.before.loop.invariant.1

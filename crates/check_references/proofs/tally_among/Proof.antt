@@ -16,7 +16,7 @@ use Rattle.rules.proofs.Tests.{true_some}
 use Rattle.check_references.specs.Wild.{wild as wildTest}
 use Rattle.check_references.proofs.Tallies.{tallied_none, tallied_one}
 use Rattle.check_references.proofs.Wilds.{wild_zero, wild_other, wild_within}
-use Rattle.check_references.proofs.Visited.{read, wild_at, Visited, visited_start, visited-come, visited-next, visited-all}
+use Rattle.check_references.proofs.Visited.{read, wild_at, Visited, visited_start, visited_come, visited_next, visited_all}
 use Rattle.check_references.proofs.tally_among.Statement.{statement}
 use Rattle.check_references.proofs.tally_among.Tie as tie
 
@@ -128,8 +128,8 @@ loop-again c =
     let v : ℕ = come.read_cell.result in
     let is : reads bit ≡ v = sym come.read_cell.ensures in
     let some = come.before.loop-test.true in
-    let ready = visited-come N used made cells k these at₀ s.pre.3 left l.loop.at l.loop.invariant.0 some l.loop.invariant.1 in
-    let next = visited-next N used made cells k these at₀ s.pre.3 left l.loop.at l.loop.invariant.0 some l.loop.invariant.1 in (
+    let ready = visited_come N used made cells k these at₀ s.pre.3 left l.loop.at l.loop.invariant.0 some l.loop.invariant.1 in
+    let next = visited_next N used made cells k these at₀ s.pre.3 left l.loop.at l.loop.invariant.0 some l.loop.invariant.1 in (
       omega (arith, and_le_r left (left - 1)),
       elim c.if1.branch [
         | inl w ↦
@@ -153,7 +153,7 @@ returns-2 c =
     let l = c.before in
     let s : tie.Start invariant-loop decreases-loop = search in
     let all =
-    visited-all s.args.blocks s.args.used s.args.made s.args.cells.now s.args.k s.args.these s.args.at.now
+    visited_all s.args.blocks s.args.used s.args.made s.args.cells.now s.args.k s.args.these s.args.at.now
     s.pre.3 l.loop.left l.loop.at c.loop-test.false l.loop.invariant.1 in
     record { told = sym all.1; tallied = λ e. all.0 }
 

@@ -16,7 +16,7 @@ use Rattle.map_objects.proofs.Walk.{walk_start}
 use Rattle.check_references.specs.Wild.{wild_cell, read_in, wild_in}
 use Rattle.check_references.specs.Tally.{Tallied}
 use Rattle.check_references.proofs.Tallies.{tallied_start, tallied_more, tallied_room}
-use Rattle.check_references.proofs.Eights.{last_before, eight-read, eight-wild}
+use Rattle.check_references.proofs.Eights.{last_before, eight_read, eight_wild}
 use Rattle.check_references.proofs.tally_cells.Statement.{statement}
 use Rattle.check_references.proofs.tally_cells.Tie as tie
 
@@ -88,7 +88,7 @@ returns c =
     record {
       told = sym
           (true_some (wilds s) (4 * s.args.blocks) (32 * k + found.0) (omega (arith, found.1, turn.loop-test.taken))
-          (eight-wild s.args.blocks s.args.a.now s.args.b.now s.args.d.now k (omega (arith, turn.loop-test.taken))
+          (eight_wild s.args.blocks s.args.a.now s.args.b.now s.args.d.now k (omega (arith, turn.loop-test.taken))
           s.args.cells.now byte.data-byte.result byte.data-byte.ensures found.0 found.1 ∙ found.2));
       tallied = λ e. absurd (true≢false e);
     }
@@ -123,11 +123,11 @@ loop-again c =
             (λ i from to.
             let place : i ≡ 32 * k + (i - 32 * k) = omega arith in
             ap (wilds s) place
-            ∙ eight-wild N a b d k inside cells made byte.data-byte.ensures (i - 32 * k) (omega arith)
+            ∙ eight_wild N a b d k inside cells made byte.data-byte.ensures (i - 32 * k) (omega arith)
             ∙ some_false (wild_in N (get_or a k 0) made cells k) 32 none (i - 32 * k) (omega arith)),
       ),
       byte_more (reads s) (read_in made cells k) s.args.at.now l.loop.at _ k
-          (eight-read N a b d k inside cells made byte.data-byte.ensures) l.loop.inv.3
+          (eight_read N a b d k inside cells made byte.data-byte.ensures) l.loop.inv.3
           (called.tally-byte.ensures.tallied c.if1.false),
     )
 

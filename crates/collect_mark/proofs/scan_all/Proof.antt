@@ -12,7 +12,7 @@ use Rattle.collect_counts.specs.Counts.{count_maps}
 use Rattle.collect_visit.specs.Visit.{Counted}
 use Rattle.collect_visit.proofs.Visits.{visited_counted}
 use Rattle.collect_mark.specs.Mark.{scan}
-use Rattle.collect_mark.proofs.Scans.{naming_whole, counted_pop, Leading, leading_start, leading-next, leading-done}
+use Rattle.collect_mark.proofs.Scans.{naming_whole, counted_pop, Leading, leading_start, leading_next, leading_done}
 use Rattle.collect_mark.proofs.scan_all.Statement.{statement}
 use Rattle.collect_mark.proofs.scan_all.Tie as tie
 
@@ -81,7 +81,7 @@ loop-again c =
     let v : tie.After-visit-blocks invariant-loop decreases-loop = search in
     let m = v.visit-blocks.ensures in
     let whole = ap (λ (k : ℕ). 4 * (k / 4)) named.naming-cells.ensures.0 ∙ naming_whole s.args.d.now _ _ in
-    (omega arith, visited_counted m, leading-next l.loop.inv.2 (omega arith) size.object_size.ensures.0 whole m.worked)
+    (omega arith, visited_counted m, leading_next l.loop.inv.2 (omega arith) size.object_size.ensures.0 whole m.worked)
 
 same_length : tie.Need-same-length invariant-loop decreases-loop
 same_length c = omega arith
@@ -93,7 +93,7 @@ returns : tie.Need-returns invariant-loop decreases-loop
 returns c =
     let l = c.before in
     let empty : l.loop.t ≡ 0 = omega arith in
-    (leading-done l.loop.invariant.2 empty, stack_emptied (rw empty at l.loop.invariant.1.stack), l.loop.invariant.1.counting)
+    (leading_done l.loop.invariant.2 empty, stack_emptied (rw empty at l.loop.invariant.1.stack), l.loop.invariant.1.counting)
 
 pub scan-all-spec : {M : Type 1} → statement M
 scan-all-spec =

@@ -8,7 +8,7 @@ use native.Mathlib.Omega.{arith}
 use lib.Count.{count_trailing_zeros, trailing_le}
 use Rattle.count_up.specs.Ready.{part_memory}
 use Rattle.collect_sweep.specs.Sweep.{is_unmarked}
-use Rattle.collect_sweep.proofs.Unmarked.{rest_at, rest_none, rest_inside, rest-here, rest-before}
+use Rattle.collect_sweep.proofs.Unmarked.{rest_at, rest_none, rest_inside, rest_here, rest_before}
 use Rattle.collect_sweep.proofs.next_unmarked.Statement.{statement}
 use Rattle.collect_sweep.proofs.next_unmarked.Tie as tie
 
@@ -73,8 +73,8 @@ returns c =
       from = omega arith;
       most = omega (arith, inside, (start u).pre.0.eighths);
       none_before =
-          passed u (at + count_trailing_zeros 8 (rest_at x at)) (rest-before (test (start u)) at x (omega arith) u.unmarked-byte.ensures c.if1.true);
-      here = λ _. rest-here (test (start u)) at x (omega arith) u.unmarked-byte.ensures c.if1.true;
+          passed u (at + count_trailing_zeros 8 (rest_at x at)) (rest_before (test (start u)) at x (omega arith) u.unmarked-byte.ensures c.if1.true);
+      here = λ _. rest_here (test (start u)) at x (omega arith) u.unmarked-byte.ensures c.if1.true;
     }
 
 sub_at : tie.Need-overflow-sub-at invariant-loop decreases-loop

@@ -3,7 +3,7 @@ use mathlib.Core.Path.{refl}
 use Prim.Native.Nat.{◌<◌}
 use native.Mathlib.Omega.{arith}
 use borrow.Author.Rules.{rules}
-use Rattle.collect_visit.proofs.Visits.{to_none, to_past, to_room, to-first, to-again, to-stuck}
+use Rattle.collect_visit.proofs.Visits.{to_none, to_past, to_room, to_first, to_again, to_stuck}
 use Rattle.collect_visit.proofs.visit_one.Statement.{statement}
 use Rattle.collect_visit.proofs.visit_one.Tie as tie
 
@@ -51,7 +51,7 @@ same-length-2 c = search rules
 returns-3 : tie.Need-returns-3
 returns-3 c =
     let s : tie.Start = search in
-    to-first s.pre (omega arith) (λ z. omega arith) refl c.if3.true
+    to_first s.pre (omega arith) (λ z. omega arith) refl c.if3.true
 
 capacity-of-requires : tie.Need-capacity-of-requires
 capacity-of-requires c κs = search rules
@@ -69,13 +69,13 @@ returns-4 : tie.Need-returns-4
 returns-4 c =
     let s : tie.Start = search in
     let most : tie.After-capacity-of = search in
-    to-again s.pre (omega arith) (λ z. omega arith) refl (λ z. omega arith) most.capacity-of.ensures.0 c.if4.true
+    to_again s.pre (omega arith) (λ z. omega arith) refl (λ z. omega arith) most.capacity-of.ensures.0 c.if4.true
 
 returns-5 : tie.Need-returns-5
 returns-5 c =
     let s : tie.Start = search in
     let most : tie.After-capacity-of = search in
-    to-stuck s.pre (omega arith) (λ z. omega arith) refl (λ z. omega arith) most.capacity-of.ensures.0 c.if4.false
+    to_stuck s.pre (omega arith) (λ z. omega arith) refl (λ z. omega arith) most.capacity-of.ensures.0 c.if4.false
 
 pub visit-one-spec : {M : Type 1} → statement M
 visit-one-spec =

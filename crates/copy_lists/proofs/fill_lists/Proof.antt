@@ -8,8 +8,8 @@ use borrow.Author.Rules.{rules}
 use Rattle.count_up.specs.Ready.{Extents}
 use Rattle.count_up.proofs.Shapes.{planes_same}
 use Rattle.walk_objects.proofs.Numbering.{roots_fit}
-use Rattle.refinement_copy.proofs.Routes.{some-object, movable}
-use Rattle.refinement_copy.proofs.Filled.{lists-written}
+use Rattle.refinement_copy.proofs.Routes.{some_object, movable}
+use Rattle.refinement_copy.proofs.Filled.{lists_written}
 use Rattle.copy_lists.proofs.fill_lists.Statement.{statement}
 use Rattle.copy_lists.proofs.fill_lists.Tie as tie
 
@@ -45,7 +45,7 @@ copy-objects-requires c κs =
     let s = start u in
     let x = s.pre.2.extents in (
       s.pre.1.long_order,
-      some-object _ _ _ _ _ _ s.pre.0 s.pre.1,
+      some_object _ _ _ _ _ _ s.pre.0 s.pre.1,
       movable _ _ _ _ _ _ s.pre.0 s.pre.1,
       planes_same s.pre.2.planes n.fill-bytes3.kept.0,
       record {
@@ -76,7 +76,7 @@ returns c =
     let u = used l in
     let s = start u in
     let x = s.pre.2.extents in
-    lists-written _ _ _ _ _ _ s.pre.0 s.pre.1 _ s.args.roots2.now
+    lists_written _ _ _ _ _ _ s.pre.0 s.pre.1 _ s.args.roots2.now
     (u.fill-bytes.ensures ∙ ap (λ (z : ℕ). replicate z 0) x.a_length)
     (l.fill-bytes2.ensures ∙ ap (λ (z : ℕ). replicate z 255) x.b_length)
     (n.fill-bytes3.ensures ∙ ap (λ (z : ℕ). replicate z 0) s.pre.2.planes.length_is)

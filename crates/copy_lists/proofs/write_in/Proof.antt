@@ -11,7 +11,7 @@ use Rattle.rules_copy.specs.Copy.{lay_first, lay_all}
 use Rattle.walk_objects.specs.Walking.{walked_heap, Walked}
 use Rattle.walk_objects.proofs.TracedHeap.{all_walked}
 use Rattle.copy_plan.specs.Plan.{sizes_in, Planned}
-use Rattle.refinement_copy.proofs.Planned.{numbering, plan-is, routed}
+use Rattle.refinement_copy.proofs.Planned.{numbering, plan_is, routed}
 use Rattle.copy_lists.proofs.Writing.{left_unwritten, lists_filled}
 use Rattle.copy_lists.proofs.write_in.Statement.{statement}
 use Rattle.copy_lists.proofs.write_in.Tie as tie
@@ -42,7 +42,7 @@ laid : (p : tie.After-trace-all) → let s = start p in
     ≡ lay_all s.args.blocks (walked_heap s.args.a.now s.args.b.now s.args.d.now s.args.cells.now s.args.roots.now) s.args.blocks2
 laid p =
     let s = start p in
-    plan-is _ _ _ _ _ _ s.pre.0 (met p) s.args.blocks2
+    plan_is _ _ _ _ _ _ s.pre.0 (met p) s.args.blocks2
 
 trace-all-requires : tie.Need-trace-all-requires
 trace-all-requires c κs = let s : tie.Start = search in (s.pre.0, s.pre.2)

@@ -9,7 +9,7 @@ use Rattle.rules.proofs.Shape.{blocks_le}
 use Rattle.copy_plan.specs.Laying.{Sought, LaidOne}
 use Rattle.copy_plan.specs.Plan.{sizes_in}
 use Rattle.copy_plan.proofs.Chunks.{sought_start}
-use Rattle.copy_plan.proofs.Plans.{PlanTo, plan_start, plan-next, plan-missed, plan_done}
+use Rattle.copy_plan.proofs.Plans.{PlanTo, plan_start, plan_next, plan_missed, plan_done}
 use Rattle.copy_plan.proofs.lay_each.Statement.{statement}
 use Rattle.copy_plan.proofs.lay_each.Tie as tie
 use Rattle.copy_plan.proofs.lay_each.Reads as reads
@@ -93,7 +93,7 @@ returns c =
     let o = sized l in
     let t = turn o in
     let s = start t.before in
-    plan-missed _ _ _ _ _ _ s.pre.0 t.before.loop.k _ _ t.before.loop.inv.1 t.loop-test.taken _ _ _
+    plan_missed _ _ _ _ _ _ s.pre.0 t.before.loop.k _ _ t.before.loop.inv.1 t.loop-test.taken _ _ _
     (laid-here o l.lay-one.ensures) c.if1.true _
 
 add-numbers : tie.Need-overflow-add-numbers invariant-loop decreases-loop
@@ -132,7 +132,7 @@ loop-again c =
     let t = turn o in
     let s = start t.before in (
       omega arith,
-      plan-next _ _ _ _ _ _ s.pre.0 t.before.loop.k _ _ t.before.loop.inv.1 t.loop-test.taken _ _ _
+      plan_next _ _ _ _ _ _ s.pre.0 t.before.loop.k _ _ t.before.loop.inv.1 t.loop-test.taken _ _ _
           (laid-here o l.lay-one.ensures) c.if1.false,
       l.lay-one.ensures.sought c.if1.false,
     )

@@ -2,7 +2,7 @@
 use native.Mathlib.Omega.{arith}
 use borrow.Author.Rules.{rules}
 use Rattle.rules.proofs.Shape.{blocks_facts, blocks_le}
-use Rattle.copy_plan.proofs.Chunks.{too_large, laid_nowhere, part_there, laid_none, fill-inside, laid-some}
+use Rattle.copy_plan.proofs.Chunks.{too_large, laid_nowhere, part_there, laid_none, fill_inside, laid_some}
 use Rattle.copy_plan.proofs.lay_one.Statement.{statement}
 use Rattle.copy_plan.proofs.lay_one.Tie as tie
 
@@ -55,7 +55,7 @@ fill-bits-requires c κs =
     let l = c.before.before in
     let e = counted l in
     let s = start e in (
-      fill-inside _ _ _ _ s.pre (omega arith) e.exponent-of.result e.exponent-of.ensures.0
+      fill_inside _ _ _ _ s.pre (omega arith) e.exponent-of.result e.exponent-of.ensures.0
           l.lowest-chunk.result.at l.lowest-chunk.result.looks l.lowest-chunk.ensures c.before.if2.false,
       omega arith,
       omega (arith, s.pre.length_map, blocks_le s.args.blocks s.pre.blocks),
@@ -81,7 +81,7 @@ returns-3 c =
     let e = counted l in
     let s = start e in
     rw filled.fill-bits.ensures
-    (laid-some _ _ _ _ s.pre (omega arith) e.exponent-of.result e.exponent-of.ensures.0
+    (laid_some _ _ _ _ s.pre (omega arith) e.exponent-of.result e.exponent-of.ensures.0
     l.lowest-chunk.result.at l.lowest-chunk.result.looks l.lowest-chunk.ensures branch.if2.left)
 
 pub lay-one-spec : {M : Type 1} → statement M

@@ -1,5 +1,5 @@
 -- `step` meets its contract: the plan, its calls, and what came of them noted.
-use Rattle.theory.proofs.Usable.UsableHeap.{usable-healthy}
+use Rattle.theory.proofs.Usable.UsableHeap.{usable_healthy}
 use Rattle.history_turns.proofs.Notes.{can_note, noted_stepped}
 use Rattle.history_execution.proofs.Readable.{usable_readable, planned}
 use Rattle.history_execution.proofs.step.Statement.{statement}
@@ -24,14 +24,14 @@ act-requires c κs = (start (planned-at c).before).requires.0
 noted-requires : tie.Need-noted-requires
 noted-requires c κs =
     let pre = (start (planned-at (acted c).before).before).requires in
-    can_note (usable-healthy pre.0).shape.blocks_max pre.1 (acted c).act.ensures
+    can_note (usable_healthy pre.0).shape.blocks_max pre.1 (acted c).act.ensures
 
 returns : tie.Need-returns
 returns c =
     let act = acted c.before in
     let plan = planned-at act.before in
     let pre = (start plan.before).requires in
-    noted_stepped (usable-healthy pre.0).shape.blocks_max pre.1
+    noted_stepped (usable_healthy pre.0).shape.blocks_max pre.1
     (planned _ _ plan.plan-of.result plan.plan-of.ensures act.act.ensures) c.noted.ensures
 
 pub step_spec : {M : Type 1} → statement M

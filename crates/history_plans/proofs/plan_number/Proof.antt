@@ -2,7 +2,7 @@
 use mathlib.Core.Path.{sym, ◌∙◌}
 use native.Mathlib.Omega.{arith}
 use borrow.Author.Rules.{rules}
-use Rattle.history_plans.proofs.Plans.{number_target, number_empty, number-asked}
+use Rattle.history_plans.proofs.Plans.{number_target, number_empty, number_asked}
 use Rattle.history_plans.proofs.plan_number.Statement.{statement}
 use Rattle.history_plans.proofs.plan_number.Tie as tie
 
@@ -35,7 +35,7 @@ returns-3 c =
     let owner : tie.After-word = search in
     let some : tie.Else2 = search in
     rw owner.word.ensures
-    (sym (number-asked _ _ target.if1.left (λ z. some.if2.left (owner.word.ensures ∙ z))))
+    (sym (number_asked _ _ target.if1.left (λ z. some.if2.left (owner.word.ensures ∙ z))))
 
 pub plan-number-spec : {M : Type 1} → statement M
 plan-number-spec =

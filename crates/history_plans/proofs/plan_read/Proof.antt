@@ -7,7 +7,7 @@ use lib.ListN.{length}
 use borrow.Author.Rules.{rules}
 use borrow.Author.Tests.{not-true, not-false}
 use Rattle.history_plans.specs.Readable.{are_roots}
-use Rattle.history_plans.proofs.Plans.{roots_in, read_out, read_empty, read_past, read_number, read_asked}
+use Rattle.history_plans.proofs.Plans.{roots_in, read_out, read_empty, read_past, read_number_lem, read_asked}
 use Rattle.history_plans.proofs.plan_read.Statement.{statement}
 use Rattle.history_plans.proofs.plan_read.Tie as tie
 
@@ -77,7 +77,7 @@ returns-4 c =
     let size = rw owner.word.ensures at sized.object_size.ensures.0 in
     let bit = rw owner.word.ensures at read.get-bit.ensures.0 in
     sym
-    (read_number _ _ (inside (past owner)) _ (λ z. some.if2.left (owner.word.ensures ∙ z))
+    (read_number_lem _ _ (inside (past owner)) _ (λ z. some.if2.left (owner.word.ensures ∙ z))
     (omega (arith, size, within.if3.left)) (sym bit ∙ c.if4.true))
 
 mul-word-2 : tie.Need-overflow-mul-word-2

@@ -7,7 +7,7 @@ use lib.ListN.{length}
 use borrow.Author.Rules.{rules}
 use borrow.Author.Tests.{not-true, not-false}
 use Rattle.history_plans.specs.Readable.{are_roots}
-use Rattle.history_plans.proofs.Plans.{roots_in, write-out, write-empty, write-asked}
+use Rattle.history_plans.proofs.Plans.{roots_in, write_out, write_empty, write_asked}
 use Rattle.history_plans.proofs.plan_write.Statement.{statement}
 use Rattle.history_plans.proofs.plan_write.Tie as tie
 
@@ -28,7 +28,7 @@ both-roots-requires : tie.Need-both-roots-requires
 both-roots-requires c κs = search rules
 
 returns : tie.Need-returns
-returns c = sym (write-out _ _ (sym c.before.both_roots.ensures ∙ not-true _ c.if1.true))
+returns c = sym (write_out _ _ (sym c.before.both_roots.ensures ∙ not-true _ c.if1.true))
 
 mul-word : tie.Need-overflow-mul-word
 mul-word c = omega (arith, (in_range_lem c).0)
@@ -40,7 +40,7 @@ word-requires : tie.Need-word-requires
 word-requires c κs = search rules
 
 returns-2 : tie.Need-returns-2
-returns-2 c = sym (write-empty _ _ (inside (past c.before)) (sym c.before.word.ensures ∙ c.if2.true))
+returns-2 c = sym (write_empty _ _ (inside (past c.before)) (sym c.before.word.ensures ∙ c.if2.true))
 
 sub-t8 : tie.Need-overflow-sub-t8
 sub-t8 c = search rules
@@ -59,7 +59,7 @@ returns-3 c =
     let some = c.before.before in
     let owner = some.before in
     rw (c.word2.ensures, owner.word.ensures)
-    (sym (write-asked _ _ (inside (past owner)) (λ z. some.if2.false (owner.word.ensures ∙ z))))
+    (sym (write_asked _ _ (inside (past owner)) (λ z. some.if2.false (owner.word.ensures ∙ z))))
 
 pub plan-write-spec : {M : Type 1} → statement M
 plan-write-spec =

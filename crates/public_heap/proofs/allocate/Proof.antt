@@ -2,7 +2,7 @@
 use mathlib.Core.Path.{refl, ◌∙◌}
 use borrow.Author.Rules.{rules}
 use Rattle.rules_calls.specs.Calls.{outcome}
-use Rattle.test_allocation.proofs.AllocationReply.{replied, allocate_accepts, allocate-goes-on}
+use Rattle.test_allocation.proofs.AllocationReply.{replied, allocate_accepts, allocate_goes_on}
 use Rattle.test_calls.proofs.ClearedHeap.{cleared_usable, worked_back}
 use Rattle.public_heap.proofs.allocate.Statement.{statement}
 use Rattle.public_heap.proofs.allocate.Tie as tie
@@ -44,7 +44,7 @@ returns-2 c =
     let gate = passed clear in
     let facts = gate.before.allocate.ensures in
     worked_back (facts.fit gate.if1.left) clear.clear-all.ensures refl
-    (allocate-goes-on _ (replied (facts.tested gate.if1.left)) gate.if1.left) refl (done c).allocate2.ensures c.reply.ensures
+    (allocate_goes_on _ (replied (facts.tested gate.if1.left)) gate.if1.left) refl (done c).allocate2.ensures c.reply.ensures
 
 pub allocate_spec : {M : Type 1} → statement M
 allocate_spec =

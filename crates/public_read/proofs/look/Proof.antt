@@ -4,7 +4,7 @@ use native.Mathlib.Omega.{arith}
 use borrow.Author.Rules.{rules}
 use Rattle.rules.specs.Heap.{Memory, lent_memory}
 use Rattle.rules.proofs.Shape.{Shaped, shape_facts}
-use Rattle.public_read.proofs.CheckReply.{refused_alike, checked_fit, look-passed}
+use Rattle.public_read.proofs.CheckReply.{refused_alike, checked_fit, look_passed}
 use Rattle.public_read.proofs.look.Statement.{statement}
 use Rattle.public_read.proofs.look.Tie as tie
 
@@ -37,7 +37,7 @@ look-reply-requires c κs =
 returns-2 : tie.Need-returns-2
 returns-2 c =
     let checked = c.before in
-    look-passed {h = lent (start checked.before)} checked.before.check.ensures checked.if1.false c.look-reply.ensures
+    look_passed {h = lent (start checked.before)} checked.before.check.ensures checked.if1.false c.look-reply.ensures
 
 pub look_spec : {M : Type 1} → statement M
 look_spec = tie.close (tie.spec check-requires returns look-reply-requires returns-2)

@@ -4,7 +4,7 @@ use native.Mathlib.Omega.{arith}
 use borrow.Author.Rules.{rules}
 use Rattle.rules.specs.Heap.{Memory, lent_memory}
 use Rattle.rules.proofs.Shape.{Shaped, shape_facts}
-use Rattle.public_read.proofs.CheckReply.{refused_alike, checked_fit, read-passed}
+use Rattle.public_read.proofs.CheckReply.{refused_alike, checked_fit, read_passed}
 use Rattle.public_read.proofs.read_number.Statement.{statement}
 use Rattle.public_read.proofs.read_number.Tie as tie
 
@@ -37,7 +37,7 @@ read-reply-requires c κs =
 returns-2 : tie.Need-returns-2
 returns-2 c =
     let checked = c.before in
-    read-passed {h = lent (start checked.before)} checked.before.check.ensures checked.if1.false c.read-reply.ensures
+    read_passed {h = lent (start checked.before)} checked.before.check.ensures checked.if1.false c.read-reply.ensures
 
 pub read-number-spec : {M : Type 1} → statement M
 read-number-spec = tie.close (tie.spec check-requires returns read-reply-requires returns-2)

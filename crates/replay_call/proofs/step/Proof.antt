@@ -4,10 +4,10 @@ use Prim.Native.Nat.{ℕ}
 use native.Mathlib.Omega.{arith}
 use borrow.Author.Rules.{rules}
 use Rattle.rules_calls.specs.Calls.{reply}
-use Rattle.theory.proofs.Usable.UsableHeap.{usable-healthy}
+use Rattle.theory.proofs.Usable.UsableHeap.{usable_healthy}
 use Rattle.replay_words.specs.Encoding.{decoded, is_call}
 use Rattle.replay_call.proofs.Codes.{stepped_as, stepped_worked, stepped_none, narrow_call, wide_call, past_call, past_codes}
-use Rattle.replay_call.proofs.Opening.{opening_refused, opening-made, steps_refused, steps-allowed}
+use Rattle.replay_call.proofs.Opening.{opening_refused, opening_made, steps_refused, steps_allowed}
 use Rattle.replay_call.proofs.Reading.{check_promise, look_promise, free_promise, read_promise}
 use Rattle.replay_call.proofs.step.Statement.{statement}
 use Rattle.replay_call.proofs.step.Tie as tie
@@ -108,7 +108,7 @@ reply-requires-4 c κs = search rules
 
 look-reply-requires : tie.Need-look-reply-requires
 look-reply-requires c κs =
-    let shape = (usable-healthy (entry c.before.before.before.before).requires).shape in (
+    let shape = (usable_healthy (entry c.before.before.before.before).requires).shape in (
       sym shape.whole_bytes,
       omega (arith, shape.length_a, shape.whole_bytes),
       omega (arith, shape.length_b, shape.whole_bytes),
@@ -118,7 +118,7 @@ look-reply-requires c κs =
 
 count-zeros-requires : tie.Need-count-zeros-requires
 count-zeros-requires c κs =
-    let shape = (usable-healthy (entry c.before.before).requires).shape in
+    let shape = (usable_healthy (entry c.before.before).requires).shape in
     omega (arith, shape.length_a, shape.whole_bytes, shape.blocks_max)
 
 acceptance-requires-2 : tie.Need-acceptance-requires-2
@@ -158,7 +158,7 @@ reply-requires-7 c κs = search rules
 read-reply-requires : tie.Need-read-reply-requires
 read-reply-requires c κs =
     let chosen : tie.At-match-keys12 = search in
-    let shape = (usable-healthy (entry chosen.before).requires).shape in (
+    let shape = (usable_healthy (entry chosen.before).requires).shape in (
       omega (arith, shape.length_a, shape.whole_bytes),
       omega (arith, shape.length_b, shape.whole_bytes),
       shape.blocks_max,
@@ -169,7 +169,7 @@ read-reply-requires c κs =
 shut-test-requires : tie.Need-shut-test-requires
 shut-test-requires c κs =
     let chosen : tie.At-match-keys13 = search in
-    omega (arith, (usable-healthy (entry chosen.before).requires).shape.length_list)
+    omega (arith, (usable_healthy (entry chosen.before).requires).shape.length_list)
 
 -- an opening where one is open
 returns-2 : tie.Need-returns-2
@@ -181,13 +181,13 @@ returns-2 c =
 open-collection-requires : tie.Need-open-collection-requires
 open-collection-requires c κs =
     let chosen : tie.At-match-keys13 = search in
-    let shape = (usable-healthy (entry chosen.before).requires).shape in
+    let shape = (usable_healthy (entry chosen.before).requires).shape in
     (sym shape.whole_bytes, shape.blocks_max, shape.length_marks, shape.length_list)
 
 open-test-requires : tie.Need-open-test-requires
 open-test-requires c κs =
     let chosen : tie.At-match-keys14 = search in
-    omega (arith, (usable-healthy (entry chosen.before).requires).shape.length_list)
+    omega (arith, (usable_healthy (entry chosen.before).requires).shape.length_list)
 
 -- steps where none is open
 returns-3 : tie.Need-returns-3
@@ -200,7 +200,7 @@ take-steps-requires : tie.Need-take-steps-requires
 take-steps-requires c κs =
     let tested = open_found c in
     let chosen : tie.At-match-keys14 = search in
-    steps-allowed (entry chosen.before).requires tested.before.open-test.ensures tested.if3.left
+    steps_allowed (entry chosen.before).requires tested.before.open-test.ensures tested.if3.left
 
 refusal-requires-2 : tie.Need-refusal-requires-2
 refusal-requires-2 c κs = search rules
@@ -290,7 +290,7 @@ returns-16 c =
     let tested = shut called.before in
     let chosen : tie.At-match-keys13 = search in
     stepped_as 12 refl chosen.match.keys13
-    (opening-made (entry chosen.before).requires tested.before.shut-test.ensures tested.if2.left called.open-collection.ensures)
+    (opening_made (entry chosen.before).requires tested.before.shut-test.ensures tested.if2.left called.open-collection.ensures)
 
 returns-17 : tie.Need-returns-17
 unfolding decoded is_call

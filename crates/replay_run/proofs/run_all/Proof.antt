@@ -5,7 +5,7 @@ use native.Mathlib.Omega.{arith}
 use lib.ListN.{length}
 use Rattle.rules.specs.Heap.{lent_memory}
 use Rattle.rules.proofs.Shape.{Shaped}
-use Rattle.theory.proofs.Usable.UsableHeap.{usable-healthy}
+use Rattle.theory.proofs.Usable.UsableHeap.{usable_healthy}
 use Rattle.replay_words.proofs.Calls.{call_at}
 use Rattle.replay_run.proofs.Progress.{call_made, Progress, progress_start, progress_next, progress_done}
 use Rattle.replay_run.proofs.run_all.Statement.{statement}
@@ -84,14 +84,14 @@ shaped-now : (c : tie.After-loop invariant-loop decreases-loop) →
     Shaped args.blocks args.width
     (lent_memory l.a l.b l.counts l.cells l.roots l.waiting l.sections l.d l.marks
     l.list)
-shaped-now c = (usable-healthy c.before.loop.invariant.usable).shape
+shaped-now c = (usable_healthy c.before.loop.invariant.usable).shape
 
 shaped-before : (c : tie.After-loop invariant-loop decreases-loop) →
     let args = (entry c.before).args in
     Shaped args.blocks args.width
     (lent_memory args.a.now args.b.now args.counts.now args.cells.now args.roots.now args.waiting.now
     args.sections.now args.d.now args.marks.now args.list.now)
-shaped-before c = (usable-healthy (entry c.before).pre.0).shape
+shaped-before c = (usable_healthy (entry c.before).pre.0).shape
 
 returns : tie.Need-returns invariant-loop decreases-loop
 returns c = progress_done (omega arith) c.before.loop.invariant

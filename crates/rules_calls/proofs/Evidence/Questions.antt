@@ -33,10 +33,10 @@ module _ {Q X : Type 0} (right : Q → X) (wrong : Q → List X) (same : X → X
         let both = and_true (not (same (right q) x)) (none_is (right q) xs) e in
         also (λ p. differ (right q) x both.0 (sym (promised q x p ∙ is))) (none_promised q xs is both.1)
 
-    pub each-told : (qs : List Q) → map asked qs ≡ map right qs → wrong_differ qs ≡ true → Each (Tells right wrong Promised) qs
+    pub each_told : (qs : List Q) → map asked qs ≡ map right qs → wrong_differ qs ≡ true → Each (Tells right wrong Promised) qs
     unfolding wrong_differ
-    each-told [] rights differs = done
-    each-told (q ∷ qs) rights differs =
+    each_told [] rights differs = done
+    each_told (q ∷ qs) rights differs =
         let is : asked q ≡ right q = ap (λ (l : List X). get_or l 0 (asked q)) rights in
         let both = and_true (none_is (right q) (wrong q)) (wrong_differ qs) differs in
-        also (answered q (right q) is, none_promised q (wrong q) is both.0) (each-told qs (ap (λ (l : List X). drop 1 l) rights) both.1)
+        also (answered q (right q) is, none_promised q (wrong q) is both.0) (each_told qs (ap (λ (l : List X). drop 1 l) rights) both.1)

@@ -19,7 +19,7 @@ use Rattle.rules_calls.specs.Evidence.CopyCases.{full_in_sixteen, copy_answers}
 use Rattle.types.specs.declared.Reply.{Reply}
 use Rattle.rules_calls.proofs.Evidence.Computed.{computed}
 use Rattle.rules.proofs.Tests.{Each}
-use Rattle.rules_calls.proofs.Evidence.Questions.{none_is, wrong_differ, Tells, each-told}
+use Rattle.rules_calls.proofs.Evidence.Questions.{none_is, wrong_differ, Tells, each_told}
 
 -- ---- tests of equality; all that is needed of them is that they pass where both sides are one
 
@@ -101,7 +101,7 @@ wrong_differ_lem = refl
 -- of each question: the right answer is promised and none of the wrong ones is
 pub wrong_answers_told : Each Told wrong_answers
 wrong_answers_told =
-    each-told (λ (q : Question). q.right) (λ q. q.wrong) same_answer asked PromisedTo one_answer promised answered wrong_answers rights_hold wrong_differ_lem
+    each_told (λ (q : Question). q.right) (λ q. q.wrong) same_answer asked PromisedTo one_answer promised answered wrong_answers rights_hold wrong_differ_lem
 
 -- ---- request U14
 
@@ -119,4 +119,4 @@ copies_differ = refl
 
 pub copy_answers_told : Each Told copy_answers
 copy_answers_told =
-    each-told (λ (q : Question). q.right) (λ q. q.wrong) same_answer asked PromisedTo one_answer promised answered copy_answers copies_right copies_differ
+    each_told (λ (q : Question). q.right) (λ q. q.wrong) same_answer asked PromisedTo one_answer promised answered copy_answers copies_right copies_differ

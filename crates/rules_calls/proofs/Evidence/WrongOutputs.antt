@@ -15,7 +15,7 @@ use Rattle.rules_calls.specs.Evidence.WrongOutputs.{Outcome, OutputQuestion, Out
 use Rattle.types.specs.declared.Reply.{Reply}
 use Rattle.rules_calls.proofs.Evidence.Computed.{computed}
 use Rattle.rules.proofs.Tests.{Each}
-use Rattle.rules_calls.proofs.Evidence.Questions.{none_is, wrong_differ, Tells, each-told}
+use Rattle.rules_calls.proofs.Evidence.Questions.{none_is, wrong_differ, Tells, each_told}
 use Rattle.rules_calls.proofs.Evidence.WrongAnswers.{same_numbers, same_reply, same_memory, same_answer, one_numbers, one_answer}
 
 same_outcome : Outcome → Outcome → Bool
@@ -65,5 +65,5 @@ wrong_differ_lem = refl
 
 pub wrong_outputs_told : Each OutputTold wrong_outputs
 wrong_outputs_told =
-    each-told (λ (q : OutputQuestion). q.right) (λ q. q.wrong) same_outcome asked OutputPromisedTo one_outcome promised answered wrong_outputs
+    each_told (λ (q : OutputQuestion). q.right) (λ q. q.wrong) same_outcome asked OutputPromisedTo one_outcome promised answered wrong_outputs
     rights_hold wrong_differ_lem

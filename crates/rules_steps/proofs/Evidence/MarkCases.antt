@@ -11,7 +11,7 @@ use Rattle.rules_stores.specs.Store.{change_root, change_cell, placed, allocate_
 use Rattle.rules_stores.specs.Collection.{swept}
 use Rattle.rules_steps.specs.Steps.{names, is_listed, map_of, rising, list_of, with_progress, with_none, bad_next, bad_place, stray_mark, root_missed, cell_missed}
 use Rattle.rules_steps.specs.Steps.{is_untidy, root_names, opened, progress_of, lowest, scanned, steps_from, to_survivor, survivors_down, survivors_let_go}
-use Rattle.rules_steps.specs.Steps.{unmarked_freed, closed, closes, stepped, was_marked, namedByFreed, marks_after, list_after, shaded}
+use Rattle.rules_steps.specs.Steps.{unmarked_freed, closed, closes, stepped, was_marked, named_by_freed, marks_after, list_after, shaded}
 use Rattle.rules_steps.specs.Steps.{store_root_shading, store_cell_shading, allocate_shading, clear_shading, return_shading}
 use Rattle.rules.specs.Evidence.SmallHeaps.{eight_blocks, cell_holding, root_holding}
 use Rattle.rules_steps.specs.Evidence.MarkCases.{open_list, no_list, half}
@@ -30,5 +30,5 @@ unfolding bit_at set_bit fill_bits count_at set_count first_in size_from ref_in 
 closes_hold = refl
 
 pub shadings_hold : map (λ c. c.0) shading_cases ≡ map (λ c. c.1) shading_cases
-unfolding bit_at set_bit fill_bits count_below count_at set_count first_in size_from ref_in first_at in_data ref_at holding some_below count_up count_down count_down_each clear_cells freed naming_cells release let_go put_root put_cell change_root change_cell placed allocate_in names is_listed map_of rising list_of with_progress was_marked namedByFreed marks_after list_after shaded store_root_shading store_cell_shading allocate_shading clear_shading return_shading eight_blocks cell_holding root_holding open_list no_list progress_told opening three shading_cases
+unfolding bit_at set_bit fill_bits count_below count_at set_count first_in size_from ref_in first_at in_data ref_at holding some_below count_up count_down count_down_each clear_cells freed naming_cells release let_go put_root put_cell change_root change_cell placed allocate_in names is_listed map_of rising list_of with_progress was_marked named_by_freed marks_after list_after shaded store_root_shading store_cell_shading allocate_shading clear_shading return_shading eight_blocks cell_holding root_holding open_list no_list progress_told opening three shading_cases
 shadings_hold = refl

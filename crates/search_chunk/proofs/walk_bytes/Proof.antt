@@ -10,7 +10,7 @@ use lib.Count.{leading_le}
 use lib.ListN.{get_or}
 use Rattle.search_walk.specs.Search.{judged_free}
 use Rattle.search_walk.proofs.Parts.{part_of}
-use Rattle.search_walk.proofs.Walk.{Walked, size_positive, walked_start, walked_none, judged_true, judged_free_lem, judged-used, ChunkAt, chunk_at, byte_inside, free_byte, used_byte, free_chunk, used_chunk}
+use Rattle.search_walk.proofs.Walk.{Walked, size_positive, walked_start, walked_none, judged_true, judged_free_lem, judged_used, ChunkAt, chunk_at, byte_inside, free_byte, used_byte, free_chunk, used_chunk}
 use Rattle.search_chunk.proofs.walk_bytes.Statement.{statement}
 use Rattle.search_chunk.proofs.walk_bytes.Tie as tie
 
@@ -170,7 +170,7 @@ longer-on : (c : tie.Else4 invariant-loop decreases-loop invariant-stretches dec
 longer-on c judged =
     let l = c.before.before in
     let s = start l in
-    judged-used s.args.from s.args.to s.args.a.now s.args.size (l.loop.looks + s.args.size) (l.loop.stretch + s.args.size) (longer c) judged
+    judged_used s.args.from s.args.to s.args.a.now s.args.size (l.loop.looks + s.args.size) (l.loop.stretch + s.args.size) (longer c) judged
 
 add-stretch : tie.Need-overflow-add-stretch invariant-loop decreases-loop invariant-stretches decreases-stretches invariant-bytes decreases-bytes
 add-stretch c = omega (arith, (longer c).inside, (longer c).within)
@@ -234,11 +234,11 @@ bytes-again-2 c =
           (get_or s.args.a.now at 0) refl (j.before.shared-slice-known2.given at).fits c.if6.true (whole j),
     )
 
-eight-free : (c : tie.Else6 invariant-loop decreases-loop invariant-stretches decreases-stretches invariant-bytes decreases-bytes)
+eight_free : (c : tie.Else6 invariant-loop decreases-loop invariant-stretches decreases-stretches invariant-bytes decreases-bytes)
     → let b = free-first c in
     let s = b.before.before in
     Walked s.args.from s.args.to s.args.a.now s.args.size (b.bytes.looks + 8) (b.bytes.stretch + 8) (s.args.from + (b.bytes.looks + 8))
-eight-free c =
+eight_free c =
     let j = c.before in
     let e = j.before.before in
     let b = e.before in
@@ -247,33 +247,33 @@ eight-free c =
     free_byte s.args.from s.args.to s.args.a.now s.args.size b.bytes.looks b.bytes.stretch s.requires.0 b.bytes.invariant.1 b.bytes.invariant.0 e.if1.false large c.if6.false
 
 add-stretch-2 : tie.Need-overflow-add-stretch-2 invariant-loop decreases-loop invariant-stretches decreases-stretches invariant-bytes decreases-bytes
-add-stretch-2 c = omega (arith, (eight-free c).inside, (eight-free c).within)
+add-stretch-2 c = omega (arith, (eight_free c).inside, (eight_free c).within)
 
 add-is-judged-free-2 : tie.Need-overflow-add-is-judged-free-2 invariant-loop decreases-loop invariant-stretches decreases-stretches invariant-bytes decreases-bytes
-add-is-judged-free-2 c = omega (arith, (eight-free c).inside)
+add-is-judged-free-2 c = omega (arith, (eight_free c).inside)
 
 is-judged-free-requires-2 : tie.Need-is-judged-free-requires-2 invariant-loop decreases-loop invariant-stretches decreases-stretches invariant-bytes decreases-bytes
 is-judged-free-requires-2 c κs = power (free-first c).before.before
 
 add-at-2 : tie.Need-overflow-add-at-2 invariant-loop decreases-loop invariant-stretches decreases-stretches invariant-bytes decreases-bytes
-add-at-2 c = omega (arith, (eight-free c.before.before).inside)
+add-at-2 c = omega (arith, (eight_free c.before.before).inside)
 
 sub-at-2 : tie.Need-overflow-sub-at-2 invariant-loop decreases-loop invariant-stretches decreases-stretches invariant-bytes decreases-bytes
 sub-at-2 c =
     let b = free-first c.before.before in
     let s = b.before.before in
     let judged = judged_true (s.args.from + (b.bytes.looks + 8)) s.args.size (b.bytes.stretch + 8) in
-    omega (arith, (eight-free c.before.before).within, (judged (sym c.before.is-judged-free2.ensures ∙ c.if7.true)).0)
+    omega (arith, (eight_free c.before.before).within, (judged (sym c.before.is-judged-free2.ensures ∙ c.if7.true)).0)
 
 bytes-less-3 : tie.Need-bytes-smaller-3 invariant-loop decreases-loop invariant-stretches decreases-stretches invariant-bytes decreases-bytes
-bytes-less-3 c = omega (arith, (eight-free c.before.before).inside)
+bytes-less-3 c = omega (arith, (eight_free c.before.before).inside)
 
 bytes-again-3 : tie.Need-bytes-preserved-3 invariant-loop decreases-loop invariant-stretches decreases-stretches invariant-bytes decreases-bytes
 bytes-again-3 c =
     let b = free-first c.before.before in
     let s = b.before.before in (
       omega (arith, b.bytes.inv.0),
-      judged-used s.args.from s.args.to s.args.a.now s.args.size (b.bytes.looks + 8) (b.bytes.stretch + 8) (eight-free c.before.before) (sym c.before.is-judged-free2.ensures ∙ c.if7.false),
+      judged_used s.args.from s.args.to s.args.a.now s.args.size (b.bytes.looks + 8) (b.bytes.stretch + 8) (eight_free c.before.before) (sym c.before.is-judged-free2.ensures ∙ c.if7.false),
     )
 
 -- ---- what is found
@@ -296,7 +296,7 @@ returns-3 : tie.Need-returns-3 invariant-loop decreases-loop invariant-stretches
 returns-3 c k e =
     let b = free-first c.before.before in
     let s = b.before.before in
-    judged_free_lem s.args.from s.args.to s.args.a.now s.args.size (b.bytes.looks + 8) (b.bytes.stretch + 8) (eight-free c.before.before) s.pre.0
+    judged_free_lem s.args.from s.args.to s.args.a.now s.args.size (b.bytes.looks + 8) (b.bytes.stretch + 8) (eight_free c.before.before) s.pre.0
     (sym c.before.is-judged-free2.ensures ∙ c.if7.true) k e
 
 pub walk-bytes-spec : {M : Type 1} → statement M

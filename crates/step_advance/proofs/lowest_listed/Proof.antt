@@ -2,7 +2,7 @@
 use mathlib.Core.Path.{◌≡◌, refl, ◌∙◌}
 use Prim.Native.Nat.{◌-◌}
 use lib.ListN.{length}
-use Rattle.step_advance.proofs.Flags.{Sought, sought_start, sought-found, sought-next, sought_all}
+use Rattle.step_advance.proofs.Flags.{Sought, sought_start, sought_found, sought_next, sought_all}
 use native.Mathlib.Omega.{arith}
 use Rattle.step_advance.proofs.lowest_listed.Statement.{statement}
 use Rattle.step_advance.proofs.lowest_listed.Tie as tie
@@ -31,14 +31,14 @@ same_length : tie.Need-same-length invariant-loop decreases-loop
 same_length c = c.before.before.before.look_in.auto.1.1.0 ∙ c.before.before.before.before.before.before.before.loop.invariant.1
 
 returns : tie.Need-returns invariant-loop decreases-loop
-returns c = sought-found c.before.before.before.before.before.before.before.loop.invariant.0 c.before.before.before.before.before.section-end.ensures.0 c.before.before.before.look_in.ensures c.if1.true
+returns c = sought_found c.before.before.before.before.before.before.before.loop.invariant.0 c.before.before.before.before.before.section-end.ensures.0 c.before.before.before.look_in.ensures c.if1.true
 
 loop-less : tie.Need-loop-smaller invariant-loop decreases-loop
 loop-less c = omega (arith, c.before.before.before.before.before.section-end.ensures.0.some, c.before.before.before.before.before.section-end.ensures.0.within)
 
 loop-again : tie.Need-loop-preserved invariant-loop decreases-loop
 loop-again c = (
-  sought-next c.before.before.before.before.before.before.before.loop.invariant.0 c.before.before.before.before.before.section-end.ensures.0 c.before.before.before.look_in.ensures c.if1.false,
+  sought_next c.before.before.before.before.before.before.before.loop.invariant.0 c.before.before.before.before.before.section-end.ensures.0 c.before.before.before.look_in.ensures c.if1.false,
   c.before.before.before.look_in.auto.1.1.0 ∙ c.before.before.before.before.before.before.before.loop.invariant.1,
 )
 

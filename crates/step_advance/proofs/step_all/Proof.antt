@@ -4,7 +4,7 @@ use Prim.Native.Nat.{◌-◌, ◌≤◌}
 use lib.ListN.{length}
 use Rattle.step_list.specs.Naming.{cell_names}
 use Rattle.step_advance.specs.Steps.{progress_in, steps_by}
-use Rattle.step_advance.proofs.Goings.{Going, going_start, going_next, going-empty, going-spent}
+use Rattle.step_advance.proofs.Goings.{Going, going_start, going_next, going_empty, going_spent}
 use Rattle.step_advance.specs.Flags.{Flagged, Clear}
 use native.Mathlib.Omega.{arith}
 use Rattle.step_advance.proofs.step_all.Statement.{statement}
@@ -40,7 +40,7 @@ same-length-3 : tie.Need-same-length-3 invariant-loop decreases-loop
 same-length-3 c = c.before.before.before.lowest-listed.auto.1.1.0 ∙ c.before.before.before.before.before.before.before.loop.invariant.3
 
 returns : tie.Need-returns invariant-loop decreases-loop
-returns c = going-empty c.before.before.before.before.before.before.before.loop.invariant.0 c.before.before.before.lowest-listed.ensures.next c.if1.true
+returns c = going_empty c.before.before.before.before.before.before.before.loop.invariant.0 c.before.before.before.lowest-listed.ensures.next c.if1.true
 
 take-one-requires : tie.Need-take-one-requires invariant-loop decreases-loop
 take-one-requires c κs = omega arith
@@ -75,7 +75,7 @@ same-length-6 : tie.Need-same-length-6 invariant-loop decreases-loop
 same-length-6 c = c.before.loop.invariant.3
 
 returns-2 : tie.Need-returns-2 invariant-loop decreases-loop
-returns-2 c = going-spent c.before.loop.invariant.0 (omega arith)
+returns-2 c = going_spent c.before.loop.invariant.0 (omega arith)
 
 pub step-all-spec : {M : Type 1} → statement M
 step-all-spec =

@@ -2,7 +2,7 @@
 use mathlib.Core.Path.{◌≡◌, refl, ◌∙◌}
 use Prim.Native.Nat.{◌-◌}
 use lib.ListN.{length}
-use Rattle.step_list.proofs.Mixing.{Mixing, mixing_start, mixing_bit, mixing-byte, mixing_all}
+use Rattle.step_list.proofs.Mixing.{Mixing, mixing_start, mixing_bit, mixing_byte, mixing_all}
 use native.Mathlib.Omega.{arith}
 use Rattle.step_list.proofs.mix.Statement.{statement}
 use Rattle.step_list.proofs.mix.Tie as tie
@@ -32,7 +32,7 @@ loop-less : tie.Need-loop-smaller invariant-loop decreases-loop
 loop-less c = omega arith
 
 loop-again : tie.Need-loop-preserved invariant-loop decreases-loop
-loop-again c = (mixing-byte c.before.before.before.before.loop.invariant.0 c.before.before.before.loop-test.true c.before.before.before.before.before.before.before.before.requires.0 c.before.before.before.before.before.before.before.before.requires.5 c.if1.true, c.before.before.before.before.loop.invariant.1)
+loop-again c = (mixing_byte c.before.before.before.before.loop.invariant.0 c.before.before.before.loop-test.true c.before.before.before.before.before.before.before.before.requires.0 c.before.before.before.before.before.before.before.before.requires.5 c.if1.true, c.before.before.before.before.loop.invariant.1)
 
 mix-bit-requires : tie.Need-mix-bit-requires invariant-loop decreases-loop
 mix-bit-requires c κs = omega arith

@@ -2,7 +2,7 @@
 use mathlib.Core.Path.{sym, ◌∙◌}
 use Prim.Native.Nat.{◌-◌}
 use Rattle.step_list.specs.Lists.{Passed}
-use Rattle.step_list.proofs.Bits.{passed_start, passed_bit, passed_bytes, passed-found, passed_all, set_is, clear_is}
+use Rattle.step_list.proofs.Bits.{passed_start, passed_bit, passed_bytes, passed_found, passed_all, set_is, clear_is}
 use native.Mathlib.Omega.{arith}
 use Rattle.step_list.proofs.next_bit.Statement.{statement}
 use Rattle.step_list.proofs.next_bit.Tie as tie
@@ -38,7 +38,7 @@ get-bit-requires : tie.Need-get-bit-requires invariant-loop decreases-loop
 get-bit-requires c κs = omega arith
 
 returns : tie.Need-returns invariant-loop decreases-loop
-returns c = passed-found c.before.before.before.before.before.loop.invariant c.before.before.before.before.loop-test.true (set_is _ _ (sym c.before.get-bit.ensures.0 ∙ c.if2.true))
+returns c = passed_found c.before.before.before.before.before.loop.invariant c.before.before.before.before.loop-test.true (set_is _ _ (sym c.before.get-bit.ensures.0 ∙ c.if2.true))
 
 add-i : tie.Need-overflow-add-i invariant-loop decreases-loop
 add-i c = omega arith

@@ -7,7 +7,7 @@ use lib.Count.{count_trailing_zeros}
 use lib.ListN.{length}
 use Rattle.bitmap.proofs.Digits.{trailing_lowest}
 use Rattle.bitmap.proofs.Maps.{bytes_given}
-use Rattle.step_list.proofs.Rising.{Writing, writing_start, writing-next, writing-end, written-length}
+use Rattle.step_list.proofs.Rising.{Writing, writing_start, writing_next, writing_end, written_length}
 use Rattle.step_list.proofs.write_byte.Statement.{statement}
 use Rattle.step_list.proofs.write_byte.Tie as tie
 
@@ -32,7 +32,7 @@ shared-slice-read-left c = omega arith
 loop-holds : tie.Need-loop-init invariant-loop decreases-loop
 loop-holds c =
     let s : tie.Start invariant-loop decreases-loop = search in
-    (writing_start s.pre.3 (c.shared-slice-known.given s.args.j).fits, written-length s.pre.3)
+    (writing_start s.pre.3 (c.shared-slice-known.given s.args.j).fits, written_length s.pre.3)
 
 mul-list : tie.Need-overflow-mul-list invariant-loop decreases-loop
 mul-list c = omega arith
@@ -70,16 +70,16 @@ loop-again : tie.Need-loop-preserved invariant-loop decreases-loop
 loop-again c =
     let l : tie.In-loop invariant-loop decreases-loop = search in
     let s : tie.Start invariant-loop decreases-loop = search in
-    let w = writing-next l.before.loop.inv.0 s.pre.0 l.loop-test.taken in
-    (w, written-length w.written)
+    let w = writing_next l.before.loop.inv.0 s.pre.0 l.loop-test.taken in
+    (w, written_length w.written)
 
 same_length : tie.Need-same-length invariant-loop decreases-loop
-same_length c = let s : tie.Start invariant-loop decreases-loop = search in omega (arith, written-length s.pre.3)
+same_length c = let s : tie.Start invariant-loop decreases-loop = search in omega (arith, written_length s.pre.3)
 
 returns : tie.Need-returns invariant-loop decreases-loop
 returns c =
     let s : tie.Start invariant-loop decreases-loop = search in
-    writing-end c.before.loop.invariant.0 s.pre.0 c.loop-test.false
+    writing_end c.before.loop.invariant.0 s.pre.0 c.loop-test.false
 
 pub write-byte-spec : {M : Type 1} → statement M
 write-byte-spec =

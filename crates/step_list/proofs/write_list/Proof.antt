@@ -3,7 +3,7 @@ use mathlib.Core.Path.{◌≡◌, ap, ◌∙◌}
 use Prim.Native.Nat.{ℕ, ◌+◌, ◌-◌, ◌*◌, ◌/◌, ◌≤◌}
 use lib.ListN.{length, replicate}
 use Rattle.step_list.specs.Lists.{Written}
-use Rattle.step_list.proofs.Rising.{written_start, written-length, written_all}
+use Rattle.step_list.proofs.Rising.{written_start, written_length, written_all}
 use native.Mathlib.Omega.{arith}
 use Rattle.step_list.proofs.write_list.Statement.{statement}
 use Rattle.step_list.proofs.write_list.Tie as tie
@@ -28,7 +28,7 @@ loop-holds c =
     let s : tie.Start invariant-loop decreases-loop = search in
     let cleared : tie.After-clear-all invariant-loop decreases-loop = search in
     let w = written_start (cleared.clear-all.ensures ∙ ap (λ (k : ℕ). replicate k 0) s.pre.3) in
-    (omega arith, w, written-length w)
+    (omega arith, w, written_length w)
 
 write-byte-requires : tie.Need-write-byte-requires invariant-loop decreases-loop
 write-byte-requires c κs =
@@ -46,7 +46,7 @@ loop-again : tie.Need-loop-preserved invariant-loop decreases-loop
 loop-again c =
     let wrote : tie.After-write-byte invariant-loop decreases-loop = search in
     let w = wrote.write_byte.ensures in
-    (omega arith, w, written-length w)
+    (omega arith, w, written_length w)
 
 same_length : tie.Need-same-length invariant-loop decreases-loop
 same_length c = omega arith

@@ -19,12 +19,12 @@ use Rattle.rules_calls.specs.Calls.{allocate_data, write_number, read_number, wr
 use Rattle.rules_calls.specs.Calls.{reply, own_refusals, refusals, refused_with, refused, settled, freeing, outcome, answer}
 use Rattle.rules_calls.specs.Calls.{copy_from, copy_into, damage_told}
 use Rattle.types.specs.declared.Reply.{Reply}
-use Rattle.rules_calls.proofs.Unread.{store_root_aside, store-cell-aside, return_aside, allocate-aside, collect-beside, open-aside, steps-aside}
-use Rattle.rules_calls.proofs.Unread.{stepped-aside, sentence_aside, shape_aside, laid_aside, copied_aside}
+use Rattle.rules_calls.proofs.Unread.{store_root_aside, store_cell_aside, return_aside, allocate_aside, collect_beside, open_aside, steps_aside}
+use Rattle.rules_calls.proofs.Unread.{stepped_aside, sentence_aside, shape_aside, laid_aside, copied_aside}
 use Rattle.theory_memories.specs.Words.{heap_of}
 use Rattle.theory.specs.Statements.{WaitingUnread}
 use Rattle.theory_memories.proofs.Memories.TidyHeap.{waiting_untidy}
-use Rattle.theory_memories.proofs.Memories.SameShape.{same_shape, same-damage}
+use Rattle.theory_memories.proofs.Memories.SameShape.{same_shape, same_damage}
 
 -- what is compared of two answers
 record Alike (x y : Answer) : Type 0 where
@@ -62,7 +62,7 @@ module _ (N w : ℕ) (h : Memory) (x : List ℕ) (same_length : length x ≡ len
 
   same_number : (c : Call) → refused_with N w g c ≡ refused_with N w h c
   unfolding refused_with refusals
-  same_number c = rw (same_shape N w h x same_length, same-damage N w h x same_length, waiting_untidy N x h, same_own c)
+  same_number c = rw (same_shape N w h x same_length, same_damage N w h x same_length, waiting_untidy N x h, same_own c)
 
   refused_alike : (c : Call) (number : ℕ) → Alike (refused (damage_told N w g c) g number) (refused (damage_told N w h c) h number)
   unfolding damage end_on_free open_end unaligned bad_cell bad_root bad_count stray_data
@@ -78,7 +78,7 @@ module _ (N w : ℕ) (h : Memory) (x : List ℕ) (same_length : length x ≡ len
       let i = Option.get_or (lowest_free N (exponent n) h.a) 0 in
       let said : Reply = reply 0 i (one (birth_sticks w)) in
       subst (λ (k : Memory). Alike (said, settled N k) (said, settled N (allocate_shading N w asData h n r i)))
-      (sym (allocate-aside N w (with_waiting x) h asData n r i)) (record { reply_is = refl; heap_is = refl })
+      (sym (allocate_aside N w (with_waiting x) h asData n r i)) (record { reply_is = refl; heap_is = refl })
 
   outcome_alike : (c : Call) → Alike (outcome N w g c) (outcome N w h c)
   unfolding outcome progress_of is_listed
@@ -87,7 +87,7 @@ module _ (N w : ℕ) (h : Memory) (x : List ℕ) (same_length : length x ≡ len
   outcome_alike (copy_from K u first) = record { reply_is = refl; heap_is = refl }
   outcome_alike check = unchanged_alike (reply 0 0 0)
   outcome_alike free_blocks = unchanged_alike (reply 0 (zeros h.a) 0)
-  outcome_alike collect = freeing_alike (collected N w g) (collected N w h) 0 (collect-beside N w (with_waiting x) h)
+  outcome_alike collect = freeing_alike (collected N w g) (collected N w h) 0 (collect_beside N w (with_waiting x) h)
   outcome_alike (allocate n r) = allocation_alike false n r
   outcome_alike (allocate_data n r) = allocation_alike true n r
   outcome_alike (write_number a j v) = record { reply_is = refl; heap_is = refl }
@@ -97,13 +97,13 @@ module _ (N w : ℕ) (h : Memory) (x : List ℕ) (same_length : length x ≡ len
   outcome_alike (store_root r v) =
       freeing_alike (store_root_shading N w g r v) (store_root_shading N w h r v) _ (store_root_aside N w (with_waiting x) h r v)
   outcome_alike (store_cell a j v) =
-      freeing_alike (store_cell_shading N w g a j v) (store_cell_shading N w h a j v) _ (store-cell-aside N w (with_waiting x) h a j v)
+      freeing_alike (store_cell_shading N w g a j v) (store_cell_shading N w h a j v) _ (store_cell_aside N w (with_waiting x) h a j v)
   outcome_alike (look a) = unchanged_alike (reply 0 (size_at N h a) (count_of N w h a))
   outcome_alike (return_roots chosen) =
       freeing_alike (return_shading N w g chosen (length h.roots)) (return_shading N w h chosen (length h.roots)) 0
       (return_aside N w (with_waiting x) h chosen (length h.roots))
   outcome_alike open_collection =
-      subst (λ (k : Memory). Alike (reply 0 0 0, k) (reply 0 0 0, opened N h)) (sym (open-aside N w (with_waiting x) h))
+      subst (λ (k : Memory). Alike (reply 0 0 0, k) (reply 0 0 0, opened N h)) (sym (open_aside N w (with_waiting x) h))
       (record { reply_is = refl; heap_is = refl })
   outcome_alike (take_steps budget) =
       let t : StepsTaken = steps_from budget N h (progress_of N h) in
@@ -111,10 +111,10 @@ module _ (N w : ℕ) (h : Memory) (x : List ℕ) (same_length : length x ≡ len
       (λ (u : StepsTaken).
       let k : Memory = stepped N w g budget u.reached in
       Alike (reply 0 u.steps (zeros k.a - zeros h.a), settled N k) (outcome N w h (take_steps budget)))
-      (sym (steps-aside N w (with_waiting x) h budget (progress_of N h)))
+      (sym (steps_aside N w (with_waiting x) h budget (progress_of N h)))
       (subst
       (λ (k : Memory). Alike (reply 0 t.steps (zeros k.a - zeros h.a), settled N k) (outcome N w h (take_steps budget)))
-      (sym (stepped-aside N w (with_waiting x) h budget t.reached))
+      (sym (stepped_aside N w (with_waiting x) h budget t.reached))
       (record { reply_is = refl; heap_is = refl }))
 
   answer_alike : (c : Call) → Alike (answer N w g c) (answer N w h c)

@@ -22,7 +22,7 @@ use Rattle.rules_calls.specs.Calls.{allocate_data, write_number, read_number, wr
 use Rattle.rules_calls.specs.Calls.{copy_from, copy_into}
 use Rattle.rules_calls.specs.Calls.{reply, accepted, refused, tests_heap, Other, other_heap, Alone, freeing, settled, outcome, answer}
 use Rattle.types.specs.declared.Reply.{Reply}
-use Rattle.rules_calls.proofs.Replies.{answer-either, accepted-outcome, Passed, passed, allocation_alone}
+use Rattle.rules_calls.proofs.Replies.{answer_either, accepted_outcome, Passed, passed, allocation_alone}
 use Rattle.theory_memories.proofs.Memories.Fit.{Fit}
 use Rattle.rules.proofs.Tests.{test_cases_lem, false_and}
 use Rattle.rules.proofs.Objects.{first_facts}
@@ -40,12 +40,12 @@ use Rattle.theory_graphs.proofs.Graphs.Keep.{root}
 use Rattle.theory_graphs.proofs.Graphs.Order.{runs_leave}
 use Rattle.theory_graphs.proofs.Graphs.Collection.{collected_or_gone}
 use Rattle.theory_graphs.proofs.Graphs.Calls.{Place, finish_ends, finish_keeps}
-use Rattle.theory_graphs.proofs.Graphs.Calls.{raised_balanced, raised-waits, raised-shape, placed-balanced, placed-waits, placed-shape}
+use Rattle.theory_graphs.proofs.Graphs.Calls.{raised_balanced, raised_waits, raised_shape, placed_balanced, placed_waits, placed_shape}
 use Rattle.theory_memories.proofs.Memories.View.{view}
 use Rattle.theory_memories.proofs.Memories.Healthy.{Healthy}
 use Rattle.theory_memories.proofs.Memories.ViewRelease.{Shows}
 use Rattle.theory_memories.proofs.Memories.ViewCollection.{is_collected, collected_shows}
-use Rattle.theory_memories.proofs.Memories.Stores.{positive, ref-object, store_root_lem, cell-place, store_cell_lem, room_vacant, allocate-root}
+use Rattle.theory_memories.proofs.Memories.Stores.{positive, ref_object, store_root_lem, cell_place, store_cell_lem, room_vacant, allocate_root}
 use Rattle.theory_memories.proofs.Memories.Accepted.{accepted_fit}
 use Rattle.theory.proofs.EachCall.Clearing.{InSet, returned}
 use Rattle.theory.proofs.EachCall.Answers.{answer-served}
@@ -231,11 +231,11 @@ module _ (N w : ℕ) (h : Memory) (fit : Fit N w h) where
       let cap : ℕ = capacity w in
       let r : ℕ = length h.roots in
       let pos = positive N w h healthy in
-      let named = ref-object N w h healthy v ref in
+      let named = ref_object N w h healthy v ref in
       let ends = finish_ends cap pos r (raise cap (view N w h) v) i v
       (raised_balanced cap pos r (view N w h) healthy.whole i v slot-i named)
-      (raised-waits cap pos r (view N w h) healthy.whole i v slot-i named)
-      (raised-shape cap pos r (view N w h) healthy.whole i v slot-i named) slot-i in
+      (raised_waits cap pos r (view N w h) healthy.whole i v slot-i named)
+      (raised_shape cap pos r (view N w h) healthy.whole i v slot-i named) slot-i in
       elim ((runs_leave cap r (λ j. ⊥) pos ends.runs).objects b) [ inl e ↦ inl e | inr e ↦ inr e.0 ]
 
   -- a store of the value present frees nothing
@@ -262,7 +262,7 @@ module _ (N w : ℕ) (h : Memory) (fit : Fit N w h) where
       unless_present (store_cell a j v) (eqb (get_or h.cells (4 * a + j) 0) v) (change_cell N w h (4 * a + j) v) second refl (λ x. refl)
       (λ e.
       shown_even (length h.roots) (change_cell N w h (4 * a + j) v) _ (store_cell_lem N w h healthy v ref a j first l ordinary).shows
-      (store_leaves v ref (length h.roots + (4 * a + j)) (cell-place N w h healthy a j first l)))
+      (store_leaves v ref (length h.roots + (4 * a + j)) (cell_place N w h healthy a j first l)))
 
   return_even : (chosen : ℕ) → Even N (return_roots chosen) h (freeing N h (return_in N w h chosen (length h.roots)) 0)
   unfolding freeing allocates
@@ -315,31 +315,31 @@ module _ (N w : ℕ) (h : Memory) (fit : Fit N w h) where
     inside = omega (arith, space.inside)
 
     -- of either kind
-    allocates-so : (asData : Bool) (x : Reply) → allocates (allocate_as asData n r) x ≡ n
+    allocates_so : (asData : Bool) (x : Reply) → allocates (allocate_as asData n r) x ≡ n
     unfolding allocates
-    allocates-so true x = refl
-    allocates-so false x = refl
+    allocates_so true x = refl
+    allocates_so false x = refl
 
-    allocate-even :
+    allocate_even :
         (asData : Bool) (second : ℕ) → Even N (allocate_as asData n r) h (reply 0 i second, settled N (allocate_in N w asData h n r i))
     unfolding allocate_in put_root placed graph.allocate allocated_by
-    allocate-even asData second =
+    allocate_even asData second =
         let cap : ℕ = capacity w in
         let roots : ℕ = length h.roots in
         let pos = positive N w h healthy in
         let nonzero : n ≢ 0 = omega arith in
         let free = room_vacant N w h healthy n i nonzero space in
-        let shows = (allocate-root N w h healthy n i nonzero space asData r l).shows in
-        let held = placed-balanced cap pos roots (view N w h) healthy.whole i n r free l in
-        let waits = placed-waits cap pos roots (view N w h) healthy.whole i n r free l in
-        let shape = placed-shape cap pos roots (view N w h) healthy.whole i n r free l in
+        let shows = (allocate_root N w h healthy n i nonzero space asData r l).shows in
+        let held = placed_balanced cap pos roots (view N w h) healthy.whole i n r free l in
+        let waits = placed_waits cap pos roots (view N w h) healthy.whole i n r free l in
+        let shape = placed_shape cap pos roots (view N w h) healthy.whole i n r free l in
         let ends = finish_ends cap pos roots (place (view N w h) i n) r (suc i) held waits shape (inl l) in
         let new = finish_keeps cap pos roots (place (view N w h) i n) r (suc i) held waits shape (inl l) i
         (root r l (get_or-set_same (view N w h).slots r (suc i) 0 (omega (arith, shape.slots_length)))) in
         let placed-size = get_or-set_same sizes i n 0 (omega (arith, length_sizes_of N h.a h.b, inside)) in
         even_of N (allocate_as asData n r) h (reply 0 i second) (settled N (allocate_in N w asData h n r i))
         (alone_over (allocate_as asData n r) (reply 0 i second) (allocation_alone asData n r))
-        (ap (λ (m : ℕ). in_use N h + m) (allocates-so asData (reply 0 i second))
+        (ap (λ (m : ℕ). in_use N h + m) (allocates_so asData (reply 0 i second))
         ∙ balance_new N h (settled N (allocate_in N w asData h n r i)) sizes (sizes_of N (allocate_in N w asData h n r i).a (allocate_in N w asData h n r i).b)
         healthy.represents shows.represents i n inside fresh
         (ap (λ (m : Graph). size m i) shows.view_is ∙ new ∙ placed-size)
@@ -385,9 +385,9 @@ module _ (N w : ℕ) (h : Memory) (fit : Fit N w h) where
   outcome_even free_blocks p = plain free_blocks _ h refl refl (same_blocks h refl refl)
   outcome_even collect p = collect_even
   outcome_even (allocate n r) (low, high, place, found) =
-      settled_even (allocate n r) _ _ _ (allocate_shading_lem N w h sized false n r _) (allocate-even n r _ low place found false _)
+      settled_even (allocate n r) _ _ _ (allocate_shading_lem N w h sized false n r _) (allocate_even n r _ low place found false _)
   outcome_even (allocate_data n r) (low, high, place, found) =
-      settled_even (allocate_data n r) _ _ _ (allocate_shading_lem N w h sized true n r _) (allocate-even n r _ low place found true _)
+      settled_even (allocate_data n r) _ _ _ (allocate_shading_lem N w h sized true n r _) (allocate_even n r _ low place found true _)
   outcome_even (write_number a j x) p =
       let g : Memory = with_cells (set h.cells (4 * a + j) x) h in
       plain (write_number a j x) (reply 0 0 0) g refl refl (same_blocks g refl refl)
@@ -406,7 +406,7 @@ module _ (N w : ℕ) (h : Memory) (fit : Fit N w h) where
   outcome_even (take_steps budget) p = steps_even p budget _
 
   pub answer_even : (c : Call) → Even N c h (answer N w h c)
-  answer_even c = answer-either N w h c (λ x. Even N c h x) (refused_even c _) (λ e. outcome_even c (passed N w h c e))
+  answer_even c = answer_either N w h c (λ x. Even N c h x) (refused_even c _) (λ e. outcome_even c (passed N w h c e))
 
   -- of a call on one heap
   pub even_alone : (c : Call) → Alone c → let x = answer N w h c in in_use N h + allocated_by c x.0 ≡ freed_blocks N h x.1 + in_use N x.1
@@ -437,7 +437,7 @@ module _ (N w : ℕ) (h : Memory) where
       → FreedValue N h (answer N w h c).0 (answer N w h c).1
   freed_value c tests alone nothing value e =
       let grown =
-      subst (λ (x : Answer). x.0.value ≡ zeros x.1.a - zeros h.a) (sym (accepted-outcome N w h c e)) value in
+      subst (λ (x : Answer). x.0.value ≡ zeros x.1.a - zeros h.a) (sym (accepted_outcome N w h c e)) value in
       let even = even_zeros c alone (accepted_fit N w h c tests e) e in
       let allocated = nothing (answer N w h c).0 in
       record { by_objects = omega (arith, grown, even, allocated); by_zeros = omega (arith, grown, even, allocated) }
@@ -450,7 +450,7 @@ module _ (N w : ℕ) (h : Memory) where
   steps_value budget e =
       let c : Call = take_steps budget in
       let grown =
-      subst (λ (x : Answer). x.0.second ≡ zeros x.1.a - zeros h.a) (sym (accepted-outcome N w h c e)) refl in
+      subst (λ (x : Answer). x.0.second ≡ zeros x.1.a - zeros h.a) (sym (accepted_outcome N w h c e)) refl in
       let even = even_zeros c refl (accepted_fit N w h c refl e) e in
       (omega (arith, grown, even), omega (arith, grown, even))
 

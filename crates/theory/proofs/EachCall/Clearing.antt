@@ -29,7 +29,7 @@ use Rattle.theory_memories.proofs.Memories.SameView.{Rewrites, rewrites_trans, r
 use Rattle.theory_memories.proofs.Memories.Orders.{release_rewrites}
 use Rattle.theory_memories.proofs.Memories.Stores.{memory_left, positive, store_root_lem}
 use Rattle.theory_memories.proofs.Memories.Settled.{settled_healthy}
-use Rattle.theory.proofs.EachCall.StoresServed.{store-root-healthy}
+use Rattle.theory.proofs.EachCall.StoresServed.{store_root_healthy}
 
 -- 0 may always be stored
 pub none_ref : (N : ℕ) (h : Memory) → is_ref N h 0 ≡ true
@@ -108,7 +108,7 @@ module _ (N w : ℕ) (S : ℕ → Type 0) (h : Memory) (healthy : Healthy N w h)
 
   pub root_cleared : Cleared N w S (λ i. i ≡ r) h (store_root_in N w h r 0)
   unfolding store_root_in
-  root_cleared = go (eqb (get_or h.roots r 0) 0) refl (store-root-healthy N w h healthy r 0 l (none_ref N h))
+  root_cleared = go (eqb (get_or h.roots r 0) 0) refl (store_root_healthy N w h healthy r 0 l (none_ref N h))
     where
       go : (t : Bool) → eqb (get_or h.roots r 0) 0 ≡ t → Healthy N w (elim t [ true ↦ h | false ↦ change_root N w h r 0 ])
           → Cleared N w S (λ i. i ≡ r) h (elim t [ true ↦ h | false ↦ change_root N w h r 0 ])

@@ -14,7 +14,7 @@ use Rattle.rules.specs.Heap.{Memory, with_roots, capacity, exponent, lowest_free
 use Rattle.rules_stores.specs.Store.{put_root, placed, allocate_in}
 use Rattle.rules_steps.specs.Steps.{allocate_shading}
 use Rattle.rules_calls.specs.Calls.{Call, allocate, allocate_data, Answer, settled, outcome}
-use Rattle.rules_calls.proofs.Replies.{accepted-none, accepted-outcome, Passed, passed}
+use Rattle.rules_calls.proofs.Replies.{accepted_none, accepted_outcome, Passed, passed}
 use Rattle.theory_memories.specs.Words.{Object}
 use Rattle.theory.specs.Data.{Makes, AllocationsMake}
 use Rattle.theory_memories.proofs.Maps.Extents.{Represents, sizes_of, length_sizes_of}
@@ -22,13 +22,13 @@ use Rattle.theory_memories.proofs.Maps.LowestChunk.{Room, room}
 use Rattle.theory_graphs.proofs.Graphs.Graph as graph
 use Rattle.theory_graphs.proofs.Graphs.Graph.{Graph, size, place}
 use Rattle.theory_graphs.proofs.Graphs.Keep.{root}
-use Rattle.theory_graphs.proofs.Graphs.Calls.{finish_keeps, placed-balanced, placed-waits, placed-shape}
+use Rattle.theory_graphs.proofs.Graphs.Calls.{finish_keeps, placed_balanced, placed_waits, placed_shape}
 use Rattle.theory_memories.proofs.Memories.Reading.{one_lt, cleared_in}
 use Rattle.theory_memories.proofs.Memories.Keeping.{sizes_in, Kept}
 use Rattle.theory_memories.proofs.Memories.View.{view}
 use Rattle.theory_memories.proofs.Memories.Healthy.{Healthy}
 use Rattle.theory_memories.proofs.Memories.Leads.{size_object}
-use Rattle.theory_memories.proofs.Memories.Stores.{memory_left, LetsGo, positive, room_vacant, allocate-root}
+use Rattle.theory_memories.proofs.Memories.Stores.{memory_left, LetsGo, positive, room_vacant, allocate_root}
 use Rattle.theory_memories.proofs.Memories.Accepted.{accepted_fit}
 use Rattle.theory.proofs.EachCall.Shading.{shape_sized, allocate_shading_lem}
 use Rattle.theory.proofs.EachCall.Stay.{let_go_rewrites}
@@ -52,7 +52,7 @@ module _ (N w : ℕ) (h : Memory) (healthy : Healthy N w h) (asData : Bool) (n r
   end = allocate_in N w asData h n r i
 
   lets_go : LetsGo N w (length h.roots) written (get_or h.roots r 0) (graph.allocate (capacity w) (length h.roots) (view N w h) i n r)
-  lets_go = allocate-root N w h healthy n i nonzero space asData r l
+  lets_go = allocate_root N w h healthy n i nonzero space asData r l
 
   stands_for : Represents N end.a end.b (sizes_in N end)
   unfolding allocate_in put_root placed
@@ -66,11 +66,11 @@ module _ (N w : ℕ) (h : Memory) (healthy : Healthy N w h) (asData : Bool) (n r
       let roots : ℕ = length h.roots in
       let pos = positive N w h healthy in
       let free = room_vacant N w h healthy n i nonzero space in
-      let shape = placed-shape cap pos roots (view N w h) healthy.whole i n r free l in
+      let shape = placed_shape cap pos roots (view N w h) healthy.whole i n r free l in
       ap (λ (m : Graph). size m i) lets_go.shows.view_is
       ∙ finish_keeps cap pos roots (place (view N w h) i n) r (suc i)
-      (placed-balanced cap pos roots (view N w h) healthy.whole i n r free l)
-      (placed-waits cap pos roots (view N w h) healthy.whole i n r free l) shape (inl l) i
+      (placed_balanced cap pos roots (view N w h) healthy.whole i n r free l)
+      (placed_waits cap pos roots (view N w h) healthy.whole i n r free l) shape (inl l) i
       (root r l (get_or-set_same (view N w h).slots r (suc i) 0 (omega (arith, shape.slots_length))))
       ∙ get_or-set_same (sizes_of N h.a h.b) i n 0 (omega (arith, length_sizes_of N h.a h.b, space.inside))
 
@@ -111,11 +111,11 @@ pub allocations_make : AllocationsMake
 unfolding outcome Passed
 allocations_make N w h true n r accepted =
     let c : Call = allocate_data n r in
-    let p = passed N w h c (accepted-none N w h c accepted) in
-    subst (λ (x : Answer). Makes N true n x.0.value x.1) (sym (accepted-outcome N w h c accepted))
+    let p = passed N w h c (accepted_none N w h c accepted) in
+    subst (λ (x : Answer). Makes N true n x.0.value x.1) (sym (accepted_outcome N w h c accepted))
     (shaded_makes N w h (accepted_fit N w h c refl accepted).healthy true n r _ p.0 p.2 p.3)
 allocations_make N w h false n r accepted =
     let c : Call = allocate n r in
-    let p = passed N w h c (accepted-none N w h c accepted) in
-    subst (λ (x : Answer). Makes N false n x.0.value x.1) (sym (accepted-outcome N w h c accepted))
+    let p = passed N w h c (accepted_none N w h c accepted) in
+    subst (λ (x : Answer). Makes N false n x.0.value x.1) (sym (accepted_outcome N w h c accepted))
     (shaded_makes N w h (accepted_fit N w h c refl accepted).healthy false n r _ p.0 p.2 p.3)

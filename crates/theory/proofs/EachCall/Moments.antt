@@ -26,7 +26,7 @@ use Rattle.rules_calls.specs.Calls.{copy_from, copy_into}
 use Rattle.rules_calls.specs.Calls.{reply, tests_heap, own_refusals, settled, freeing, outcome, answer}
 use Rattle.types.specs.declared.Reply.{Reply}
 use Rattle.rules.proofs.Tests.{test_cases_lem, first_found}
-use Rattle.rules_calls.proofs.Replies.{accepted-none, accepted-outcome, Passed, passed}
+use Rattle.rules_calls.proofs.Replies.{accepted_none, accepted_outcome, Passed, passed}
 use Rattle.rules.proofs.Objects.{first_facts}
 use Rattle.rules.proofs.Tabulate.{length_tabulate}
 use Rattle.theory_memories.specs.Words.{Object}
@@ -39,19 +39,19 @@ use Rattle.theory_graphs.proofs.Graphs.Occurrences.{nonzero_inside}
 use Rattle.theory_graphs.proofs.Graphs.Graph as graph
 use Rattle.theory_graphs.proofs.Graphs.Graph.{Graph, size, count, raise, place, count_up_same}
 use Rattle.theory_graphs.proofs.Graphs.Balance.{all_counted}
-use Rattle.theory_graphs.proofs.Graphs.Calls.{Place, raised_balanced, raised-waits, raised-shape}
-use Rattle.theory_graphs.proofs.Graphs.Calls.{placed-balanced, placed-waits, placed-shape}
+use Rattle.theory_graphs.proofs.Graphs.Calls.{Place, raised_balanced, raised_waits, raised_shape}
+use Rattle.theory_graphs.proofs.Graphs.Calls.{placed_balanced, placed_waits, placed_shape}
 use Rattle.theory_graphs.proofs.Graphs.Stuck.{finish_stuck}
 use Rattle.theory_memories.proofs.Memories.View.{view}
 use Rattle.theory_memories.proofs.Memories.Slots.{ref_first}
 use Rattle.theory_memories.proofs.Memories.Healthy.{Healthy, view_count, healthy_damage_free}
 use Rattle.theory_memories.proofs.Memories.ViewRelease.{Shows}
-use Rattle.theory_memories.proofs.Memories.Stores.{positive, ref-object, raised-shows, store_root_lem, cell-place, store_cell_lem}
-use Rattle.theory_memories.proofs.Memories.Stores.{room_vacant, placed-shows, allocate-root}
+use Rattle.theory_memories.proofs.Memories.Stores.{positive, ref_object, raised_shows, store_root_lem, cell_place, store_cell_lem}
+use Rattle.theory_memories.proofs.Memories.Stores.{room_vacant, placed_shows, allocate_root}
 use Rattle.theory_memories.proofs.Memories.Fit.{Fit}
-use Rattle.theory_memories.proofs.Memories.Accepted.{accepted_fit, fit-accepted, fit_refused}
+use Rattle.theory_memories.proofs.Memories.Accepted.{accepted_fit, fit_accepted, fit_refused}
 use Rattle.theory.proofs.EachCall.Shading.{shape_sized, Shading, store_root_shading_lem, store_cell_shading_lem, allocate_shading_lem}
-use Rattle.theory.proofs.EachCall.StoresServed.{store_healthy, allocate-served}
+use Rattle.theory.proofs.EachCall.StoresServed.{store_healthy, allocate_served}
 use Rattle.theory_memories.proofs.Memories.Collected.{unstuck}
 use Rattle.theory.proofs.EachCall.CollectionServed.{collect_served}
 use Rattle.theory.proofs.EachCall.Answers.{answer-served}
@@ -94,37 +94,37 @@ module _ (N w : ℕ) (h : Memory) (healthy : Healthy N w h) where
       inside : a < N
       inside = (first_facts N h.a h.b a first).inside
 
-      up-count : count_of N w up a ≡ min (capacity w) (suc (count_of N w h a))
-      up-count =
-          let some = all_counted (view N w h) healthy.whole.waits a (ref-object N w h healthy v ref a named) in
+      up_count : count_of N w up a ≡ min (capacity w) (suc (count_of N w h a))
+      up_count =
+          let some = all_counted (view N w h) healthy.whole.waits a (ref_object N w h healthy v ref a named) in
           sym (view_count N w up a inside)
-          ∙ ap (λ (k : Graph). count k a) (raised-shows N w h healthy v ref).view_is
+          ∙ ap (λ (k : Graph). count k a) (raised_shows N w h healthy v ref).view_is
           ∙ rw named (count_up_same (capacity w) (view N w h).counts a (nonzero_inside (view N w h).counts a some))
           ∙ ap (λ (c : ℕ). min (capacity w) (suc c)) (view_count N w h a inside)
 
       -- what follows the counting up neither brings a count to the capacity nor takes it away
-      full-after : (count_of N w up a ≡ capacity w) ↔ (count_of N w g a ≡ capacity w)
+      full_after : (count_of N w up a ≡ capacity w) ↔ (count_of N w g a ≡ capacity w)
       unfolding graph.store
-      full-after =
+      full_after =
           let cap : ℕ = capacity w in
           let r : ℕ = length h.roots in
           let pos = positive N w h healthy in
-          let names = ref-object N w h healthy v ref in
+          let names = ref_object N w h healthy v ref in
           let ends =
           finish_stuck cap pos r (raise cap (view N w h) v) i v
           (raised_balanced cap pos r (view N w h) healthy.whole i v slot-i names)
-          (raised-waits cap pos r (view N w h) healthy.whole i v slot-i names)
-          (raised-shape cap pos r (view N w h) healthy.whole i v slot-i names) slot-i a in
+          (raised_waits cap pos r (view N w h) healthy.whole i v slot-i names)
+          (raised_shape cap pos r (view N w h) healthy.whole i v slot-i names) slot-i a in
           let before : count_of N w up a ≡ count (raise cap (view N w h) v) a =
-          sym (view_count N w up a inside) ∙ ap (λ (k : Graph). count k a) (raised-shows N w h healthy v ref).view_is in
+          sym (view_count N w up a inside) ∙ ap (λ (k : Graph). count k a) (raised_shows N w h healthy v ref).view_is in
           let after = sym (view_count N w g a inside) ∙ ap (λ (k : Graph). count k a) shows.view_is in
           (λ e. after ∙ ends.0 (sym before ∙ e), λ e. before ∙ ends.1 (sym after ∙ e))
 
-      named-exactly :
+      named_exactly :
           (k : Memory) → (count_of N w up a ≡ capacity w) ↔ (count_of N w k a ≡ capacity w)
           → (count_of N w k a ≡ capacity w → is_first N k a ≡ true) → Exactly call x k
       unfolding sticks
-      named-exactly k same stands = go (eqb (count_of N w h a + 1) (capacity w)) refl
+      named_exactly k same stands = go (eqb (count_of N w h a + 1) (capacity w)) refl
         where
           fact : sticks N w h.counts v ≡ eqb (count_of N w h a + 1) (capacity w)
           fact = let back : suc a - 1 ≡ a = omega arith in rw (named, ne_eqb (suc a) 0 (omega arith), back)
@@ -132,7 +132,7 @@ module _ (N w : ℕ) (h : Memory) (healthy : Healthy N w h) where
           go : (t : Bool) → eqb (count_of N w h a + 1) (capacity w) ≡ t → Exactly call x k
           go true e =
               let reached = eqb-true (count_of N w h a + 1) (capacity w) e in
-              let full : count_of N w k a ≡ capacity w = same.0 (omega (arith, up-count)) in (
+              let full : count_of N w k a ≡ capacity w = same.0 (omega (arith, up_count)) in (
                 λ yes. (a, record { reference = omega arith; below = inr (omega arith); stands = stands full; full = full }),
                 λ stuck. said ∙ ap one (fact ∙ e),
               )
@@ -150,7 +150,7 @@ module _ (N w : ℕ) (h : Memory) (healthy : Healthy N w h) where
                     not-reached
                     (omega (
                       arith,
-                      up-count,
+                      up_count,
                       same.1 (ap (λ (c : ℕ). count_of N w k c) (sym e) ∙ stuck.full),
                       ap (λ (c : ℕ). count_of N w h c) e,
                     ))
@@ -168,13 +168,13 @@ module _ (N w : ℕ) (h : Memory) (healthy : Healthy N w h) where
               λ yes. absurd (omega arith),
               λ stuck. absurd (omega (arith, stuck.1.reference)),
             )
-        go (suc a) e = named-exactly a e k (same a e) (stands a e)
+        go (suc a) e = named_exactly a e k (same a e) (stands a e)
 
-    changed-once-counted : Exactly call x up
-    changed-once-counted = exactly up (λ a e. (λ full. full, λ full. full)) (λ a e full. first a e)
+    changed_once_counted : Exactly call x up
+    changed_once_counted = exactly up (λ a e. (λ full. full, λ full. full)) (λ a e full. first a e)
 
-    changed-afterwards : Exactly call x (settled N g)
-    changed-afterwards = exactly (settled N g) full-after (λ a e. full_stands (settled N g) fine a (inside a e))
+    changed_afterwards : Exactly call x (settled N g)
+    changed_afterwards = exactly (settled N g) full_after (λ a e. full_stands (settled N g) fine a (inside a e))
 
   -- ---- the stores
 
@@ -197,8 +197,8 @@ module _ (N w : ℕ) (h : Memory) (healthy : Healthy N w h) where
   store_exactly v ref i slot-i g shows call writing false =
       let x : Reply = reply 0 (zeros g.a - zeros h.a) (one (sticks N w h.counts v)) in
       let fine = store_healthy N w h healthy v ref i slot-i g shows in (
-        changed-once-counted v ref i slot-i g shows fine call x (writing x) refl,
-        changed-afterwards v ref i slot-i g shows fine call x (writing x) refl,
+        changed_once_counted v ref i slot-i g shows fine call x (writing x) refl,
+        changed_afterwards v ref i slot-i g shows fine call x (writing x) refl,
       )
 
   root_tells :
@@ -220,7 +220,7 @@ module _ (N w : ℕ) (h : Memory) (healthy : Healthy N w h) where
       let old : ℕ = get_or h.cells (4 * a + j) 0 in
       let shows = (store_cell_lem N w h healthy v ref a j owner l ordinary).shows in
       let both =
-      store_exactly v ref (length h.roots + (4 * a + j)) (cell-place N w h healthy a j owner l) (change_cell N w h (4 * a + j) v) shows
+      store_exactly v ref (length h.roots + (4 * a + j)) (cell_place N w h healthy a j owner l) (change_cell N w h (4 * a + j) v) shows
       (store_cell a j v) (λ x. refl) (eqb old v) in
       record { once_counted = both.0; afterwards = both.1; yes_or_no = one_or_none (store_sticks N w h.counts old v) }
 
@@ -245,71 +245,71 @@ module _ (N w : ℕ) (h : Memory) (healthy : Healthy N w h) where
     abbrev said : Reply
     said = reply 0 i (one (birth_sticks w))
 
-    writes-new : writes (allocate_as asData n r) said ≡ 1 + i
+    writes_new : writes (allocate_as asData n r) said ≡ 1 + i
     unfolding writes
-    writes-new = go asData
+    writes_new = go asData
       where
         go : (t : Bool) → writes (allocate_as t n r) said ≡ 1 + i
         go true = refl
         go false = refl
 
-    counted-new : counted N w (allocate_as asData n r) h said ≡ placed N w asData h i n
+    counted_new : counted N w (allocate_as asData n r) h said ≡ placed N w asData h i n
     unfolding counted
-    counted-new = go asData
+    counted_new = go asData
       where
         go : (t : Bool) → counted N w (allocate_as t n r) h said ≡ placed N w t h i n
         go true = refl
         go false = refl
 
     -- in k its count is at the capacity exactly where that is 1
-    born-exactly : (k : Memory) → (capacity w ≡ 1) ↔ (count_of N w k i ≡ capacity w) → (count_of N w k i ≡ capacity w → is_first N k i ≡ true)
+    born_exactly : (k : Memory) → (capacity w ≡ 1) ↔ (count_of N w k i ≡ capacity w) → (count_of N w k i ≡ capacity w → is_first N k i ≡ true)
         → Exactly (allocate_as asData n r) said k
-    born-exactly k same stands = go (birth_sticks w) refl
+    born_exactly k same stands = go (birth_sticks w) refl
       where
         go : (t : Bool) → birth_sticks w ≡ t → Exactly (allocate_as asData n r) said k
         go true e =
             let full = same.0 (eqb-true (capacity w) 1 e) in (
-              λ yes. (i, record { reference = writes-new; below = inl new; stands = stands full; full = full }),
+              λ yes. (i, record { reference = writes_new; below = inl new; stands = stands full; full = full }),
               λ stuck. ap one e,
             )
         go false e =
             let no : said.second ≡ 0 = ap one e in (
               λ yes. absurd (omega arith),
               λ stuck.
-                  let at_i : stuck.0 ≡ i = omega (arith, stuck.1.reference, writes-new) in
+                  let at_i : stuck.0 ≡ i = omega (arith, stuck.1.reference, writes_new) in
                   absurd (eqb-false (capacity w) 1 e (same.1 (ap (λ (c : ℕ). count_of N w k c) (sym at_i) ∙ stuck.1.full))),
             )
 
-    allocate-tells : Tells N w (allocate_as asData n r) h said (settled N (allocate_in N w asData h n r i))
+    allocate_tells : Tells N w (allocate_as asData n r) h said (settled N (allocate_in N w asData h n r i))
     unfolding allocate_in put_root placed graph.allocate
-    allocate-tells =
+    allocate_tells =
         let cap : ℕ = capacity w in
         let roots : ℕ = length h.roots in
         let pos = positive N w h healthy in
         let free = room_vacant N w h healthy n i nonzero (room N h.a n i found) in
-        let shown = placed-shows N w h healthy n i nonzero (room N h.a n i found) asData in
-        let shows = (allocate-root N w h healthy n i nonzero (room N h.a n i found) asData r l).shows in
-        let fine = (allocate-served N w h healthy n r i some_blocks not_more l found asData (one (birth_sticks w))).keep in
-        let one-there : count (place (view N w h) i n) i ≡ 1 =
+        let shown = placed_shows N w h healthy n i nonzero (room N h.a n i found) asData in
+        let shows = (allocate_root N w h healthy n i nonzero (room N h.a n i found) asData r l).shows in
+        let fine = (allocate_served N w h healthy n r i some_blocks not_more l found asData (one (birth_sticks w))).keep in
+        let one_there : count (place (view N w h) i n) i ≡ 1 =
         get_or-set_same (view N w h).counts i 1 0 (omega (arith, within, length_tabulate N (count_of N w h))) in
         let size_there : size (view N w (placed N w asData h i n)) i ≡ n =
         ap (λ (k : Graph). size k i) shown.view_is
         ∙ get_or-set_same (sizes_of N h.a h.b) i n 0 (omega (arith, within, length_sizes_of N h.a h.b)) in
-        let before = sym (view_count N w (placed N w asData h i n) i within) ∙ ap (λ (k : Graph). count k i) shown.view_is ∙ one-there in
+        let before = sym (view_count N w (placed N w asData h i n) i within) ∙ ap (λ (k : Graph). count k i) shown.view_is ∙ one_there in
         let ends =
         finish_stuck cap pos roots (place (view N w h) i n) r (suc i)
-        (placed-balanced cap pos roots (view N w h) healthy.whole i n r free l)
-        (placed-waits cap pos roots (view N w h) healthy.whole i n r free l)
-        (placed-shape cap pos roots (view N w h) healthy.whole i n r free l) (inl l) i in
+        (placed_balanced cap pos roots (view N w h) healthy.whole i n r free l)
+        (placed_waits cap pos roots (view N w h) healthy.whole i n r free l)
+        (placed_shape cap pos roots (view N w h) healthy.whole i n r free l) (inl l) i in
         let after = sym (view_count N w (allocate_in N w asData h n r i) i within) ∙ ap (λ (k : Graph). count k i) shows.view_is in
         record {
           once_counted =
-              rw counted-new
-              (born-exactly (placed N w asData h i n) (λ e. before ∙ sym e, λ e. sym e ∙ before)
+              rw counted_new
+              (born_exactly (placed N w asData h i n) (λ e. before ∙ sym e, λ e. sym e ∙ before)
               (λ full. sized_first N (placed N w asData h i n).a (placed N w asData h i n).b i (λ z. nonzero (sym size_there ∙ z))));
           afterwards =
-              born-exactly (settled N (allocate_in N w asData h n r i))
-              (λ e. after ∙ ends.0 (one-there ∙ sym e), λ e. sym (ends.1 (sym after ∙ e)) ∙ one-there)
+              born_exactly (settled N (allocate_in N w asData h n r i))
+              (λ e. after ∙ ends.0 (one_there ∙ sym e), λ e. sym (ends.1 (sym after ∙ e)) ∙ one_there)
               (full_stands (settled N (allocate_in N w asData h n r i)) fine i within);
           yes_or_no = one_or_none (birth_sticks w);
         }
@@ -351,8 +351,8 @@ tells :
     → (Healthy N w h → Passed N h c → let x = outcome N w h c in Tells N w c h x.0 x.1)
     → let x = answer N w h c in x.0.number ≡ 0 → Tells N w c h x.0 x.1
 tells N w h c tests told e =
-    subst (λ (x : Answer). Tells N w c h x.0 x.1) (sym (accepted-outcome N w h c e))
-    (told (accepted_fit N w h c tests e).healthy (passed N w h c (accepted-none N w h c e)))
+    subst (λ (x : Answer). Tells N w c h x.0 x.1) (sym (accepted_outcome N w h c e))
+    (told (accepted_fit N w h c tests e).healthy (passed N w h c (accepted_none N w h c e)))
 
 pub stuck_told : StuckTold
 unfolding outcome Passed
@@ -372,11 +372,11 @@ stuck_told N w h =
     allocation true n r =
         tells N w h (allocate_data n r) refl (λ healthy p.
         settled_tells N w (allocate_data n r) h _ _ _ (allocate_shading_lem N w h (shape_sized N w h healthy.shape) true n r _)
-        (allocate-tells N w h healthy true n r _ p.0 p.1 p.2 p.3))
+        (allocate_tells N w h healthy true n r _ p.0 p.1 p.2 p.3))
     allocation false n r =
         tells N w h (allocate n r) refl (λ healthy p.
         settled_tells N w (allocate n r) h _ _ _ (allocate_shading_lem N w h (shape_sized N w h healthy.shape) false n r _)
-        (allocate-tells N w h healthy false n r _ p.0 p.1 p.2 p.3))
+        (allocate_tells N w h healthy false n r _ p.0 p.1 p.2 p.3))
 
 -- ---- no moment goes untold
 
@@ -428,7 +428,7 @@ module _ (N w : ℕ) (h : Memory) (fit : Fit N w h) where
   unfolding outcome freeing Passed
   accepted_none_stuck none b was low =
       let left : Memory = settled N (collected N w h) in
-      let answered = ap (λ (x : Answer). count_of N w x.1 b) (fit-accepted N w h fit collect refl none) in
+      let answered = ap (λ (x : Answer). count_of N w x.1 b) (fit_accepted N w h fit collect refl none) in
       let bounded = count_lt (N / 8) w left.counts b in
       elim (test_cases_lem (is_first N left b)) [
         | inl is ↦ elim (ℕ_discrete (count_of N w left b) (capacity w)) [

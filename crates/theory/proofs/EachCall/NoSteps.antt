@@ -16,11 +16,11 @@ use Rattle.rules_steps.specs.Steps.{is_open, is_marked, is_listed, map_of, list_
 use Rattle.rules_steps.specs.Steps.{steps_from, unmarked_freed, closed, closes, stepped}
 use Rattle.rules_calls.specs.Calls.{take_steps, Answer, reply, settled, outcome}
 use Rattle.rules_steps.proofs.Progress.{map_of_same, list_of_same}
-use Rattle.rules_calls.proofs.Replies.{accepted-none, accepted-outcome, Passed, passed}
+use Rattle.rules_calls.proofs.Replies.{accepted_none, accepted_outcome, Passed, passed}
 use Rattle.theory.specs.Steps.{NoStepsNoChange, AllUnlessRanOut}
 use Rattle.theory_memories.proofs.Memories.Fit.{Fit}
 use Rattle.theory_memories.proofs.Memories.TidyHeap.{progress_same, none_after}
-use Rattle.theory_memories.proofs.Memories.Scanning.{marked-progress, listed-progress}
+use Rattle.theory_memories.proofs.Memories.Scanning.{marked_progress, listed_progress}
 use Rattle.theory_memories.proofs.Memories.Accepted.{accepted_fit}
 
 module _ (N w : ℕ) (h : Memory) (fit : Fit N w h) (was_open : is_open N h ≡ true) where
@@ -30,9 +30,9 @@ module _ (N w : ℕ) (h : Memory) (fit : Fit N w h) (was_open : is_open N h ≡ 
   kept =
       let p : Progress = progress_of N h in
       ap (λ (m : List ℕ). with_marks m (with_list (list_of N (marked p.list)) h))
-      (map_of_same h.marks (marked p.marks) (is_marked h) N (marked-progress N w h fit.healthy was_open fit.tidy))
+      (map_of_same h.marks (marked p.marks) (is_marked h) N (marked_progress N w h fit.healthy was_open fit.tidy))
       ∙ ap (λ (l : List ℕ). with_marks (map_of h.marks (is_marked h) N) (with_list l h))
-      (list_of_same N (marked p.list) (is_listed N h) (listed-progress N w h fit.healthy was_open fit.tidy))
+      (list_of_same N (marked p.list) (is_listed N h) (listed_progress N w h fit.healthy was_open fit.tidy))
       ∙ progress_same N w h fit.healthy was_open fit.tidy
 
   nothing_taken : outcome N w h (take_steps 0) ≡ (reply 0 0 0, with_waiting (replicate N 0) h)
@@ -47,8 +47,8 @@ pub no_steps_no_change : NoStepsNoChange
 unfolding Passed
 no_steps_no_change N w h e =
     let fit = accepted_fit N w h (take_steps 0) refl e in
-    let was_open : is_open N h ≡ true = passed N w h (take_steps 0) (accepted-none N w h (take_steps 0) e) in
-    let is = accepted-outcome N w h (take_steps 0) e ∙ nothing_taken N w h fit was_open in
+    let was_open : is_open N h ≡ true = passed N w h (take_steps 0) (accepted_none N w h (take_steps 0) e) in
+    let is = accepted_outcome N w h (take_steps 0) e ∙ nothing_taken N w h fit was_open in
     (ap (λ (x : Answer). x.0) is, ap (λ (x : Answer). x.1) is)
 
 -- ---- all of them unless the list ran out
@@ -86,5 +86,5 @@ all_unless_ran_out N w h budget e =
     let t : StepsTaken = steps_from budget N h (progress_of N h) in
     subst
     (λ (x : Answer). (x.0.value ≤ budget) × (x.0.value < budget → is_open N x.1 ≡ false))
-    (sym (accepted-outcome N w h (take_steps budget) e))
+    (sym (accepted_outcome N w h (take_steps budget) e))
     (given.0, λ l. shut_after N h w budget t.reached (omega arith) (given.1 l))

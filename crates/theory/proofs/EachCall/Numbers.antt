@@ -13,13 +13,13 @@ use Rattle.rules.specs.Tools.{first_number}
 use Rattle.rules.specs.Heap.{Memory, with_cells, is_first, size_at, is_ref, is_data}
 use Rattle.rules_calls.specs.Calls.{Call, store_cell, write_number, read_number, Answer, reply, cell_refusals, Alone, own_refusals, outcome, answer}
 use Rattle.rules.proofs.Tests.{Each, done, also, first_past, first_found, first_other}
-use Rattle.rules_calls.proofs.Replies.{number_is, accepted-none, accepted-outcome, Passed, passed}
+use Rattle.rules_calls.proofs.Replies.{number_is, accepted_none, accepted_outcome, Passed, passed}
 use Rattle.theory.specs.Data.{NumberStands, NumbersWritten, Twelve}
 use Rattle.theory_memories.proofs.Memories.TidyHeap.{read_untidy}
 use Rattle.theory_memories.proofs.Memories.Fit.{Fit}
 use Rattle.theory_memories.proofs.Memories.Stores.{cell_below}
-use Rattle.theory_memories.proofs.Memories.Accepted.{accepted_fit, fit_number, fit-accepted}
-use Rattle.theory.proofs.EachCall.Served.{number-references, number-healthy}
+use Rattle.theory_memories.proofs.Memories.Accepted.{accepted_fit, fit_number, fit_accepted}
+use Rattle.theory.proofs.EachCall.Served.{number_references, number_healthy}
 
 -- ---- a number written
 
@@ -31,9 +31,9 @@ module _ (N w : ℕ) (h : Memory) (fit : Fit N w h) (at j x : ℕ) (first : is_f
   left_fit : Fit N w left
   left_fit =
       record {
-        healthy = number-healthy N w h fit.healthy at j x first l made;
+        healthy = number_healthy N w h fit.healthy at j x first l made;
         listed = fit.listed;
-        tidy = read_untidy N h (set h.cells (4 * at + j) x) (number-references N w h fit.healthy at j x first l made) ∙ fit.tidy;
+        tidy = read_untidy N h (set h.cells (4 * at + j) x) (number_references N w h fit.healthy at j x first l made) ∙ fit.tidy;
       }
 
   number_stands : NumberStands N w h at j x left
@@ -41,9 +41,9 @@ module _ (N w : ℕ) (h : Memory) (fit : Fit N w h) (at j x : ℕ) (first : is_f
   number_stands =
       record {
         one_cell = refl;
-        same_references = number-references N w h fit.healthy at j x first l made;
+        same_references = number_references N w h fit.healthy at j x first l made;
         reads_itself_back =
-            ap (λ (y : Answer). y.0) (fit-accepted N w left left_fit (read_number at j) refl (first, l, made))
+            ap (λ (y : Answer). y.0) (fit_accepted N w left left_fit (read_number at j) refl (first, l, made))
             ∙ ap (λ (v : ℕ). reply 0 v 0)
             (get_or-set_same h.cells (4 * at + j) x 0
             (omega (arith, cell_below N w h fit.healthy at j first l, fit.healthy.shape.length_cells)));
@@ -53,8 +53,8 @@ pub numbers_written : NumbersWritten
 unfolding outcome Passed
 numbers_written N w h at j x accepted =
     let c : Call = write_number at j x in
-    let p = passed N w h c (accepted-none N w h c accepted) in
-    subst (λ (y : Answer). NumberStands N w h at j x y.1) (sym (accepted-outcome N w h c accepted))
+    let p = passed N w h c (accepted_none N w h c accepted) in
+    subst (λ (y : Answer). NumberStands N w h at j x y.1) (sym (accepted_outcome N w h c accepted))
     (number_stands N w h (accepted_fit N w h c refl accepted) at j x p.0 p.1 p.2)
 
 -- ---- number 12

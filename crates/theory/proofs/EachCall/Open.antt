@@ -30,12 +30,12 @@ use Rattle.theory_graphs.proofs.Graphs.Scan.{apart_same, pale_same}
 use Rattle.theory_memories.proofs.Memories.View.{cell_refs, slots_in, view}
 use Rattle.theory_memories.proofs.Memories.Slots.{root_slot}
 use Rattle.theory_memories.proofs.Memories.Healthy.{Healthy}
-use Rattle.theory_memories.proofs.Memories.TidyHeap.{tidy-facts, open_after, marked-after, listed-after, tidy-passes}
+use Rattle.theory_memories.proofs.Memories.TidyHeap.{tidy_facts, open_after, marked_after, listed_after, tidy_passes}
 use Rattle.theory_memories.proofs.Memories.Shades.{Among, shades}
-use Rattle.theory_memories.proofs.Memories.Events.{among_none, among_cases, Event, root_event, cell-event, allocate-event}
-use Rattle.theory_memories.proofs.Memories.Stores.{positive, store_root_lem, cell-place, store_cell_lem, allocate-root}
+use Rattle.theory_memories.proofs.Memories.Events.{among_none, among_cases, Event, root_event, cell_event, allocate_event}
+use Rattle.theory_memories.proofs.Memories.Stores.{positive, store_root_lem, cell_place, store_cell_lem, allocate_root}
 use Rattle.theory.proofs.EachCall.Shading.{shape_sized, progress_shading, healthy_shading, store_root_shading_lem, return_shading_lem}
-use Rattle.theory.proofs.EachCall.StoresServed.{store_healthy, allocate-served}
+use Rattle.theory.proofs.EachCall.StoresServed.{store_healthy, allocate_served}
 use Rattle.theory.proofs.EachCall.Clearing.{none_ref, InSet, root_cleared, returned}
 
 -- ---- what is known of a heap with a collection open
@@ -70,7 +70,7 @@ module _ (N w : ℕ) (h : Memory) (before : Open N w h) where
   R = length h.roots
 
   now : Tidy (length h.roots) (view N w h) (is_marked h) (is_listed N h)
-  now = tidy-facts N w h before.healthy before.was_open before.tidy
+  now = tidy_facts N w h before.healthy before.was_open before.tidy
 
   -- ---- a store
 
@@ -86,36 +86,36 @@ module _ (N w : ℕ) (h : Memory) (before : Open N w h) where
         subst (λ (q : ℕ). Shades q (view N w h) (view N w k) (view N w g) (Among touched) (is_marked h) (is_listed N h) M L) event.roots_k
         (shades N w h k touched g)
 
-    pub tidy-left : Tidy (length g.roots) (view N w g) M L
-    tidy-left =
+    pub tidy_left : Tidy (length g.roots) (view N w g) M L
+    tidy_left =
         subst (λ (q : ℕ). Tidy q (view N w g) M L) (sym event.roots_g)
         (tidy_shades R (view N w h) (view N w k) (view N w g) (Among touched) (is_marked h) (is_listed N h) M L now event.lets shade)
 
-    pub is-shaded : shaded N h k touched g ≡ with_progress N M L g
+    pub is_shaded : shaded N h k touched g ≡ with_progress N M L g
     unfolding shaded
-    is-shaded = rw (before.was_open, shaded)
+    is_shaded = rw (before.was_open, shaded)
 
-    goes-progress :
+    goes_progress :
         Goes N w h (λ b. (c : ℕ) → Among touched c → ¬ (To R (view N w k).sizes (view N w k).slots b c)) (with_progress N M L g)
     unfolding with_progress
-    goes-progress =
+    goes_progress =
         record {
           after = record {
             healthy = healthy_shading N w g (with_progress N M L g) (progress_shading N g (shape_sized N w g event.left.shape) M L) event.left;
-            was_open = open_after N w g event.left M L tidy-left;
-            tidy = tidy-passes N w g event.left M L tidy-left;
+            was_open = open_after N w g event.left M L tidy_left;
+            tidy = tidy_passes N w g event.left M L tidy_left;
           };
           roots_are = event.roots_g;
           fewer =
               omega (
                 arith,
                 pale_same (view N w g) M L (is_marked (with_progress N M L g)) (is_listed N (with_progress N M L g))
-                    (marked-after N w g event.left M L tidy-left) (listed-after N w g event.left M L tidy-left) N,
+                    (marked_after N w g event.left M L tidy_left) (listed_after N w g event.left M L tidy_left) N,
                 pale_shades R (view N w h) (view N w k) (view N w g) (Among touched) (is_marked h) (is_listed N h) M L now event.lets shade N,
               );
           apart = λ b unled was is apart.
               subst (λ (q : ℕ). Apart q (view N w g) (is_marked (with_progress N M L g)) b) (sym event.roots_g)
-              (apart_same R (view N w g) M (is_marked (with_progress N M L g)) b (marked-after N w g event.left M L tidy-left)
+              (apart_same R (view N w g) M (is_marked (with_progress N M L g)) b (marked_after N w g event.left M L tidy_left)
               (apart_shades R (view N w h) (view N w k) (view N w g) (Among touched) (is_marked h) (is_listed N h) M L b apart event.lets was
               (λ c m. (shade.now c m).1) unled (event.kept b was unled)));
           stays = λ b unled was z.
@@ -125,11 +125,11 @@ module _ (N w : ℕ) (h : Memory) (before : Open N w h) where
               ];
         }
 
-    pub goes-shaded :
+    pub goes_shaded :
         Goes N w h (λ b. (c : ℕ) → Among touched c → ¬ (To R (view N w k).sizes (view N w k).slots b c)) (shaded N h k touched g)
-    goes-shaded =
+    goes_shaded =
         subst (λ (m : Memory). Goes N w h (λ b. (c : ℕ) → Among touched c → ¬ (To R (view N w k).sizes (view N w k).slots b c)) m)
-        (sym is-shaded) goes-progress
+        (sym is_shaded) goes_progress
 
   -- ---- the memory that is left is healthy before it is settled
 
@@ -163,7 +163,7 @@ module _ (N w : ℕ) (h : Memory) (before : Open N w h) where
         go true e = goes_same N w h _ before
         go false e =
             let more =
-            goes-shaded (with_roots (set h.roots r v) h) (get_or h.roots r 0 ∷ v ∷ []) (change_root N w h r v)
+            goes_shaded (with_roots (set h.roots r v) h) (get_or h.roots r 0 ∷ v ∷ []) (change_root N w h r v)
             (root_event N w h before.healthy v ref r l left) in
             record {
               after = more.after;
@@ -173,20 +173,20 @@ module _ (N w : ℕ) (h : Memory) (before : Open N w h) where
               stays = λ b unled. more.stays b (unled (eqb-false (get_or h.roots r 0) v e));
             }
 
-    pub cell-goes :
+    pub cell_goes :
         (a j : ℕ) → is_first N h a ≡ true → j < 4 * size_at N h a → is_data h.d a ≡ false
         → let k : Memory = with_cells (set h.cells (4 * a + j) v) h in
         let old : ℕ = get_or h.cells (4 * a + j) 0 in
         Goes N w h (λ b. old ≢ v → (c : ℕ) → Among ((a + 1) ∷ old ∷ v ∷ []) c → ¬ (To R (view N w k).sizes (view N w k).slots b c))
         (store_cell_shading N w h a j v)
     unfolding store_cell_shading change_cell put_cell
-    cell-goes a j first l ordinary = go (eqb (get_or h.cells (4 * a + j) 0) v) refl
+    cell_goes a j first l ordinary = go (eqb (get_or h.cells (4 * a + j) 0) v) refl
       where
         left : Healthy N w (change_cell N w h (4 * a + j) v)
         left =
             let shows = (store_cell_lem N w h before.healthy v ref a j first l ordinary).shows in
             unsettled (change_cell N w h (4 * a + j) v) shows.shape
-            (store_healthy N w h before.healthy v ref (length h.roots + (4 * a + j)) (cell-place N w h before.healthy a j first l)
+            (store_healthy N w h before.healthy v ref (length h.roots + (4 * a + j)) (cell_place N w h before.healthy a j first l)
             (change_cell N w h (4 * a + j) v) shows)
 
         go : (t : Bool) → eqb (get_or h.cells (4 * a + j) 0) v ≡ t
@@ -202,8 +202,8 @@ module _ (N w : ℕ) (h : Memory) (before : Open N w h) where
         go true e = goes_same N w h _ before
         go false e =
             let more =
-            goes-shaded (with_cells (set h.cells (4 * a + j) v) h) ((a + 1) ∷ get_or h.cells (4 * a + j) 0 ∷ v ∷ [])
-            (change_cell N w h (4 * a + j) v) (cell-event N w h before.healthy v ref a j first l ordinary left) in
+            goes_shaded (with_cells (set h.cells (4 * a + j) v) h) ((a + 1) ∷ get_or h.cells (4 * a + j) 0 ∷ v ∷ [])
+            (change_cell N w h (4 * a + j) v) (cell_event N w h before.healthy v ref a j first l ordinary left) in
             record {
               after = more.after;
               roots_are = more.roots_are;
@@ -218,8 +218,8 @@ module _ (N w : ℕ) (h : Memory) (before : Open N w h) where
   unfolding allocate_in put_root placed
   allocate_left asData n r i low high l found =
       unsettled (allocate_in N w asData h n r i)
-      (allocate-root N w h before.healthy n i (omega arith) (room N h.a n i found) asData r l).shows.shape
-      (allocate-served N w h before.healthy n r i low high l found asData 0).keep
+      (allocate_root N w h before.healthy n i (omega arith) (room N h.a n i found) asData r l).shows.shape
+      (allocate_served N w h before.healthy n r i low high l found asData 0).keep
 
   pub allocate_goes :
       (asData : Bool) (n r i : ℕ) → 1 ≤ n → n ≤ N → r < length h.roots → lowest_free N (exponent n) h.a ≡ some i
@@ -228,8 +228,8 @@ module _ (N w : ℕ) (h : Memory) (before : Open N w h) where
       (allocate_shading N w asData h n r i)
   unfolding allocate_shading
   allocate_goes asData n r i low high l found =
-      goes-shaded (with_roots (set h.roots r (i + 1)) (placed N w asData h i n)) (get_or h.roots r 0 ∷ (i + 1) ∷ []) (allocate_in N w asData h n r i)
-      (allocate-event N w h before.healthy n i (omega arith) (room N h.a n i found) asData r l
+      goes_shaded (with_roots (set h.roots r (i + 1)) (placed N w asData h i n)) (get_or h.roots r 0 ∷ (i + 1) ∷ []) (allocate_in N w asData h n r i)
+      (allocate_event N w h before.healthy n i (omega arith) (room N h.a n i found) asData r l
       (allocate_left asData n r i low high l found))
 
 -- ---- what leads to an object in a smaller graph

@@ -17,13 +17,13 @@ use Rattle.rules_output.specs.Sentence.{sentence_for}
 use Rattle.rules_calls.specs.Calls.{Call, write_reason, write_shape, Answer, reply, accepted, Alone, own_refusals, refused, outcome, answer}
 use Rattle.rules_calls.specs.Promise.{Promise, OutputPromise, output_after}
 use Rattle.rules.proofs.Tests.{first_past, first_found}
-use Rattle.rules_calls.proofs.Replies.{number_is, accepted-none, accepted-outcome, answer-either, Passed, passed}
+use Rattle.rules_calls.proofs.Replies.{number_is, accepted_none, accepted_outcome, answer_either, Passed, passed}
 use Rattle.types.specs.declared.Reply.{Reply}
 use Rattle.text.specs.Text.{Put}
 use Rattle.theory_memories.specs.Heaps.{Undamaged}
 use Rattle.theory.specs.Outputs.{WrittenOver, OnlyOutput, ReasonGiven, ShapeGiven, Fifteen, Sixteen}
 use Rattle.theory_memories.proofs.Memories.Fit.{Fit, undamaged_fit}
-use Rattle.theory_memories.proofs.Memories.Accepted.{fit_number, fit-accepted, fit_refused}
+use Rattle.theory_memories.proofs.Memories.Accepted.{fit_number, fit_accepted, fit_refused}
 
 written_over : (text out : List ℕ) → length text ≤ length out → WrittenOver text out (text ++ drop (length text) out)
 written_over text out fits =
@@ -48,11 +48,11 @@ module _ (N w : ℕ) (h : Memory) (c : Call) (text out : List ℕ) (same : (y : 
       record {
         heap_kept =
             promise.after_is
-            ∙ answer-either N w h c (λ y. y.1 ≡ h) (λ number nonzero. refl) (λ e. (same (outcome N w h c) refl).0);
+            ∙ answer_either N w h c (λ y. y.1 ≡ h) (λ number nonzero. refl) (λ e. (same (outcome N w h c) refl).0);
         accepted = λ zero.
             let none : (answer N w h c).0.number ≡ 0 = ap (λ (r : Reply). r.number) (sym promise.reply_is) ∙ zero in
-            let is = accepted-outcome N w h c none in
-            let long = fits (passed N w h c (accepted-none N w h c none)) in
+            let is = accepted_outcome N w h c none in
+            let long = fits (passed N w h c (accepted_none N w h c none)) in
             let shown : left ≡ text ++ drop (length text) out = output ∙ rw (eq-eqb reply.number 0 zero, output_after) refl in (
               ap (λ (r : Reply). r.value) promise.reply_is ∙ ap (λ (y : Answer). y.0.value) is ∙ (same (outcome N w h c) refl).1,
               subst (WrittenOver text out) (sym shown) (written_over text out long),
@@ -93,7 +93,7 @@ module _ (N w : ℕ) (h : Memory) (u : Undamaged N w h) (c : Call) (alone : Alon
       → r ≡ reply 0 end 0 → OutputPromise N w c text h out r h left
   unfolding output_after
   output_accepted left end passed gives put is =
-      let answered = fit-accepted N w h (undamaged_fit N w h u) c alone passed ∙ gives in
+      let answered = fit_accepted N w h (undamaged_fit N w h u) c alone passed ∙ gives in
       let plain : 0 + length text ≡ length text = omega arith in
       record {
         heap = record {

@@ -69,9 +69,9 @@ module _ (N : ℕ) (h : Memory) where
         not_rising was_open k (omega (arith, found.1)) (eqb-false next 0 (not-true (eqb next 0) both.0))
         (elim (or_true (eqb v 0) (leb next v) both.1) [ inl z ↦ inl (eqb-true v 0 z) | inr l ↦ inr (leb-true next v l) ])
 
-    place-met : places ≡ true → Untidy N h
+    place_met : places ≡ true → Untidy N h
     unfolding bad_place
-    place-met e =
+    place_met e =
         let found = some_true (bad_place N h) N e in
         let k : ℕ = found.0 in
         let v : ℕ = get_or h.list k 0 in
@@ -84,25 +84,25 @@ module _ (N : ℕ) (h : Memory) where
           | inr f ↦ no_first_block was_open k (v - 1) found.1 is f
         ]
 
-    stray-met : strays ≡ true → Untidy N h
+    stray_met : strays ≡ true → Untidy N h
     unfolding stray_mark
-    stray-met e =
+    stray_met e =
         let found = some_true (stray_mark N h) N e in
         let both = and_true (is_marked h found.0) (not (is_first N h found.0)) found.2 in
         stray_mark_lem was_open found.0 both.0 (not-true (is_first N h found.0) both.1)
 
-    root-met : missed_roots ≡ true → Untidy N h
+    root_met : missed_roots ≡ true → Untidy N h
     unfolding root_missed
-    root-met e =
+    root_met e =
         let found = some_true (root_missed h) (length h.roots) e in
         let v : ℕ = get_or h.roots found.0 0 in
         let both = and_true (not (eqb v 0)) (not (is_marked h (v - 1))) found.2 in
         root_missed_lem was_open found.0 (v - 1) found.1 (before (eqb-false v 0 (not-true (eqb v 0) both.0)))
         (not-true (is_marked h (v - 1)) both.1)
 
-    cell-met : missed_cells ≡ true → Untidy N h
+    cell_met : missed_cells ≡ true → Untidy N h
     unfolding cell_missed names
-    cell-met e =
+    cell_met e =
         let found = some_true (cell_missed N h) N e in
         let a : ℕ = found.0 in
         let all =
@@ -118,43 +118,43 @@ module _ (N : ℕ) (h : Memory) where
         (omega (arith, eqb-true (reference N h (4 * a + cell.0)) (b + 1) cell.2)) (not-true (is_marked h b) named.1)
 
     -- where one of them passes, all together do
-    next-bad : nexts ≡ true → is_untidy N h ≡ true
-    next-bad e =
+    next_bad : nexts ≡ true → is_untidy N h ≡ true
+    next_bad e =
         when_open was_open
         ∙ true_or (nexts || places || strays || missed_roots) missed_cells
         (inl (true_or (nexts || places || strays) missed_roots (inl (true_or (nexts || places) strays (inl (true_or nexts places (inl e)))))))
 
-    place-bad : places ≡ true → is_untidy N h ≡ true
-    place-bad e =
+    place_bad : places ≡ true → is_untidy N h ≡ true
+    place_bad e =
         when_open was_open
         ∙ true_or (nexts || places || strays || missed_roots) missed_cells
         (inl (true_or (nexts || places || strays) missed_roots (inl (true_or (nexts || places) strays (inl (true_or nexts places (inr e)))))))
 
-    stray-bad : strays ≡ true → is_untidy N h ≡ true
-    stray-bad e =
+    stray_bad : strays ≡ true → is_untidy N h ≡ true
+    stray_bad e =
         when_open was_open
         ∙ true_or (nexts || places || strays || missed_roots) missed_cells
         (inl (true_or (nexts || places || strays) missed_roots (inl (true_or (nexts || places) strays (inr e)))))
 
-    root-bad : missed_roots ≡ true → is_untidy N h ≡ true
-    root-bad e =
+    root_bad : missed_roots ≡ true → is_untidy N h ≡ true
+    root_bad e =
         when_open was_open
         ∙ true_or (nexts || places || strays || missed_roots) missed_cells (inl (true_or (nexts || places || strays) missed_roots (inr e)))
 
-    cell-bad : missed_cells ≡ true → is_untidy N h ≡ true
-    cell-bad e = when_open was_open ∙ true_or (nexts || places || strays || missed_roots) missed_cells (inr e)
+    cell_bad : missed_cells ≡ true → is_untidy N h ≡ true
+    cell_bad e = when_open was_open ∙ true_or (nexts || places || strays || missed_roots) missed_cells (inr e)
 
   pub clause_met : is_untidy N h ≡ true → Untidy N h
   clause_met e = elim (test_cases_lem (is_open N h)) [ inl was_open ↦ one_open was_open (sym (when_open was_open) ∙ e) | inr none ↦ none_open none (sym (when_none none) ∙ e) ]
     where
       one_open : is_open N h ≡ true → nexts || places || strays || missed_roots || missed_cells ≡ true → Untidy N h
       one_open was_open e = elim (or_true (nexts || places || strays || missed_roots) missed_cells e) [
-        | inr five ↦ cell-met was_open five
+        | inr five ↦ cell_met was_open five
         | inl rest ↦ elim (or_true (nexts || places || strays) missed_roots rest) [
-          | inr four ↦ root-met was_open four
+          | inr four ↦ root_met was_open four
           | inl rest ↦ elim (or_true (nexts || places) strays rest) [
-            | inr three ↦ stray-met was_open three
-            | inl rest ↦ elim (or_true nexts places rest) [ inl one ↦ next_met was_open one | inr two ↦ place-met was_open two ]
+            | inr three ↦ stray_met was_open three
+            | inl rest ↦ elim (or_true nexts places rest) [ inl one ↦ next_met was_open one | inr two ↦ place_met was_open two ]
           ]
         ]
       ]
@@ -185,23 +185,23 @@ module _ (N w : ℕ) (h : Memory) (healthy : Healthy N w h) where
   met_clause (not_rising was_open k l some o) =
       let v : ℕ = get_or h.list k 0 in
       let next : ℕ = get_or h.list (k + 1) 0 in
-      next-bad N h was_open
+      next_bad N h was_open
       (true_some (bad_next h) (N - 1) k (omega arith)
       (true_and (not (eqb next 0)) (eqb v 0 || leb next v) (ap not (ne_eqb next 0 some))
       (true_or (eqb v 0) (leb next v) (elim o [ inl z ↦ inl (eq-eqb v 0 z) | inr q ↦ inr (le-leb next v q) ]))))
   met_clause (no_first_block was_open k b l e bad) =
-      place-bad N h was_open
+      place_bad N h was_open
       (true_some (bad_place N h) N k l
       (held_wrongly k b e (false_and (is_first N h b) (is_marked h b) (λ f. absurd (true≢false (sym f ∙ bad))))))
   met_clause (unmarked_listed was_open k b l e bad) =
-      place-bad N h was_open (true_some (bad_place N h) N k l (held_wrongly k b e (false_and (is_first N h b) (is_marked h b) (λ f. bad))))
+      place_bad N h was_open (true_some (bad_place N h) N k l (held_wrongly k b e (false_and (is_first N h b) (is_marked h b) (λ f. bad))))
   met_clause (stray_mark_lem was_open i m bad) =
-      stray-bad N h was_open
+      stray_bad N h was_open
       (true_some (stray_mark N h) N i (marked_inside N w h healthy i m) (true_and (is_marked h i) (not (is_first N h i)) m (ap not bad)))
   met_clause (root_missed_lem was_open r b l e bad) =
       let v : ℕ = get_or h.roots r 0 in
       let at : v - 1 ≡ b = omega arith in
-      root-bad N h was_open
+      root_bad N h was_open
       (true_some (root_missed h) (length h.roots) r l
       (true_and (not (eqb v 0)) (not (is_marked h (v - 1))) (ap not (ne_eqb v 0 (omega arith)))
       (ap (λ (i : ℕ). not (is_marked h i)) at ∙ ap not bad)))
@@ -209,7 +209,7 @@ module _ (N w : ℕ) (h : Memory) (healthy : Healthy N w h) where
       let within : j < 4 * size_at N h a = omega (arith, l, object.size) in
       let is : reference N h (4 * a + j) ≡ b + 1 = omega arith in
       let named = true_some (λ j. eqb (reference N h (4 * a + j)) (b + 1)) (4 * size_at N h a) j within (eq-eqb _ (b + 1) is) in
-      cell-bad N h was_open
+      cell_bad N h was_open
       (true_some (cell_missed N h) N a (marked_inside N w h healthy a mark.0)
       (true_and (is_first N h a && is_marked h a && not (is_listed N h a)) (some_below (λ i. names N h a i && not (is_marked h i)) N)
       (true_and (is_first N h a && is_marked h a) (not (is_listed N h a)) (true_and (is_first N h a) (is_marked h a) object.first mark.0)

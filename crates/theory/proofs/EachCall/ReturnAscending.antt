@@ -13,10 +13,10 @@ use Rattle.rules_stores.specs.Store.{store_sticks, is_chosen}
 use Rattle.rules_steps.specs.Steps.{store_root_shading, clear_shading, return_shading}
 use Rattle.rules_calls.specs.Calls.{Call, store_root, return_roots, Answer, settled, freeing, outcome, answer, run, last_memory}
 use Rattle.rules_calls.proofs.Unread.{store_root_aside}
-use Rattle.rules_calls.proofs.Replies.{accepted-outcome, Passed}
+use Rattle.rules_calls.proofs.Replies.{accepted_outcome, Passed}
 use Rattle.theory.specs.Returns.{freed_in_all, cleared_singly, SameAsSingly, ascending}
 use Rattle.theory_memories.proofs.Memories.Fit.{Fit}
-use Rattle.theory_memories.proofs.Memories.Accepted.{fit-accepted}
+use Rattle.theory_memories.proofs.Memories.Accepted.{fit_accepted}
 use Rattle.theory.proofs.EachCall.Answers.{answer-fit}
 use Rattle.theory.proofs.EachCall.Clearing.{none_ref, root_cleared}
 use Rattle.theory.proofs.EachCall.Shading.{shape_sized, store_root_shading_lem}
@@ -79,7 +79,7 @@ module _ (N w : ℕ) (h : Memory) (chosen : ℕ) where
 
     answered : answer N w last (store_root n 0) ≡ freeing N last stored (one (store_sticks N w last.counts (get_or last.roots n 0) 0))
     unfolding outcome Passed
-    answered = fit-accepted N w last fit (store_root n 0) refl (l, none_ref N last)
+    answered = fit_accepted N w last fit (store_root n 0) refl (l, none_ref N last)
 
     grows : zeros last.a ≤ zeros stored.a
     grows =
@@ -102,7 +102,7 @@ module _ (N w : ℕ) (h : Memory) (chosen : ℕ) where
           same =
               ap (settled N) next ∙ sym (settled_store N w last n 0)
               ∙ ap (λ (k : Memory). settled N (store_root_shading N w k n 0)) before ∙ settled_store N w (return_shading N w h chosen n) n 0
-              ∙ ap (settled N) (chosen-here e);
+              ∙ ap (settled N) (chosen_here e);
           blocks = omega (
             arith,
             ap (λ (x : Answer). zeros x.1.a) answered,
@@ -112,8 +112,8 @@ module _ (N w : ℕ) (h : Memory) (chosen : ℕ) where
           roots = ap (λ (g : Memory). length g.roots) next ∙ roots_kept;
         }
       where
-        chosen-here : is_chosen chosen n ≡ true → store_root_shading N w (return_shading N w h chosen n) n 0 ≡ return_shading N w h chosen (suc n)
-        chosen-here e = rw (e, return_shading, clear_shading)
+        chosen_here : is_chosen chosen n ≡ true → store_root_shading N w (return_shading N w h chosen n) n 0 ≡ return_shading N w h chosen (suc n)
+        chosen_here e = rw (e, return_shading, clear_shading)
     further false e =
         record { fit = fit; same = before ∙ ap (settled N) (other e); blocks = omega arith; roots = refl }
       where
@@ -157,7 +157,7 @@ module _ (N w : ℕ) (h : Memory) (chosen : ℕ) where
   unfolding outcome freeing
   in_ascending_order fit accepted =
       let all = ascended fit (length h.roots) (omega arith) in
-      let is = accepted-outcome N w h (return_roots chosen) accepted in
+      let is = accepted_outcome N w h (return_roots chosen) accepted in
       let last : Memory = last_memory h (cleared_singly N w h (ascending chosen (length h.roots))) in
       record {
         heap = ap (λ (l : List ℕ). with_sections l (with_waiting (replicate N 0) last)) all.fit.listed ∙ all.same ∙ sym (ap (λ (x : Answer). x.1) is);

@@ -19,7 +19,7 @@ use Rattle.rules_stores.proofs.Plain.{store_root_in, return_in}
 use Rattle.rules_steps.specs.Steps.{is_open}
 use Rattle.rules_calls.specs.Calls.{store_root, return_roots, Answer, own_refusals, settled, freeing, outcome, answer, run, last_memory}
 use Rattle.rules_calls.proofs.Unread.{Keeps, store_root_keeps, return_keeps}
-use Rattle.rules_calls.proofs.Replies.{number_is, accepted-none, accepted-outcome, Passed, passed}
+use Rattle.rules_calls.proofs.Replies.{number_is, accepted_none, accepted_outcome, Passed, passed}
 use Rattle.theory.specs.Returns.{freed_in_all, cleared_singly, EachOnce, SameAsSingly}
 use Rattle.theory_graphs.proofs.Graphs.Occurrences.{equals_same, equals_cases, occurrences, occurrences_nil, occurrences_cons}
 use Rattle.theory_graphs.proofs.Graphs.Order.{same_end}
@@ -31,7 +31,7 @@ use Rattle.theory_memories.proofs.Memories.TidyHeap.{settled_untidy, none_passes
 use Rattle.theory.proofs.EachCall.TidyKept.{store_root_none, return_none, keeps_none}
 use Rattle.theory_memories.proofs.Memories.SameView.{same_memory_lem}
 use Rattle.theory_memories.proofs.Memories.Stores.{positive}
-use Rattle.theory_memories.proofs.Memories.Accepted.{fit_number, fit-accepted}
+use Rattle.theory_memories.proofs.Memories.Accepted.{fit_number, fit_accepted}
 use Rattle.theory.proofs.EachCall.Clearing.{none_ref, Cleared, cleared_none, cleared_then, cleared_settled, root_cleared, InSet, returned}
 
 -- ---- roots cleared singly
@@ -41,7 +41,7 @@ clear_answered :
     → answer N w g (store_root r 0) ≡ freeing N g (store_root_in N w g r 0) (one (store_sticks N w g.counts (get_or g.roots r 0) 0))
 unfolding outcome Passed
 clear_answered N w g fit none r l =
-    fit-accepted N w g fit (store_root r 0) refl (l, none_ref N g)
+    fit_accepted N w g fit (store_root r 0) refl (l, none_ref N g)
     ∙ ap (λ (k : Memory). freeing N g k (one (store_sticks N w g.counts (get_or g.roots r 0) 0))) (store_root_none N w g none r 0)
 
 -- root i stands in the list
@@ -173,9 +173,9 @@ module _ (N w : ℕ) (h : Memory) (fit : Fit N w h) (chosen : ℕ) where
       is_open N h ≡ false → (answer N w h (return_roots chosen)).0.number ≡ 0 → (order : List ℕ) → EachOnce chosen order → SameAsSingly N w h chosen order
   unfolding outcome Passed
   same_as_singly shut accepted order each =
-      let passes : test ≡ true = passed N w h (return_roots chosen) (accepted-none N w h (return_roots chosen) accepted) in
+      let passes : test ≡ true = passed N w h (return_roots chosen) (accepted_none N w h (return_roots chosen) accepted) in
       return_is N w h fit shut chosen (eqb-true (chosen / 2 ^ length h.roots) 0 passes) order each
-      (accepted-outcome N w h (return_roots chosen) accepted
+      (accepted_outcome N w h (return_roots chosen) accepted
       ∙ ap (λ (k : Memory). freeing N h k 0) (return_none N w h shut chosen (length h.roots)))
 
   pub return_refused : ((answer N w h (return_roots chosen)).0.number ≡ 4) ↔ ((r : ℕ) × (length h.roots ≤ r) × (bit_of chosen r ≡ 1))

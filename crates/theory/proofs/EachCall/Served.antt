@@ -22,11 +22,11 @@ use Rattle.rules.proofs.Tabulate.{get_d_tabulate}
 use Rattle.theory_memories.proofs.Maps.Extents.{sizes_of}
 use Rattle.theory_graphs.proofs.Graphs.Graph.{Graph}
 use Rattle.theory_graphs.proofs.Graphs.Calls.{Whole}
-use Rattle.theory_memories.proofs.Memories.Reading.{tabulate_is, number_written, cell-bare}
+use Rattle.theory_memories.proofs.Memories.Reading.{tabulate_is, number_written, cell_bare}
 use Rattle.theory_memories.proofs.Memories.View.{cell_refs, view}
 use Rattle.theory_memories.proofs.Memories.Slots.{length_cell_refs}
 use Rattle.theory_memories.proofs.Memories.Healthy.{Healthy}
-use Rattle.theory_memories.proofs.Memories.Stores.{cell-of}
+use Rattle.theory_memories.proofs.Memories.Stores.{cell_of_lem}
 use Rattle.theory_memories.proofs.Memories.ViewRelease.{reshaped, graph_is}
 use Rattle.theory_memories.proofs.Memories.Formatted.{zeros_at, no_object, formatted_healthy}
 
@@ -100,33 +100,33 @@ module _ (N w : ℕ) (h : Memory) (healthy : Healthy N w h) where
     abbrev left : Memory
     left = with_cells (set h.cells c x) h
 
-    pub number-references : (i : ℕ) → reference N left i ≡ reference N h i
-    number-references =
-        number_written N h.a h.b sizes healthy.represents h.d h.cells a c x (cell-of N w h healthy a j first l) made
+    pub number_references : (i : ℕ) → reference N left i ≡ reference N h i
+    number_references =
+        number_written N h.a h.b sizes healthy.represents h.d h.cells a c x (cell_of_lem N w h healthy a j first l) made
 
-    pub number-view : view N w left ≡ view N w h
-    number-view =
+    pub number_view : view N w left ≡ view N w h
+    number_view =
         graph_is refl refl
         (ap (λ (refs : List ℕ). h.roots ++ refs)
         (tabulate_is (4 * N) (reference N left) (cell_refs N h) (length_cell_refs N h)
-        (λ i m. number-references i ∙ sym (get_d_tabulate 0 (4 * N) (reference N h) i m))))
+        (λ i m. number_references i ∙ sym (get_d_tabulate 0 (4 * N) (reference N h) i m))))
 
-    pub number-healthy : Healthy N w left
-    number-healthy =
+    pub number_healthy : Healthy N w left
+    number_healthy =
         record {
           shape = reshaped N w h left healthy.shape refl refl refl (length-set h.cells c x) refl refl refl refl refl refl;
           represents = healthy.represents;
-          whole = subst (λ (k : Graph). Whole (capacity w) (length h.roots) k) (sym number-view) healthy.whole;
+          whole = subst (λ (k : Graph). Whole (capacity w) (length h.roots) k) (sym number_view) healthy.whole;
           aligned = healthy.aligned;
           bare =
-              cell-bare N h.a h.b sizes healthy.represents h.d h.cells a c x (cell-of N w h healthy a j first l)
+              cell_bare N h.a h.b sizes healthy.represents h.d h.cells a c x (cell_of_lem N w h healthy a j first l)
               healthy.bare;
         }
 
-    pub number-served : Served N w (write_number a j x) h (accepted left 0)
-    number-served =
+    pub number_served : Served N w (write_number a j x) h (accepted left 0)
+    number_served =
         record {
-          keep = number-healthy;
+          keep = number_healthy;
           no_early_free = λ b n object leads. record { first = object.first; size = object.size };
           collects = no_collection (write_number a j x) refl;
           sticks = λ living b n was is low top. absurd (omega arith);

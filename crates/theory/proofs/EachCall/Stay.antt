@@ -21,7 +21,7 @@ use Rattle.rules_steps.specs.Steps.{with_none, with_progress, opened, Progress, 
 use Rattle.rules_calls.specs.Calls.{Call, format, check, collect, free_blocks, allocate, store_root, store_cell, look, return_roots, open_collection, take_steps}
 use Rattle.rules_calls.specs.Calls.{allocate_data, write_number, read_number, write_reason, write_shape, settled, freeing, outcome, answer}
 use Rattle.rules_calls.specs.Calls.{copy_from, copy_into}
-use Rattle.rules_calls.proofs.Replies.{answer-either, Passed, passed}
+use Rattle.rules_calls.proofs.Replies.{answer_either, Passed, passed}
 use Rattle.theory_memories.specs.Words.{Object}
 use Rattle.theory.specs.CallWords.{copied_over}
 use Rattle.theory.specs.Data.{StaysSo}
@@ -39,12 +39,12 @@ use Rattle.theory_memories.proofs.Memories.Healthy.{Healthy}
 use Rattle.theory_memories.proofs.Memories.Fit.{Fit}
 use Rattle.theory_memories.proofs.Memories.Formatted.{no_object}
 use Rattle.theory_memories.proofs.Memories.Leads.{object_size}
-use Rattle.theory_memories.proofs.Memories.Stores.{memory_left, LetsGo, store_root_lem, store_cell_lem, allocate-root}
+use Rattle.theory_memories.proofs.Memories.Stores.{memory_left, LetsGo, store_root_lem, store_cell_lem, allocate_root}
 use Rattle.theory_memories.proofs.Memories.SameView.{Rewrites}
 use Rattle.theory_memories.proofs.Memories.Orders.{release_rewrites}
 use Rattle.theory_memories.proofs.Memories.ViewCollection.{collect_swept, collected_shows}
 use Rattle.theory_memories.proofs.Memories.ViewClose.{close_shows, close_keeps}
-use Rattle.theory_memories.proofs.Memories.Scanning.{steps-from-open, list-empty}
+use Rattle.theory_memories.proofs.Memories.Scanning.{steps_from_open, list_empty}
 use Rattle.theory.proofs.EachCall.Clearing.{returned}
 use Rattle.theory.proofs.EachCall.Shading.{Shading, Sized, shape_sized, store_root_shading_lem, store_cell_shading_lem, allocate_shading_lem, return_shading_lem}
 
@@ -206,7 +206,7 @@ module _ (N w : ℕ) (h : Memory) (healthy : Healthy N w h) where
 
       lets_go :
           LetsGo N w (length h.roots) written (get_or h.roots r 0) (graph.allocate (capacity w) (length h.roots) (view N w h) i n r)
-      lets_go = allocate-root N w h healthy n i (omega arith) space asData r l
+      lets_go = allocate_root N w h healthy n i (omega arith) space asData r l
 
       -- an object that stood lies beside the new one
       outside : (b m : ℕ) → Object N h b m → (j : ℕ) → j < 4 * m → Outside (4 * i) (4 * n) (4 * b + j)
@@ -303,13 +303,13 @@ module _ (N w : ℕ) (h : Memory) (fit : Fit N w h) where
   outcome_stays (take_steps budget) was_open living =
       let reached : Progress = (steps_from budget N h (progress_of N h)).reached in
       steps_stay N w h fit.healthy budget reached
-      (list-empty N w h fit.healthy was_open fit.tidy budget reached (steps-from-open N w h fit.healthy was_open fit.tidy budget).tidy)
+      (list_empty N w h fit.healthy was_open fit.tidy budget reached (steps_from_open N w h fit.healthy was_open fit.tidy budget).tidy)
 
 pub answer_stays :
     (N w : ℕ) (h : Memory) → Fit N w h → (c : Call) (b n : ℕ) → let x = answer N w h c in
     copied_over c x.0 ≡ false → Object N h b n → Object N x.1 b n → StaysSo h x.1 c b n
 answer_stays N w h fit c b n living =
-    answer-either N w h c
+    answer_either N w h c
     (λ x. copied_over c x.0 ≡ false → (b n : ℕ) → Object N h b n → Object N x.1 b n → StaysSo h x.1 c b n)
     (λ number nonzero living. stay_same N w h fit.healthy c h refl refl)
     (λ e. outcome_stays N w h fit c (passed N w h c e)) living b n

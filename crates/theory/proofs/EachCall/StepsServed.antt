@@ -26,7 +26,7 @@ use Rattle.theory_memories.proofs.Memories.ViewRelease.{Shows}
 use Rattle.theory_memories.proofs.Memories.ViewClose as close
 use Rattle.theory_memories.proofs.Memories.ViewClose.{close_shows, close_whole, close_stands, close_or_gone, close_reach, close_lowered}
 use Rattle.theory_memories.proofs.Memories.TidyHeap.{first_some}
-use Rattle.theory_memories.proofs.Memories.Scanning.{Stepped, steps-from-open, list-empty}
+use Rattle.theory_memories.proofs.Memories.Scanning.{Stepped, steps_from_open, list_empty}
 use Rattle.theory.proofs.EachCall.Served.{no_collection, Served}
 use Rattle.theory.proofs.EachCall.Shading.{Shading, shape_sized, progress_shading, marked_served, marked_settled, settled_beside}
 use Rattle.theory_memories.proofs.Memories.Settled.{healthy_after, object_after}
@@ -104,7 +104,7 @@ module _ (N w : ℕ) (h : Memory) (fit : Fit N w h) (was_open : is_open N h ≡ 
   reached = (steps_from budget N h (progress_of N h)).reached
 
   steps : Stepped N w h fit.healthy (progress_of N h) (steps_from budget N h (progress_of N h))
-  steps = steps-from-open N w h fit.healthy was_open fit.tidy budget
+  steps = steps_from_open N w h fit.healthy was_open fit.tidy budget
 
   pub steps_served : (second : ℕ) → Served N w (take_steps budget) h
       (reply 0 (steps_from budget N h (progress_of N h)).steps second, settled N (stepped N w h budget reached))
@@ -125,7 +125,7 @@ module _ (N w : ℕ) (h : Memory) (fit : Fit N w h) (was_open : is_open N h ≡ 
           )
       go true e =
           closed_served N w h fit.healthy reached.marks
-          (list-empty N w h fit.healthy was_open fit.tidy budget reached steps.tidy e) budget
+          (list_empty N w h fit.healthy was_open fit.tidy budget reached steps.tidy e) budget
           (reply 0 (steps_from budget N h (progress_of N h)).steps second) refl
       go false e =
           marked_settled N w (take_steps budget) h (with_progress N (marked reached.marks) (marked reached.list) h)
@@ -146,7 +146,7 @@ module _ (N w : ℕ) (h : Memory) (fit : Fit N w h) (was_open : is_open N h ≡ 
           ] in
           (get_or (sizes_of N g.a g.b) b 0 ≡ size (view N w h) b) ⊎ (get_or (sizes_of N g.a g.b) b 0 ≡ 0)
       go true e =
-          let tidy = list-empty N w h fit.healthy was_open fit.tidy budget reached steps.tidy e in
+          let tidy = list_empty N w h fit.healthy was_open fit.tidy budget reached steps.tidy e in
           let same = ap (λ (k : Graph). size k b) (close_shows N w h fit.healthy reached.marks tidy).view_is in
           elim (close_or_gone N w h fit.healthy reached.marks tidy b) [ inl q ↦ inl (same ∙ q) | inr q ↦ inr (same ∙ q) ]
       go false e = inl refl

@@ -11,7 +11,7 @@ use Rattle.rules_stores.specs.Collection.{marked}
 use Rattle.rules_steps.specs.Steps.{is_open, with_progress, with_none, Progress, progress_of, steps_from, unmarked_freed, closed, closes, stepped}
 use Rattle.rules_calls.specs.Calls.{take_steps, outcome, answer}
 use Rattle.rules.proofs.Objects.{first_facts}
-use Rattle.rules_calls.proofs.Replies.{answer-either, Passed, passed}
+use Rattle.rules_calls.proofs.Replies.{answer_either, Passed, passed}
 use Rattle.theory_graphs.proofs.Graphs.Graph.{Graph, size, count}
 use Rattle.theory_graphs.proofs.Graphs.Tidy.{Tidy}
 use Rattle.theory_memories.proofs.Memories.View.{view}
@@ -20,7 +20,7 @@ use Rattle.theory_memories.proofs.Memories.Fit.{Fit}
 use Rattle.theory_memories.proofs.Memories.Stores.{positive}
 use Rattle.theory_memories.proofs.Memories.ViewClose as close
 use Rattle.theory_memories.proofs.Memories.ViewClose.{close_shows, close_whole, close_lowered}
-use Rattle.theory_memories.proofs.Memories.Scanning.{steps-from-open, list-empty}
+use Rattle.theory_memories.proofs.Memories.Scanning.{steps_from_open, list_empty}
 
 module _ (N w : ℕ) (h : Memory) (fit : Fit N w h) (b : ℕ) (first : is_first N h b ≡ true) (low : count_of N w h b < capacity w) where
   inside : b < N
@@ -48,11 +48,11 @@ module _ (N w : ℕ) (h : Memory) (fit : Fit N w h) (b : ℕ) (first : is_first 
           < capacity w
       go true e =
           close_sticks_none reached.marks
-          (list-empty N w h fit.healthy was_open fit.tidy budget reached (steps-from-open N w h fit.healthy was_open fit.tidy budget).tidy e)
+          (list_empty N w h fit.healthy was_open fit.tidy budget reached (steps_from_open N w h fit.healthy was_open fit.tidy budget).tidy e)
       go false e = low
 
   pub steps_stick_none : (budget : ℕ) → count_of N w (answer N w h (take_steps budget)).1 b < capacity w
   unfolding Passed
   steps_stick_none budget =
-      answer-either N w h (take_steps budget) (λ x. count_of N w x.1 b < capacity w) (λ number nonzero. low)
+      answer_either N w h (take_steps budget) (λ x. count_of N w x.1 b < capacity w) (λ number nonzero. low)
       (λ e. steps_stick budget (passed N w h (take_steps budget) e))

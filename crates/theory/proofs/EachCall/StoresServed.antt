@@ -32,9 +32,9 @@ use Rattle.theory_graphs.proofs.Graphs.Balance.{Balanced, Waits}
 use Rattle.theory_graphs.proofs.Graphs.Keep.{Reach}
 use Rattle.theory_graphs.proofs.Graphs.Order.{runs_leave}
 use Rattle.theory_graphs.proofs.Graphs.Calls.{Shape, Place, finish_ends}
-use Rattle.theory_graphs.proofs.Graphs.Calls.{raised_balanced, raised-waits, raised-shape, store-whole, store_keeps}
-use Rattle.theory_graphs.proofs.Graphs.Calls.{placed-balanced, placed-waits, placed-shape, allocate-whole, allocate_keeps}
-use Rattle.theory_memories.proofs.Memories.Reading.{reference-written, cell-bare}
+use Rattle.theory_graphs.proofs.Graphs.Calls.{raised_balanced, raised_waits, raised_shape, store_whole, store_keeps}
+use Rattle.theory_graphs.proofs.Graphs.Calls.{placed_balanced, placed_waits, placed_shape, allocate_whole, allocate_keeps}
+use Rattle.theory_memories.proofs.Memories.Reading.{reference_written, cell_bare}
 use Rattle.theory_memories.proofs.Memories.View.{cell_refs, slots_in, view}
 use Rattle.theory_memories.proofs.Memories.Slots.{root_slot, references_slots}
 use Rattle.theory_memories.proofs.Memories.Healthy.{Aligned, Healthy, view_count}
@@ -44,8 +44,8 @@ use Rattle.theory.proofs.EachCall.Served.{collecting, no_collection, Served}
 use Rattle.theory_memories.proofs.Memories.Settled.{settled_healthy}
 use Rattle.theory_memories.proofs.Memories.ViewMoves.{set_append_right}
 use Rattle.theory_memories.proofs.Memories.ViewRelease.{Shows}
-use Rattle.theory_memories.proofs.Memories.Stores.{positive, slots_length, ref-object, store_root_lem, cell-place, cell_inside, cell-of, cell_below}
-use Rattle.theory_memories.proofs.Memories.Stores.{cell-read, store_cell_lem, room_vacant, allocate-root}
+use Rattle.theory_memories.proofs.Memories.Stores.{positive, slots_length, ref_object, store_root_lem, cell_place, cell_inside, cell_of_lem, cell_below}
+use Rattle.theory_memories.proofs.Memories.Stores.{cell_read_lem, store_cell_lem, room_vacant, allocate_root}
 use Rattle.theory_memories.proofs.Memories.Settled.{healthy_after, object_after}
 
 -- an object that a release leaves has its old size
@@ -70,31 +70,31 @@ module _ (N w : ℕ) (h : Memory) (healthy : Healthy N w h) where
         let cap : ℕ = capacity w in
         let r : ℕ = length h.roots in
         let pos = positive N w h healthy in
-        let named = ref-object N w h healthy v ref in
+        let named = ref_object N w h healthy v ref in
         healthy_after N w r g (graph.store cap r (view N w h) i v) shows
-        (store-whole cap pos r (view N w h) healthy.whole i v slot-i named)
+        (store_whole cap pos r (view N w h) healthy.whole i v slot-i named)
         (finish_aligned cap pos r (raise cap (view N w h) v) i v
         (raised_balanced cap pos r (view N w h) healthy.whole i v slot-i named)
-        (raised-waits cap pos r (view N w h) healthy.whole i v slot-i named)
-        (raised-shape cap pos r (view N w h) healthy.whole i v slot-i named) slot-i healthy.aligned)
+        (raised_waits cap pos r (view N w h) healthy.whole i v slot-i named)
+        (raised_shape cap pos r (view N w h) healthy.whole i v slot-i named) slot-i healthy.aligned)
 
-    store-object :
+    store_object :
         (b n : ℕ) → Object N h b n → Reach (length h.roots) (sizes_of N h.a h.b) (set (slots_in N h) i v) b
         → Object N (settled N g) b n
-    store-object b n object reach =
+    store_object b n object reach =
         object_after N w (length h.roots) h g (graph.store (capacity w) (length h.roots) (view N w h) i v) healthy.represents shows
         b n object
         (store_keeps (capacity w) (positive N w h healthy) (length h.roots) (view N w h) healthy.whole i v slot-i
-        (ref-object N w h healthy v ref) b reach)
+        (ref_object N w h healthy v ref) b reach)
 
     -- it brings the count of the object at b to the capacity only where that many slots name the object once v is written
-    store-sticks :
+    store_sticks_lem :
         i < length (slots_in N h) → get_or (slots_in N h) i 0 ≢ v → (b n : ℕ) → Object N h b n → count_of N w h b < capacity w
         → count_of N w g b ≡ capacity w → (v ≡ suc b) × (capacity w ≤ occurrences (suc b) (set (slots_in N h) i v))
-    store-sticks inside new b n object low top =
+    store_sticks_lem inside new b n object low top =
         let in_heap : b < N = (first_facts N h.a h.b b object.first).inside in
         stuck_by_store (capacity w) (positive N w h healthy) (length h.roots) (view N w h) healthy.whole i v b slot-i inside
-        (ref-object N w h healthy v ref) new (omega (arith, view_count N w h b in_heap))
+        (ref_object N w h healthy v ref) new (omega (arith, view_count N w h b in_heap))
         (sym (ap (λ (k : Graph). count k b) shows.view_is) ∙ view_count N w g b in_heap ∙ top)
 
   -- a store of the value present
@@ -111,17 +111,17 @@ module _ (N w : ℕ) (h : Memory) (healthy : Healthy N w h) where
 
   module _ (r v : ℕ) (l : r < length h.roots) (ref : is_ref N h v ≡ true) where
     -- the references once the root is written
-    root-references : (b : ℕ) → number_of_references N (with_roots (set h.roots r v) h) b ≡ occurrences (suc b) (set (slots_in N h) r v)
-    root-references b =
+    root_references : (b : ℕ) → number_of_references N (with_roots (set h.roots r v) h) b ≡ occurrences (suc b) (set (slots_in N h) r v)
+    root_references b =
         let written : Memory = with_roots (set h.roots r v) h in
         all_references N written healthy.represents healthy.bare.free_cells b
         ∙ sym (references_slots N written b)
         ∙ ap (occurrences (suc b)) (sym (set-append_left h.roots (cell_refs N h) r v l))
 
     -- the memory after a store is healthy before its waiting list is cleared, too
-    pub store-root-healthy : Healthy N w (store_root_in N w h r v)
+    pub store_root_healthy : Healthy N w (store_root_in N w h r v)
     unfolding store_root_in change_root put_root
-    store-root-healthy = go (eqb (get_or h.roots r 0) v)
+    store_root_healthy = go (eqb (get_or h.roots r 0) v)
       where
         shows : Shows N w (length h.roots) (change_root N w h r v) (graph.store (capacity w) (length h.roots) (view N w h) r v)
         shows = (store_root_lem N w h healthy v ref r l).shows
@@ -138,33 +138,33 @@ module _ (N w : ℕ) (h : Memory) (healthy : Healthy N w h) where
               bare = settled_healthy.bare;
             }
 
-    change-root-served :
+    change_root_served :
         (second : ℕ) → get_or h.roots r 0 ≢ v → Served N w (store_root r v) h (freeing N h (change_root N w h r v) second)
     unfolding change_root put_root freeing stored written writes
-    change-root-served second new =
+    change_root_served second new =
         let shows = (store_root_lem N w h healthy v ref r l).shows in
         record {
           keep = store_healthy v ref r (inl l) (change_root N w h r v) shows;
           no_early_free = λ b n object leads.
-              store-object v ref r (inl l) (change_root N w h r v) shows b n object
+              store_object v ref r (inl l) (change_root N w h r v) shows b n object
               (rw (length-set h.roots r v, ← set-append_left h.roots (cell_refs N h) r v l)
               at (leads_reach N (with_roots (set h.roots r v) h) (sizes_of N h.a h.b) healthy.represents leads));
           collects = no_collection (store_root r v) refl;
           sticks = λ living b n was is low top.
               let found =
-              store-sticks v ref r (inl l) (change_root N w h r v) shows (omega (arith, slots_length N w h healthy))
+              store_sticks_lem v ref r (inl l) (change_root N w h r v) shows (omega (arith, slots_length N w h healthy))
               (λ e. new (sym (root_slot N h r l) ∙ e)) b n was low top in
-              record { accepted = refl; reference = omega (arith, found.0); enough = omega (arith, found.1, root-references b) };
+              record { accepted = refl; reference = omega (arith, found.0); enough = omega (arith, found.1, root_references b) };
         }
 
-    pub storeRoot-served : (second : ℕ) → Served N w (store_root r v) h (freeing N h (store_root_in N w h r v) second)
+    pub store_root_served : (second : ℕ) → Served N w (store_root r v) h (freeing N h (store_root_in N w h r v) second)
     unfolding store_root_in freeing
-    storeRoot-served second = go (eqb (get_or h.roots r 0) v) refl
+    store_root_served second = go (eqb (get_or h.roots r 0) v) refl
       where
         go : (t : Bool) → eqb (get_or h.roots r 0) v ≡ t
             → Served N w (store_root r v) h (freeing N h (elim t [ true ↦ h | false ↦ change_root N w h r v ]) second)
         go true e = same_served (store_root r v) (reply 0 (zeros h.a - zeros h.a) second) refl
-        go false e = change-root-served second (eqb-false (get_or h.roots r 0) v e)
+        go false e = change_root_served second (eqb-false (get_or h.roots r 0) v e)
 
   -- ---- a cell
 
@@ -174,57 +174,57 @@ module _ (N w : ℕ) (h : Memory) (healthy : Healthy N w h) where
     c = 4 * a + j
 
     -- the slots with the reference written
-    cell-slots : slots_in N (with_cells (set h.cells c v) h) ≡ set (slots_in N h) (length h.roots + c) v
-    cell-slots =
+    cell_slots : slots_in N (with_cells (set h.cells c v) h) ≡ set (slots_in N h) (length h.roots + c) v
+    cell_slots =
         ap (λ (refs : List ℕ). h.roots ++ refs)
-        (reference-written N h.a h.b (sizes_of N h.a h.b) healthy.represents h.d h.cells a c v
-        (cell-of N w h healthy a j first l) ordinary (omega (arith, cell_below N w h healthy a j first l, healthy.shape.length_cells)))
+        (reference_written N h.a h.b (sizes_of N h.a h.b) healthy.represents h.d h.cells a c v
+        (cell_of_lem N w h healthy a j first l) ordinary (omega (arith, cell_below N w h healthy a j first l, healthy.shape.length_cells)))
         ∙ sym (set_append_right h.roots (cell_refs N h) c v)
 
     -- the cells of free blocks stay 0
-    written-free : (k : ℕ) → bit_at h.a (k / 4) ≡ 0 → get_or (set h.cells c v) k 0 ≡ 0
-    written-free =
-        (cell-bare N h.a h.b (sizes_of N h.a h.b) healthy.represents h.d h.cells a c v
-        (cell-of N w h healthy a j first l) healthy.bare
+    written_free : (k : ℕ) → bit_at h.a (k / 4) ≡ 0 → get_or (set h.cells c v) k 0 ≡ 0
+    written_free =
+        (cell_bare N h.a h.b (sizes_of N h.a h.b) healthy.represents h.d h.cells a c v
+        (cell_of_lem N w h healthy a j first l) healthy.bare
         ).free_cells
 
-    cell-references :
+    cell_references :
         (b : ℕ) → number_of_references N (with_cells (set h.cells c v) h) b ≡ occurrences (suc b) (set (slots_in N h) (length h.roots + c) v)
-    cell-references b =
+    cell_references b =
         let written : Memory = with_cells (set h.cells c v) h in
-        all_references N written healthy.represents written-free b
+        all_references N written healthy.represents written_free b
         ∙ sym (references_slots N written b)
-        ∙ ap (occurrences (suc b)) cell-slots
+        ∙ ap (occurrences (suc b)) cell_slots
 
-    change-cell-served :
+    change_cell_served :
         (second : ℕ) → get_or h.cells c 0 ≢ v → Served N w (store_cell a j v) h (freeing N h (change_cell N w h c v) second)
     unfolding change_cell put_cell freeing stored written writes
-    change-cell-served second new =
+    change_cell_served second new =
         let shows = (store_cell_lem N w h healthy v ref a j first l ordinary).shows in
-        let slot-i = cell-place N w h healthy a j first l in
+        let slot-i = cell_place N w h healthy a j first l in
         let i : ℕ = length h.roots + c in
         record {
           keep = store_healthy v ref i slot-i (change_cell N w h c v) shows;
           no_early_free = λ b n object leads.
-              store-object v ref i slot-i (change_cell N w h c v) shows b n object
-              (rw cell-slots
+              store_object v ref i slot-i (change_cell N w h c v) shows b n object
+              (rw cell_slots
               at (leads_reach N (with_cells (set h.cells c v) h) (sizes_of N h.a h.b) healthy.represents leads));
           collects = no_collection (store_cell a j v) refl;
           sticks = λ living b n was is low top.
               let found =
-              store-sticks v ref i slot-i (change_cell N w h c v) shows (cell_inside N w h healthy a j first l)
-              (λ e. new (sym (cell-read N w h healthy a j first l ordinary) ∙ e)) b n was low top in
-              record { accepted = refl; reference = omega (arith, found.0); enough = omega (arith, found.1, cell-references b) };
+              store_sticks_lem v ref i slot-i (change_cell N w h c v) shows (cell_inside N w h healthy a j first l)
+              (λ e. new (sym (cell_read_lem N w h healthy a j first l ordinary) ∙ e)) b n was low top in
+              record { accepted = refl; reference = omega (arith, found.0); enough = omega (arith, found.1, cell_references b) };
         }
 
-    pub storeCell-served : (second : ℕ) → Served N w (store_cell a j v) h (freeing N h (store_cell_in N w h c v) second)
+    pub store_cell_served : (second : ℕ) → Served N w (store_cell a j v) h (freeing N h (store_cell_in N w h c v) second)
     unfolding store_cell_in freeing
-    storeCell-served second = go (eqb (get_or h.cells c 0) v) refl
+    store_cell_served second = go (eqb (get_or h.cells c 0) v) refl
       where
         go : (t : Bool) → eqb (get_or h.cells c 0) v ≡ t
             → Served N w (store_cell a j v) h (freeing N h (elim t [ true ↦ h | false ↦ change_cell N w h c v ]) second)
         go true e = same_served (store_cell a j v) (reply 0 (zeros h.a - zeros h.a) second) refl
-        go false e = change-cell-served second (eqb-false (get_or h.cells c 0) v e)
+        go false e = change_cell_served second (eqb-false (get_or h.cells c 0) v e)
 
   -- ---- the allocation
 
@@ -236,8 +236,8 @@ module _ (N w : ℕ) (h : Memory) (healthy : Healthy N w h) where
     nonzero : n ≢ 0
     nonzero = omega arith
 
-    placed-aligned : Aligned (set (sizes_of N h.a h.b) i n)
-    placed-aligned x p =
+    placed_aligned : Aligned (set (sizes_of N h.a h.b) i n)
+    placed_aligned x p =
         elim (ℕ_discrete x i) [
           | yes e ↦
               rw (e, get_or-set_same (sizes_of N h.a h.b) i n 0 (omega (arith, place_found.inside, length_sizes_of N h.a h.b)))
@@ -248,53 +248,53 @@ module _ (N w : ℕ) (h : Memory) (healthy : Healthy N w h) where
         ]
 
     -- an object that stood is not the new one
-    old-object : (b m : ℕ) → Object N h b m → b ≢ i
-    old-object b m object e =
+    old_object : (b m : ℕ) → Object N h b m → b ≢ i
+    old_object b m object e =
         let was = object_size N h (sizes_of N h.a h.b) healthy.represents b m object in
         omega (arith, place_found.free b (omega arith) (omega arith), healthy.represents.used b b (omega arith) (omega (arith, was)))
 
     -- what the call stores, of either kind
-    allocation-written : (asData : Bool) (x : Reply) → written h (allocate_as asData n root) x ≡ with_roots (set h.roots root (1 + x.value)) h
+    allocation_written : (asData : Bool) (x : Reply) → written h (allocate_as asData n root) x ≡ with_roots (set h.roots root (1 + x.value)) h
     unfolding written
-    allocation-written true x = refl
-    allocation-written false x = refl
+    allocation_written true x = refl
+    allocation_written false x = refl
 
-    other-call : (asData : Bool) → collecting (allocate_as asData n root) ≡ false
-    other-call true = refl
-    other-call false = refl
+    other_call : (asData : Bool) → collecting (allocate_as asData n root) ≡ false
+    other_call true = refl
+    other_call false = refl
 
-    pub allocate-served :
+    pub allocate_served :
         (asData : Bool) (second : ℕ)
         → Served N w (allocate_as asData n root) h (reply 0 i second, settled N (allocate_in N w asData h n root i))
     unfolding allocate_in put_root placed graph.allocate stored
-    allocate-served asData second =
+    allocate_served asData second =
         let cap : ℕ = capacity w in
         let r : ℕ = length h.roots in
         let pos = positive N w h healthy in
         let vacant = room_vacant N w h healthy n i nonzero place_found in
-        let shows = (allocate-root N w h healthy n i nonzero place_found asData root l).shows in
+        let shows = (allocate_root N w h healthy n i nonzero place_found asData root l).shows in
         let named : 1 + i ≡ suc i = omega arith in
         record {
           keep = healthy_after N w r (allocate_in N w asData h n root i) (graph.allocate cap r (view N w h) i n root) shows
-              (allocate-whole cap pos r (view N w h) healthy.whole i n root vacant l)
+              (allocate_whole cap pos r (view N w h) healthy.whole i n root vacant l)
               (finish_aligned cap pos r (place (view N w h) i n) root (suc i)
-              (placed-balanced cap pos r (view N w h) healthy.whole i n root vacant l)
-              (placed-waits cap pos r (view N w h) healthy.whole i n root vacant l)
-              (placed-shape cap pos r (view N w h) healthy.whole i n root vacant l) (inl l) placed-aligned);
+              (placed_balanced cap pos r (view N w h) healthy.whole i n root vacant l)
+              (placed_waits cap pos r (view N w h) healthy.whole i n root vacant l)
+              (placed_shape cap pos r (view N w h) healthy.whole i n root vacant l) (inl l) placed_aligned);
           no_early_free = λ b m object leads.
               object_after N w r h (allocate_in N w asData h n root i) (graph.allocate cap r (view N w h) i n root) healthy.represents shows
               b m object
-              (allocate_keeps cap pos r (view N w h) healthy.whole i n root vacant l b (old-object b m object)
+              (allocate_keeps cap pos r (view N w h) healthy.whole i n root vacant l b (old_object b m object)
               (rw (length-set h.roots root (1 + i), ← set-append_left h.roots (cell_refs N h) root (1 + i) l, named)
               at (leads_reach N (with_roots (set h.roots root (1 + i)) h) (sizes_of N h.a h.b) healthy.represents
-              (subst (λ (k : Memory). Leads N k b) (allocation-written asData (reply 0 i second)) leads))));
-          collects = no_collection (allocate_as asData n root) (other-call asData);
+              (subst (λ (k : Memory). Leads N k b) (allocation_written asData (reply 0 i second)) leads))));
+          collects = no_collection (allocate_as asData n root) (other_call asData);
           sticks = λ living b m was is low top.
               let in_heap : b < N = (first_facts N h.a h.b b was.first).inside in
               absurd
               (omega (
                 arith,
-                allocate_lowers cap pos r (view N w h) healthy.whole i n root vacant l b (old-object b m was),
+                allocate_lowers cap pos r (view N w h) healthy.whole i n root vacant l b (old_object b m was),
                 view_count N w h b in_heap,
                 view_count N w (allocate_in N w asData h n root i) b in_heap,
                 ap (λ (k : Graph). count k b) shows.view_is,

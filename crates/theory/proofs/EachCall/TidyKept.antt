@@ -19,16 +19,16 @@ use Rattle.rules_calls.specs.Calls.{Call, format, check, collect, free_blocks, a
 use Rattle.rules_calls.specs.Calls.{allocate_data, write_number, read_number, write_reason, write_shape, settled, freeing, outcome, answer}
 use Rattle.rules_calls.specs.Calls.{copy_from, copy_into}
 use Rattle.rules.proofs.Tests.{test_cases_lem}
-use Rattle.rules_calls.proofs.Replies.{answer-either, Passed, passed}
+use Rattle.rules_calls.proofs.Replies.{answer_either, Passed, passed}
 use Rattle.rules_calls.proofs.Unread.{Keeps, store_root_keeps, change_cell_keeps, allocate_keeps, return_keeps, collect_keeps}
 use Rattle.theory_graphs.proofs.Graphs.Tidy.{Tidy}
 use Rattle.theory_memories.proofs.Memories.View.{view}
 use Rattle.theory_memories.proofs.Memories.Fit.{Fit}
-use Rattle.theory_memories.proofs.Memories.TidyHeap.{tidy-passes, settled_untidy, read_untidy, none_passes, closed_passes}
-use Rattle.theory_memories.proofs.Memories.Scanning.{steps-from-open, opened_tidy}
-use Rattle.theory.proofs.EachCall.Served.{number-references}
+use Rattle.theory_memories.proofs.Memories.TidyHeap.{tidy_passes, settled_untidy, read_untidy, none_passes, closed_passes}
+use Rattle.theory_memories.proofs.Memories.Scanning.{steps_from_open, opened_tidy}
+use Rattle.theory.proofs.EachCall.Served.{number_references}
 use Rattle.theory_copies.proofs.Copies.Accepted.{copy_fit}
-use Rattle.theory.proofs.EachCall.Open.{Open, root_goes, cell-goes, allocate_goes, return_goes}
+use Rattle.theory.proofs.EachCall.Open.{Open, root_goes, cell_goes, allocate_goes, return_goes}
 
 -- ---- with none open nothing is marked
 
@@ -101,7 +101,7 @@ module _ (N w : ℕ) (h : Memory) (fit : Fit N w h) where
 
   opens : Tidied (opened N h)
   unfolding opened
-  opens = tidy-passes N w h fit.healthy (root_names h) (root_names h) (opened_tidy N w h fit.healthy)
+  opens = tidy_passes N w h fit.healthy (root_names h) (root_names h) (opened_tidy N w h fit.healthy)
 
   steps : (budget : ℕ) (p : Progress) → Tidy (length h.roots) (view N w h) (marked p.marks) (marked p.list)
       → Tidied (stepped N w h budget p)
@@ -110,7 +110,7 @@ module _ (N w : ℕ) (h : Memory) (fit : Fit N w h) where
     where
       pick : (t : Bool) → Tidied (elim t [ true ↦ closed N w p.marks h | false ↦ with_progress N (marked p.marks) (marked p.list) h ])
       pick true = closed_passes N _
-      pick false = tidy-passes N w h fit.healthy (marked p.marks) (marked p.list) tidy
+      pick false = tidy_passes N w h fit.healthy (marked p.marks) (marked p.list) tidy
 
   allocates :
       (asData : Bool) (n r i : ℕ) → 1 ≤ n → n ≤ N → r < length h.roots → lowest_free N (exponent n) h.a ≡ some i
@@ -124,7 +124,7 @@ module _ (N w : ℕ) (h : Memory) (fit : Fit N w h) where
       (a j x : ℕ) → is_first N h a ≡ true → j < 4 * size_at N h a → is_data h.d a ≡ true
       → Tidied (with_cells (set h.cells (4 * a + j) x) h)
   numbers a j x first place made =
-      read_untidy N h (set h.cells (4 * a + j) x) (number-references N w h fit.healthy a j x first place made) ∙ fit.tidy
+      read_untidy N h (set h.cells (4 * a + j) x) (number_references N w h fit.healthy a j x first place made) ∙ fit.tidy
 
   outcome_tidy : (c : Call) → Passed N h c → Tidied (outcome N w h c).1
   unfolding outcome freeing Passed formatted with_none
@@ -146,7 +146,7 @@ module _ (N w : ℕ) (h : Memory) (fit : Fit N w h) where
       (λ e. (root_goes N w h (opened_heap e) v ref r place).after.tidy)
   outcome_tidy (store_cell a j v) (first, place, ordinary, ref) =
       either (store_cell_shading N w h a j v) (store_cell_in N w h (4 * a + j) v) (store_cell_keeps (4 * a + j) v) (λ e. store_cell_none N w h e a j v)
-      (λ e. (cell-goes N w h (opened_heap e) v ref a j first place ordinary).after.tidy)
+      (λ e. (cell_goes N w h (opened_heap e) v ref a j first place ordinary).after.tidy)
   outcome_tidy (return_roots chosen) p =
       either (return_shading N w h chosen (length h.roots)) (return_in N w h chosen (length h.roots))
       (return_keeps N w h chosen (length h.roots)) (λ e. return_none N w h e chosen (length h.roots))
@@ -154,7 +154,7 @@ module _ (N w : ℕ) (h : Memory) (fit : Fit N w h) where
   outcome_tidy open_collection none = opens
   outcome_tidy (take_steps budget) was_open =
       finished (stepped N w h budget (steps_from budget N h (progress_of N h)).reached)
-      (steps budget (steps_from budget N h (progress_of N h)).reached (steps-from-open N w h fit.healthy was_open fit.tidy budget).tidy)
+      (steps budget (steps_from budget N h (progress_of N h)).reached (steps_from_open N w h fit.healthy was_open fit.tidy budget).tidy)
 
   pub answer_tidy : (c : Call) → Tidied (answer N w h c).1
-  answer_tidy c = answer-either N w h c (λ x. Tidied x.1) (λ number nonzero. fit.tidy) (λ e. outcome_tidy c (passed N w h c e))
+  answer_tidy c = answer_either N w h c (λ x. Tidied x.1) (λ number nonzero. fit.tidy) (λ e. outcome_tidy c (passed N w h c e))

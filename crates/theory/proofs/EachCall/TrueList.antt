@@ -9,7 +9,7 @@ use Rattle.rules_calls.specs.Calls.{Call, format, check, collect, free_blocks, a
 use Rattle.rules_calls.specs.Calls.{allocate_data, write_number, read_number, write_reason, write_shape, Answer}
 use Rattle.rules_calls.specs.Calls.{copy_from, copy_into}
 use Rattle.rules_calls.specs.Calls.{tests_heap, freeing, outcome, answer}
-use Rattle.rules_calls.proofs.Replies.{answer-either, accepted-outcome}
+use Rattle.rules_calls.proofs.Replies.{answer_either, accepted_outcome}
 use Rattle.theory.specs.Statements.{ListLeftTrue}
 use Rattle.theory_memories.proofs.Memories.Fit.{Listed}
 use Rattle.theory_memories.proofs.Memories.Accepted.{accepted_fit}
@@ -39,9 +39,9 @@ outcome_listed N w h (copy_into M v second) listed = listed refl
 -- a list that was true is true after every call, a refused one too
 pub answer_listed : (N w : ℕ) (h : Memory) → Listed N h → (c : Call) → Listed N (answer N w h c).1
 answer_listed N w h listed c =
-    answer-either N w h c (λ x. Listed N x.1) (λ number nonzero. listed) (λ _. outcome_listed N w h c (λ _. listed))
+    answer_either N w h c (λ x. Listed N x.1) (λ number nonzero. listed) (λ _. outcome_listed N w h c (λ _. listed))
 
 pub list_left_true : ListLeftTrue
 list_left_true N w h c e =
-    subst (λ (x : Answer). Listed N x.1) (sym (accepted-outcome N w h c e))
+    subst (λ (x : Answer). Listed N x.1) (sym (accepted_outcome N w h c e))
     (outcome_listed N w h c (λ tests. (accepted_fit N w h c tests e).listed))

@@ -9,7 +9,7 @@ use Rattle.rules_calls.specs.Calls.{Call, format, check, collect, free_blocks, a
 use Rattle.rules_calls.specs.Calls.{allocate_data, write_number, read_number, write_reason, write_shape, copy_from, copy_into, Answer, freeing, outcome, answer}
 use Rattle.rules_calls.specs.Promise.{Promise}
 use Rattle.types.specs.declared.Reply.{Reply}
-use Rattle.rules_calls.proofs.Replies.{answer-either}
+use Rattle.rules_calls.proofs.Replies.{answer_either}
 use Rattle.theory.proofs.Theorems.{calls_keep_undamaged}
 use Rattle.theory_memories.specs.Heaps.{Usable}
 
@@ -39,7 +39,7 @@ module _ {N w : ℕ} {h : Memory} (usable : Usable N w h) where
   outcome_idle (copy_into M v second) = usable.idle
 
   answer_idle : (c : Call) → Idle (answer N w h c)
-  answer_idle c = answer-either N w h c Idle (λ number nonzero. usable.idle) (λ _. outcome_idle c)
+  answer_idle c = answer_either N w h c Idle (λ number nonzero. usable.idle) (λ _. outcome_idle c)
 
   pub usable_kept : {c : Call} {x : Reply} {g : Memory} → Promise N w c h x g → Usable N w g
   usable_kept {c} promise =

@@ -40,16 +40,16 @@ module _ {N w : ℕ} {h : Memory} where
     pub cleared_same : with_waiting (replicate N 0) h ≡ h
     cleared_same = ap (λ (x : List ℕ). with_waiting x h) (sym usable.idle)
 
-    pub usable-fit : Fit N w h
-    usable-fit = undamaged_fit N w h usable.undamaged
+    pub usable_fit : Fit N w h
+    usable_fit = undamaged_fit N w h usable.undamaged
 
-    pub usable-healthy : Healthy N w h
-    usable-healthy = usable-fit.healthy
+    pub usable_healthy : Healthy N w h
+    usable_healthy = usable_fit.healthy
 
     -- what a call leaves, from what it left beside its list of sections: it handed the waiting list on, and the list is true
-    pub left-settled :
+    pub left_settled :
         {sections : List ℕ} {g k : Memory} → with_sections sections g ≡ k → k ≡ with_waiting h.waiting k
         → g.sections ≡ figures N g.a → g ≡ settled N k
-    left-settled {sections} {g} {k} left unread listed =
+    left_settled {sections} {g} {k} left unread listed =
         ap (λ (x : List ℕ). with_sections x g) listed
         ∙ ap (λ (m : Memory). with_sections (figures N m.a) m) (left ∙ unread ∙ ap (λ (x : List ℕ). with_waiting x k) usable.idle)

@@ -11,16 +11,16 @@ use Rattle.rules_steps.specs.Steps.{is_open}
 use Rattle.rules_calls.specs.Calls.{Call, collect, Answer, reply, Alone, freeing, settled, outcome, answer}
 use Rattle.rules_calls.specs.Promise.{Promise}
 use Rattle.types.specs.declared.Reply.{Reply}
-use Rattle.rules_calls.proofs.Replies.{Passed, outcome_accepts, answer-either}
+use Rattle.rules_calls.proofs.Replies.{Passed, outcome_accepts, answer_either}
 use Rattle.rules_calls.proofs.Promised.{promised}
 use Rattle.theory.specs.Balance.{freed_blocks, allocates, allocated_by, FreedValue}
 use Rattle.theory_memories.specs.Words.{in_use}
 use Rattle.theory_memories.specs.Heaps.{Usable}
 use Rattle.theory.specs.Usable.{outcome_of, Worked}
 use Rattle.theory_memories.proofs.Memories.Fit.{Fit}
-use Rattle.theory_memories.proofs.Memories.Accepted.{fit-accepted, refused-plain}
+use Rattle.theory_memories.proofs.Memories.Accepted.{fit_accepted, refused_plain}
 use Rattle.theory.proofs.EachCall.Balance.{even_alone}
-use Rattle.theory.proofs.Usable.UsableHeap.{usable-fit}
+use Rattle.theory.proofs.Usable.UsableHeap.{usable_fit}
 
 -- ---- the blocks that a call allocates
 
@@ -36,14 +36,14 @@ refused_allocates c x refused = rw (ne_eqb x.number 0 refused, allocated_by)
 
 module _ {N w : ℕ} {h : Memory} (usable : Usable N w h) {c : Call} (alone : Alone c) {x : Reply} {g : Memory} (promise : Promise N w c h x g) where
   pub call_balance : in_use N h + allocated_by c x ≡ freed_blocks N h g + in_use N g
-  call_balance = rw (promise.reply_is, promise.after_is) (even_alone N w h (usable-fit usable) c alone)
+  call_balance = rw (promise.reply_is, promise.after_is) (even_alone N w h (usable_fit usable) c alone)
 
   -- a call that is refused changes no buffer, and its values are 0
   pub refused_keeps : (x.number ≡ 0 → ⊥) → (g ≡ h) × (x.value ≡ 0) × (x.second ≡ 0)
   refused_keeps =
       rw (promise.reply_is, promise.after_is)
-      (answer-either N w h c (λ y. (y.0.number ≡ 0 → ⊥) → (y.1 ≡ h) × (y.0.value ≡ 0) × (y.0.second ≡ 0))
-      (λ number nonzero _. (refl, ap (λ (y : Answer). y.0.value) (refused-plain N w h (usable-fit usable) c alone number), refl))
+      (answer_either N w h c (λ y. (y.0.number ≡ 0 → ⊥) → (y.1 ≡ h) × (y.0.value ≡ 0) × (y.0.second ≡ 0))
+      (λ number nonzero _. (refl, ap (λ (y : Answer). y.0.value) (refused_plain N w h (usable_fit usable) c alone number), refl))
       (λ _ refused. absurd (refused (outcome_accepts N w h c))))
 
 module _ {N w : ℕ} {h : Memory} (usable : Usable N w h) {c : Call} (alone : Alone c) {x : Reply} (promise : Promise N w c h x h) where
@@ -84,4 +84,4 @@ module _ {N w : ℕ} {h : Memory} {c : Call} (frees : let y = answer N w h c in 
 pub collect_answered :
     {N w : ℕ} {h : Memory} → Fit N w h → is_open N h ≡ false → answer N w h collect ≡ freeing N h (collected N w h) 0
 unfolding outcome Passed
-collect_answered {N} {w} {h} fit shut = fit-accepted N w h fit collect refl shut
+collect_answered {N} {w} {h} fit shut = fit_accepted N w h fit collect refl shut

@@ -24,7 +24,7 @@ use Rattle.rules.proofs.Shape.{Shaped}
 use Rattle.rules_calls.proofs.Replies.{Passed}
 use Rattle.rules.proofs.Objects.{bit_cases, ref_test}
 use Rattle.rules.proofs.Reading.{read_free}
-use Rattle.rules_calls.proofs.Unread.{collect-beside}
+use Rattle.rules_calls.proofs.Unread.{collect_beside}
 use Rattle.theory_memories.specs.Words.{Object, Leads, number_of_references}
 use Rattle.theory_memories.specs.Sound.{ExactCollection}
 use Rattle.theory_memories.specs.Heaps.{Intact}
@@ -37,7 +37,7 @@ use Rattle.theory_memories.proofs.Memories.ViewRelease.{reshaped}
 use Rattle.theory_memories.proofs.Memories.TidyHeap.{none_after, closed_passes}
 use Rattle.theory_memories.proofs.Memories.Fit.{Fit, fit_undamaged}
 use Rattle.theory_memories.proofs.Memories.Soundness.{healthy_sound}
-use Rattle.theory_memories.proofs.Memories.Accepted.{fit-accepted}
+use Rattle.theory_memories.proofs.Memories.Accepted.{fit_accepted}
 use Rattle.theory_memories.proofs.Memories.Settled.{settled_healthy}
 use Rattle.theory_memories.proofs.Memories.Collected.{collected_exact, collected_healthy}
 use Rattle.theory_walks.proofs.Walks.Numbers.{number_zero}
@@ -47,7 +47,7 @@ use Rattle.theory_copies.proofs.Copies.AllLed.{swept_none, all_references, colle
 use Rattle.theory_copies.proofs.Copies.Laying.{listed, map_same, LaidOut, laid_out}
 use Rattle.theory_copies.proofs.Copies.Turns.{laid_turns, turns_same}
 use Rattle.theory_copies.proofs.Copies.Placing.{sizes_with, Holding, copy_map, holding}
-use Rattle.theory_copies.proofs.Copies.Image.{Image, new_none, new_some, met_sized, led-goes, source, object_at_lem, reference-at, all_led, paired, paired_at}
+use Rattle.theory_copies.proofs.Copies.Image.{Image, new_none, new_some, met_sized, led_goes, source, object_at_lem, reference_at, all_led, paired, paired_at}
 
 -- ---- the second heap
 
@@ -132,7 +132,7 @@ module _ (N : ℕ) (h : Memory) (named : Named N h) (M v : ℕ) (shape : Shaped 
       cases : Dec (x ≡ 0) → (new_root x ≡ 0) ⊎ (is_first M filled (new_root x - 1) ≡ true)
       cases (yes z) = inl (ap new_root z ∙ zero_root)
       cases (no n) =
-          let at = led-goes N h named places (led n) in
+          let at = led_goes N h named places (led n) in
           let whole : suc (x - 1) ≡ x = omega arith in
           let is = new_some places (number_in met x) at.i (ap (number_in met) (sym whole) ∙ at.number) in
           let place : new_root x - 1 ≡ get_or places at.i 0 = omega arith in
@@ -159,7 +159,7 @@ module _ (N : ℕ) (h : Memory) (named : Named N h) (M v : ℕ) (shape : Shaped 
       | inl z ↦
           ref_test M filled.a filled.b (reference M filled j)
           (inl (read_free M filled.a filled.b filled.d filled.cells j z ∙ held.cell_none j z))
-      | inr u ↦ used-cell j (owner (j / 4) u)
+      | inr u ↦ used_cell j (owner (j / 4) u)
     ];
     root_refs = λ r l. subst (λ (x : ℕ). is_ref M filled x ≡ true) (sym (filled_image.root_at r)) (new_ref (get_or h.roots r 0) (root_led N h named r));
     no_count = λ i l f. held.count_none i l (not_first_size M filled.a filled.b sizes held.represents i f);
@@ -173,15 +173,15 @@ module _ (N : ℕ) (h : Memory) (named : Named N h) (M v : ℕ) (shape : Shaped 
       stuck : (i : ℕ) → (k : ℕ) × (k < length met) × (i ≡ get_or places k 0) → count_of M v filled i ≡ capacity v
       stuck i (k, l, e) = ap (count_of M v filled) e ∙ held.counted_at k l
 
-      used-cell :
+      used_cell :
           (j : ℕ) → (k : ℕ) × (k < length met) × (get_or places k 0 ≤ j / 4) × (j / 4 < get_or places k 0 + size_of N h met k)
           → is_ref M filled (reference M filled j) ≡ true
-      used-cell j (k, l, low, high) =
+      used_cell j (k, l, low, high) =
           let c : ℕ = j - 4 * get_or places k 0 in
           let place : j ≡ 4 * get_or places k 0 + c = omega arith in
           let inside : c < 4 * size_of N h met k = omega arith in
           let o = source N h named places k l in
-          let held-there = reference-at N h named places M sizes filled filled_image k c l inside in
+          let held-there = reference_at N h named places M sizes filled filled_image k c l inside in
           subst (λ (x : ℕ). is_ref M filled x ≡ true) (sym (ap (reference M filled) place ∙ held-there))
           (new_ref (reference N h (4 * block_at met (suc k) + c))
           (cell_led N h named (subst (Leads N h) (sym o.is) o.led) c inside))
@@ -259,7 +259,7 @@ module _ (N : ℕ) (h : Memory) (named : Named N h) (M v : ℕ) (shape : Shaped 
   unfolding outcome freeing Passed
   collected_already =
       let same = collected_same M v second (λ b f. led b _ (record { first = f; size = refl })) counted in
-      fit-accepted M v second second_fit collect refl second_shut
+      fit_accepted M v second second_fit collect refl second_shut
       ∙ ap {B = Answer} (λ (g : Memory). (reply 0 (zeros g.a - zeros second.a) 0, settled M g)) same
       ∙ ap {B = Answer} (λ (n : ℕ). (reply 0 n 0, second)) (sub_self (zeros second.a))
 
@@ -304,5 +304,5 @@ module _ (N : ℕ) (h : Memory) (named : Named N h) (M v : ℕ) (shape : Shaped 
   -- .. and what the collection leaves of it is the second heap
   pub filled_collected : settled M (collected M v (settled M filled)) ≡ settled M (copied N h M v)
   filled_collected =
-      ap (settled M) (collect-beside M v (λ g. with_sections (figures M filled.a) (with_waiting (replicate M 0) g)) filled)
+      ap (settled M) (collect_beside M v (λ g. with_sections (figures M filled.a) (with_waiting (replicate M 0) g)) filled)
       ∙ ap (settled M) (sym copied_is)

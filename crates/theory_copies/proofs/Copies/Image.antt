@@ -18,7 +18,7 @@ use Rattle.rules.proofs.Objects.{first_facts, size_some}
 use Rattle.theory_memories.specs.Words.{Object, Leads, root, cell}
 use Rattle.theory_walks.specs.Shape.{Numbered, AllMet, moved, Paired}
 use Rattle.theory_memories.proofs.Maps.Extents.{Represents}
-use Rattle.theory_memories.proofs.Memories.Reading.{data-read, ordinary-read}
+use Rattle.theory_memories.proofs.Memories.Reading.{data_read, ordinary_read}
 use Rattle.theory_memories.proofs.Memories.Leads.{object_size, size_object}
 use Rattle.theory_walks.proofs.Walks.Numbers.{number_zero}
 use Rattle.theory_walks.proofs.Walks.Equal.{moved_zero, moved_some}
@@ -123,8 +123,8 @@ module _ (N : ℕ) (h : Memory) (named : Named N h) where
           place = ap (λ (k : ℕ). get_or places k 0) before;
         }
 
-    pub led-goes : {b : ℕ} → Leads N h b → Target b
-    led-goes {b} led = let n = all.each_number b led in goes_by b n.0 n.1 n.2
+    pub led_goes : {b : ℕ} → Leads N h b → Target b
+    led_goes {b} led = let n = all.each_number b led in goes_by b n.0 n.1 n.2
 
     -- the one of number i + 1
     pub record Source (i : ℕ) : Type 0 where
@@ -141,11 +141,11 @@ module _ (N : ℕ) (h : Memory) (named : Named N h) where
         record { block = o.0; is = at.block; led = o.1; place = at.place }
 
     -- a reference of h goes along with what it names
-    pub new-moved : (x : ℕ) → (x ≢ 0 → Leads N h (x - 1)) → new_reference places (number_in met x) ≡ moved goes x
-    new-moved x led = elim (ℕ_discrete x 0) [
+    pub new_moved : (x : ℕ) → (x ≢ 0 → Leads N h (x - 1)) → new_reference places (number_in met x) ≡ moved goes x
+    new_moved x led = elim (ℕ_discrete x 0) [
       | yes e ↦ new_none places (number_in met x) (ap (number_in met) e ∙ zero_number) ∙ sym (moved_zero goes x e)
       | no s ↦
-          let at = led-goes (led s) in
+          let at = led_goes (led s) in
           let whole : suc (x - 1) ≡ x = omega arith in
           new_some places (number_in met x) at.i (ap (number_in met) (sym whole) ∙ at.number)
           ∙ ap (λ (p : ℕ). 1 + p) (sym at.place) ∙ sym (moved_some goes x s)
@@ -160,8 +160,8 @@ module _ (N : ℕ) (h : Memory) (named : Named N h) where
           subst (λ (n : ℕ). Object M g (get_or places i 0) n) at
           (size_object M g sizes image.represents (get_or places i 0) (λ z. met_sized i l (sym at ∙ z)))
 
-      pub object-only : (b n : ℕ) → Object M g b n → (i : ℕ) × (i < length met) × (b ≡ get_or places i 0)
-      object-only b n object =
+      pub object_only : (b n : ℕ) → Object M g b n → (i : ℕ) × (i < length met) × (b ≡ get_or places i 0)
+      object_only b n object =
           let both = object_size M g sizes image.represents b n object in
           image.only b (λ z. both.1 (sym both.0 ∙ z))
 
@@ -174,71 +174,71 @@ module _ (N : ℕ) (h : Memory) (named : Named N h) where
           → (4 * get_or places i 0 ≤ 4 * get_or places i 0 + j) × (4 * get_or places i 0 + j < 4 * get_or places i 0 + 4 * get_or sizes (get_or places i 0) 0)
       cell_inside i j l u = (omega arith, omega (arith, image.size_at_lem i l))
 
-      pub reference-at :
+      pub reference_at :
           (i j : ℕ) → i < length met → j < 4 * size_of N h met i
           → reference M g (4 * get_or places i 0 + j) ≡ new_reference places (number_in met (reference N h (4 * block_at met (suc i) + j)))
-      reference-at i j l u =
+      reference_at i j l u =
           let s = source i l in
           let object : Object N h (block_at met (suc i)) (size_of N h met i) =
           record { first = ap (is_first N h) s.is ∙ led_first N h s.led; size = refl } in
           let inside = cell_inside i j l u in
           elim (test_cases_lem (is_data h.d (block_at met (suc i)))) [
             | inl e ↦
-                data-read M g.a g.b sizes image.represents g.d g.cells (get_or places i 0) (4 * get_or places i 0 + j) inside (same_kind i l ∙ e)
+                data_read M g.a g.b sizes image.represents g.d g.cells (get_or places i 0) (4 * get_or places i 0 + j) inside (same_kind i l ∙ e)
                 ∙ sym (new_none places _ (ap (number_in met) (named.read.of_data (block_at met (suc i)) (size_of N h met i) j object e u) ∙ zero_number))
             | inr e ↦
-                ordinary-read M g.a g.b sizes image.represents g.d g.cells (get_or places i 0) (4 * get_or places i 0 + j) inside (same_kind i l ∙ e)
+                ordinary_read M g.a g.b sizes image.represents g.d g.cells (get_or places i 0) (4 * get_or places i 0 + j) inside (same_kind i l ∙ e)
                 ∙ image.cell_at i j l u ∙ cell_other h met places (block_at met (suc i)) j e
                 ∙ ap (λ (x : ℕ). new_reference places (number_in met x)) (sym (named.read.of_others (block_at met (suc i)) (size_of N h met i) j object e u))
           ]
 
       -- ---- what leads to them
 
-      pub led-along : {b : ℕ} → Leads N h b → Leads M g (goes b)
-      led-along (root b n r object l e) =
-          let at = led-goes (root b n r object l e) in
+      pub led_along : {b : ℕ} → Leads N h b → Leads M g (goes b)
+      led_along (root b n r object l e) =
+          let at = led_goes (root b n r object l e) in
           let held : get_or h.roots r 0 ≡ suc b = omega arith in
           let holds = image.root_at r ∙ new_some places _ at.i (ap (number_in met) held ∙ at.number) in
           root (goes b) (size_of N h met at.i) r (rw at.place (object_at_lem at.i at.inside)) (omega (arith, image.as_many))
           (holds ∙ ap (λ (p : ℕ). 1 + p) (sym at.place))
-      led-along (cell b n a m j object before owner l e) =
-          let at = led-goes (cell b n a m j object before owner l e) in
-          let from = led-goes before in
+      led_along (cell b n a m j object before owner l e) =
+          let at = led_goes (cell b n a m j object before owner l e) in
+          let from = led_goes before in
           let size : size_of N h met from.i ≡ m = ap (size_at N h) from.block ∙ owner.size in
           let u : j < 4 * size_of N h met from.i = omega arith in
           let held : reference N h (4 * block_at met (suc from.i) + j) ≡ suc b =
           ap (λ (x : ℕ). reference N h (4 * x + j)) from.block ∙ omega arith in
           let holds =
-          ap (λ (p : ℕ). reference M g (4 * p + j)) from.place ∙ reference-at from.i j from.inside u
+          ap (λ (p : ℕ). reference M g (4 * p + j)) from.place ∙ reference_at from.i j from.inside u
           ∙ new_some places _ at.i (ap (number_in met) held ∙ at.number) in
           cell (goes b) (size_of N h met at.i) (goes a) (size_of N h met from.i) j (rw at.place (object_at_lem at.i at.inside))
-          (led-along before) (rw from.place (object_at_lem from.i from.inside)) u (holds ∙ ap (λ (p : ℕ). 1 + p) (sym at.place))
+          (led_along before) (rw from.place (object_at_lem from.i from.inside)) u (holds ∙ ap (λ (p : ℕ). 1 + p) (sym at.place))
 
       -- everything in the image is led to
       pub all_led : (b n : ℕ) → Object M g b n → Leads M g b
       all_led b n object =
-          let at = object-only b n object in
+          let at = object_only b n object in
           let s = source at.0 at.1 in
-          subst (Leads M g) (s.place ∙ sym at.2) (led-along s.led)
+          subst (Leads M g) (s.place ∙ sym at.2) (led_along s.led)
 
       -- ---- the pairing
 
-      image-first : {c : ℕ} → Leads M g c → (n : ℕ) × Object M g c n
-      image-first (root b n r object l e) = (n, object)
-      image-first (cell b n a m j object before owner l e) = (n, object)
+      image_first : {c : ℕ} → Leads M g c → (n : ℕ) × Object M g c n
+      image_first (root b n r object l e) = (n, object)
+      image_first (cell b n a m j object before owner l e) = (n, object)
 
-      comes-at : (i : ℕ) → i < length met → comes (get_or places i 0) ≡ block_at met (suc i)
+      comes_at : (i : ℕ) → i < length met → comes (get_or places i 0) ≡ block_at met (suc i)
       unfolding comes
-      comes-at i l =
+      comes_at i l =
           ap (λ (k : ℕ). block_at met (suc k))
           (index_at places (λ a b u m. image.distinct a b u (omega (arith, image.long))) i (omega (arith, image.long)))
 
       again : (c : ℕ) → Leads M g c → Leads N h (comes c) × (goes (comes c) ≡ c)
       again c led =
-          let object = image-first led in
-          let at = object-only c object.0 object.1 in
+          let object = image_first led in
+          let at = object_only c object.0 object.1 in
           let s = source at.0 at.1 in
-          let is : comes c ≡ s.block = ap comes at.2 ∙ comes-at at.0 at.1 ∙ s.is in
+          let is : comes c ≡ s.block = ap comes at.2 ∙ comes_at at.0 at.1 ∙ s.is in
           (subst (Leads N h) (sym is) s.led, ap goes is ∙ s.place ∙ sym at.2)
 
       pub paired : Paired N h M g
@@ -246,25 +246,25 @@ module _ (N : ℕ) (h : Memory) (named : Named N h) where
         to = goes;
         back = comes;
         there = λ b led.
-            let at = led-goes led in
-            (led-along led, ap comes at.place ∙ comes-at at.i at.inside ∙ at.block);
+            let at = led_goes led in
+            (led_along led, ap comes at.place ∙ comes_at at.i at.inside ∙ at.block);
         again = again;
         number = sym image.as_many;
-        roots = λ r l. image.root_at r ∙ new-moved (get_or h.roots r 0) (root_led N h named r);
+        roots = λ r l. image.root_at r ∙ new_moved (get_or h.roots r 0) (root_led N h named r);
         sizes = λ b led.
-            let at = led-goes led in
+            let at = led_goes led in
             ap (size_at M g) at.place ∙ (object_at_lem at.i at.inside).size ∙ ap (size_at N h) at.block;
         bits = λ b led.
-            let at = led-goes led in
+            let at = led_goes led in
             ap (bit_at g.d) at.place ∙ image.kind_at at.i at.inside ∙ ap (bit_at h.d) at.block;
         references = λ b j led l.
-            let at = led-goes led in
+            let at = led_goes led in
             let u : j < 4 * size_of N h met at.i = omega (arith, ap (size_at N h) at.block) in
-            ap (λ (p : ℕ). reference M g (4 * p + j)) at.place ∙ reference-at at.i j at.inside u
+            ap (λ (p : ℕ). reference M g (4 * p + j)) at.place ∙ reference_at at.i j at.inside u
             ∙ ap (λ (x : ℕ). new_reference places (number_in met (reference N h (4 * x + j)))) at.block
-            ∙ new-moved (reference N h (4 * b + j)) (cell_led N h named led j l);
+            ∙ new_moved (reference N h (4 * b + j)) (cell_led N h named led j l);
         numbers = λ b j led kind l.
-            let at = led-goes led in
+            let at = led_goes led in
             let u : j < 4 * size_of N h met at.i = omega (arith, ap (size_at N h) at.block) in
             ap (λ (p : ℕ). get_or g.cells (4 * p + j) 0) at.place ∙ image.cell_at at.i j at.inside u
             ∙ cell_data h met places (block_at met (suc at.i)) j (ap (is_data h.d) at.block ∙ kind)

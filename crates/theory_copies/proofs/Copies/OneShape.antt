@@ -94,22 +94,22 @@ module _ (N K : ℕ) (h f : Memory) (named : Named N h) (named' : Named K f) (al
           ∙ ap (λ (n : ℕ). fill_cells (new_cell f met' places (block' k)) g.cells (4 * p) (4 * n)) size in
           λ i. made_at M v g p (size i) (capacity v) (cells i) (bit i)
 
-      same-copies : (k : ℕ) → k ≤ length met → copy_first N h met places M v k ≡ copy_first K f met' places M v k
+      same_copies : (k : ℕ) → k ≤ length met → copy_first N h met places M v k ≡ copy_first K f met' places M v k
       unfolding copy_first
-      same-copies zero l = ap (formatted M v) alike.number
-      same-copies (suc k) l =
+      same_copies zero l = ap (formatted M v) alike.number
+      same_copies (suc k) l =
           same_copy k (omega arith) (copy_first N h met places M v k) (get_or places k 0)
-          ∙ ap (λ (g : Memory). copy_one K f met' places M v g (block' k) (get_or places k 0)) (same-copies k (omega arith))
+          ∙ ap (λ (g : Memory). copy_one K f met' places M v g (block' k) (get_or places k 0)) (same_copies k (omega arith))
 
       same_roots : map (λ x. new_reference places (number_in met x)) h.roots ≡ map (λ x. new_reference places (number_in met' x)) f.roots
       same_roots =
           sym (map-map (new_reference places) (number_in met) h.roots) ∙ ap (map (new_reference places)) alike.roots
           ∙ map-map (new_reference places) (number_in met') f.roots
 
-      same-all : copy_all N h met places M v ≡ copy_all K f met' places M v
+      same_all : copy_all N h met places M v ≡ copy_all K f met' places M v
       unfolding copy_all
-      same-all =
-          let copies = same-copies (length met) (omega arith) ∙ ap (copy_first K f met' places M v) alike.objects in
+      same_all =
+          let copies = same_copies (length met) (omega arith) ∙ ap (copy_first K f met' places M v) alike.objects in
           λ i. with_roots (same_roots i) (copies i)
 
   module _ (M : ℕ) where
@@ -118,12 +118,12 @@ module _ (N K : ℕ) (h f : Memory) (named : Named N h) (named' : Named K f) (al
     same_laid zero l = refl
     same_laid (suc k) l = λ i. lay_next M ((same_object k (omega arith)).0 i) (same_laid k (omega arith) i)
 
-    pub same-places : lay_all N h M ≡ lay_all K f M
+    pub same_places : lay_all N h M ≡ lay_all K f M
     unfolding lay_all
-    same-places = same_laid (length met) (omega arith) ∙ ap (lay_first M (size_of K f met')) alike.objects
+    same_places = same_laid (length met) (omega arith) ∙ ap (lay_first M (size_of K f met')) alike.objects
 
-    pub same-copied : (v : ℕ) → copied N h M v ≡ copied K f M v
+    pub same_copied : (v : ℕ) → copied N h M v ≡ copied K f M v
     unfolding copied
-    same-copied v =
-        ap (λ (o : Option Laid). collected M v (copy_all N h met (places_in o) M v)) same-places
-        ∙ ap (collected M v) (same-all (places_in (lay_all K f M)) M v)
+    same_copied v =
+        ap (λ (o : Option Laid). collected M v (copy_all N h met (places_in o) M v)) same_places
+        ∙ ap (collected M v) (same_all (places_in (lay_all K f M)) M v)

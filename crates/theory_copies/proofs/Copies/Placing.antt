@@ -21,7 +21,7 @@ use Rattle.rules_output.specs.Walk.{block_at}
 use Rattle.rules_copy.specs.Copy.{size_of, new_cell, fill_cells, copy_one, copy_first}
 use Rattle.theory_copies.specs.Copies.{map_with}
 use Rattle.theory_memories.proofs.Maps.Extents.{Represents, formatted_represents}
-use Rattle.theory_memories.proofs.Maps.Moves.{clear_of, placed-represents}
+use Rattle.theory_memories.proofs.Maps.Moves.{clear_of, placed_represents}
 use Rattle.theory_memories.proofs.Maps.LowestChunk.{Room, room}
 use Rattle.theory_graphs.proofs.Graphs.Stretch.{Outside, side, stretch, stretch_length, stretch_out, stretch_in}
 use Rattle.theory_memories.proofs.Memories.Healthy.{Aligned}
@@ -137,14 +137,14 @@ module _ (N : ℕ) (h : Memory) (met places : List ℕ) (M v : ℕ) (whole : 8 *
           | inr q ↦ inr (omega arith)
         ]
 
-    capacity-fits : capacity v < 2 ^ v
-    capacity-fits = omega (arith, pow_pos v)
+    capacity_fits : capacity v < 2 ^ v
+    capacity_fits = omega (arith, pow_pos v)
 
     module _ (sized : (i : ℕ) → i < k → size_of N h met i ≢ 0) where
       one_more : Holding (suc k) (copy_one N h met places M v g (block_at met (suc k)) p)
       unfolding copy_one sizes_with
       one_more = record {
-        represents = placed-represents M g.a g.b sizes held.represents p n some_blocks r.inside r.free;
+        represents = placed_represents M g.a g.b sizes held.represents p n some_blocks r.inside r.free;
         aligned = λ x s. elim (ℕ_discrete x p) [
           | yes e ↦ subst (λ (y : ℕ). y % 2 ^ exponent (get_or (set sizes p n) y 0) ≡ 0) (sym e) (rw here r.aligned)
           | no d ↦ rw (other x d) (held.aligned x (λ z. s (other x d ∙ z)))
@@ -167,7 +167,7 @@ module _ (N : ℕ) (h : Memory) (met places : List ℕ) (M v : ℕ) (whole : 8 *
         counted_at = λ i l. elim (ℕ_discrete i k) [
           | yes e ↦
               subst (λ (y : ℕ). count_at (M / 8) v (set_count (M / 8) v g.counts p (capacity v)) (place y) ≡ capacity v) (sym e)
-              (count_set_same (M / 8) v g.counts p (capacity v) (omega (arith, whole, r.inside)) (omega (arith, held.length_counts)) capacity-fits)
+              (count_set_same (M / 8) v g.counts p (capacity v) (omega (arith, whole, r.inside)) (omega (arith, held.length_counts)) capacity_fits)
           | no d ↦
               let s = sized i (omega arith) in
               let below : place i < M = omega (arith, held.represents.inside (place i) (λ z. s (sym (held.size_at_lem i (omega arith)) ∙ z)), held.size_at_lem i (omega arith)) in

@@ -19,7 +19,7 @@ use Rattle.rules_copy.specs.Copy.{Laid, lay_all, all_laid}
 use Rattle.rules_calls.specs.Calls.{Call, check, copy_from, copy_into, Answer, other_shaped, refusals, refused_with, own_refusals, refused, answer}
 use Rattle.rules.proofs.Tests.{done, also, false_unless, and_true, true_and, first_past, first_found, first_other}
 use Rattle.rules_calls.proofs.Promised.{copy_in_both}
-use Rattle.rules_calls.proofs.Replies.{number_is, one-applies, refused_as_check, passed, copy_number}
+use Rattle.rules_calls.proofs.Replies.{number_is, one_applies, refused_as_check, passed, copy_number}
 use Rattle.theory_memories.specs.Heaps.{Undamaged}
 use Rattle.theory_copies.specs.Copies.{sizes_met, CopyShaped, NoChunk, CopyRefusedExactly}
 use Rattle.theory_copies.proofs.Copies.Laying.{listed, laid_out}
@@ -53,9 +53,9 @@ module _ (N w : ℕ) (h : Memory) (M v : ℕ) (g : Memory) where
     own : (answer M v g c).0.number ≡ first_number (own_refusals M g c)
     own = number_is M v g c ∙ copy_number M v g right.second N w h right.first right.as_many
 
-    not-one : (answer M v g c).0.number ≡ 1 → ⊥
+    not_one : (answer M v g c).0.number ≡ 1 → ⊥
     unfolding own_refusals
-    not-one e =
+    not_one e =
         first_other 1 (own_refusals M g c) (omega arith)
         (also (omega arith) (also (omega arith) (also (omega arith) (also (omega arith) (also (omega arith) done))))) (sym own ∙ e)
 
@@ -67,22 +67,22 @@ module _ (N w : ℕ) (h : Memory) (M v : ℕ) (g : Memory) where
 
     module _ (u : Undamaged N w h) where
       -- where the others are passed, 14 and 17 are left
-      last-numbers : (answer M v g c).0.number ≡ first_number ((14, is_open N h) ∷ (17, not (all_laid (lay_all N h M))) ∷ [])
+      last_numbers : (answer M v g c).0.number ≡ first_number ((14, is_open N h) ∷ (17, not (all_laid (lay_all N h M))) ∷ [])
       unfolding own_refusals
-      last-numbers =
+      last_numbers =
           own
           ∙ first_past 2 (not (eqb (damage N w h) 0)) _ (ap not (eq-eqb (damage N w h) 0 u.intact.no_damage))
           ∙ first_past 11 (stale_figures N h.a h.sections) _ u.true_list
           ∙ first_past 13 (is_untidy N h) _ u.tidy
 
       fourteen : ((answer M v g c).0.number ≡ 14) ↔ (is_open N h ≡ true)
-      fourteen = rw last-numbers (open_first (is_open N h) (all_laid (lay_all N h M)))
+      fourteen = rw last_numbers (open_first (is_open N h) (all_laid (lay_all N h M)))
 
       seventeen : is_open N h ≡ false → ((answer M v g c).0.number ≡ 17) ↔ ((k : ℕ) × NoChunk N h M k)
       unfolding lay_all
       seventeen none_open =
           let sizes = sizes_met N h in
-          let number = last-numbers ∙ first_past 14 (is_open N h) _ none_open in
+          let number = last_numbers ∙ first_past 14 (is_open N h) _ none_open in
           let is_none = seventeen_none (lay_all N h M) in (
             λ e.
                 let stops = none_stops M sizes (length (numbered N h)) (is_none.0 (sym number ∙ e)) in
@@ -103,11 +103,11 @@ module _ (N w : ℕ) (h : Memory) (M v : ℕ) (g : Memory) where
 
 pub copy_refused_exactly : CopyRefusedExactly
 copy_refused_exactly N w h M v g = record {
-  one = (λ e right. not-one N w h M v g right e, refused_one N w h M v g);
+  one = (λ e right. not_one N w h M v g right e, refused_one N w h M v g);
   as_check = as_check N w h M v g;
   fourteen = fourteen N w h M v g;
   seventeen = seventeen N w h M v g;
   unchanged = λ refused.
       let number = number_is M v g (copy_from N w h) in
-      ap (λ (x : Answer). x.1) (one-applies M v g (copy_from N w h) (λ z. refused (number ∙ z)));
+      ap (λ (x : Answer). x.1) (one_applies M v g (copy_from N w h) (λ z. refused (number ∙ z)));
 }

@@ -14,11 +14,11 @@ use Rattle.rules.specs.Sections.{stale_figures}
 use Rattle.rules_steps.specs.Steps.{is_open, is_untidy}
 use Rattle.rules_copy.specs.Copy.{lay_all, all_laid, copied}
 use Rattle.rules_calls.specs.Calls.{Call, copy_from, Answer, reply, refusals, refused_with, own_refusals, refused, settled, outcome, answer}
-use Rattle.rules_calls.proofs.Replies.{none_applies, one-applies, accepted-none}
+use Rattle.rules_calls.proofs.Replies.{none_applies, one_applies, accepted_none}
 use Rattle.rules_calls.proofs.Unread.{laid_aside, copied_aside}
 use Rattle.theory_copies.specs.Copies.{FirstWaitingUnread, SecondHeapUnread}
 use Rattle.theory_memories.proofs.Memories.TidyHeap.{waiting_untidy}
-use Rattle.theory_memories.proofs.Memories.SameShape.{same_shape, same-damage}
+use Rattle.theory_memories.proofs.Memories.SameShape.{same_shape, same_damage}
 
 -- first heaps that are tested and copied alike
 module _ (N w : ℕ) (h : Memory) (K x : ℕ) (f : Memory) (M v : ℕ) (g : Memory) (kind : damage N w h ≡ damage K x f)
@@ -45,7 +45,7 @@ first_waiting_unread N w h f same_heap same_length M v g =
     let x = f.waiting in
     let long = sym same_length in
     sym
-    (alike_answered N w (with_waiting x h) N w h M v g (same-damage N w h x long) (copied_aside N x h M v) (same_shape N w h x long) refl refl
+    (alike_answered N w (with_waiting x h) N w h M v g (same_damage N w h x long) (copied_aside N x h M v) (same_shape N w h x long) refl refl
     (waiting_untidy N x h) refl (laid_aside N x h M))
     ∙ ap (λ (k : Memory). answer M v g (copy_from N w k)) (ap (with_waiting x) same_heap)
 
@@ -66,14 +66,14 @@ module _ (N w : ℕ) (h : Memory) (M v : ℕ) (g k : Memory) (shape : shaped M v
   one_reply = elim (ℕ_discrete (refused_with M v g copy) 0) [
     | yes e ↦ ap (λ (x : Answer). x.0) (one_memory e)
     | no n ↦
-        ap (λ (x : Answer). x.0) (one-applies M v g copy n)
+        ap (λ (x : Answer). x.0) (one_applies M v g copy n)
         ∙ ap (λ (number : ℕ). (refused (damage N w h) g number).0) second_number
-        ∙ sym (ap (λ (x : Answer). x.0) (one-applies M v k copy (λ e. n (second_number ∙ e))))
+        ∙ sym (ap (λ (x : Answer). x.0) (one_applies M v k copy (λ e. n (second_number ∙ e))))
   ]
 
 pub second_heap_unread : SecondHeapUnread
 second_heap_unread N w h M v g k shape roots =
     record {
       one_reply = one_reply N w h M v g k shape roots;
-      one_memory = λ e. one_memory N w h M v g k shape roots (accepted-none M v g (copy_from N w h) e);
+      one_memory = λ e. one_memory N w h M v g k shape roots (accepted_none M v g (copy_from N w h) e);
     }

@@ -18,7 +18,7 @@ use Rattle.theory_graphs.proofs.Graphs.Balance.{write_balanced, lower_balanced, 
 use Rattle.theory_graphs.proofs.Graphs.Keep.{Reach, root, link, one_owner, release_runs, runs_reach}
 use Rattle.theory_graphs.proofs.Graphs.Order.{Leaves, Ends, runs_leave}
 use Rattle.theory_graphs.proofs.Graphs.Marking.{Markable}
-use Rattle.theory_graphs.proofs.Graphs.Collection.{Live, Collected, collected_or_gone, collected_slot, collected-balanced, collected-waits}
+use Rattle.theory_graphs.proofs.Graphs.Collection.{Live, Collected, collected_or_gone, collected_slot, collected_balanced, collected_waits}
 use Rattle.theory_graphs.proofs.Graphs.Sweep.{Owned, collect, collect_collected}
 
 pub record Shape (r : ℕ) (h : Graph) : Type 0 where
@@ -137,8 +137,8 @@ module _ (cap : ℕ) (pos : 0 < cap) (r : ℕ) (h : Graph) (whole : Whole cap r 
     pub raised_balanced : Balanced cap (raise cap h v) v
     raised_balanced = raise_balanced cap pos h v whole.balanced (λ a e. (named a e, all_counted h whole.waits a (named a e)))
 
-    pub raised-waits : Waits (raise cap h v) []
-    raised-waits b =
+    pub raised_waits : Waits (raise cap h v) []
+    raised_waits b =
         elim (equals_cases v (suc b)) [
           | inl c ↦
               let n = all_counted h whole.waits b (named b c.0) in
@@ -147,8 +147,8 @@ module _ (cap : ℕ) (pos : 0 < cap) (r : ℕ) (h : Graph) (whole : Whole cap r 
           | inr c ↦ rw (count_up_other cap h.counts v b c.0) (whole.waits b)
         ]
 
-    pub raised-shape : Shape r (raise cap h v)
-    raised-shape =
+    pub raised_shape : Shape r (raise cap h v)
+    raised_shape =
         let s = whole.shape in
         record {
           disjoint = s.disjoint;
@@ -158,14 +158,14 @@ module _ (cap : ℕ) (pos : 0 < cap) (r : ℕ) (h : Graph) (whole : Whole cap r 
           owned = s.owned;
         }
 
-    pub store-whole : Whole cap r (store cap r h i v)
+    pub store_whole : Whole cap r (store cap r h i v)
     unfolding store
-    store-whole = finish_whole cap pos r (raise cap h v) i v raised_balanced raised-waits raised-shape slot-i
+    store_whole = finish_whole cap pos r (raise cap h v) i v raised_balanced raised_waits raised_shape slot-i
 
     -- what a root leads to, with v written, stays
     pub store_keeps : (b : ℕ) → Reach r h.sizes (set h.slots i v) b → size (store cap r h i v) b ≡ size h b
     unfolding store
-    store_keeps b reach = finish_keeps cap pos r (raise cap h v) i v raised_balanced raised-waits raised-shape slot-i b reach
+    store_keeps b reach = finish_keeps cap pos r (raise cap h v) i v raised_balanced raised_waits raised_shape slot-i b reach
 
   -- ---- the allocation of n blocks at a for root i: the new object starts in the hand
 
@@ -177,90 +177,90 @@ module _ (cap : ℕ) (pos : 0 < cap) (r : ℕ) (h : Graph) (whole : Whole cap r 
         go m (inl l) = omega arith
         go m (inr l) = omega (arith, vacant.some)
 
-    size-new : size (place h a n) a ≡ n
-    size-new = get_or-set_same h.sizes a n 0 (omega (arith, vacant.fits, vacant.some))
+    size_new : size (place h a n) a ≡ n
+    size_new = get_or-set_same h.sizes a n 0 (omega (arith, vacant.fits, vacant.some))
 
-    size-old : (b : ℕ) → b ≢ a → size (place h a n) b ≡ size h b
-    size-old b d = get_or-set_other h.sizes a b n 0 d
+    size_old : (b : ℕ) → b ≢ a → size (place h a n) b ≡ size h b
+    size_old b d = get_or-set_other h.sizes a b n 0 d
 
-    count-new : count (place h a n) a ≡ 1
-    count-new = get_or-set_same h.counts a 1 0 (omega (arith, vacant.fits, vacant.some, whole.shape.counts_length))
+    count_new : count (place h a n) a ≡ 1
+    count_new = get_or-set_same h.counts a 1 0 (omega (arith, vacant.fits, vacant.some, whole.shape.counts_length))
 
-    count-old : (b : ℕ) → b ≢ a → count (place h a n) b ≡ count h b
-    count-old b d = get_or-set_other h.counts a b 1 0 d
+    count_old : (b : ℕ) → b ≢ a → count (place h a n) b ≡ count h b
+    count_old b d = get_or-set_other h.counts a b 1 0 d
 
-    pub placed-balanced : Balanced cap (place h a n) (suc a)
-    placed-balanced b =
+    pub placed_balanced : Balanced cap (place h a n) (suc a)
+    placed_balanced b =
         elim (ℕ_discrete b a) [
           | yes e ↦
               let law = whole.balanced a in
               let unnamed = law_zero cap pos (size h a) (count h a) (references h a + equals 0 (suc a)) law (law.absent fresh) in
-              rw (e, size-new, count-new, equals_same (suc a) (suc a) refl)
+              rw (e, size_new, count_new, equals_same (suc a) (suc a) refl)
               (record { bounded = omega arith; exact = λ l. omega arith; absent = λ z. absurd (vacant.some z) })
           | no d ↦
-              rw (size-old b d, count-old b d, equals_other (suc a) (suc b) (omega arith)) (rw (equals_none b) at (whole.balanced b))
+              rw (size_old b d, count_old b d, equals_other (suc a) (suc b) (omega arith)) (rw (equals_none b) at (whole.balanced b))
         ]
 
-    pub placed-waits : Waits (place h a n) []
-    placed-waits b =
+    pub placed_waits : Waits (place h a n) []
+    placed_waits b =
         elim (ℕ_discrete b a) [
           | yes e ↦
-              rw e (occurrences_nil a ∙ sym (unreferenced_counted (size (place h a n) a) (count (place h a n) a) (omega (arith, count-new))))
-          | no d ↦ rw (size-old b d, count-old b d) (whole.waits b)
+              rw e (occurrences_nil a ∙ sym (unreferenced_counted (size (place h a n) a) (count (place h a n) a) (omega (arith, count_new))))
+          | no d ↦ rw (size_old b d, count_old b d) (whole.waits b)
         ]
 
-    placed-disjoint : Disjoint (place h a n).sizes
-    placed-disjoint x y l p q =
+    placed_disjoint : Disjoint (place h a n).sizes
+    placed_disjoint x y l p q =
         elim (ℕ_discrete x a) [
-          | yes e ↦ let d : y ≢ a = omega arith in first e d (vacant.clear y (λ z. q (size-old y d ∙ z)))
+          | yes e ↦ let d : y ≢ a = omega arith in first e d (vacant.clear y (λ z. q (size_old y d ∙ z)))
           | no d ↦
               elim (ℕ_discrete y a) [
-                | yes e ↦ rw (size-old x d) (second d e (vacant.clear x (λ z. p (size-old x d ∙ z))))
-                | no f ↦ rw (size-old x d) (whole.shape.disjoint x y l (λ z. p (size-old x d ∙ z)) (λ z. q (size-old y f ∙ z)))
+                | yes e ↦ rw (size_old x d) (second d e (vacant.clear x (λ z. p (size_old x d ∙ z))))
+                | no f ↦ rw (size_old x d) (whole.shape.disjoint x y l (λ z. p (size_old x d ∙ z)) (λ z. q (size_old y f ∙ z)))
               ]
         ]
       where
         first : x ≡ a → y ≢ a → (y + size h y ≤ a) ⊎ (a + n ≤ y) → x + size (place h a n) x ≤ y
         first e d (inl u) = absurd (omega arith)
-        first e d (inr u) = rw (e, size-new) u
+        first e d (inr u) = rw (e, size_new) u
 
         second : x ≢ a → y ≡ a → (x + size h x ≤ a) ⊎ (a + n ≤ x) → x + size h x ≤ y
         second d e (inl u) = omega arith
         second d e (inr u) = absurd (omega arith)
 
-    owner-old : (x s : ℕ) → Owns r h.sizes x s → Owns r (place h a n).sizes x s
-    owner-old x s own = rw (size-old x (λ e. let z = ap (size h) e ∙ fresh in omega (arith, own))) own
+    owner_old : (x s : ℕ) → Owns r h.sizes x s → Owns r (place h a n).sizes x s
+    owner_old x s own = rw (size_old x (λ e. let z = ap (size h) e ∙ fresh in omega (arith, own))) own
 
-    pub placed-shape : Shape r (place h a n)
-    placed-shape =
+    pub placed_shape : Shape r (place h a n)
+    placed_shape =
         record {
-          disjoint = placed-disjoint;
+          disjoint = placed_disjoint;
           inside =
               λ x p.
               elim (ℕ_discrete x a) [
-                | yes e ↦ rw (e, size-new) (omega (arith, vacant.fits, length-set h.sizes a n))
+                | yes e ↦ rw (e, size_new) (omega (arith, vacant.fits, length-set h.sizes a n))
                 | no d ↦
-                    rw (size-old x d) (omega (arith, length-set h.sizes a n, whole.shape.inside x (λ z. p (size-old x d ∙ z))))
+                    rw (size_old x d) (omega (arith, length-set h.sizes a n, whole.shape.inside x (λ z. p (size_old x d ∙ z))))
               ];
           counts_length = length-set h.counts a 1 ∙ whole.shape.counts_length ∙ sym (length-set h.sizes a n);
           slots_length = omega (arith, whole.shape.slots_length, length-set h.sizes a n);
-          owned = λ s m. elim (whole.shape.owned s m) [ inl l ↦ inl l | inr q ↦ inr (q.0, owner-old q.0 s q.1) ];
+          owned = λ s m. elim (whole.shape.owned s m) [ inl l ↦ inl l | inr q ↦ inr (q.0, owner_old q.0 s q.1) ];
         }
 
-    pub allocate-whole : Whole cap r (allocate cap r h a n i)
+    pub allocate_whole : Whole cap r (allocate cap r h a n i)
     unfolding allocate
-    allocate-whole = finish_whole cap pos r (place h a n) i (suc a) placed-balanced placed-waits placed-shape (inl is-root)
+    allocate_whole = finish_whole cap pos r (place h a n) i (suc a) placed_balanced placed_waits placed_shape (inl is-root)
 
-    reach-placed : (b : ℕ) → Reach r h.sizes (set h.slots i (suc a)) b → Reach r (place h a n).sizes (set h.slots i (suc a)) b
-    reach-placed b (root s l e) = root s l e
-    reach-placed b (link c s q own e) = link c s (reach-placed c q) (owner-old c s own) e
+    reach_placed : (b : ℕ) → Reach r h.sizes (set h.slots i (suc a)) b → Reach r (place h a n).sizes (set h.slots i (suc a)) b
+    reach_placed b (root s l e) = root s l e
+    reach_placed b (link c s q own e) = link c s (reach_placed c q) (owner_old c s own) e
 
     -- an object that stood and that a root leads to, with the new reference written, stays
     pub allocate_keeps : (b : ℕ) → b ≢ a → Reach r h.sizes (set h.slots i (suc a)) b → size (allocate cap r h a n i) b ≡ size h b
     unfolding allocate
     allocate_keeps b d reach =
-        finish_keeps cap pos r (place h a n) i (suc a) placed-balanced placed-waits placed-shape (inl is-root) b (reach-placed b reach)
-        ∙ size-old b d
+        finish_keeps cap pos r (place h a n) i (suc a) placed_balanced placed_waits placed_shape (inl is-root) b (reach_placed b reach)
+        ∙ size_old b d
 
   -- ---- the collection
 
@@ -283,8 +283,8 @@ module _ (cap : ℕ) (pos : 0 < cap) (r : ℕ) (h : Graph) (whole : Whole cap r 
   pub collected_whole : (k : Graph) → Collected cap r h k → Whole cap r k
   collected_whole k c =
       record {
-        balanced = collected-balanced cap r h k c names;
-        waits = collected-waits cap r h k c names pos;
+        balanced = collected_balanced cap r h k c names;
+        waits = collected_waits cap r h k c names pos;
         shape =
             record {
               disjoint =

@@ -112,36 +112,36 @@ module _ (cap : ℕ) (marks : ℕ → Bool) (b : ℕ) where
               }
         ]
 
-    pub agree-each : (c c' s s' slots slots' : List ℕ) (i n : ℕ) → ((j : ℕ) → Inside i n j → get_or slots j 0 ≡ get_or slots' j 0) → Agree b c c' s s'
+    pub agree_each : (c c' s s' slots slots' : List ℕ) (i n : ℕ) → ((j : ℕ) → Inside i n j → get_or slots j 0 ≡ get_or slots' j 0) → Agree b c c' s s'
         → Agree b (only_each cap marks c slots i n) (count_down_each cap c' slots' i n) (only_each_stack cap marks c slots i n s)
         (count_down_each_stack cap c' slots' i n s')
     unfolding only_each only_each_stack count_down_each count_down_each_stack
-    agree-each c c' s s' slots slots' i zero same a = a
-    agree-each c c' s s' slots slots' i (suc n) same a =
+    agree_each c c' s s' slots slots' i zero same a = a
+    agree_each c c' s s' slots slots' i (suc n) same a =
         rw (same (i + n) (omega arith, omega arith))
         (agree_one (only_each cap marks c slots i n) (count_down_each cap c' slots' i n) (only_each_stack cap marks c slots i n s)
         (count_down_each_stack cap c' slots' i n s') (get_or slots' (i + n) 0)
-        (agree-each c c' s s' slots slots' i n (λ j p. same j (omega (arith, p), omega (arith, p))) a))
+        (agree_each c c' s s' slots slots' i n (λ j p. same j (omega (arith, p), omega (arith, p))) a))
 
   -- an unmarked object is not counted down
   module _ (unmarked : marks b ≡ false) where
     none_names : (v : ℕ) → only marks v ≢ suc b
     none_names v e = false≢true (sym unmarked ∙ (only_names marks v b e).1)
 
-    pub only-each-none : (c slots : List ℕ) (i n : ℕ) → get_or (only_each cap marks c slots i n) b 0 ≡ get_or c b 0
+    pub only_each_none : (c slots : List ℕ) (i n : ℕ) → get_or (only_each cap marks c slots i n) b 0 ≡ get_or c b 0
     unfolding only_each
-    only-each-none c slots i zero = refl
-    only-each-none c slots i (suc n) =
+    only_each_none c slots i zero = refl
+    only_each_none c slots i (suc n) =
         count_down_other cap (only_each cap marks c slots i n) (only marks (get_or slots (i + n) 0)) b (none_names (get_or slots (i + n) 0))
-        ∙ only-each-none c slots i n
+        ∙ only_each_none c slots i n
 
-    pub only-stack-none : (c slots : List ℕ) (i n : ℕ) (s : List ℕ) → occurrences b (only_each_stack cap marks c slots i n s) ≡ occurrences b s
+    pub only_stack_none : (c slots : List ℕ) (i n : ℕ) (s : List ℕ) → occurrences b (only_each_stack cap marks c slots i n s) ≡ occurrences b s
     unfolding only_each_stack
-    only-stack-none c slots i zero s = refl
-    only-stack-none c slots i (suc n) s =
+    only_stack_none c slots i zero s = refl
+    only_stack_none c slots i (suc n) s =
         stack_other cap (only_each cap marks c slots i n) (only marks (get_or slots (i + n) 0)) b (only_each_stack cap marks c slots i n s)
         (none_names (get_or slots (i + n) 0))
-        ∙ only-stack-none c slots i n s
+        ∙ only_stack_none c slots i n s
 
 -- ---- the unmarked objects' slots let go in the usual way
 
@@ -197,8 +197,8 @@ module _ (cap : ℕ) (pos : 0 < cap) (r : ℕ) (marks : ℕ → Bool) (h : Graph
     same_size : slots_of g n ≡ slots_of h n
     same_size = ap (λ (l : List ℕ). 4 * get_or l n 0) p.same_sizes
 
-    dropped-next : Dropped (let_go_each cap g (first_slot r n) (slots_of g n)) (suc n)
-    dropped-next =
+    dropped_next : Dropped (let_go_each cap g (first_slot r n) (slots_of g n)) (suc n)
+    dropped_next =
         record {
           same_sizes = p.same_sizes;
           cleared =
@@ -256,7 +256,7 @@ module _ (cap : ℕ) (pos : 0 < cap) (r : ℕ) (marks : ℕ → Bool) (h : Graph
       go p (inr u) =
           let g = drop_all cap r marks h n in
           record {
-            dropped = rw (u, drop_all) (dropped-next g n p.dropped u);
+            dropped = rw (u, drop_all) (dropped_next g n p.dropped u);
             balanced = rw (u, drop_all) (let_go_each_balanced cap pos g (first_slot r n) (slots_of g n) p.balanced);
             waits = rw (u, drop_all, drop_stack)
                 (let_go_each_waits cap pos g (first_slot r n) (slots_of g n) (drop_stack cap r marks h n) p.balanced p.waits);
@@ -289,15 +289,15 @@ module _ (cap : ℕ) (pos : 0 < cap) (r : ℕ) (marks : ℕ → Bool) (h : Graph
           go p a (inr u) =
               rw (u, survivors, survivors_stack, drop_all, drop_stack)
               (rw (same_size (drop_all cap r marks h n) n p.dropped u)
-              (agree-each cap marks b m (survivors cap r marks h counts n) (drop_all cap r marks h n).counts (survivors_stack cap r marks h counts n)
+              (agree_each cap marks b m (survivors cap r marks h counts n) (drop_all cap r marks h n).counts (survivors_stack cap r marks h counts n)
               (drop_stack cap r marks h n) h.slots (drop_all cap r marks h n).slots (first_slot r n) (slots_of h n)
               (λ j own. own_slots n j p.dropped own) a))
 
-    pub none-counted : (b : ℕ) → marks b ≡ false → (n : ℕ)
+    pub none_counted : (b : ℕ) → marks b ≡ false → (n : ℕ)
         → (get_or (survivors cap r marks h counts n) b 0 ≡ get_or counts b 0) × (occurrences b (survivors_stack cap r marks h counts n) ≡ 0)
     unfolding survivors survivors_stack
-    none-counted b u zero = (refl, occurrences_nil b)
-    none-counted b u (suc n) = go (none-counted b u n) (test_cases_lem (marks n))
+    none_counted b u zero = (refl, occurrences_nil b)
+    none_counted b u (suc n) = go (none_counted b u n) (test_cases_lem (marks n))
       where
         go : (get_or (survivors cap r marks h counts n) b 0 ≡ get_or counts b 0) × (occurrences b (survivors_stack cap r marks h counts n) ≡ 0)
             → (marks n ≡ true) ⊎ (marks n ≡ false)
@@ -305,8 +305,8 @@ module _ (cap : ℕ) (pos : 0 < cap) (r : ℕ) (marks : ℕ → Bool) (h : Graph
         go q (inl t) = rw (t, survivors, survivors_stack) q
         go q (inr t) =
             rw (t, survivors, survivors_stack) (
-              only-each-none cap marks b u (survivors cap r marks h counts n) h.slots (first_slot r n) (slots_of h n) ∙ q.0,
-              only-stack-none cap marks b u (survivors cap r marks h counts n) h.slots (first_slot r n) (slots_of h n) (survivors_stack cap r marks h counts n)
+              only_each_none cap marks b u (survivors cap r marks h counts n) h.slots (first_slot r n) (slots_of h n) ∙ q.0,
+              only_stack_none cap marks b u (survivors cap r marks h counts n) h.slots (first_slot r n) (slots_of h n) (survivors_stack cap r marks h counts n)
                   ∙ q.1,
             )
 
@@ -342,55 +342,55 @@ module _ (cap : ℕ) (pos : 0 < cap) (r : ℕ) (marks : ℕ → Bool) (h : Graph
           go : slot (drop_all cap r marks h all) s ≡ suc b → slot h s ≡ suc b → ⊥
           go f q = by f q (whole.shape.owned s (omega arith))
 
-      unreferenced-there : (b : ℕ) → marks b ≡ false → references k b ≡ 0
-      unreferenced-there b u =
+      unreferenced_there : (b : ℕ) → marks b ≡ false → references k b ≡ 0
+      unreferenced_there b u =
           elim (ℕ_discrete (references k b) 0) [
             | yes z ↦ z
             | no n ↦ let f = occurrences_find (suc b) k.slots (omega arith) in absurd (unnamed b f.0 u f.2)
           ]
 
-      same-size-there : (b : ℕ) → size (drop_all cap r marks h all) b ≡ size h b
-      same-size-there b = ap (λ (l : List ℕ). get_or l b 0) end.dropped.same_sizes
+      same_size_there : (b : ℕ) → size (drop_all cap r marks h all) b ≡ size h b
+      same_size_there b = ap (λ (l : List ℕ). get_or l b 0) end.dropped.same_sizes
 
       same_references : (b : ℕ) → references k b ≡ references (drop_all cap r marks h all) b
       same_references b = ap (occurrences (suc b)) slots_are
 
-      marked-object : (b : ℕ) → marks b ≡ true → size h b ≢ 0
-      marked-object = tidy.objects
+      marked_object : (b : ℕ) → marks b ≡ true → size h b ≢ 0
+      marked_object = tidy.objects
 
       same_count : (b : ℕ) → marks b ≡ true → count k b ≡ count (drop_all cap r marks h all) b
       same_count b m =
           ap (λ (l : List ℕ). get_or l b 0) counts_are
-          ∙ (agree b (marked-object b m) m (counted b (marked-object b m) m) all).counts
+          ∙ (agree b (marked_object b m) m (counted b (marked_object b m) m) all).counts
 
-      gone-count : (b : ℕ) → marks b ≡ false → count k b ≡ 0
-      gone-count b u = ap (λ (l : List ℕ). get_or l b 0) counts_are ∙ (none-counted b u all).0 ∙ uncounted b u
+      gone_count : (b : ℕ) → marks b ≡ false → count k b ≡ 0
+      gone_count b u = ap (λ (l : List ℕ). get_or l b 0) counts_are ∙ (none_counted b u all).0 ∙ uncounted b u
 
-      pub close-balanced : Balanced cap k 0
-      close-balanced b = go (test_cases_lem (marks b))
+      pub close_balanced : Balanced cap k 0
+      close_balanced b = go (test_cases_lem (marks b))
         where
           go : (marks b ≡ true) ⊎ (marks b ≡ false) → Law cap (size k b) (count k b) (references k b + equals 0 (suc b))
           go (inl m) =
-              rw (sizes_kept b m, same_count b m, same_references b) (rw (same-size-there b) at (end.balanced b))
+              rw (sizes_kept b m, same_count b m, same_references b) (rw (same_size_there b) at (end.balanced b))
           go (inr u) =
-              let z = gone-count b u in
-              let n = unreferenced-there b u in
+              let z = gone_count b u in
+              let n = unreferenced_there b u in
               record {
                 bounded = omega arith;
                 exact = λ l. omega (arith, equals_none b);
                 absent = λ e. z;
               }
 
-      pub close-waits : Waits k (survivors_stack cap r marks h counts all)
-      close-waits b = go (test_cases_lem (marks b))
+      pub close_waits : Waits k (survivors_stack cap r marks h counts all)
+      close_waits b = go (test_cases_lem (marks b))
         where
           go : (marks b ≡ true) ⊎ (marks b ≡ false) → occurrences b (survivors_stack cap r marks h counts all) ≡ unreferenced (size k b) (count k b)
           go (inl m) =
-              (agree b (marked-object b m) m (counted b (marked-object b m) m) all).stacks
+              (agree b (marked_object b m) m (counted b (marked_object b m) m) all).stacks
               ∙ end.waits b
-              ∙ ap (λ (s : ℕ). unreferenced s (count (drop_all cap r marks h all) b)) (same-size-there b ∙ sym (sizes_kept b m))
+              ∙ ap (λ (s : ℕ). unreferenced s (count (drop_all cap r marks h all) b)) (same_size_there b ∙ sym (sizes_kept b m))
               ∙ ap (unreferenced (size k b)) (sym (same_count b m))
-          go (inr u) = (none-counted b u all).1 ∙ sym (unreferenced_absent (size k b) (count k b) (sizes-gone b u))
+          go (inr u) = (none_counted b u all).1 ∙ sym (unreferenced_absent (size k b) (count k b) (sizes-gone b u))
 
       -- ---- what a root leads to stands
 
@@ -401,9 +401,9 @@ module _ (cap : ℕ) (pos : 0 < cap) (r : ℕ) (marks : ℕ → Bool) (h : Graph
       reach_marked (root s l e) = tidy.roots s _ l e
       reach_marked (link a s q own e) = tidy.cells a s _ (reach_marked q) refl own e
 
-      pub reach-on : {b : ℕ} → Reach r h.sizes h.slots b → Reach r k.sizes k.slots b
-      reach-on (root s l e) = root s l (slot_kept s (λ y u own. omega (arith, own)) ∙ e)
-      reach-on (link a s q own e) =
+      pub reach_on : {b : ℕ} → Reach r h.sizes h.slots b → Reach r k.sizes k.slots b
+      reach_on (root s l e) = root s l (slot_kept s (λ y u own. omega (arith, own)) ∙ e)
+      reach_on (link a s q own e) =
           let m = reach_marked q in
-          link a s (reach-on q) (rw (sizes_kept a m) own)
+          link a s (reach_on q) (rw (sizes_kept a m) own)
           (slot_kept s (λ y u other. false≢true (sym u ∙ rw (one_owner r h.sizes a y s whole.shape.disjoint own other) at m)) ∙ e)

@@ -66,16 +66,16 @@ module _ (cap r : ℕ) (h k : Graph) (collected : Collected cap r h k) where
             by (inl u) f = root s u f
             by (inr (x, q, own)) f = link x s q own f
 
-    pub collected-balanced : Balanced cap k 0
-    collected-balanced b =
+    pub collected_balanced : Balanced cap k 0
+    collected_balanced b =
         record {
           bounded = omega (arith, collected.counted b);
           exact = λ l. omega (arith, collected.counted b, equals_none b);
           absent = λ z. omega (arith, collected.counted b, absent b z);
         }
 
-    pub collected-waits : 0 < cap → Waits k []
-    collected-waits pos b =
+    pub collected_waits : 0 < cap → Waits k []
+    collected_waits pos b =
         occurrences_nil b
         ∙ sym
         (elim (ℕ_discrete (count k b) 0) [

@@ -164,29 +164,29 @@ module _ (cap : ℕ) (pos : 0 < cap) (slots counts : List ℕ) (i : ℕ) where
     next_named : (n b : ℕ) → get_or slots (i + n) 0 ≡ suc b → b < length (count_up_each cap counts slots i n)
     next_named n b e = omega (arith, named (i + n) b e, each_length n)
 
-    each-counted :
+    each_counted :
         (n : ℕ) (ghost : List ℕ) → i + n ≤ length ghost → ((s : ℕ) → Inside i n s → get_or ghost s 0 ≡ 0) → Counted cap counts ghost
         → Counted cap (count_up_each cap counts slots i n) (stretch (λ j. get_or slots j 0) i n ghost)
     unfolding count_up_each stretch
-    each-counted zero ghost l fresh counted b = counted b
-    each-counted (suc n) ghost l fresh counted b =
+    each_counted zero ghost l fresh counted b = counted b
+    each_counted (suc n) ghost l fresh counted b =
         look_counted cap pos (count_up_each cap counts slots i n) (get_or slots (i + n) 0) (next_named n)
         (stretch (λ j. get_or slots j 0) i n ghost)
         (i + n)
         (omega (arith, stretch_length (λ j. get_or slots j 0) i ghost n))
         (stretch_out (λ j. get_or slots j 0) i ghost n (i + n) (inr (omega arith)) ∙ fresh (i + n) (omega arith, omega arith))
-        (each-counted n ghost (omega arith) (λ s p. fresh s (p.0, omega (arith, p))) counted)
+        (each_counted n ghost (omega arith) (λ s p. fresh s (p.0, omega (arith, p))) counted)
         b
 
-    pub each-listed :
+    pub each_listed :
         (n : ℕ) (taken stack : List ℕ) → MetOnce counts taken stack
         → MetOnce (count_up_each cap counts slots i n) taken (count_up_each_stack cap counts slots i n stack)
     unfolding count_up_each count_up_each_stack
-    each-listed zero taken stack listed b = listed b
-    each-listed (suc n) taken stack listed b =
+    each_listed zero taken stack listed b = listed b
+    each_listed (suc n) taken stack listed b =
         look_listed cap pos (count_up_each cap counts slots i n) (get_or slots (i + n) 0) (next_named n) taken
         (count_up_each_stack cap counts slots i n stack)
-        (each-listed n taken stack listed)
+        (each_listed n taken stack listed)
         b
 
 -- ---- the loop
@@ -233,11 +233,11 @@ module _ (cap : ℕ) (pos : 0 < cap) (r : ℕ) (sizes slots : List ℕ) (markabl
         counts_length = each_length cap pos slots zeros 0 r ∙ length-replicate (length sizes) 0;
         ghost_length = stretch_length (λ j. get_or slots j 0) 0 blank r ∙ length-replicate (length slots) 0;
         counted =
-            each-counted cap pos slots zeros 0 (named zeros (length-replicate (length sizes) 0)) r blank (omega (arith, all))
+            each_counted cap pos slots zeros 0 (named zeros (length-replicate (length sizes) 0)) r blank (omega (arith, all))
             (λ s p. replicate_zero (length slots) s)
             (λ b. replicate_zero (length sizes) b ∙ omega (arith, occurrences_zeros (length slots) b));
         listed =
-            each-listed cap pos slots zeros 0 (named zeros (length-replicate (length sizes) 0)) r [] []
+            each_listed cap pos slots zeros 0 (named zeros (length-replicate (length sizes) 0)) r [] []
             (λ b. omega (arith, occurrences_nil b, replicate_zero (length sizes) b));
         sound =
             each_sound cap pos slots zeros 0 (Reach r sizes slots) r (λ s b p e. root s (omega (arith, p)) e)
@@ -274,9 +274,9 @@ module _ (cap : ℕ) (pos : 0 < cap) (r : ℕ) (sizes slots : List ℕ) (markabl
       record {
         counts_length = each_length cap pos slots counts i n ∙ m.counts_length;
         ghost_length = stretch_length (λ j. get_or slots j 0) i ghost n ∙ m.ghost_length;
-        counted = each-counted cap pos slots counts i (named counts m.counts_length) n ghost inside fresh m.counted;
+        counted = each_counted cap pos slots counts i (named counts m.counts_length) n ghost inside fresh m.counted;
         listed =
-            each-listed cap pos slots counts i (named counts m.counts_length) n (x ∷ taken) stack
+            each_listed cap pos slots counts i (named counts m.counts_length) n (x ∷ taken) stack
             (λ b. omega (arith, m.listed b, occurrences_cons b x taken, occurrences_cons b x stack));
         sound = each_sound cap pos slots counts i (Reach r sizes slots) n (λ s b own e. link x s reached own e) m.sound;
         looked =

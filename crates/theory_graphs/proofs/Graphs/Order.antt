@@ -191,57 +191,57 @@ module _ (cap : ℕ) (pos : 0 < cap) (r : ℕ) (S : ℕ → Type 0) (h : Graph) 
     left_k : Leaves cap r h k
     left_k = runs_leave cap r S pos end-k.runs
 
-    left-m : Leaves cap r h m
-    left-m = runs_leave cap r S pos end-m.runs
+    left_m : Leaves cap r h m
+    left_m = runs_leave cap r S pos end-m.runs
 
-    m-keeps : Kept cap (λ b. size k b ≢ 0) (λ s. slot k s ≢ 0) h m
-    m-keeps = other_keeps k m end-k end-m.runs
+    m_keeps : Kept cap (λ b. size k b ≢ 0) (λ s. slot k s ≢ 0) h m
+    m_keeps = other_keeps k m end-k end-m.runs
 
-    k-keeps : Kept cap (λ b. size m b ≢ 0) (λ s. slot m s ≢ 0) h k
-    k-keeps = other_keeps m k end-m end-k.runs
+    k_keeps : Kept cap (λ b. size m b ≢ 0) (λ s. slot m s ≢ 0) h k
+    k_keeps = other_keeps m k end-m end-k.runs
 
-    same-slot : (s : ℕ) → slot k s ≡ slot m s
-    same-slot s = go (left_k.references s) (left-m.references s)
+    same_slot : (s : ℕ) → slot k s ≡ slot m s
+    same_slot s = go (left_k.references s) (left_m.references s)
       where
         go : Same h k s → Same h m s → slot k s ≡ slot m s
         go (inl e) (inl f) = e ∙ sym f
         go (inr e) (inr f) = e ∙ sym f
         go (inl e) (inr f) =
-            elim (ℕ_discrete (slot k s) 0) [ yes z ↦ z ∙ sym f | no n ↦ e ∙ sym (m-keeps.slots_kept s n) ]
+            elim (ℕ_discrete (slot k s) 0) [ yes z ↦ z ∙ sym f | no n ↦ e ∙ sym (m_keeps.slots_kept s n) ]
         go (inr e) (inl f) =
-            elim (ℕ_discrete (slot m s) 0) [ yes z ↦ e ∙ sym z | no n ↦ k-keeps.slots_kept s n ∙ sym f ]
+            elim (ℕ_discrete (slot m s) 0) [ yes z ↦ e ∙ sym z | no n ↦ k_keeps.slots_kept s n ∙ sym f ]
 
     same_size : (x : ℕ) → size k x ≡ size m x
-    same_size x = go (m-keeps.kept_or_gone x) (k-keeps.kept_or_gone x)
+    same_size x = go (m_keeps.kept_or_gone x) (k_keeps.kept_or_gone x)
       where
         go : (size m x ≡ size h x) ⊎ (size m x ≡ 0) → (size k x ≡ size h x) ⊎ (size k x ≡ 0) → size k x ≡ size m x
         go (inl e) (inl f) = f ∙ sym e
         go (inr e) (inr f) = f ∙ sym e
         go (inl e) (inr f) =
-            elim (ℕ_discrete (size m x) 0) [ yes z ↦ f ∙ sym z | no n ↦ k-keeps.sizes_kept x n ∙ sym e ]
+            elim (ℕ_discrete (size m x) 0) [ yes z ↦ f ∙ sym z | no n ↦ k_keeps.sizes_kept x n ∙ sym e ]
         go (inr e) (inl f) =
-            elim (ℕ_discrete (size k x) 0) [ yes z ↦ z ∙ sym e | no n ↦ f ∙ sym (m-keeps.sizes_kept x n) ]
+            elim (ℕ_discrete (size k x) 0) [ yes z ↦ z ∙ sym e | no n ↦ f ∙ sym (m_keeps.sizes_kept x n) ]
 
-    same-slots : k.slots ≡ m.slots
-    same-slots = ext_get_or 0 k.slots m.slots (left_k.slots_length ∙ sym left-m.slots_length) (λ s l. same-slot s)
+    same_slots : k.slots ≡ m.slots
+    same_slots = ext_get_or 0 k.slots m.slots (left_k.slots_length ∙ sym left_m.slots_length) (λ s l. same_slot s)
 
     same_count : (b : ℕ) → count k b ≡ count m b
     same_count b =
         elim (dec_lt (count h b) cap) [
           | yes l ↦
               (runs_balanced cap r S pos end-k.runs balanced b).exact (omega (arith, left_k.lowered b))
-              ∙ ap (λ (l : List ℕ). occurrences (suc b) l + equals 0 (suc b)) same-slots
-              ∙ sym ((runs_balanced cap r S pos end-m.runs balanced b).exact (omega (arith, left-m.lowered b)))
+              ∙ ap (λ (l : List ℕ). occurrences (suc b) l + equals 0 (suc b)) same_slots
+              ∙ sym ((runs_balanced cap r S pos end-m.runs balanced b).exact (omega (arith, left_m.lowered b)))
           | no l ↦
               let e : count h b ≡ cap = omega (arith, (balanced b).bounded) in
-              left_k.stuck b e ∙ sym (left-m.stuck b e)
+              left_k.stuck b e ∙ sym (left_m.stuck b e)
         ]
 
     pub same_end : k ≡ m
     same_end =
         λ i.
         record {
-          sizes = ext_get_or 0 k.sizes m.sizes (left_k.sizes_length ∙ sym left-m.sizes_length) (λ x l. same_size x) i;
-          counts = ext_get_or 0 k.counts m.counts (left_k.counts_length ∙ sym left-m.counts_length) (λ x l. same_count x) i;
-          slots = same-slots i;
+          sizes = ext_get_or 0 k.sizes m.sizes (left_k.sizes_length ∙ sym left_m.sizes_length) (λ x l. same_size x) i;
+          counts = ext_get_or 0 k.counts m.counts (left_k.counts_length ∙ sym left_m.counts_length) (λ x l. same_count x) i;
+          slots = same_slots i;
         }

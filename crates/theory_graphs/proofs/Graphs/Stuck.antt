@@ -12,8 +12,8 @@ use Rattle.theory_graphs.proofs.Graphs.Graph.{Graph, size, count, slot, raise, f
 use Rattle.theory_graphs.proofs.Graphs.Balance.{Balanced, Waits, all_counted}
 use Rattle.theory_graphs.proofs.Graphs.Keep.{count_down_stuck}
 use Rattle.theory_graphs.proofs.Graphs.Order.{runs_leave, count_down_le}
-use Rattle.theory_graphs.proofs.Graphs.Calls.{Shape, Whole, Place, Vacant, finish_ends, raised_balanced, raised-waits, raised-shape}
-use Rattle.theory_graphs.proofs.Graphs.Calls.{placed-balanced, placed-waits, placed-shape}
+use Rattle.theory_graphs.proofs.Graphs.Calls.{Shape, Whole, Place, Vacant, finish_ends, raised_balanced, raised_waits, raised_shape}
+use Rattle.theory_graphs.proofs.Graphs.Calls.{placed_balanced, placed_waits, placed_shape}
 
 -- the end of a store: what is at the capacity stays there, and nothing else comes to it
 pub finish_stuck :
@@ -43,7 +43,7 @@ module _ (cap : ℕ) (pos : 0 < cap) (r : ℕ) (h : Graph) (whole : Whole cap r 
   stuck_by_store i v b slot-i inside named new low top =
       let down =
       finish_lowers cap pos r (raise cap h v) i v (raised_balanced cap pos r h whole i v slot-i named)
-      (raised-waits cap pos r h whole i v slot-i named) (raised-shape cap pos r h whole i v slot-i named) slot-i b in
+      (raised_waits cap pos r h whole i v slot-i named) (raised_shape cap pos r h whole i v slot-i named) slot-i b in
       elim (equals_cases v (suc b)) [
         | inl c ↦
             let object = all_counted h whole.waits b (named b c.0) in
@@ -68,7 +68,7 @@ module _ (cap : ℕ) (pos : 0 < cap) (r : ℕ) (h : Graph) (whole : Whole cap r 
   allocate_lowers a n i vacant root b other =
       omega (
         arith,
-        finish_lowers cap pos r (place h a n) i (suc a) (placed-balanced cap pos r h whole a n i vacant root)
-            (placed-waits cap pos r h whole a n i vacant root) (placed-shape cap pos r h whole a n i vacant root) (inl root) b,
+        finish_lowers cap pos r (place h a n) i (suc a) (placed_balanced cap pos r h whole a n i vacant root)
+            (placed_waits cap pos r h whole a n i vacant root) (placed_shape cap pos r h whole a n i vacant root) (inl root) b,
         get_or-set_other h.counts a b 1 0 other,
       )

@@ -155,8 +155,8 @@ module _ (cap : ℕ) (pos : 0 < cap) (r : ℕ) (h : Graph) (markable : Markable 
     counted_taken : (x : ℕ) → get_or counts x 0 ≢ 0 → 1 ≤ occurrences x taken
     counted_taken x n = omega (arith, m.listed x, occurrences_nil x)
 
-    taken-counted : (x : ℕ) → 1 ≤ occurrences x taken → get_or counts x 0 ≢ 0
-    taken-counted x o z = omega (arith, m.listed x, occurrences_nil x)
+    taken_counted : (x : ℕ) → 1 ≤ occurrences x taken → get_or counts x 0 ≢ 0
+    taken_counted x o z = omega (arith, m.listed x, occurrences_nil x)
 
     -- a slot that the marking looked at stands; any other is 0
     slot_is : (s : ℕ) → slot k s ≡ get_or ghost s 0
@@ -169,7 +169,7 @@ module _ (cap : ℕ) (pos : 0 < cap) (r : ℕ) (h : Graph) (markable : Markable 
             clash : (y : ℕ) → get_or counts y 0 ≡ 0 → Owns r h.sizes y s → Looked r h.sizes taken s → ⊥
             clash y z own (inl u) = omega (arith, own)
             clash y z own (inr (x, o, own')) =
-                taken-counted x o (rw (one_owner r h.sizes x y s markable.disjoint own' own) z)
+                taken_counted x o (rw (one_owner r h.sizes x y s markable.disjoint own' own) z)
 
         dark : get_or ghost s 0 ≡ 0 → Dec (slot h s ≡ 0) → slot k s ≡ get_or ghost s 0
         dark z (yes e) = elim (p.kept_or_cleared s) [ inl f ↦ f ∙ e ∙ sym z | inr f ↦ f ∙ sym z ]
@@ -186,20 +186,20 @@ module _ (cap : ℕ) (pos : 0 < cap) (r : ℕ) (h : Graph) (markable : Markable 
     slots_are : k.slots ≡ ghost
     slots_are = ext_get_or 0 k.slots ghost (p.slots_length ∙ sym m.ghost_length) (λ s l. slot_is s)
 
-    uncounted-gone : (b : ℕ) → get_or counts b 0 ≡ 0 → size k b ≡ 0
-    uncounted-gone b z =
+    uncounted_gone : (b : ℕ) → get_or counts b 0 ≡ 0 → size k b ≡ 0
+    uncounted_gone b z =
         elim (dec_lt b (length h.sizes)) [
           | yes l ↦ p.gone b z l
           | no l ↦ p.kept b (inr (omega arith)) ∙ get_or-eq_default h.sizes 0 (omega arith)
         ]
 
-    swept-collected : Collected cap r h k
-    swept-collected =
+    swept_collected : Collected cap r h k
+    swept_collected =
         record {
           reached = λ b q. p.kept b (inl (complete cap pos r h.sizes h.slots markable counts taken ghost m b q));
           unreached =
               λ b n.
-              elim (ℕ_discrete (get_or counts b 0) 0) [ yes z ↦ uncounted-gone b z | no c ↦ absurd (n (m.sound b c)) ];
+              elim (ℕ_discrete (get_or counts b 0) 0) [ yes z ↦ uncounted_gone b z | no c ↦ absurd (n (m.sound b c)) ];
           live = λ s l. slot_is s ∙ m.agrees s (looked s l);
           dead =
               λ s n.
@@ -218,10 +218,10 @@ module _ (cap : ℕ) (pos : 0 < cap) (r : ℕ) (h : Graph) (markable : Markable 
 
         lives : (s : ℕ) → Looked r h.sizes taken s → Live r h s
         lives s (inl l) = inl l
-        lives s (inr (x, o, own)) = inr (x, m.sound x (taken-counted x o), own)
+        lives s (inr (x, o, own)) = inr (x, m.sound x (taken_counted x o), own)
 
   pub collect_collected : Collected cap r h (collect cap r h)
   unfolding collect
   collect_collected =
       let t = marked_end cap pos r h markable in
-      swept-collected (marked cap r h) t.0 t.1 t.2 (collect cap r h) (swept r (marked_graph cap r h) (length h.sizes))
+      swept_collected (marked cap r h) t.0 t.1 t.2 (collect cap r h) (swept r (marked_graph cap r h) (length h.sizes))

@@ -68,9 +68,9 @@ module _ (N : ℕ) (a b sizes : List ℕ) (rep : Represents N a b sizes) where
           | no v ↦ let t = rep.apart x y (omega (arith, differs y p)) (omega arith) (omega arith) in inr (omega arith)
         ]
 
-    pub freed-represents : Represents N (fill_bits a x n 0) (set_bit b (x + n - 1) 1) (set sizes x 0)
+    pub freed_represents : Represents N (fill_bits a x n 0) (set_bit b (x + n - 1) 1) (set sizes x 0)
     unfolding Beside
-    freed-represents = record {
+    freed_represents = record {
       length_a = omega (arith, length_fill a x n 0, rep.length_a);
       length_b = omega (arith, length_set_bit b (x + n - 1) 1, rep.length_b);
       length_sizes = length-set sizes x 0 ∙ rep.length_sizes;
@@ -131,9 +131,9 @@ module _ (N : ℕ) (a b sizes : List ℕ) (rep : Represents N a b sizes) where
       | no p ↦ absurd (elim (clear_of i n some free i p) [ inl l ↦ omega arith | inr l ↦ omega arith ])
     ]
 
-    pub placed-represents : Represents N (fill_bits a i n 1) (set_bit b (i + n - 1) 0) (set sizes i n)
+    pub placed_represents : Represents N (fill_bits a i n 1) (set_bit b (i + n - 1) 0) (set sizes i n)
     unfolding Beside
-    placed-represents = record {
+    placed_represents = record {
       length_a = omega (arith, length_fill a i n 1, rep.length_a);
       length_b = omega (arith, length_set_bit b (i + n - 1) 0, rep.length_b);
       length_sizes = length-set sizes i n ∙ rep.length_sizes;
@@ -144,7 +144,7 @@ module _ (N : ℕ) (a b sizes : List ℕ) (rep : Represents N a b sizes) where
       ];
       used = λ y j l u. elim (ℕ_discrete y i) [
         | yes q ↦ bit_fill_in a i n 1 j (omega (arith, rep.length_a)) (omega arith) (omega arith) (omega (arith, new, ap now q))
-        | no m ↦ bit_fill_out a i n 1 j (omega arith) (beside-new y j l (omega (arith, same y m)))
+        | no m ↦ bit_fill_out a i n 1 j (omega arith) (beside_new y j l (omega (arith, same y m)))
             ∙ rep.used y j l (omega (arith, same y m))
       ];
       owner = λ j m. elim (among i n j) [
@@ -157,7 +157,7 @@ module _ (N : ℕ) (a b sizes : List ℕ) (rep : Represents N a b sizes) where
             ap (λ (k : ℕ). bit_at (set_bit b (i + n - 1) 0) k) end
             ∙ bit_set_same b (i + n - 1) 0 (omega (arith, rep.length_b)) (omega arith)
         | no m ↦
-            bit_set_other b (i + n - 1) 0 j (beside_end i n j some (beside-new y j (omega arith) (omega (arith, same y m)))) (omega arith)
+            bit_set_other b (i + n - 1) 0 j (beside_end i n j some (beside_new y j (omega arith) (omega (arith, same y m)))) (omega arith)
             ∙ rep.last y j (omega (arith, same y m)) (omega (arith, same y m))
       ];
       other = λ j l f.
@@ -186,8 +186,8 @@ module _ (N : ℕ) (a b sizes : List ℕ) (rep : Represents N a b sizes) where
           ]
         ]
 
-        beside-new : (y j : ℕ) → y ≤ j → j < y + get_or sizes y 0 → Beside i n j
-        beside-new y j l u = elim (clear_of i n some free y (omega arith)) [ inl v ↦ inl (omega arith) | inr v ↦ inr (omega arith) ]
+        beside_new : (y j : ℕ) → y ≤ j → j < y + get_or sizes y 0 → Beside i n j
+        beside_new y j l u = elim (clear_of i n some free y (omega arith)) [ inl v ↦ inl (omega arith) | inr v ↦ inr (omega arith) ]
 
         owned : (j : ℕ) → (y : ℕ) × (y ≤ j) × (j < y + get_or sizes y 0) → (y : ℕ) × (y ≤ j) × (j < y + now y)
         owned j (y, l, u) = (y, l, omega (arith, same y (had y (omega arith))))

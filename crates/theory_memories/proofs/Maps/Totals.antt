@@ -17,7 +17,7 @@ use Rattle.rules.specs.Heap.{first_in}
 use Rattle.rules.proofs.Tests.{test_cases_lem}
 use Rattle.rules.proofs.Objects.{bit_cases}
 use Rattle.theory_memories.proofs.Maps.Extents.{Represents, first_size, not_first_size}
-use Rattle.theory_memories.proofs.Maps.Moves.{freed-represents}
+use Rattle.theory_memories.proofs.Maps.Moves.{freed_represents}
 
 -- ---- sums
 
@@ -67,7 +67,7 @@ module _ (N : ℕ) (a b sizes : List ℕ) (rep : Represents N a b sizes) where
   totals_empty : sum sizes ≡ 0 → ((i : ℕ) → get_or sizes i 0 ≡ 0) → Totals N a b sizes
   unfolding zeros
   totals_empty e none = record {
-    blocks = omega (arith, rep.length_a, all-free);
+    blocks = omega (arith, rep.length_a, all_free);
     objects =
         count_none (sized sizes) N (λ i l. ap not (eq-eqb (get_or sizes i 0) 0 (none i)))
         ∙ sym (count_none (λ i. eqb (bit_at b i) 0) (8 * length b) (λ i l. ne_eqb (bit_at b i) 0 (omega (arith, ones i (omega (arith, rep.length_b))))));
@@ -79,8 +79,8 @@ module _ (N : ℕ) (a b sizes : List ℕ) (rep : Represents N a b sizes) where
       free : (i : ℕ) → bit_at a i ≡ 0
       free i = elim (bit_cases a i) [ inl z ↦ z | inr o ↦ let t = rep.owner i o in absurd (omega (arith, t.1, t.2, none t.0)) ]
 
-      all-free : zeros a ≡ 8 * length a
-      all-free =
+      all_free : zeros a ≡ 8 * length a
+      all_free =
           zeros_same_bits a (replicate (length a) 0) (sym (length-replicate (length a) 0)) (λ i l. free i ∙ sym (bit_all_zero (length a) i))
           ∙ zeros_all_zero (length a)
 
@@ -121,7 +121,7 @@ totals (suc fuel) N a b sizes rep bound = elim (sum_cases sizes) [
       let n : ℕ = get_or sizes x 0 in
       totals_freed N a b sizes rep x n (omega (arith, t.1, rep.length_sizes)) refl t.2
       (totals fuel N (fill_bits a x n 0) (set_bit b (x + n - 1) 1) (set sizes x 0)
-      (freed-represents N a b sizes rep x n refl t.2) (omega (arith, t.2, sum_set sizes x 0 t.1)))
+      (freed_represents N a b sizes rep x n refl t.2) (omega (arith, t.2, sum_set sizes x 0 t.1)))
 ]
 
 -- ---- the two laws

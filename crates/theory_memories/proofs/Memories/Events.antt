@@ -24,19 +24,19 @@ use Rattle.theory_graphs.proofs.Graphs.Stretch.{Inside}
 use Rattle.theory_graphs.proofs.Graphs.Graph as graph
 use Rattle.theory_graphs.proofs.Graphs.Graph.{Graph, size, slot, first_slot, Owns, raise, place}
 use Rattle.theory_graphs.proofs.Graphs.Balance.{Balanced, Waits, named_object}
-use Rattle.theory_graphs.proofs.Graphs.Calls.{Shape, Place, raised_balanced, raised-waits, raised-shape, placed-balanced, placed-waits, placed-shape}
+use Rattle.theory_graphs.proofs.Graphs.Calls.{Shape, Place, raised_balanced, raised_waits, raised_shape, placed_balanced, placed_waits, placed_shape}
 use Rattle.theory_graphs.proofs.Graphs.Tidy.{Lets}
 use Rattle.theory_graphs.proofs.Graphs.Apart.{To}
 use Rattle.theory_graphs.proofs.Graphs.Stored.{finish_stands, finish_left, finish_to_kept}
-use Rattle.theory_memories.proofs.Memories.Reading.{reference-written}
+use Rattle.theory_memories.proofs.Memories.Reading.{reference_written}
 use Rattle.theory_memories.proofs.Memories.View.{cell_refs, slots_in, view}
 use Rattle.theory_memories.proofs.Memories.Slots.{root_slot}
 use Rattle.theory_memories.proofs.Memories.Healthy.{Healthy}
 use Rattle.theory_memories.proofs.Memories.Shades.{Among}
 use Rattle.theory_memories.proofs.Memories.ViewMoves.{set_append_right}
 use Rattle.theory_memories.proofs.Memories.ViewRelease.{Shows}
-use Rattle.theory_memories.proofs.Memories.Stores.{positive, slots_length, ref-object, store_root_lem, cell-place, cell_inside, cell-of, cell_below}
-use Rattle.theory_memories.proofs.Memories.Stores.{cell-read, store_cell_lem, room_vacant, placed-shows, allocate-root}
+use Rattle.theory_memories.proofs.Memories.Stores.{positive, slots_length, ref_object, store_root_lem, cell_place, cell_inside, cell_of_lem, cell_below}
+use Rattle.theory_memories.proofs.Memories.Stores.{cell_read_lem, store_cell_lem, room_vacant, placed_shows, allocate_root}
 
 -- ---- the objects that are touched
 
@@ -80,7 +80,7 @@ module _ (N w : ℕ) (h k : Memory) (touched : List ℕ) (g : Memory) (healthy :
     (view-g : view N w g ≡ graph.finish (capacity w) (length h.roots) f i v)
     (sizes-k : (view N w k).sizes ≡ f.sizes) (slots-k : (view N w k).slots ≡ set f.slots i v)
     (roots_k : length k.roots ≡ length h.roots) (roots_g : length g.roots ≡ length h.roots)
-    (same-slots : f.slots ≡ (view N w h).slots)
+    (same_slots : f.slots ≡ (view N w h).slots)
     (placed : (x : ℕ) → (size (view N w k) x ≡ size (view N w h) x)
     ⊎ ((size (view N w h) x ≡ 0) × ((s : ℕ) → Owns (length h.roots) (view N w k).sizes x s → slot (view N w k) s ≡ 0)))
     (old-touched : (c : ℕ) → slot (view N w h) i ≡ suc c → Among touched c) (new_touched : (c : ℕ) → v ≡ suc c → Among touched c)
@@ -95,7 +95,7 @@ module _ (N w : ℕ) (h k : Memory) (touched : List ℕ) (g : Memory) (healthy :
   pos = positive N w h healthy
 
   slot_k : (s : ℕ) → slot (view N w k) s ≡ get_or (set (slots_in N h) i v) s 0
-  slot_k s = ap (λ (l : List ℕ). get_or l s 0) slots-k ∙ ap (λ (l : List ℕ). get_or (set l i v) s 0) same-slots
+  slot_k s = ap (λ (l : List ℕ). get_or l s 0) slots-k ∙ ap (λ (l : List ℕ). get_or (set l i v) s 0) same_slots
 
   stored : (s b : ℕ) → slot (view N w k) s ≡ suc b → (slot (view N w h) s ≡ suc b) ⊎ Among touched b
   stored s b e =
@@ -124,7 +124,7 @@ module _ (N w : ℕ) (h k : Memory) (touched : List ℕ) (g : Memory) (healthy :
       let there = subst (λ (l : List ℕ). To r f.sizes l b c) slots-k (subst (λ (l : List ℕ). To r l (view N w k).slots b c) sizes-k to) in
       let old : (c : ℕ) → slot f i ≡ suc c → ¬ (To r f.sizes (set f.slots i v) b c) =
       λ c e t.
-      apart c (old-touched c (sym (ap (λ (l : List ℕ). get_or l i 0) same-slots) ∙ e))
+      apart c (old-touched c (sym (ap (λ (l : List ℕ). get_or l i 0) same_slots) ∙ e))
       (subst (λ (l : List ℕ). To r l (view N w k).slots b c) (sym sizes-k) (subst (λ (l : List ℕ). To r f.sizes l b c) (sym slots-k) t)) in
       ap (λ (m : Graph). size m c) view-g
       ∙ finish_to_kept cap pos r f i v held waits shape slot-i b some_f old c there
@@ -165,44 +165,44 @@ module _ (N w : ℕ) (h : Memory) (healthy : Healthy N w h) where
     unfolding change_root put_root graph.store
     root_event r l left =
         let shows = (store_root_lem N w h healthy v ref r l).shows in
-        let named = ref-object N w h healthy v ref in
+        let named = ref_object N w h healthy v ref in
         let old : ℕ = get_or h.roots r 0 in
         event N w h (with_roots (set h.roots r v) h) (old ∷ v ∷ []) (change_root N w h r v) healthy left (raise (capacity w) (view N w h) v) r v
         (raised_balanced (capacity w) (positive N w h healthy) R (view N w h) healthy.whole r v (inl l) named)
-        (raised-waits (capacity w) (positive N w h healthy) R (view N w h) healthy.whole r v (inl l) named)
-        (raised-shape (capacity w) (positive N w h healthy) R (view N w h) healthy.whole r v (inl l) named) (inl l)
+        (raised_waits (capacity w) (positive N w h healthy) R (view N w h) healthy.whole r v (inl l) named)
+        (raised_shape (capacity w) (positive N w h healthy) R (view N w h) healthy.whole r v (inl l) named) (inl l)
         shows.view_is refl (sym (set-append_left h.roots (cell_refs N h) r v l)) (length-set h.roots r v) shows.roots_are refl
         (λ x. inl refl) (λ c e. among_here old (v ∷ []) c (sym (root_slot N h r l) ∙ e)) (λ c e. among_later old (v ∷ []) c (among_here v [] c e))
         (omega (arith, slots_length N w h healthy))
 
-    pub cell-event :
+    pub cell_event :
         (a j : ℕ) → is_first N h a ≡ true → j < 4 * size_at N h a → is_data h.d a ≡ false → Healthy N w (change_cell N w h (4 * a + j) v)
         → Event N w h (with_cells (set h.cells (4 * a + j) v) h) ((a + 1) ∷ get_or h.cells (4 * a + j) 0 ∷ v ∷ []) (change_cell N w h (4 * a + j) v)
     unfolding change_cell put_cell graph.store
-    cell-event a j first l ordinary left =
+    cell_event a j first l ordinary left =
         let c : ℕ = 4 * a + j in
         let i : ℕ = length h.roots + c in
         let shows = (store_cell_lem N w h healthy v ref a j first l ordinary).shows in
-        let named = ref-object N w h healthy v ref in
-        let slot-i = cell-place N w h healthy a j first l in
+        let named = ref_object N w h healthy v ref in
+        let slot-i = cell_place N w h healthy a j first l in
         let old : ℕ = get_or h.cells c 0 in
         let refs =
-        reference-written N h.a h.b (sizes_of N h.a h.b) healthy.represents h.d h.cells a c v (cell-of N w h healthy a j first l) ordinary
+        reference_written N h.a h.b (sizes_of N h.a h.b) healthy.represents h.d h.cells a c v (cell_of_lem N w h healthy a j first l) ordinary
         (omega (arith, cell_below N w h healthy a j first l, healthy.shape.length_cells)) in
         event N w h (with_cells (set h.cells c v) h) ((a + 1) ∷ old ∷ v ∷ []) (change_cell N w h c v) healthy left (raise (capacity w) (view N w h) v) i v
         (raised_balanced (capacity w) (positive N w h healthy) R (view N w h) healthy.whole i v slot-i named)
-        (raised-waits (capacity w) (positive N w h healthy) R (view N w h) healthy.whole i v slot-i named)
-        (raised-shape (capacity w) (positive N w h healthy) R (view N w h) healthy.whole i v slot-i named) slot-i
+        (raised_waits (capacity w) (positive N w h healthy) R (view N w h) healthy.whole i v slot-i named)
+        (raised_shape (capacity w) (positive N w h healthy) R (view N w h) healthy.whole i v slot-i named) slot-i
         shows.view_is refl (ap (λ (m : List ℕ). h.roots ++ m) refs ∙ sym (set_append_right h.roots (cell_refs N h) c v)) refl shows.roots_are refl
         (λ x. inl refl)
-        (λ d e. among_later (a + 1) (old ∷ v ∷ []) d (among_here old (v ∷ []) d (sym (cell-read N w h healthy a j first l ordinary) ∙ e)))
+        (λ d e. among_later (a + 1) (old ∷ v ∷ []) d (among_here old (v ∷ []) d (sym (cell_read_lem N w h healthy a j first l ordinary) ∙ e)))
         (λ d e. among_later (a + 1) (old ∷ v ∷ []) d (among_later old (v ∷ []) d (among_here v [] d e)))
         (cell_inside N w h healthy a j first l)
 
   module _ (n i : ℕ) (some : n ≢ 0) (room : Room N h.a n i) (asData : Bool) where
     -- the cells there are 0
-    vacant-slots : (s : ℕ) → Inside (first_slot (length h.roots) i) (4 * n) s → slot (view N w h) s ≡ 0
-    vacant-slots s p =
+    vacant_slots : (s : ℕ) → Inside (first_slot (length h.roots) i) (4 * n) s → slot (view N w h) s ≡ 0
+    vacant_slots s p =
         elim (ℕ_discrete (slot (view N w h) s) 0) [ yes e ↦ e | no m ↦ absurd (go (healthy.whole.shape.owned s m)) ]
       where
         beside :
@@ -215,17 +215,17 @@ module _ (N w : ℕ) (h : Memory) (healthy : Healthy N w h) where
         go (inr (x, own)) = beside x own ((room_vacant N w h healthy n i some room).clear x (omega (arith, own)))
 
     -- the slots with the new reference written
-    pub allocate-slots : (r : ℕ) → r < length h.roots → Shows N w (length h.roots) (placed N w asData h i n) (place (view N w h) i n)
+    pub allocate_slots : (r : ℕ) → r < length h.roots → Shows N w (length h.roots) (placed N w asData h i n) (place (view N w h) i n)
         → set h.roots r (i + 1) ++ cell_refs N (placed N w asData h i n) ≡ set (slots_in N h) r (suc i)
     unfolding placed
-    allocate-slots r l shown =
+    allocate_slots r l shown =
         sym (set-append_left h.roots (cell_refs N (placed N w asData h i n)) r (i + 1) l)
         ∙ ap (λ (m : Graph). set m.slots r (i + 1)) shown.view_is
         ∙ ap (set (slots_in N h) r) (add-one i)
 
     -- it stands there, where none stood
-    pub allocate-fresh : (size (view N w h) i ≡ 0) × (size (view N w (placed N w asData h i n)) i ≢ 0)
-    allocate-fresh = (
+    pub allocate_fresh : (size (view N w h) i ≡ 0) × (size (view N w (placed N w asData h i n)) i ≢ 0)
+    allocate_fresh = (
       elim (ℕ_discrete (size (view N w h) i) 0) [
         | yes z ↦ z
         | no m ↦ absurd (beside ((room_vacant N w h healthy n i some room).clear i m) m)
@@ -233,34 +233,34 @@ module _ (N w : ℕ) (h : Memory) (healthy : Healthy N w h) where
       λ z.
           some
           (sym (get_or-set_same (sizes_of N h.a h.b) i n 0 (omega (arith, room.inside, length_sizes_of N h.a h.b)))
-          ∙ sym (ap (λ (m : Graph). size m i) (placed-shows N w h healthy n i some room asData).view_is) ∙ z),
+          ∙ sym (ap (λ (m : Graph). size m i) (placed_shows N w h healthy n i some room asData).view_is) ∙ z),
     )
       where
         beside : (i + size (view N w h) i ≤ i) ⊎ (i + n ≤ i) → size (view N w h) i ≢ 0 → ⊥
         beside (inl u) m = omega arith
         beside (inr u) m = omega arith
 
-    pub allocate-placed : (r : ℕ) → r < length h.roots → (x : ℕ)
+    pub allocate_placed : (r : ℕ) → r < length h.roots → (x : ℕ)
         → (get_or (sizes_of N (placed N w asData h i n).a (placed N w asData h i n).b) x 0 ≡ size (view N w h) x)
         ⊎ ((size (view N w h) x ≡ 0)
         × ((s : ℕ) → Owns (length h.roots) (sizes_of N (placed N w asData h i n).a (placed N w asData h i n).b) x s
         → get_or (set h.roots r (i + 1) ++ cell_refs N (placed N w asData h i n)) s 0 ≡ 0))
-    allocate-placed r l x =
-        let shown = placed-shows N w h healthy n i some room asData in
+    allocate_placed r l x =
+        let shown = placed_shows N w h healthy n i some room asData in
         let is : sizes_of N (placed N w asData h i n).a (placed N w asData h i n).b ≡ set (sizes_of N h.a h.b) i n =
         ap (λ (m : Graph). m.sizes) shown.view_is in
         elim (ℕ_discrete x i) [
           | no d ↦ inl (ap (λ (m : List ℕ). get_or m x 0) is ∙ get_or-set_other (sizes_of N h.a h.b) i x n 0 d)
           | yes q ↦
-              let size-new : get_or (sizes_of N (placed N w asData h i n).a (placed N w asData h i n).b) x 0 ≡ n =
+              let size_new : get_or (sizes_of N (placed N w asData h i n).a (placed N w asData h i n).b) x 0 ≡ n =
               ap (λ (m : List ℕ). get_or m x 0) is ∙ ap (λ (j : ℕ). get_or (set (sizes_of N h.a h.b) i n) j 0) q
               ∙ get_or-set_same (sizes_of N h.a h.b) i n 0 (omega (arith, room.inside, length_sizes_of N h.a h.b)) in
               inr (
                 fresh x q,
                 λ s own.
                     let d : s ≢ r = omega (arith, own) in
-                    ap (λ (m : List ℕ). get_or m s 0) (allocate-slots r l shown) ∙ get_or-set_other (slots_in N h) r s (suc i) 0 d
-                    ∙ vacant-slots s (omega (arith, own), omega (arith, own)),
+                    ap (λ (m : List ℕ). get_or m s 0) (allocate_slots r l shown) ∙ get_or-set_other (slots_in N h) r s (suc i) 0 d
+                    ∙ vacant_slots s (omega (arith, own), omega (arith, own)),
               )
         ]
       where
@@ -275,24 +275,24 @@ module _ (N w : ℕ) (h : Memory) (healthy : Healthy N w h) where
             beside (inl u) m = omega arith
             beside (inr u) m = omega arith
 
-    pub allocate-event :
+    pub allocate_event :
         (r : ℕ) → r < length h.roots → Healthy N w (allocate_in N w asData h n r i)
         → Event N w h (with_roots (set h.roots r (i + 1)) (placed N w asData h i n)) (get_or h.roots r 0 ∷ (i + 1) ∷ []) (allocate_in N w asData h n r i)
     unfolding allocate_in put_root graph.allocate placed
-    allocate-event r l left =
+    allocate_event r l left =
         let cap : ℕ = capacity w in
         let pos = positive N w h healthy in
         let vacant = room_vacant N w h healthy n i some room in
-        let shown = placed-shows N w h healthy n i some room asData in
-        let shows = (allocate-root N w h healthy n i some room asData r l).shows in
+        let shown = placed_shows N w h healthy n i some room asData in
+        let shows = (allocate_root N w h healthy n i some room asData r l).shows in
         let old : ℕ = get_or h.roots r 0 in
         let k : Memory = with_roots (set h.roots r (i + 1)) (placed N w asData h i n) in
         event N w h k (old ∷ (i + 1) ∷ []) (allocate_in N w asData h n r i) healthy left (place (view N w h) i n) r (suc i)
-        (placed-balanced cap pos R (view N w h) healthy.whole i n r vacant l)
-        (placed-waits cap pos R (view N w h) healthy.whole i n r vacant l)
-        (placed-shape cap pos R (view N w h) healthy.whole i n r vacant l) (inl l)
-        shows.view_is (sizes_are shown) (allocate-slots r l shown) (length-set-placed r) shows.roots_are refl
-        (allocate-placed r l)
+        (placed_balanced cap pos R (view N w h) healthy.whole i n r vacant l)
+        (placed_waits cap pos R (view N w h) healthy.whole i n r vacant l)
+        (placed_shape cap pos R (view N w h) healthy.whole i n r vacant l) (inl l)
+        shows.view_is (sizes_are shown) (allocate_slots r l shown) (length_set_placed r) shows.roots_are refl
+        (allocate_placed r l)
         (λ c e. among_here old ((i + 1) ∷ []) c (sym (root_slot N h r l) ∙ e))
         (λ c e. among_later old ((i + 1) ∷ []) c (among_here (i + 1) [] c (add-one i ∙ e)))
         (omega (arith, slots_length N w h healthy))
@@ -301,5 +301,5 @@ module _ (N w : ℕ) (h : Memory) (healthy : Healthy N w h) where
             → sizes_of N (placed N w asData h i n).a (placed N w asData h i n).b ≡ set (sizes_of N h.a h.b) i n
         sizes_are shown = ap (λ (m : Graph). m.sizes) shown.view_is
 
-        length-set-placed : (r : ℕ) → length (set h.roots r (i + 1)) ≡ length h.roots
-        length-set-placed r = length-set h.roots r (i + 1)
+        length_set_placed : (r : ℕ) → length (set h.roots r (i + 1)) ≡ length h.roots
+        length_set_placed r = length-set h.roots r (i + 1)

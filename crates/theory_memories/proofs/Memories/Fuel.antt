@@ -9,7 +9,7 @@ use Rattle.theory_graphs.proofs.Graphs.Occurrences.{occurrences}
 use Rattle.theory_graphs.proofs.Graphs.Balance.{waits_bound, waits_head, fewer}
 use Rattle.theory_memories.proofs.Maps.Extents.{sizes_of, length_sizes_of}
 use Rattle.theory_memories.proofs.Memories.View.{view}
-use Rattle.theory_memories.proofs.Memories.ViewRelease.{Releasing, releasing_next, sizes-after}
+use Rattle.theory_memories.proofs.Memories.ViewRelease.{Releasing, releasing_next, sizes_after}
 
 steps_left :
     (N w fuel steps : ℕ) (h : Memory) (stack : List ℕ) → Releasing N w h stack → N ≤ occurrences 0 (sizes_of N h.a h.b) + fuel
@@ -26,7 +26,7 @@ steps_left N w (suc fuel) (suc steps) h (x ∷ rest) before f l =
     (omega (
       arith,
       fewer (view N w h) x (waits_head (view N w h) x rest before.waits).0,
-      ap (occurrences 0) (sizes-after N w h x rest before),
+      ap (occurrences 0) (sizes_after N w h x rest before),
     ))
     (omega arith)
 

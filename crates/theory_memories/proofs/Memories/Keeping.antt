@@ -15,7 +15,7 @@ use Rattle.rules_stores.specs.Store.{freed}
 use Rattle.rules.proofs.Objects.{bit_cases}
 use Rattle.rules.proofs.Tests.{test_cases_lem}
 use Rattle.theory_memories.proofs.Maps.Extents.{Represents, sizes_of, first_size, represents_is}
-use Rattle.theory_memories.proofs.Maps.Moves.{freed-represents}
+use Rattle.theory_memories.proofs.Maps.Moves.{freed_represents}
 use Rattle.theory_graphs.proofs.Graphs.Stretch.{Inside, Outside, set_zero}
 use Rattle.theory_memories.proofs.Memories.Reading.{Bare, cleared_out}
 
@@ -54,7 +54,7 @@ module _ (N w : ℕ) (g : Memory) (sizes : List ℕ) (rep : Represents N g.a g.b
   freed_kept y stands =
       let gone =
       represents_is N (fill_bits g.a x n 0) (set_bit g.b (x + n - 1) 1) (set sizes x 0)
-      (freed-represents N g.a g.b sizes rep x n e some) in
+      (freed_represents N g.a g.b sizes rep x n e some) in
       let left = ap (λ (l : List ℕ). get_or l y 0) (sym gone) in
       let other : y ≢ x = λ q. stands (left ∙ ap (λ (k : ℕ). get_or (set sizes x 0) k 0) q ∙ set_zero sizes x) in
       let still = left ∙ get_or-set_other sizes x y 0 0 other in
@@ -70,15 +70,15 @@ module _ (N w : ℕ) (g : Memory) (sizes : List ℕ) (rep : Represents N g.a g.b
 module _ (N : ℕ) (h : Memory) {g k : Memory} (represents : Represents N g.a g.b (sizes_in N g))
     (bare-g : Bare N g.a g.b g.d g.cells) (bare-k : Bare N k.a k.b k.d k.cells)
     (keeps-g : (x : ℕ) → get_or (sizes_in N g) x 0 ≢ 0 → Kept N h g x) (keeps-k : (x : ℕ) → get_or (sizes_in N k) x 0 ≢ 0 → Kept N h k x)
-    (maps-a : g.a ≡ k.a) (maps-b : g.b ≡ k.b) where
+    (maps_a : g.a ≡ k.a) (maps_b : g.b ≡ k.b) where
   stands : (x : ℕ) → get_or (sizes_in N g) x 0 ≢ 0 → get_or (sizes_in N k) x 0 ≢ 0
-  stands x some z = some (rw (maps-a, maps-b) z)
+  stands x some z = some (rw (maps_a, maps_b) z)
 
   pub kept_cell : (j : ℕ) → get_or g.cells j 0 ≡ get_or k.cells j 0
   kept_cell j = go (bit_cases g.a (j / 4))
     where
       go : (bit_at g.a (j / 4) ≡ 0) ⊎ (bit_at g.a (j / 4) ≡ 1) → get_or g.cells j 0 ≡ get_or k.cells j 0
-      go (inl z) = bare-g.free_cells j z ∙ sym (bare-k.free_cells j (ap (λ (m : List ℕ). bit_at m (j / 4)) (sym maps-a) ∙ z))
+      go (inl z) = bare-g.free_cells j z ∙ sym (bare-k.free_cells j (ap (λ (m : List ℕ). bit_at m (j / 4)) (sym maps_a) ∙ z))
       go (inr u) =
           let o = represents.owner (j / 4) u in
           let some : get_or (sizes_in N g) o.0 0 ≢ 0 = omega (arith, o.1, o.2) in
@@ -94,4 +94,4 @@ module _ (N : ℕ) (h : Memory) {g k : Memory} (represents : Represents N g.a g.
       go (inl f) =
           let some = first_size N g.a g.b (sizes_in N g) represents x f in
           (keeps-g x some).kind ∙ sym (keeps-k x (stands x some)).kind
-      go (inr f) = bare-g.data_first x f ∙ sym (bare-k.data_first x (rw (← maps-a, ← maps-b) f))
+      go (inr f) = bare-g.data_first x f ∙ sym (bare-k.data_first x (rw (← maps_a, ← maps_b) f))

@@ -24,7 +24,7 @@ use Rattle.theory_graphs.proofs.Graphs.MarkOrders.{Marks, Marking, runs_of, Mark
 use Rattle.theory_memories.proofs.Memories.View.{view}
 use Rattle.theory_memories.proofs.Memories.TidyHeap.{some_first, names_slot, slot_names}
 use Rattle.theory_memories.proofs.Memories.Shades.{Among, shades, was_facts, facts_was}
-use Rattle.theory_memories.proofs.Memories.ViewRelease.{Releasing, releasing_next, view-after}
+use Rattle.theory_memories.proofs.Memories.ViewRelease.{Releasing, releasing_next, view_after}
 use Rattle.theory_memories.proofs.Memories.Orders.{taken_first, one_end}
 
 -- tests that pass together are equal
@@ -108,7 +108,7 @@ module _ (N w : ℕ) where
 
       kept : b ≢ i → size (view N w (memory_after N w h i rest)) b ≡ size (view N w h) b
       kept d =
-          ap (λ (k : Graph). size k b) (view-after N w h i rest releasing)
+          ap (λ (k : Graph). size k b) (view_after N w h i rest releasing)
           ∙ free_size_other (capacity w) (length h.roots) (view N w h) i b d
 
   none_list : (l m : Bool) → (l ≡ true → m ≡ true) → l ≡ m && (l || not m)
@@ -135,7 +135,7 @@ module _ (N w : ℕ) where
       let later = releasing_next N w h i (front ++ back) first in
       let objects₁ = objects_next h i (front ++ back) first m m₁ marks objects in
       let more = along rest later objects₁ (subset_next h i m l m₁ l₁ frees sub) in
-      let view_is = view-after N w h i (front ++ back) first in
+      let view_is = view_after N w h i (front ++ back) first in
       let end = marking_marked (capacity w) first.positive (length h.roots) more.marking later.balanced later.represents.apart objects₁ in
       let leaves = runs_leave (capacity w) (length h.roots) (λ j. ⊥) first.positive (runs_of more.marking) in
       let gone : size (view N w (memory_after N w h i (front ++ back))) i ≡ 0 =
@@ -185,8 +185,8 @@ module _ (N w : ℕ) (h k : Memory) (touched : List ℕ) (start : Memory) (stack
     abbrev Freed : ℕ → Type 0
     Freed b = FreedNames (length k.roots) (view N w k) (view N w end) b
 
-    freed-there : (b : ℕ) → FreedNames (length start.roots) (view N w start) (view N w end) b → Freed b
-    freed-there b f =
+    freed_there : (b : ℕ) → FreedNames (length start.roots) (view N w start) (view N w end) b → Freed b
+    freed_there b f =
         record {
           object = f.object;
           place = f.place;
@@ -196,8 +196,8 @@ module _ (N w : ℕ) (h k : Memory) (touched : List ℕ) (start : Memory) (stack
           names = ap (λ (l : List ℕ). get_or l f.place 0) (sym slots_are) ∙ f.names;
         }
 
-    freed-back : (b : ℕ) → Freed b → FreedNames (length start.roots) (view N w start) (view N w end) b
-    freed-back b f =
+    freed_back : (b : ℕ) → Freed b → FreedNames (length start.roots) (view N w start) (view N w end) b
+    freed_back b f =
         record {
           object = f.object;
           place = f.place;
@@ -207,12 +207,12 @@ module _ (N w : ℕ) (h k : Memory) (touched : List ℕ) (start : Memory) (stack
           names = ap (λ (l : List ℕ). get_or l f.place 0) slots_are ∙ f.names;
         }
 
-    pub in-any-order :
+    pub in_any_order :
         (g : Memory) (m' l' : ℕ → Bool)
         → TakenMarking N w start stack (first_marks N h k touched end) (first_list N h k touched end) g [] m' l'
         → (b : ℕ) → (m' b ≡ marks_after N h k touched end b) × (l' b ≡ list_after N h k touched end b)
     unfolding list_after
-    in-any-order g m' l' order b = (
+    in_any_order g m' l' order b = (
       same,
       all.lists b ∙ ap (λ (t : Bool). m' b && t) (rule_list (is_listed N h b) (was_marked N h k touched end b) (ltb 0 (holding (b + 1) touched)))
           ∙ ap (λ (t : Bool). t && (is_listed N h b || not (was_marked N h k touched end b))) same,
@@ -221,12 +221,12 @@ module _ (N w : ℕ) (h k : Memory) (touched : List ℕ) (start : Memory) (stack
         all : Along N w start stack (first_marks N h k touched end) (first_list N h k touched end) g [] m' l'
         all = along N w order releasing (λ b e z. objects b e (sym (size_is b) ∙ z)) subset
 
-        is-end : g ≡ end
-        is-end = ((one_end N w start stack releasing).alike all.taken.0 all.taken.1 g all.taken.2).0
+        is_end : g ≡ end
+        is_end = ((one_end N w start stack releasing).alike all.taken.0 all.taken.1 g all.taken.2).0
 
         done : Marked (length start.roots) (view N w start) (view N w end) (first_marks N h k touched end) m'
         done =
-            subst (λ (q : Memory). Marked (length start.roots) (view N w start) (view N w q) (first_marks N h k touched end) m') is-end
+            subst (λ (q : Memory). Marked (length start.roots) (view N w start) (view N w q) (first_marks N h k touched end) m') is_end
             (marking_marked (capacity w) releasing.positive (length start.roots) all.marking releasing.balanced releasing.represents.apart
             (λ b e z. objects b e (sym (size_is b) ∙ z)))
 
@@ -241,7 +241,7 @@ module _ (N w : ℕ) (h k : Memory) (touched : List ℕ) (start : Memory) (stack
             let now = done.now b e in
             shade.also b now.0
             (elim now.1 [
-              | inr f ↦ inr (inr (freed-there b f))
+              | inr f ↦ inr (inr (freed_there b f))
               | inl first ↦ elim (or_true (was_marked N h k touched end b) (ltb 0 (holding (b + 1) touched)) first) [
                 | inl was ↦ inl (was_facts N w h k touched end b was)
                 | inr t ↦ inr (inl t)
@@ -253,5 +253,5 @@ module _ (N w : ℕ) (h k : Memory) (touched : List ℕ) (start : Memory) (stack
             (elim now.1 [
               | inl was ↦ inl (true_or (was_marked N h k touched end b) (ltb 0 (holding (b + 1) touched)) (inl (facts_was N w h k touched end b was)))
               | inr (inl t) ↦ inl (true_or (was_marked N h k touched end b) (ltb 0 (holding (b + 1) touched)) (inr t))
-              | inr (inr f) ↦ inr (freed-back b f)
+              | inr (inr f) ↦ inr (freed_back b f)
             ]))

@@ -25,18 +25,18 @@ use Rattle.theory_memories.proofs.Memories.View.{view}
 use Rattle.theory_memories.proofs.Memories.Slots.{root_slot}
 use Rattle.theory_memories.proofs.Memories.Healthy.{Healthy}
 use Rattle.theory_memories.proofs.Memories.Fit.{Fit, undamaged_fit}
-use Rattle.theory_memories.proofs.Memories.TidyHeap.{first_some, tidy-facts}
+use Rattle.theory_memories.proofs.Memories.TidyHeap.{first_some, tidy_facts}
 use Rattle.theory_memories.proofs.Memories.Shades.{Among, was_facts}
-use Rattle.theory_memories.proofs.Memories.Events.{among_none, among_cases, allocate-placed}
-use Rattle.theory_memories.proofs.Memories.Stores.{positive, cell-read, ref-object, store_root_lem, store_cell_lem, placed-shows, allocate-root}
-use Rattle.theory_memories.proofs.Memories.MarkOrders.{in-any-order}
+use Rattle.theory_memories.proofs.Memories.Events.{among_none, among_cases, allocate_placed}
+use Rattle.theory_memories.proofs.Memories.Stores.{positive, cell_read_lem, ref_object, store_root_lem, store_cell_lem, placed_shows, allocate_root}
+use Rattle.theory_memories.proofs.Memories.MarkOrders.{in_any_order}
 
 module _ (N w : ℕ) (h : Memory) (fit : Fit N w h) (was_open : is_open N h ≡ true) where
   abbrev healthy : Healthy N w h
   healthy = fit.healthy
 
   pub tidy : Tidy (length h.roots) (view N w h) (is_marked h) (is_listed N h)
-  tidy = tidy-facts N w h fit.healthy was_open fit.tidy
+  tidy = tidy_facts N w h fit.healthy was_open fit.tidy
 
   named : (s b : ℕ) → slot (view N w h) s ≡ suc b → size (view N w h) b ≢ 0
   named s b e = named_object _ (positive N w h fit.healthy) (view N w h) fit.healthy.whole.balanced s b e
@@ -59,7 +59,7 @@ module _ (N w : ℕ) (h : Memory) (fit : Fit N w h) (was_open : is_open N h ≡ 
   root_touched r v l ref b t =
       elim (among_cases (get_or h.roots r 0) (v ∷ []) b t) [
         | inl e ↦ named r b (root_slot N h r l ∙ e)
-        | inr rest ↦ elim (among_cases v [] b rest) [ inl e ↦ ref-object N w h fit.healthy v ref b e | inr none ↦ absurd (among_none b none) ]
+        | inr rest ↦ elim (among_cases v [] b rest) [ inl e ↦ ref_object N w h fit.healthy v ref b e | inr none ↦ absurd (among_none b none) ]
       ]
 
   pub cell_touched : (a j v : ℕ) → is_first N h a ≡ true → j < 4 * size_at N h a → is_data h.d a ≡ false → is_ref N h v ≡ true → (b : ℕ)
@@ -68,15 +68,15 @@ module _ (N w : ℕ) (h : Memory) (fit : Fit N w h) (was_open : is_open N h ≡ 
       elim (among_cases (a + 1) (get_or h.cells (4 * a + j) 0 ∷ v ∷ []) b t) [
         | inl e ↦ let same : a ≡ b = omega arith in subst (λ (q : ℕ). size (view N w h) q ≢ 0) same (first_some N w h a first)
         | inr more ↦ elim (among_cases (get_or h.cells (4 * a + j) 0) (v ∷ []) b more) [
-          | inl e ↦ named (length h.roots + (4 * a + j)) b (cell-read N w h fit.healthy a j first l ordinary ∙ e)
-          | inr rest ↦ elim (among_cases v [] b rest) [ inl e ↦ ref-object N w h fit.healthy v ref b e | inr none ↦ absurd (among_none b none) ]
+          | inl e ↦ named (length h.roots + (4 * a + j)) b (cell_read_lem N w h fit.healthy a j first l ordinary ∙ e)
+          | inr rest ↦ elim (among_cases v [] b rest) [ inl e ↦ ref_object N w h fit.healthy v ref b e | inr none ↦ absurd (among_none b none) ]
         ]
       ]
 
   pub stays : (asData : Bool) (n r i : ℕ) → 1 ≤ n → r < length h.roots → lowest_free N (exponent n) h.a ≡ some i → (b : ℕ) → size (view N w h) b ≢ 0
       → size (view N w (with_roots (set h.roots r (i + 1)) (placed N w asData h i n))) b ≢ 0
   stays asData n r i low l found b stood z =
-      elim (allocate-placed N w h fit.healthy n i (omega arith) (room N h.a n i found) asData r l b) [
+      elim (allocate_placed N w h fit.healthy n i (omega arith) (room N h.a n i found) asData r l b) [
         | inl e ↦ stood (sym e ∙ z)
         | inr e ↦ stood e.0
       ]
@@ -94,7 +94,7 @@ module _ (N w : ℕ) (h : Memory) (fit : Fit N w h) (was_open : is_open N h ≡ 
               omega (
                 arith,
                 z,
-                ap (λ (k : Graph). size k b) (placed-shows N w h fit.healthy n i (omega arith) space asData).view_is,
+                ap (λ (k : Graph). size k b) (placed_shows N w h fit.healthy n i (omega arith) space asData).view_is,
                 ap (λ (q : ℕ). get_or (set (sizes_of N h.a h.b) i n) q 0) same,
                 get_or-set_same (sizes_of N h.a h.b) i n 0 (omega (arith, space.inside, length_sizes_of N h.a h.b)),
               )
@@ -107,19 +107,19 @@ module _ (N w : ℕ) (h : Memory) (fit : Fit N w h) (was_open : is_open N h ≡ 
   alike =
       record {
         in_root = λ r v l ref g m' l' order.
-            in-any-order N w h (with_roots (set h.roots r v) h) (get_or h.roots r 0 ∷ v ∷ []) _ _
+            in_any_order N w h (with_roots (set h.roots r v) h) (get_or h.roots r 0 ∷ v ∷ []) _ _
             (store_root_lem N w h fit.healthy v ref r l).releasing refl refl refl
             (first_objects (with_roots (set h.roots r v) h) (get_or h.roots r 0 ∷ v ∷ []) _ (λ b n. n) (root_touched r v l ref))
             tidy.listed_marked g m' l' order;
         in_cell = λ a j v first l ordinary ref g m' l' order.
-            in-any-order N w h (with_cells (set h.cells (4 * a + j) v) h) ((a + 1) ∷ get_or h.cells (4 * a + j) 0 ∷ v ∷ []) _ _
+            in_any_order N w h (with_cells (set h.cells (4 * a + j) v) h) ((a + 1) ∷ get_or h.cells (4 * a + j) 0 ∷ v ∷ []) _ _
             (store_cell_lem N w h fit.healthy v ref a j first l ordinary).releasing refl refl refl
             (first_objects (with_cells (set h.cells (4 * a + j) v) h) ((a + 1) ∷ get_or h.cells (4 * a + j) 0 ∷ v ∷ []) _ (λ b n. n)
             (cell_touched a j v first l ordinary ref))
             tidy.listed_marked g m' l' order;
         new = λ asData n r i low l found g m' l' order.
-            in-any-order N w h (with_roots (set h.roots r (i + 1)) (placed N w asData h i n)) (get_or h.roots r 0 ∷ (i + 1) ∷ []) _ _
-            (allocate-root N w h fit.healthy n i (omega arith) (room N h.a n i found) asData r l).releasing refl refl refl
+            in_any_order N w h (with_roots (set h.roots r (i + 1)) (placed N w asData h i n)) (get_or h.roots r 0 ∷ (i + 1) ∷ []) _ _
+            (allocate_root N w h fit.healthy n i (omega arith) (room N h.a n i found) asData r l).releasing refl refl refl
             (first_objects (with_roots (set h.roots r (i + 1)) (placed N w asData h i n)) (get_or h.roots r 0 ∷ (i + 1) ∷ []) _
             (stays asData n r i low l found) (new_touched asData n r i low l found))
             tidy.listed_marked g m' l' order;

@@ -17,7 +17,7 @@ use Rattle.rules_steps.specs.Steps.{names}
 use Rattle.rules.proofs.Tests.{test_cases_lem, false_some}
 use Rattle.theory_memories.proofs.Maps.Extents.{Represents, sizes_of, size_first}
 use Rattle.theory_graphs.proofs.Graphs.Stretch.{Inside}
-use Rattle.theory_memories.proofs.Memories.Reading.{data-read, ordinary-read}
+use Rattle.theory_memories.proofs.Memories.Reading.{data_read, ordinary_read}
 
 -- tests that agree below n
 some_same : (test other : ℕ → Bool) (n : ℕ) → ((k : ℕ) → k < n → test k ≡ other k) → some_below test n ≡ some_below other n
@@ -41,11 +41,11 @@ module _ (N : ℕ) (h : Memory) (rep : Represents N h.a h.b (sizes_of N h.a h.b)
 
   -- what cells of data hold is no reference
   pub of_data : is_data h.d x ≡ true → (k : ℕ) → k < 4 * size_at N h x → reference N h (4 * x + k) ≡ 0
-  of_data made k l = data-read N h.a h.b (sizes_of N h.a h.b) rep h.d h.cells x (4 * x + k) (inside k l) made
+  of_data made k l = data_read N h.a h.b (sizes_of N h.a h.b) rep h.d h.cells x (4 * x + k) (inside k l) made
 
   -- what others hold is one
   pub of_others : is_data h.d x ≡ false → (k : ℕ) → k < 4 * size_at N h x → reference N h (4 * x + k) ≡ get_or h.cells (4 * x + k) 0
-  of_others ordinary k l = ordinary-read N h.a h.b (sizes_of N h.a h.b) rep h.d h.cells x (4 * x + k) (inside k l) ordinary
+  of_others ordinary k l = ordinary_read N h.a h.b (sizes_of N h.a h.b) rep h.d h.cells x (4 * x + k) (inside k l) ordinary
 
   -- data names nothing
   pub data_names : is_data h.d x ≡ true → (i : ℕ) → names N h x i ≡ false

@@ -16,7 +16,7 @@ use Rattle.theory_graphs.proofs.Graphs.Balance.{waits_head, waits_bound, fewer}
 use Rattle.theory_graphs.proofs.Graphs.Keep.{Runs, done, free_one}
 use Rattle.theory_graphs.proofs.Graphs.Order.{Ends, same_end}
 use Rattle.theory_memories.proofs.Memories.View.{view}
-use Rattle.theory_memories.proofs.Memories.ViewRelease.{Releasing, releasing_next, view-after, sizes-after, freed_zeros}
+use Rattle.theory_memories.proofs.Memories.ViewRelease.{Releasing, releasing_next, view_after, sizes_after, freed_zeros}
 use Rattle.theory_memories.proofs.Memories.SameView.{Rewrites, rewrites_same, rewrites_trans, step_rewrites, same_memory_lem}
 
 -- ---- an order, step by step
@@ -51,7 +51,7 @@ fewer_objects N w h x rest before =
     omega (
       arith,
       fewer (view N w h) x (waits_head (view N w h) x rest before.waits).0,
-      ap (occurrences 0) (sizes-after N w h x rest before),
+      ap (occurrences 0) (sizes_after N w h x rest before),
     )
 
 -- what is known after k steps
@@ -92,7 +92,7 @@ carried N w (Taken.next {k} {n} {total} {h} {g} {waiting} {left} front i back e 
       releasing = more.releasing;
       runs =
           free_one i head.0 head.1
-          (subst (λ (m : Graph). Runs (capacity w) (length h.roots) (λ j. ⊥) m (view N w g)) (view-after N w h i (front ++ back) first)
+          (subst (λ (m : Graph). Runs (capacity w) (length h.roots) (λ j. ⊥) m (view N w g)) (view_after N w h i (front ++ back) first)
           more.runs);
       written = rewrites_trans (step_rewrites N w h i (front ++ back) first) more.written;
       same_roots = more.same_roots;

@@ -24,7 +24,7 @@ use Rattle.rules.proofs.Reading.{free_no_data, read_data, read_other, read_zero,
 use Rattle.rules.proofs.Tabulate.{length_tabulate, get_d_tabulate}
 use Rattle.rules.proofs.Tests.{false_unless}
 use Rattle.theory_memories.proofs.Maps.Extents.{Represents, first_size, size_is_first}
-use Rattle.theory_memories.proofs.Maps.Moves.{clear_of, freed-represents, placed-represents}
+use Rattle.theory_memories.proofs.Maps.Moves.{clear_of, freed_represents, placed_represents}
 use Rattle.theory_graphs.proofs.Graphs.Stretch.{Inside, Outside, side, stretch, stretch_length, stretch_out, clear, clear_in}
 
 -- ---- lists
@@ -98,28 +98,28 @@ module _ (N : ℕ) (a b sizes : List ℕ) (rep : Represents N a b sizes) where
     cell_read = in_object d x (j / 4) (omega (arith, cell)) (omega (arith, cell))
 
     -- a cell of an object: 0 where it is data, else what stands there
-    pub data-read : is_data d x ≡ true → ref_at N a b d cells j ≡ 0
-    data-read e = read_data N a b d cells j (cell_read ∙ e)
+    pub data_read : is_data d x ≡ true → ref_at N a b d cells j ≡ 0
+    data_read e = read_data N a b d cells j (cell_read ∙ e)
 
-    pub ordinary-read : is_data d x ≡ false → ref_at N a b d cells j ≡ get_or cells j 0
-    ordinary-read e = read_other N a b d cells j (cell_read ∙ e)
+    pub ordinary_read : is_data d x ≡ false → ref_at N a b d cells j ≡ get_or cells j 0
+    ordinary_read e = read_other N a b d cells j (cell_read ∙ e)
 
   -- ---- cell c of the object at x is written
 
   module _ (d cells : List ℕ) (x c v : ℕ) (cell : Inside (4 * x) (4 * get_or sizes x 0) c) where
     -- a reference, in an ordinary object
-    pub reference-written : is_data d x ≡ false → c < length cells
+    pub reference_written : is_data d x ≡ false → c < length cells
         → tabulate (4 * N) (ref_at N a b d (set cells c v)) ≡ set (tabulate (4 * N) (ref_at N a b d cells)) c v
-    reference-written ordinary inside =
+    reference_written ordinary inside =
         let refs : List ℕ = tabulate (4 * N) (ref_at N a b d cells) in
-        let refs-long : length refs ≡ 4 * N = length_tabulate (4 * N) (ref_at N a b d cells) in
-        tabulate_is (4 * N) (ref_at N a b d (set cells c v)) (set refs c v) (length-set refs c v ∙ refs-long)
+        let refs_long : length refs ≡ 4 * N = length_tabulate (4 * N) (ref_at N a b d cells) in
+        tabulate_is (4 * N) (ref_at N a b d (set cells c v)) (set refs c v) (length-set refs c v ∙ refs_long)
         (λ j m.
         elim (ℕ_discrete j c) [
           | yes q ↦
               rw q
-              (ordinary-read d (set cells c v) x c cell ordinary ∙ get_or-set_same cells c v 0 inside
-              ∙ sym (get_or-set_same refs c v 0 (omega (arith, refs-long, m, q))))
+              (ordinary_read d (set cells c v) x c cell ordinary ∙ get_or-set_same cells c v 0 inside
+              ∙ sym (get_or-set_same refs c v 0 (omega (arith, refs_long, m, q))))
           | no n ↦
               read_same N a b d cells a b d (set cells c v) j refl (get_or-set_other cells c j v 0 n)
               ∙ sym (get_or-set_other refs c j v 0 n ∙ get_d_tabulate 0 (4 * N) (ref_at N a b d cells) j m)
@@ -129,12 +129,12 @@ module _ (N : ℕ) (a b sizes : List ℕ) (rep : Represents N a b sizes) where
     pub number_written : is_data d x ≡ true → (j : ℕ) → ref_at N a b d (set cells c v) j ≡ ref_at N a b d cells j
     number_written made j =
         elim (ℕ_discrete j c) [
-          | yes q ↦ rw q (data-read d (set cells c v) x c cell made ∙ sym (data-read d cells x c cell made))
+          | yes q ↦ rw q (data_read d (set cells c v) x c cell made ∙ sym (data_read d cells x c cell made))
           | no n ↦ read_same N a b d cells a b d (set cells c v) j refl (get_or-set_other cells c j v 0 n)
         ]
 
-    pub cell-bare : Bare N a b d cells → Bare N a b d (set cells c v)
-    cell-bare bare =
+    pub cell_bare : Bare N a b d cells → Bare N a b d (set cells c v)
+    cell_bare bare =
         record {
           free_cells = λ j z.
               get_or-set_other cells c j v 0
@@ -158,7 +158,7 @@ module _ (N : ℕ) (a b sizes d cells : List ℕ) (rep : Represents N a b sizes)
   cells₀ = clear_cells cells (4 * x) (4 * n)
 
   gone : Represents N a₀ b₁ (set sizes x 0)
-  gone = freed-represents N a b sizes rep x n e some
+  gone = freed_represents N a b sizes rep x n e some
 
   freed_in : (j : ℕ) → Inside (4 * x) (4 * n) j → ref_at N a₀ b₁ d₀ cells₀ j ≡ 0
   freed_in j p = read_zero N a₀ b₁ d₀ cells₀ j (cleared_in cells (4 * x) (4 * n) j p)
@@ -245,7 +245,7 @@ module _ (N : ℕ) (a b sizes d cells : List ℕ) (rep : Represents N a b sizes)
   new_cells = clear_cells cells (4 * x) (4 * n)
 
   there : Represents N a₁ b₀ (set sizes x n)
-  there = placed-represents N a b sizes rep x n some fits free
+  there = placed_represents N a b sizes rep x n some fits free
 
   none_there : (y : ℕ) → get_or sizes y 0 ≢ 0 → y ≢ x
   none_there y m q = elim (clear_of N a b sizes rep x n some free y m) [ inl l ↦ omega arith | inr l ↦ omega arith ]

@@ -47,13 +47,13 @@ module _ (N w : ℕ) (whole : 8 * (N / 8) ≡ N) (h : Memory) (marks : List Bool
         ]
 
     -- a count of 0 stays, and that of an object that goes becomes 0
-    pub swept-uncounted :
+    pub swept_uncounted :
         (n b : ℕ) → n ≤ N → b < N → (count_of N w h b ≡ 0) ⊎ ((b < n) × (is_first N h b && not (marked marks b) ≡ true))
         → count_of N w (swept N w h marks n) b ≡ 0
     unfolding swept
-    swept-uncounted zero b l u (inl z) = z
-    swept-uncounted zero b l u (inr (v, e)) = absurd (omega arith)
-    swept-uncounted (suc n) b l u o =
+    swept_uncounted zero b l u (inl z) = z
+    swept_uncounted zero b l u (inr (v, e)) = absurd (omega arith)
+    swept_uncounted (suc n) b l u o =
         elim (test_cases_lem (is_first N h n && not (marked marks n))) [
           | inl e ↦
               ap (λ (g : Memory). count_of N w g b) (swept_goes N w h marks n e)
@@ -63,11 +63,11 @@ module _ (N w : ℕ) (whole : 8 * (N / 8) ≡ N) (h : Memory) (marks : List Bool
                     ∙ freed_same (swept N w h marks n) n (size_at N h n) (swept_length n) l
                 | no q ↦
                     freed_other (swept N w h marks n) n (size_at N h n) b l u q
-                    ∙ swept-uncounted n b (omega arith) u (earlier o (λ same. absurd (q same)))
+                    ∙ swept_uncounted n b (omega arith) u (earlier o (λ same. absurd (q same)))
               ]
           | inr e ↦
               ap (λ (g : Memory). count_of N w g b) (swept_stays N w h marks n e)
-              ∙ swept-uncounted n b (omega arith) u (earlier o (λ same goes. true≢false (sym (rw same at goes) ∙ e)))
+              ∙ swept_uncounted n b (omega arith) u (earlier o (λ same goes. true≢false (sym (rw same at goes) ∙ e)))
         ]
       where
         earlier :
@@ -78,17 +78,17 @@ module _ (N w : ℕ) (whole : 8 * (N / 8) ≡ N) (h : Memory) (marks : List Bool
         earlier (inr (v, e)) d = elim (ℕ_discrete b n) [ yes q ↦ absurd (d q e) | no q ↦ inr (omega arith, e) ]
 
     -- and that of a marked object stays
-    pub swept-counted : (n b : ℕ) → n ≤ N → b < N → marked marks b ≡ true → count_of N w (swept N w h marks n) b ≡ count_of N w h b
+    pub swept_counted : (n b : ℕ) → n ≤ N → b < N → marked marks b ≡ true → count_of N w (swept N w h marks n) b ≡ count_of N w h b
     unfolding swept
-    swept-counted zero b l u m = refl
-    swept-counted (suc n) b l u m =
+    swept_counted zero b l u m = refl
+    swept_counted (suc n) b l u m =
         elim (test_cases_lem (is_first N h n && not (marked marks n))) [
           | inl e ↦
               let d : b ≢ n =
               λ q. true≢false (sym m ∙ ap (marked marks) q ∙ not-true (marked marks n) (and_true (is_first N h n) (not (marked marks n)) e).1) in
               ap (λ (g : Memory). count_of N w g b) (swept_goes N w h marks n e)
-              ∙ freed_other (swept N w h marks n) n (size_at N h n) b l u d ∙ swept-counted n b (omega arith) u m
-          | inr e ↦ ap (λ (g : Memory). count_of N w g b) (swept_stays N w h marks n e) ∙ swept-counted n b (omega arith) u m
+              ∙ freed_other (swept N w h marks n) n (size_at N h n) b l u d ∙ swept_counted n b (omega arith) u m
+          | inr e ↦ ap (λ (g : Memory). count_of N w g b) (swept_stays N w h marks n e) ∙ swept_counted n b (omega arith) u m
         ]
 
   -- ---- the recount
@@ -100,27 +100,27 @@ module _ (N w : ℕ) (whole : 8 * (N / 8) ≡ N) (h : Memory) (marks : List Bool
     unfolding recounted
     recounted_goes n e = rw (e, recounted)
 
-    recounted-stays : (n : ℕ) → marked marks n ≡ false → recounted N w h marks counts (suc n) ≡ recounted N w h marks counts n
+    recounted_stays : (n : ℕ) → marked marks n ≡ false → recounted N w h marks counts (suc n) ≡ recounted N w h marks counts n
     unfolding recounted
-    recounted-stays n e = rw (e, recounted)
+    recounted_stays n e = rw (e, recounted)
 
-    pub recounted-length : (n : ℕ) → length (recounted N w h marks counts n) ≡ length counts
+    pub recounted_length : (n : ℕ) → length (recounted N w h marks counts n) ≡ length counts
     unfolding recounted
-    recounted-length zero = refl
-    recounted-length (suc n) =
+    recounted_length zero = refl
+    recounted_length (suc n) =
         elim (test_cases_lem (marked marks n)) [
           | inl e ↦
               ap length (recounted_goes n e)
               ∙ length_set_count (N / 8) w (recounted N w h marks counts n) n (min (capacity w) (references_from N h (marked marks) n))
-              ∙ recounted-length n
-          | inr e ↦ ap length (recounted-stays n e) ∙ recounted-length n
+              ∙ recounted_length n
+          | inr e ↦ ap length (recounted_stays n e) ∙ recounted_length n
         ]
 
-    pub recounted-other :
+    pub recounted_other :
         (n b : ℕ) → n ≤ N → b < N → marked marks b ≡ false → count_at (N / 8) w (recounted N w h marks counts n) b ≡ count_at (N / 8) w counts b
     unfolding recounted
-    recounted-other zero b l u f = refl
-    recounted-other (suc n) b l u f =
+    recounted_other zero b l u f = refl
+    recounted_other (suc n) b l u f =
         elim (test_cases_lem (marked marks n)) [
           | inl e ↦
               ap (λ (c : List ℕ). count_at (N / 8) w c b) (recounted_goes n e)
@@ -128,15 +128,15 @@ module _ (N w : ℕ) (whole : 8 * (N / 8) ≡ N) (h : Memory) (marks : List Bool
               (omega arith)
               (omega arith)
               (λ q. true≢false (sym e ∙ ap (marked marks) (sym q) ∙ f))
-              ∙ recounted-other n b (omega arith) u f
-          | inr e ↦ ap (λ (c : List ℕ). count_at (N / 8) w c b) (recounted-stays n e) ∙ recounted-other n b (omega arith) u f
+              ∙ recounted_other n b (omega arith) u f
+          | inr e ↦ ap (λ (c : List ℕ). count_at (N / 8) w c b) (recounted_stays n e) ∙ recounted_other n b (omega arith) u f
         ]
 
-    pub recounted-marked :
+    pub recounted_marked :
         length counts ≡ w * (N / 8) → (n b : ℕ) → n ≤ N → b < n → marked marks b ≡ true
         → count_at (N / 8) w (recounted N w h marks counts n) b ≡ min (capacity w) (references_from N h (marked marks) b)
-    recounted-marked len zero b l u m = absurd (omega arith)
-    recounted-marked len (suc n) b l u m =
+    recounted_marked len zero b l u m = absurd (omega arith)
+    recounted_marked len (suc n) b l u m =
         elim (test_cases_lem (marked marks n)) [
           | inl e ↦
               ap (λ (c : List ℕ). count_at (N / 8) w c b) (recounted_goes n e)
@@ -145,18 +145,18 @@ module _ (N w : ℕ) (whole : 8 * (N / 8) ≡ N) (h : Memory) (marks : List Bool
                     rw q
                     (count_set_same (N / 8) w (recounted N w h marks counts n) n (min (capacity w) (references_from N h (marked marks) n))
                     (omega arith)
-                    (omega (arith, recounted-length n))
+                    (omega (arith, recounted_length n))
                     (omega (arith, pow_pos w)))
                 | no q ↦
                     count_set_other (N / 8) w (recounted N w h marks counts n) n (min (capacity w) (references_from N h (marked marks) n)) b
                     (omega arith)
                     (omega arith)
                     q
-                    ∙ recounted-marked len n b (omega arith) (omega arith) m
+                    ∙ recounted_marked len n b (omega arith) (omega arith) m
               ]
           | inr e ↦
-              ap (λ (c : List ℕ). count_at (N / 8) w c b) (recounted-stays n e)
-              ∙ recounted-marked len n b (omega arith) (earlier (λ q. true≢false (sym m ∙ ap (marked marks) q ∙ e))) m
+              ap (λ (c : List ℕ). count_at (N / 8) w c b) (recounted_stays n e)
+              ∙ recounted_marked len n b (omega arith) (earlier (λ q. true≢false (sym m ∙ ap (marked marks) q ∙ e))) m
         ]
       where
         earlier : b ≢ n → b < n

@@ -15,6 +15,6 @@ module _ (N w : ℕ) (h : Memory) (x : List ℕ) (same_length : length x ≡ len
       (length h.d) (length h.marks) (length h.list))
       same_length
 
-  pub same-damage : damage N w (with_waiting x h) ≡ damage N w h
+  pub same_damage : damage N w (with_waiting x h) ≡ damage N w h
   unfolding damage end_on_free open_end unaligned bad_cell bad_root bad_count stray_data
-  same-damage = refl
+  same_damage = refl

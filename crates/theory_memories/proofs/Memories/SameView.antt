@@ -105,14 +105,14 @@ module _ (N w : ℕ) (h : Memory) {g k : Memory} (shape : Shaped N w g) (other-s
   same_memory_lem =
       λ i.
       record {
-        a = maps-a i;
-        b = maps-b i;
+        a = maps_a i;
+        b = maps_b i;
         counts = counts_are i;
         cells = cells_are i;
         roots = roots_are i;
         waiting = same_waiting i;
-        sections = same_sections maps-a i;
-        d = d-are i;
+        sections = same_sections maps_a i;
+        d = d_are i;
         marks = same_marks i;
         list = same_list i;
       }
@@ -120,11 +120,11 @@ module _ (N w : ℕ) (h : Memory) {g k : Memory} (shape : Shaped N w g) (other-s
       also : Represents N k.a k.b (sizes_of N g.a g.b)
       also = subst (λ (s : List ℕ). Represents N k.a k.b s) (sym (ap (λ (m : Graph). m.sizes) one)) q
 
-      maps-a : g.a ≡ k.a
-      maps-a = rewritten_ext from-g.a from-k.a (λ i l. same_a N g.a g.b k.a k.b (sizes_of N g.a g.b) p also i)
+      maps_a : g.a ≡ k.a
+      maps_a = rewritten_ext from-g.a from-k.a (λ i l. same_a N g.a g.b k.a k.b (sizes_of N g.a g.b) p also i)
 
-      maps-b : g.b ≡ k.b
-      maps-b =
+      maps_b : g.b ≡ k.b
+      maps_b =
           rewritten_ext from-g.b from-k.b
           (λ i l. same_b N g.a g.b k.a k.b (sizes_of N g.a g.b) p also i (omega (arith, p.length_b, rewritten_length from-g.b)))
 
@@ -144,7 +144,7 @@ module _ (N w : ℕ) (h : Memory) {g k : Memory} (shape : Shaped N w g) (other-s
       cells_are : g.cells ≡ k.cells
       cells_are =
           ext_get_or 0 g.cells k.cells (shape.length_cells ∙ sym other-shape.length_cells)
-          (λ j l. kept_cell N h p bare-g bare-k from-g.keeps from-k.keeps maps-a maps-b j)
+          (λ j l. kept_cell N h p bare-g bare-k from-g.keeps from-k.keeps maps_a maps_b j)
 
-      d-are : g.d ≡ k.d
-      d-are = rewritten_ext from-g.d from-k.d (λ x l. kept_kind N h p bare-g bare-k from-g.keeps from-k.keeps maps-a maps-b x)
+      d_are : g.d ≡ k.d
+      d_are = rewritten_ext from-g.d from-k.d (λ x l. kept_kind N h p bare-g bare-k from-g.keeps from-k.keeps maps_a maps_b x)

@@ -30,7 +30,7 @@ use Rattle.theory_memories.proofs.Memories.View.{view}
 use Rattle.theory_memories.proofs.Memories.Slots.{root_slot, occurrences_holding}
 use Rattle.theory_memories.proofs.Memories.Healthy.{Healthy}
 use Rattle.theory_memories.proofs.Memories.Stores.{positive}
-use Rattle.theory_memories.proofs.Memories.TidyHeap.{some_first, some_inside, names_slot, slot_names, tidy-facts, marked_inside}
+use Rattle.theory_memories.proofs.Memories.TidyHeap.{some_first, some_inside, names_slot, slot_names, tidy_facts, marked_inside}
 
 -- ---- lists of marks
 
@@ -78,44 +78,44 @@ module _ (N w : ℕ) (h : Memory) (healthy : Healthy N w h) where
     sized : size before x ≢ 0
     sized = tidy.objects x (tidy.listed_marked x on)
 
-    marksNext : ℕ → Bool
-    marksNext i = marked p.marks i || names N h x i
+    marks_next : ℕ → Bool
+    marks_next i = marked p.marks i || names N h x i
 
-    listNext : ℕ → Bool
-    listNext i = (marked p.list i && not (eqb i x)) || (names N h x i && not (marked p.marks i))
+    list_next : ℕ → Bool
+    list_next i = (marked p.list i && not (eqb i x)) || (names N h x i && not (marked p.marks i))
 
-    met-inside : (i : ℕ) → names N h x i ≡ true → i < N
-    met-inside i e =
+    met_inside : (i : ℕ) → names N h x i ≡ true → i < N
+    met_inside i e =
         let found = names_slot N w h x i (some_first N w h x sized) e in
         some_inside N w h i (named found.0 i found.2)
 
-    mark-inside : (i : ℕ) → marked p.marks i ≡ true → i < N
-    mark-inside i m = some_inside N w h i (tidy.objects i m)
+    mark_inside : (i : ℕ) → marked p.marks i ≡ true → i < N
+    mark_inside i m = some_inside N w h i (tidy.objects i m)
 
-    marks-inside : (i : ℕ) → marksNext i ≡ true → i < N
-    unfolding marksNext
-    marks-inside i e =
-        elim (or_true (marked p.marks i) (names N h x i) e) [ inl m ↦ mark-inside i m | inr q ↦ met-inside i q ]
+    marks_inside : (i : ℕ) → marks_next i ≡ true → i < N
+    unfolding marks_next
+    marks_inside i e =
+        elim (or_true (marked p.marks i) (names N h x i) e) [ inl m ↦ mark_inside i m | inr q ↦ met_inside i q ]
 
-    list_inside : (i : ℕ) → listNext i ≡ true → i < N
-    unfolding listNext
+    list_inside : (i : ℕ) → list_next i ≡ true → i < N
+    unfolding list_next
     list_inside i e =
         elim (or_true (marked p.list i && not (eqb i x)) (names N h x i && not (marked p.marks i)) e) [
-          | inl q ↦ mark-inside i (tidy.listed_marked i (and_true (marked p.list i) (not (eqb i x)) q).0)
-          | inr q ↦ met-inside i (and_true (names N h x i) (not (marked p.marks i)) q).0
+          | inl q ↦ mark_inside i (tidy.listed_marked i (and_true (marked p.list i) (not (eqb i x)) q).0)
+          | inr q ↦ met_inside i (and_true (names N h x i) (not (marked p.marks i)) q).0
         ]
 
-    marks-next : (i : ℕ) → marked (scanned N h p x).marks i ≡ marksNext i
-    unfolding scanned marksNext
-    marks-next i = marked_tabulate N marksNext marks-inside i
+    marks_next_lem : (i : ℕ) → marked (scanned N h p x).marks i ≡ marks_next i
+    unfolding scanned marks_next
+    marks_next_lem i = marked_tabulate N marks_next marks_inside i
 
-    list-next : (i : ℕ) → marked (scanned N h p x).list i ≡ listNext i
-    unfolding scanned listNext
-    list-next i = marked_tabulate N listNext list_inside i
+    list_next_lem : (i : ℕ) → marked (scanned N h p x).list i ≡ list_next i
+    unfolding scanned list_next
+    list_next_lem i = marked_tabulate N list_next list_inside i
 
-    scans-next : Scans r before x (marked p.marks) (marked p.list) marksNext listNext
-    unfolding marksNext listNext
-    scans-next =
+    scans_next : Scans r before x (marked p.marks) (marked p.list) marks_next list_next
+    unfolding marks_next list_next
+    scans_next =
         record {
           taken = on;
           now = λ b e.
@@ -151,22 +151,22 @@ module _ (N w : ℕ) (h : Memory) (healthy : Healthy N w h) where
     scans =
         record {
           taken = on;
-          now = λ b e. scans-next.now b (sym (marks-next b) ∙ e);
-          also = λ b o. marks-next b ∙ scans-next.also b o;
-          listed = λ b e. scans-next.listed b (sym (list-next b) ∙ e);
-          stays = λ b l d. list-next b ∙ scans-next.stays b l d;
-          joins = λ b q u. list-next b ∙ scans-next.joins b q u;
+          now = λ b e. scans_next.now b (sym (marks_next_lem b) ∙ e);
+          also = λ b o. marks_next_lem b ∙ scans_next.also b o;
+          listed = λ b e. scans_next.listed b (sym (list_next_lem b) ∙ e);
+          stays = λ b l d. list_next_lem b ∙ scans_next.stays b l d;
+          joins = λ b q u. list_next_lem b ∙ scans_next.joins b q u;
         }
 
-    step-tidy : TidyAt next
-    step-tidy = tidy_scanned r before x _ _ _ _ tidy scans named
+    step_tidy : TidyAt next
+    step_tidy = tidy_scanned r before x _ _ _ _ tidy scans named
 
-    step-apart : (b : ℕ) → Apart r before (marked p.marks) b → Apart r before (marked next.marks) b
-    step-apart = apart_step r before x _ _ _ _ tidy scans named
+    step_apart : (b : ℕ) → Apart r before (marked p.marks) b → Apart r before (marked next.marks) b
+    step_apart = apart_step r before x _ _ _ _ tidy scans named
 
-    step-pale : count_below (is_pale before (marked next.marks) (marked next.list)) N + 1
+    step_pale : count_below (is_pale before (marked next.marks) (marked next.list)) N + 1
         ≤ count_below (is_pale before (marked p.marks) (marked p.list)) N
-    step-pale = pale_step r before x _ _ _ _ tidy scans named N (some_inside N w h x sized)
+    step_pale = pale_step r before x _ _ _ _ tidy scans named N (some_inside N w h x sized)
 
   -- ---- all steps of a call
 
@@ -196,38 +196,38 @@ module _ (N w : ℕ) (h : Memory) (healthy : Healthy N w h) where
           let found = lowest_found p.list 0 x e in
           let at : found.0 ≡ x = omega (arith, found.1) in
           let on : marked p.list x ≡ true = ap (marked p.list) (sym at) ∙ found.2 in
-          let more = rest (scanned N h p x) (step-tidy p tidy x on) in
+          let more = rest (scanned N h p x) (step_tidy p tidy x on) in
           record {
             tidy = more.tidy;
-            apart = λ b a. more.apart b (step-apart p tidy x on b a);
-            fewer = omega (arith, more.fewer, step-pale p tidy x on);
+            apart = λ b a. more.apart b (step_apart p tidy x on b a);
+            fewer = omega (arith, more.fewer, step_pale p tidy x on);
           }
 
   -- ---- from the lists of an open collection
 
   module _ (was_open : is_open N h ≡ true) (passes : is_untidy N h ≡ false) where
     tidy_now : Tidy r before (is_marked h) (is_listed N h)
-    tidy_now = tidy-facts N w h healthy was_open passes
+    tidy_now = tidy_facts N w h healthy was_open passes
 
-    pub marked-progress : (i : ℕ) → marked (progress_of N h).marks i ≡ is_marked h i
+    pub marked_progress : (i : ℕ) → marked (progress_of N h).marks i ≡ is_marked h i
     unfolding progress_of
-    marked-progress i = marked_tabulate N (is_marked h) (λ i m. marked_inside N w h healthy i m) i
+    marked_progress i = marked_tabulate N (is_marked h) (λ i m. marked_inside N w h healthy i m) i
 
-    pub listed-progress : (i : ℕ) → marked (progress_of N h).list i ≡ is_listed N h i
+    pub listed_progress : (i : ℕ) → marked (progress_of N h).list i ≡ is_listed N h i
     unfolding progress_of
-    listed-progress i =
+    listed_progress i =
         marked_tabulate N (is_listed N h) (λ i m. marked_inside N w h healthy i (tidy_now.listed_marked i m)) i
 
-    pub progress-tidy : TidyAt (progress_of N h)
-    progress-tidy = tidy_same r before _ _ _ _ marked-progress listed-progress tidy_now
+    pub progress_tidy : TidyAt (progress_of N h)
+    progress_tidy = tidy_same r before _ _ _ _ marked_progress listed_progress tidy_now
 
-    pub steps-from-open : (budget : ℕ) → Stepped (progress_of N h) (steps_from budget N h (progress_of N h))
-    steps-from-open budget = steps_taken budget (progress_of N h) progress-tidy
+    pub steps_from_open : (budget : ℕ) → Stepped (progress_of N h) (steps_from budget N h (progress_of N h))
+    steps_from_open budget = steps_taken budget (progress_of N h) progress_tidy
 
     -- where the list has run out
-    pub list-empty : (budget : ℕ) (p : Progress) → TidyAt p → closes budget p ≡ true → Tidy r before (marked p.marks) (λ b. false)
+    pub list_empty : (budget : ℕ) (p : Progress) → TidyAt p → closes budget p ≡ true → Tidy r before (marked p.marks) (λ b. false)
     unfolding closes
-    list-empty budget p tidy e =
+    list_empty budget p tidy e =
         tidy_same r before _ _ _ _ (λ b. refl)
         (λ b. sym (lowest_empty p.list 0 (not-true (is_some (lowest p.list 0)) (and_true (ltb 0 budget) (not (is_some (lowest p.list 0))) e).1) b)) tidy
 

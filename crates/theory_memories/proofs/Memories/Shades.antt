@@ -12,7 +12,7 @@ use lib.ListN.{length}
 use borrow.Author.Tests.{not-true, not-false}
 use Rattle.rules.specs.Tools.{holding}
 use Rattle.rules.specs.Heap.{Memory, is_first}
-use Rattle.rules_steps.specs.Steps.{names, is_marked, is_listed, was_marked, namedByFreed, marks_after, list_after}
+use Rattle.rules_steps.specs.Steps.{names, is_marked, is_listed, was_marked, named_by_freed, marks_after, list_after}
 use Rattle.rules.proofs.Tests.{false_unless, and_true, true_and, and_false, or_true, true_or, or_false, some_true, true_some}
 use Rattle.theory_graphs.proofs.Graphs.Graph.{size}
 use Rattle.theory_graphs.proofs.Graphs.Tidy.{Was, FreedNames, Shades}
@@ -51,8 +51,8 @@ module _ (N w : ℕ) (h k : Memory) (touched : List ℕ) (g : Memory) where
   abbrev Freed : ℕ → Type 0
   Freed b = FreedNames (length k.roots) (view N w k) (view N w g) b
 
-  freed_facts : (b : ℕ) → namedByFreed N h k touched g b ≡ true → Freed b
-  unfolding namedByFreed
+  freed_facts : (b : ℕ) → named_by_freed N h k touched g b ≡ true → Freed b
+  unfolding named_by_freed
   freed_facts b e =
       let found = some_true (λ x. is_first N k x && not (is_first N g x) && names N k x b) N e in
       let x : ℕ = found.0 in
@@ -68,8 +68,8 @@ module _ (N w : ℕ) (h k : Memory) (touched : List ℕ) (g : Memory) where
         names = there.2;
       }
 
-  facts_freed : (b : ℕ) → Freed b → namedByFreed N h k touched g b ≡ true
-  unfolding namedByFreed
+  facts_freed : (b : ℕ) → Freed b → named_by_freed N h k touched g b ≡ true
+  unfolding named_by_freed
   facts_freed b f =
       let x : ℕ = f.object in
       let first = some_first N w k x f.stood in
@@ -85,10 +85,10 @@ module _ (N w : ℕ) (h k : Memory) (touched : List ℕ) (g : Memory) where
   unfolding marks_after
   marks_facts b e =
       let both =
-      and_true (is_first N g b) (was_marked N h k touched g b || ltb 0 (holding (b + 1) touched) || namedByFreed N h k touched g b) e in
-      (first_some N w g b both.0, go (or_true (was_marked N h k touched g b || ltb 0 (holding (b + 1) touched)) (namedByFreed N h k touched g b) both.1))
+      and_true (is_first N g b) (was_marked N h k touched g b || ltb 0 (holding (b + 1) touched) || named_by_freed N h k touched g b) e in
+      (first_some N w g b both.0, go (or_true (was_marked N h k touched g b || ltb 0 (holding (b + 1) touched)) (named_by_freed N h k touched g b) both.1))
     where
-      go : (was_marked N h k touched g b || ltb 0 (holding (b + 1) touched) ≡ true) ⊎ (namedByFreed N h k touched g b ≡ true) → Met b
+      go : (was_marked N h k touched g b || ltb 0 (holding (b + 1) touched) ≡ true) ⊎ (named_by_freed N h k touched g b ≡ true) → Met b
       go (inr f) = inr (inr (freed_facts b f))
       go (inl q) =
           elim (or_true (was_marked N h k touched g b) (ltb 0 (holding (b + 1) touched)) q) [
@@ -99,11 +99,11 @@ module _ (N w : ℕ) (h k : Memory) (touched : List ℕ) (g : Memory) where
   facts_marks : (b : ℕ) → size (view N w g) b ≢ 0 → Met b → marks_after N h k touched g b ≡ true
   unfolding marks_after
   facts_marks b n met =
-      true_and (is_first N g b) (was_marked N h k touched g b || ltb 0 (holding (b + 1) touched) || namedByFreed N h k touched g b)
+      true_and (is_first N g b) (was_marked N h k touched g b || ltb 0 (holding (b + 1) touched) || named_by_freed N h k touched g b)
       (some_first N w g b n)
-      (true_or (was_marked N h k touched g b || ltb 0 (holding (b + 1) touched)) (namedByFreed N h k touched g b) (go met))
+      (true_or (was_marked N h k touched g b || ltb 0 (holding (b + 1) touched)) (named_by_freed N h k touched g b) (go met))
     where
-      go : Met b → (was_marked N h k touched g b || ltb 0 (holding (b + 1) touched) ≡ true) ⊎ (namedByFreed N h k touched g b ≡ true)
+      go : Met b → (was_marked N h k touched g b || ltb 0 (holding (b + 1) touched) ≡ true) ⊎ (named_by_freed N h k touched g b ≡ true)
       go (inl m) = inl (true_or (was_marked N h k touched g b) (ltb 0 (holding (b + 1) touched)) (inl (facts_was b m)))
       go (inr (inl t)) = inl (true_or (was_marked N h k touched g b) (ltb 0 (holding (b + 1) touched)) (inr t))
       go (inr (inr f)) = inr (facts_freed b f)

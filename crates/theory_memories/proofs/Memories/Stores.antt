@@ -17,18 +17,18 @@ use Rattle.rules.specs.Heap.{Memory, with_counts, with_cells, with_roots, capaci
 use Rattle.rules_stores.specs.Store.{Work, work, count_up, count_down, placed, let_go}
 use Rattle.rules.proofs.Objects.{first_facts}
 use Rattle.theory_memories.proofs.Maps.Extents.{Represents, sizes_of, length_sizes_of, first_size, extent, represents_is}
-use Rattle.theory_memories.proofs.Maps.Moves.{clear_of, placed-represents}
+use Rattle.theory_memories.proofs.Maps.Moves.{clear_of, placed_represents}
 use Rattle.theory_memories.proofs.Maps.LowestChunk.{Room}
 use Rattle.theory_graphs.proofs.Graphs.Stretch.{Inside}
 use Rattle.theory_graphs.proofs.Graphs.Graph as graph
 use Rattle.theory_graphs.proofs.Graphs.Graph.{Graph, size, slot, raise, write, place, swap, swap_stack, finish, store, allocate}
 use Rattle.theory_graphs.proofs.Graphs.Balance.{Balanced, Waits, write_balanced, lower_balanced, lower_waits}
-use Rattle.theory_graphs.proofs.Graphs.Calls.{Place, Vacant, raised_balanced, raised-waits, placed-balanced, placed-waits}
-use Rattle.theory_memories.proofs.Memories.Reading.{ordinary-read, reference-written, cell-bare, placed_read, placed_bare}
+use Rattle.theory_graphs.proofs.Graphs.Calls.{Place, Vacant, raised_balanced, raised_waits, placed_balanced, placed_waits}
+use Rattle.theory_memories.proofs.Memories.Reading.{ordinary_read, reference_written, cell_bare, placed_read, placed_bare}
 use Rattle.theory_memories.proofs.Memories.View.{cell_refs, slots_in, view}
 use Rattle.theory_memories.proofs.Memories.Slots.{root_slot, cell_slot, length_cell_refs, ref_first}
 use Rattle.theory_memories.proofs.Memories.Healthy.{Healthy, capacity_positive}
-use Rattle.theory_memories.proofs.Memories.ViewMoves.{counts_of, WorkShows, counts_set, counts_up, length_up, down-shows, set_append_right, length_clear_cells}
+use Rattle.theory_memories.proofs.Memories.ViewMoves.{counts_of, WorkShows, counts_set, counts_up, length_up, down_shows, set_append_right, length_clear_cells}
 use Rattle.theory_memories.proofs.Memories.ViewRelease.{reshaped, Shows, graph_is, Releasing, slot_le, release_shows}
 
 -- the work and the memory once what v named is counted down
@@ -66,7 +66,7 @@ module _ (N w r : ℕ) (pos : 0 < capacity w) (k : Graph) (i v : ℕ) (blocks : 
       down :
           WorkShows N w (work_left N w g (slot k i)) (graph.count_down (capacity w) (counts_of N w g.counts) (slot k i))
           (graph.count_down_stack (capacity w) (counts_of N w g.counts) (slot k i) [])
-      down = down-shows N w shows.shape.whole_bytes g.counts shows.shape.length_counts [] (slot k i) named
+      down = down_shows N w shows.shape.whole_bytes g.counts shows.shape.length_counts [] (slot k i) named
 
       lowered : view N w (memory_left N w g (slot k i)) ≡ swap (capacity w) k i v
       lowered =
@@ -123,11 +123,11 @@ module _ (N w r : ℕ) (pos : 0 < capacity w) (k : Graph) (i v : ℕ) (blocks : 
         roots_are = shows.roots_are;
         view_is = graph_is (ap (λ (m : Graph). m.sizes) shows.view_is) (ap (λ (m : Graph). m.counts) shows.view_is)
             (ap (λ (l : List ℕ). h.roots ++ l)
-            (reference-written N h.a h.b sizes shows.represents h.d h.cells x c v cell ordinary
+            (reference_written N h.a h.b sizes shows.represents h.d h.cells x c v cell ordinary
             (omega (arith, within, shows.shape.length_cells)))
             ∙ sym (set_append_right h.roots (cell_refs N h) c v) ∙ ap (λ (s : ℕ). set (slots_in N h) s v) (sym e)
             ∙ ap (λ (m : Graph). set m.slots i v) shows.view_is);
-        bare = cell-bare N h.a h.b sizes shows.represents h.d h.cells x c v cell shows.bare;
+        bare = cell_bare N h.a h.b sizes shows.represents h.d h.cells x c v cell shows.bare;
       })
     where
       sizes : List ℕ
@@ -138,7 +138,7 @@ module _ (N w r : ℕ) (pos : 0 < capacity w) (k : Graph) (i v : ℕ) (blocks : 
 
       read : get_or (slots_in N h) (length h.roots + c) 0 ≡ get_or h.cells c 0
       read =
-          cell_slot N h c within ∙ ordinary-read N h.a h.b sizes shows.represents h.d h.cells x c cell ordinary
+          cell_slot N h c within ∙ ordinary_read N h.a h.b sizes shows.represents h.d h.cells x c cell ordinary
 
 -- ---- the calls, on a healthy memory
 
@@ -168,29 +168,29 @@ module _ (N w : ℕ) (h : Memory) (healthy : Healthy N w h) where
     pub same_size : size_at N h a ≡ size (view N w h) a
     same_size = extent N h.a h.b (sizes_of N h.a h.b) healthy.represents a object
 
-    pub cell-place : Place (length h.roots) (view N w h) (length h.roots + (4 * a + j))
-    cell-place = inr (a, (omega arith, omega (arith, same_size)))
+    pub cell_place : Place (length h.roots) (view N w h) (length h.roots + (4 * a + j))
+    cell_place = inr (a, (omega arith, omega (arith, same_size)))
 
     pub cell_inside : length h.roots + (4 * a + j) < length (slots_in N h)
     cell_inside = omega (arith, slots_length, same_size, healthy.represents.inside a object)
 
     -- it is one of the object's
-    pub cell-of : Inside (4 * a) (4 * get_or (sizes_of N h.a h.b) a 0) (4 * a + j)
-    cell-of = (omega arith, omega (arith, same_size))
+    pub cell_of_lem : Inside (4 * a) (4 * get_or (sizes_of N h.a h.b) a 0) (4 * a + j)
+    cell_of_lem = (omega arith, omega (arith, same_size))
 
     pub cell_below : 4 * a + j < 4 * N
     cell_below = omega (arith, same_size, healthy.represents.inside a object)
 
     -- what it holds as a reference stands in its slot
-    pub cell-read : is_data h.d a ≡ false → get_or (slots_in N h) (length h.roots + (4 * a + j)) 0 ≡ get_or h.cells (4 * a + j) 0
-    cell-read ordinary =
+    pub cell_read_lem : is_data h.d a ≡ false → get_or (slots_in N h) (length h.roots + (4 * a + j)) 0 ≡ get_or h.cells (4 * a + j) 0
+    cell_read_lem ordinary =
         cell_slot N h (4 * a + j) cell_below
-        ∙ ordinary-read N h.a h.b (sizes_of N h.a h.b) healthy.represents h.d h.cells a (4 * a + j) cell-of ordinary
+        ∙ ordinary_read N h.a h.b (sizes_of N h.a h.b) healthy.represents h.d h.cells a (4 * a + j) cell_of_lem ordinary
 
   module _ (v : ℕ) (ref : is_ref N h v ≡ true) where
     -- what is stored is 0 or names an object
-    pub ref-object : (a : ℕ) → v ≡ suc a → size (view N w h) a ≢ 0
-    ref-object a e = first_size N h.a h.b (sizes_of N h.a h.b) healthy.represents a (ref_first N h v a ref e)
+    pub ref_object : (a : ℕ) → v ≡ suc a → size (view N w h) a ≢ 0
+    ref_object a e = first_size N h.a h.b (sizes_of N h.a h.b) healthy.represents a (ref_first N h v a ref e)
 
     ref_le : v ≤ N
     ref_le = go v refl
@@ -200,8 +200,8 @@ module _ (N w : ℕ) (h : Memory) (healthy : Healthy N w h) where
         go (suc a) e = (first_facts N h.a h.b a (ref_first N h v a ref e)).inside
 
     -- it is counted up
-    pub raised-shows : Shows N w (length h.roots) (with_counts (count_up N w h.counts v) h) (raise (capacity w) (view N w h) v)
-    raised-shows =
+    pub raised_shows : Shows N w (length h.roots) (with_counts (count_up N w h.counts v) h) (raise (capacity w) (view N w h) v)
+    raised_shows =
         let shape = healthy.shape in
         record {
           shape = reshaped N w h (with_counts (count_up N w h.counts v) h) shape refl refl
@@ -214,10 +214,10 @@ module _ (N w : ℕ) (h : Memory) (healthy : Healthy N w h) where
 
     module _ (i : ℕ) (slot-i : Place (length h.roots) (view N w h) i) where
       held : Balanced (capacity w) (raise (capacity w) (view N w h) v) v
-      held = raised_balanced (capacity w) positive (length h.roots) (view N w h) healthy.whole i v slot-i ref-object
+      held = raised_balanced (capacity w) positive (length h.roots) (view N w h) healthy.whole i v slot-i ref_object
 
       waits : Waits (raise (capacity w) (view N w h) v) []
-      waits = raised-waits (capacity w) positive (length h.roots) (view N w h) healthy.whole i v slot-i ref-object
+      waits = raised_waits (capacity w) positive (length h.roots) (view N w h) healthy.whole i v slot-i ref_object
 
     pub store_root_lem :
         (i : ℕ) → i < length h.roots
@@ -227,7 +227,7 @@ module _ (N w : ℕ) (h : Memory) (healthy : Healthy N w h) where
     store_root_lem i l =
         put_root_lem N w (length h.roots) positive (raise (capacity w) (view N w h) v) i v (length_sizes_of N h.a h.b)
         (omega (arith, slots_length)) (slots_named i) (held i (inl l)) (waits i (inl l))
-        (with_counts (count_up N w h.counts v) h) raised-shows l
+        (with_counts (count_up N w h.counts v) h) raised_shows l
 
     pub store_cell_lem :
         (a j : ℕ) → is_first N h a ≡ true → j < 4 * size_at N h a → is_data h.d a ≡ false
@@ -236,10 +236,10 @@ module _ (N w : ℕ) (h : Memory) (healthy : Healthy N w h) where
     unfolding store
     store_cell_lem a j first l ordinary =
         let i : ℕ = length h.roots + (4 * a + j) in
-        let place = cell-place a j first l in
+        let place = cell_place a j first l in
         put_cell_lem N w (length h.roots) positive (raise (capacity w) (view N w h) v) i v (length_sizes_of N h.a h.b)
         (cell_inside a j first l) (slots_named i) (held i place) (waits i place)
-        (with_counts (count_up N w h.counts v) h) a (4 * a + j) raised-shows refl (cell-of a j first l) ordinary
+        (with_counts (count_up N w h.counts v) h) a (4 * a + j) raised_shows refl (cell_of_lem a j first l) ordinary
 
   -- n blocks at i are free for a new object
   module _ (n i : ℕ) (some : n ≢ 0) (room : Room N h.a n i) where
@@ -250,20 +250,20 @@ module _ (N w : ℕ) (h : Memory) (healthy : Healthy N w h) where
       clear = clear_of N h.a h.b (sizes_of N h.a h.b) healthy.represents i n some room.free;
     }
 
-    pub maps-placed : Represents N (fill_bits h.a i n 1) (set_bit h.b (i + n - 1) 0) (set (sizes_of N h.a h.b) i n)
-    maps-placed = placed-represents N h.a h.b (sizes_of N h.a h.b) healthy.represents i n some room.inside room.free
+    pub maps_placed : Represents N (fill_bits h.a i n 1) (set_bit h.b (i + n - 1) 0) (set (sizes_of N h.a h.b) i n)
+    maps_placed = placed_represents N h.a h.b (sizes_of N h.a h.b) healthy.represents i n some room.inside room.free
 
-    pub placed-shows : (asData : Bool) → Shows N w (length h.roots) (placed N w asData h i n) (place (view N w h) i n)
+    pub placed_shows : (asData : Bool) → Shows N w (length h.roots) (placed N w asData h i n) (place (view N w h) i n)
     unfolding placed
-    placed-shows asData =
+    placed_shows asData =
         let shape = healthy.shape in
         let sizes_are =
-        represents_is N (fill_bits h.a i n 1) (set_bit h.b (i + n - 1) 0) (set (sizes_of N h.a h.b) i n) maps-placed in
+        represents_is N (fill_bits h.a i n 1) (set_bit h.b (i + n - 1) 0) (set (sizes_of N h.a h.b) i n) maps_placed in
         record {
           shape = reshaped N w h (placed N w asData h i n) shape (length_fill h.a i n 1) (length_set_bit h.b (i + n - 1) 0)
               (length_set_count (N / 8) w h.counts i 1) (length_clear_cells h.cells (4 * i) (4 * n)) refl refl refl
               (length_set_bit h.d i (one asData)) refl refl;
-          represents = rw (← sizes_are) maps-placed;
+          represents = rw (← sizes_are) maps_placed;
           roots_are = refl;
           view_is = graph_is (sym sizes_are)
               (counts_set N w shape.whole_bytes h.counts shape.length_counts i 1 (omega (arith, room.inside))
@@ -276,16 +276,16 @@ module _ (N w : ℕ) (h : Memory) (healthy : Healthy N w h) where
               asData healthy.bare;
         }
 
-    pub allocate-root :
+    pub allocate_root :
         (asData : Bool) (root : ℕ) → root < length h.roots
         → LetsGo N w (length h.roots) (with_roots (set h.roots root (i + 1)) (placed N w asData h i n)) (get_or h.roots root 0)
         (allocate (capacity w) (length h.roots) (view N w h) i n root)
     unfolding placed allocate
-    allocate-root asData root l =
+    allocate_root asData root l =
         rw add-one
         (put_root_lem N w (length h.roots) positive (place (view N w h) i n) root (suc i)
         (length-set (sizes_of N h.a h.b) i n ∙ length_sizes_of N h.a h.b)
         (omega (arith, slots_length)) (slots_named root)
-        (placed-balanced (capacity w) positive (length h.roots) (view N w h) healthy.whole i n root room_vacant l)
-        (placed-waits (capacity w) positive (length h.roots) (view N w h) healthy.whole i n root room_vacant l)
-        (placed N w asData h i n) (placed-shows asData) l)
+        (placed_balanced (capacity w) positive (length h.roots) (view N w h) healthy.whole i n root room_vacant l)
+        (placed_waits (capacity w) positive (length h.roots) (view N w h) healthy.whole i n root room_vacant l)
+        (placed N w asData h i n) (placed_shows asData) l)

@@ -21,7 +21,7 @@ use Rattle.rules_steps.specs.Steps.{bad_next, bad_place, stray_mark, root_missed
 use Rattle.rules.proofs.Tests.{false_unless, and_true, true_and, and_false, false_and, or_false, false_or}
 use Rattle.rules.proofs.Tests.{some_true, true_some, some_false, false_some}
 use Rattle.rules.proofs.Objects.{first_facts, size_le, size_some}
-use Rattle.rules_steps.proofs.Progress.{map_of_test, map_of_past, list_of_last, list_of_only, listed_exactly, next-right, list_is_form, map_is_form}
+use Rattle.rules_steps.proofs.Progress.{map_of_test, map_of_past, list_of_last, list_of_only, listed_exactly, next_right, list_is_form, map_is_form}
 use Rattle.theory_memories.proofs.Maps.Extents.{sizes_of, length_sizes_of, size_first, sized_first}
 use Rattle.theory_graphs.proofs.Graphs.Occurrences.{nonzero_inside}
 use Rattle.theory_graphs.proofs.Graphs.Graph.{size, slot, first_slot, Owns}
@@ -122,15 +122,15 @@ module _ (N w : ℕ) (h : Memory) (healthy : Healthy N w h) where
         let four = or_false (some_below (bad_next h) (N - 1)) (some_below (bad_place N h) N) three.0 in
         record { nexts = four.0; places = four.1; strays = three.1; missed_roots = two.1; missed_cells = one.1 }
 
-    marked-first : (i : ℕ) → is_marked h i ≡ true → is_first N h i ≡ true
+    marked_first : (i : ℕ) → is_marked h i ≡ true → is_first N h i ≡ true
     unfolding stray_mark
-    marked-first i m =
+    marked_first i m =
         not-false (is_first N h i)
         (and_false (is_marked h i) (not (is_first N h i)) (some_false (stray_mark N h) N tests.strays i (marked_inside i m)) m)
 
-    pub tidy-facts : Tidy r (view N w h) (is_marked h) (is_listed N h)
+    pub tidy_facts : Tidy r (view N w h) (is_marked h) (is_listed N h)
     unfolding is_listed bad_place root_missed cell_missed
-    tidy-facts =
+    tidy_facts =
         record {
           listed_marked = λ b e.
               let found = some_true (λ k. eqb (get_or h.list k 0) (b + 1)) N e in
@@ -143,7 +143,7 @@ module _ (N w : ℕ) (h : Memory) (healthy : Healthy N w h) where
               not-false (is_first N h (v - 1) && is_marked h (v - 1))
               (and_false (not (eqb v 0)) (not (is_first N h (v - 1) && is_marked h (v - 1))) right (ap not (ne_eqb v 0 (omega arith)))) in
               ap (is_marked h) (sym before) ∙ (and_true (is_first N h (v - 1)) (is_marked h (v - 1)) held).1;
-          objects = λ b m. first_some N w h b (marked-first b m);
+          objects = λ b m. first_some N w h b (marked_first b m);
           roots = λ s b l e.
               let v : ℕ = get_or h.roots s 0 in
               let is : v ≡ suc b = sym (root_slot N h s l) ∙ e in
@@ -153,7 +153,7 @@ module _ (N w : ℕ) (h : Memory) (healthy : Healthy N w h) where
               (and_false (not (eqb v 0)) (not (is_marked h (v - 1))) (some_false (root_missed h) (length h.roots) tests.missed_roots s l)
               (ap not (ne_eqb v 0 (omega arith))));
           cells = λ x s b m u own e.
-              let f = marked-first x m in
+              let f = marked_first x m in
               let right = some_false (cell_missed N h) N tests.missed_cells x (marked_inside x m) in
               let none =
               and_false (is_first N h x && is_marked h x && not (is_listed N h x)) (some_below (λ i. names N h x i && not (is_marked h i)) N) right
@@ -164,9 +164,9 @@ module _ (N w : ℕ) (h : Memory) (healthy : Healthy N w h) where
         }
 
     -- a place of the list holds 0 or 1 + a first block
-    place-held : (k : ℕ) → k < N → get_or h.list k 0 ≢ 0 → is_first N h (get_or h.list k 0 - 1) ≡ true
+    place_held : (k : ℕ) → k < N → get_or h.list k 0 ≢ 0 → is_first N h (get_or h.list k 0 - 1) ≡ true
     unfolding bad_place
-    place-held k l some =
+    place_held k l some =
         let v : ℕ = get_or h.list k 0 in
         let right = some_false (bad_place N h) N tests.places k l in
         let held : is_first N h (v - 1) && is_marked h (v - 1) ≡ true =
@@ -188,7 +188,7 @@ module _ (N w : ℕ) (h : Memory) (healthy : Healthy N w h) where
         (λ k l.
         elim (ℕ_discrete (get_or h.list k 0) 0) [
           | yes z ↦ omega arith
-          | no some ↦ omega (arith, (first_facts N h.a h.b (get_or h.list k 0 - 1) (place-held k l some)).inside)
+          | no some ↦ omega (arith, (first_facts N h.a h.b (get_or h.list k 0 - 1) (place_held k l some)).inside)
         ])
 
     -- .. and so is the map
@@ -208,9 +208,9 @@ module _ (N w : ℕ) (h : Memory) (healthy : Healthy N w h) where
     unfolding with_progress
     open_after = eq-eqb (get_or (list_of N list) N 0) 1 (list_of_last N list)
 
-    pub marked-after : (i : ℕ) → is_marked after i ≡ marks i
+    pub marked_after : (i : ℕ) → is_marked after i ≡ marks i
     unfolding with_progress
-    marked-after i =
+    marked_after i =
         elim (dec_lt i N) [
           | yes l ↦ map_of_test h.marks marks N i (omega (arith, healthy.shape.length_marks, healthy.shape.whole_bytes)) l
           | no l ↦
@@ -218,9 +218,9 @@ module _ (N w : ℕ) (h : Memory) (healthy : Healthy N w h) where
               ∙ sym (false_unless (marks i) (λ m. omega (arith, some_inside N w h i (tidy.objects i m))))
         ]
 
-    pub listed-after : (i : ℕ) → is_listed N after i ≡ list i
+    pub listed_after : (i : ℕ) → is_listed N after i ≡ list i
     unfolding with_progress is_listed
-    listed-after i =
+    listed_after i =
         elim (dec_lt i N) [
           | yes l ↦ listed_exactly N list after refl i l
           | no l ↦
@@ -231,20 +231,20 @@ module _ (N w : ℕ) (h : Memory) (healthy : Healthy N w h) where
               ∙ sym (false_unless (list i) (λ m. omega (arith, some_inside N w h i (tidy.objects i (tidy.listed_marked i m)))))
         ]
 
-    place-right : (k : ℕ) → k < N → bad_place N after k ≡ false
+    place_right : (k : ℕ) → k < N → bad_place N after k ≡ false
     unfolding bad_place with_progress
-    place-right k l =
+    place_right k l =
         let v : ℕ = get_or (list_of N list) k 0 in
         false_and (not (eqb v 0)) (not (is_first N h (v - 1) && is_marked after (v - 1)))
         (λ some.
         let nonzero = eqb-false v 0 (not-true (eqb v 0) some) in
         let on = (list_of_only N list k (v - 1) l (omega arith)).1 in
         let m = tidy.listed_marked (v - 1) on in
-        ap not (true_and (is_first N h (v - 1)) (is_marked after (v - 1)) (some_first N w h (v - 1) (tidy.objects (v - 1) m)) (marked-after (v - 1) ∙ m)))
+        ap not (true_and (is_first N h (v - 1)) (is_marked after (v - 1)) (some_first N w h (v - 1) (tidy.objects (v - 1) m)) (marked_after (v - 1) ∙ m)))
 
-    cell-right : (x : ℕ) → x < N → cell_missed N after x ≡ false
+    cell_right : (x : ℕ) → x < N → cell_missed N after x ≡ false
     unfolding cell_missed with_progress names
-    cell-right x l =
+    cell_right x l =
         false_and (is_first N h x && is_marked after x && not (is_listed N after x)) (some_below (λ i. names N after x i && not (is_marked after i)) N)
         (λ e.
         let outer = and_true (is_first N h x && is_marked after x) (not (is_listed N after x)) e in
@@ -255,34 +255,34 @@ module _ (N w : ℕ) (h : Memory) (healthy : Healthy N w h) where
         (λ named.
         let found = names_slot N w h x i inner.0 (same_names x i ∙ named) in
         ap not
-        (marked-after i
-        ∙ tidy.cells x found.0 i (sym (marked-after x) ∙ inner.1) (sym (listed-after x) ∙ not-true (is_listed N after x) outer.1) found.1 found.2))))
+        (marked_after i
+        ∙ tidy.cells x found.0 i (sym (marked_after x) ∙ inner.1) (sym (listed_after x) ∙ not-true (is_listed N after x) outer.1) found.1 found.2))))
       where
         same_names : (x i : ℕ) → names N h x i ≡ names N after x i
         same_names x i = refl
 
-    root-right : (s : ℕ) → s < length h.roots → root_missed after s ≡ false
+    root_right : (s : ℕ) → s < length h.roots → root_missed after s ≡ false
     unfolding root_missed with_progress
-    root-right s l =
+    root_right s l =
         let v : ℕ = get_or h.roots s 0 in
         false_and (not (eqb v 0)) (not (is_marked after (v - 1)))
         (λ some.
         let nonzero = eqb-false v 0 (not-true (eqb v 0) some) in
-        ap not (marked-after (v - 1) ∙ tidy.roots s (v - 1) l (omega (arith, root_slot N h s l))))
+        ap not (marked_after (v - 1) ∙ tidy.roots s (v - 1) l (omega (arith, root_slot N h s l))))
 
-    stray-right : (i : ℕ) → i < N → stray_mark N after i ≡ false
+    stray_right : (i : ℕ) → i < N → stray_mark N after i ≡ false
     unfolding stray_mark with_progress
-    stray-right i l =
+    stray_right i l =
         false_and (is_marked after i) (not (is_first N h i))
-        (λ m. ap not (some_first N w h i (tidy.objects i (sym (marked-after i) ∙ m))))
+        (λ m. ap not (some_first N w h i (tidy.objects i (sym (marked_after i) ∙ m))))
 
-    next-after : (k : ℕ) → k < N - 1 → bad_next after k ≡ false
+    next_after : (k : ℕ) → k < N - 1 → bad_next after k ≡ false
     unfolding with_progress
-    next-after k l = next-right N list after refl k l
+    next_after k l = next_right N list after refl k l
 
-    pub tidy-passes : is_untidy N after ≡ false
+    pub tidy_passes : is_untidy N after ≡ false
     unfolding is_untidy with_progress
-    tidy-passes =
+    tidy_passes =
         rw (open_after, is_untidy)
         (false_or
         (some_below (bad_next after) (N - 1) || some_below (bad_place N after) N || some_below (stray_mark N after) N
@@ -291,14 +291,14 @@ module _ (N w : ℕ) (h : Memory) (healthy : Healthy N w h) where
         (some_below (root_missed after) (length after.roots))
         (false_or (some_below (bad_next after) (N - 1) || some_below (bad_place N after) N) (some_below (stray_mark N after) N)
         (false_or (some_below (bad_next after) (N - 1)) (some_below (bad_place N after) N)
-        (false_some (bad_next after) (N - 1) next-after)
-        (false_some (bad_place N after) N place-right))
-        (false_some (stray_mark N after) N stray-right))
-        (false_some (root_missed after) (length after.roots) root-rights))
-        (false_some (cell_missed N after) N cell-right))
+        (false_some (bad_next after) (N - 1) next_after)
+        (false_some (bad_place N after) N place_right))
+        (false_some (stray_mark N after) N stray_right))
+        (false_some (root_missed after) (length after.roots) root_rights))
+        (false_some (cell_missed N after) N cell_right))
       where
-        root-rights : (s : ℕ) → s < length after.roots → root_missed after s ≡ false
-        root-rights s l = root-right s l
+        root_rights : (s : ℕ) → s < length after.roots → root_missed after s ≡ false
+        root_rights s l = root_right s l
 
 -- ---- what the test doesn't read
 

@@ -34,12 +34,12 @@ use Rattle.theory_graphs.proofs.Graphs.Close.{only, only_each, only_each_stack, 
 use Rattle.theory_memories.proofs.Memories.View.{slots_in, view}
 use Rattle.theory_memories.proofs.Memories.Slots.{cell_slot}
 use Rattle.theory_memories.proofs.Memories.Healthy.{Healthy, view_count}
-use Rattle.theory_memories.proofs.Memories.ViewMoves.{counts_of, WorkShows, down-shows}
+use Rattle.theory_memories.proofs.Memories.ViewMoves.{counts_of, WorkShows, down_shows}
 use Rattle.theory_memories.proofs.Memories.ViewRelease.{reshaped, Shows, Releasing, release_shows}
 use Rattle.theory_memories.proofs.Memories.ViewSweep.{as_counts, as_counts_marked, as_counts_unmarked, Swept, sweep_swept, sweep_later, sweep_counts}
 use Rattle.theory_memories.proofs.Memories.Keeping.{sizes_in, Kept}
 use Rattle.theory_memories.proofs.Memories.Orders.{release_rewrites}
-use Rattle.theory_memories.proofs.Memories.Recount.{swept-uncounted, swept-counted}
+use Rattle.theory_memories.proofs.Memories.Recount.{swept_uncounted, swept_counted}
 use Rattle.theory_memories.proofs.Memories.Stores.{positive, slots_named}
 
 -- ---- counting down the marked alone
@@ -78,7 +78,7 @@ only_shows N w whole marks h s counts stack shown slots j i named (suc n) same =
     let before = only_shows N w whole marks h s counts stack shown slots j i named n (λ k l. same k (omega arith)) in
     let t : Work = survivors_down N w marks h s j n in
     rw (survivor_only marks (reference N h (j + n)), same n (omega arith), ← before.counts_are, ← before.stack_is)
-    (down-shows N w whole t.counts before.length_is t.stack (only (marked marks) (get_or slots (i + n) 0))
+    (down_shows N w whole t.counts before.length_is t.stack (only (marked marks) (get_or slots (i + n) 0))
     (omega (arith, only_le (marked marks) (get_or slots (i + n) 0), named (i + n))))
 
 -- counts go down
@@ -174,7 +174,7 @@ module _ (N w : ℕ) (h : Memory) (healthy : Healthy N w h) (marks : List Bool)
   counted b n m =
       let l = inside b n in
       view_count N w left b l
-      ∙ swept-counted N w healthy.shape.whole_bytes h marks healthy.shape.length_counts N b (omega arith) l m
+      ∙ swept_counted N w healthy.shape.whole_bytes h marks healthy.shape.length_counts N b (omega arith) l m
       ∙ sym (view_count N w h b l)
 
   uncounted : (b : ℕ) → marked marks b ≡ false → get_or swept_counts b 0 ≡ 0
@@ -183,7 +183,7 @@ module _ (N w : ℕ) (h : Memory) (healthy : Healthy N w h) (marks : List Bool)
       elim (dec_lt b N) [
         | yes l ↦
             view_count N w left b l
-            ∙ swept-uncounted N w healthy.shape.whole_bytes h marks healthy.shape.length_counts N b (omega arith) l (gone l)
+            ∙ swept_uncounted N w healthy.shape.whole_bytes h marks healthy.shape.length_counts N b (omega arith) l (gone l)
         | no l ↦ get_or-eq_default (counts_of N w left.counts) 0 {n = b} (omega (arith, length_tabulate N (count_of N w left)))
       ]
     where
@@ -320,13 +320,13 @@ module _ (N w : ℕ) (h : Memory) (healthy : Healthy N w h) (marks : List Bool)
 
   started_balanced : Balanced cap started 0
   started_balanced =
-      closing.close-balanced cap pos r (marked marks) before healthy.whole swept_counts counts_long tidy started counted uncounted
+      closing.close_balanced cap pos r (marked marks) before healthy.whole swept_counts counts_long tidy started counted uncounted
       size_kept size_gone counts_are slots_are
 
-  started-waits : Waits started (down_work N).stack
-  started-waits =
+  started_waits : Waits started (down_work N).stack
+  started_waits =
       rw ((down_shown N).stack_is ∙ ap down_stack all_blocks)
-      (closing.close-waits cap pos r (marked marks) before healthy.whole swept_counts counts_long tidy started counted uncounted
+      (closing.close_waits cap pos r (marked marks) before healthy.whole swept_counts counts_long tidy started counted uncounted
       size_kept size_gone counts_are slots_are)
 
   -- an object that is left is a marked one, of its old size
@@ -385,7 +385,7 @@ module _ (N w : ℕ) (h : Memory) (healthy : Healthy N w h) (marks : List Bool)
         represents = rw sizes_are swept_shows.represents;
         positive = pos;
         balanced = started_balanced;
-        waits = started-waits;
+        waits = started_waits;
         bare = swept_shows.bare;
       }
 
@@ -413,7 +413,7 @@ module _ (N w : ℕ) (h : Memory) (healthy : Healthy N w h) (marks : List Bool)
       refl (release_shows N w N start (down_work N).stack releasing))
 
   runs : Runs cap r (λ i. ⊥) started after
-  runs = release_runs cap pos r (λ i. ⊥) N started (down_work N).stack started_balanced started-waits
+  runs = release_runs cap pos r (λ i. ⊥) N started (down_work N).stack started_balanced started_waits
 
   leaves : Leaves cap r started after
   leaves = runs_leave cap r (λ i. ⊥) pos runs
@@ -421,7 +421,7 @@ module _ (N w : ℕ) (h : Memory) (healthy : Healthy N w h) (marks : List Bool)
   pub close_whole : Whole cap r after
   close_whole =
       let done =
-      release_balanced cap pos r N started (down_work N).stack started_balanced started-waits
+      release_balanced cap pos r N started (down_work N).stack started_balanced started_waits
       (omega (arith, length_sizes_of N left.a left.b)) in
       record { balanced = done.0; waits = done.1; shape = leaves_shape cap r started after leaves started_shape }
 
@@ -440,7 +440,7 @@ module _ (N w : ℕ) (h : Memory) (healthy : Healthy N w h) (marks : List Bool)
   pub close_reach : (b : ℕ) → Reach r before.sizes before.slots b → size after b ≡ size before b
   close_reach b reach =
       runs_reach cap pos r started after runs started_balanced started_shape.disjoint b
-      (closing.reach-on cap pos r (marked marks) before healthy.whole swept_counts counts_long tidy started counted uncounted
+      (closing.reach_on cap pos r (marked marks) before healthy.whole swept_counts counts_long tidy started counted uncounted
       size_kept size_gone counts_are slots_are reach)
       ∙ size_kept b
       (closing.reach_marked cap pos r (marked marks) before healthy.whole swept_counts counts_long tidy started counted uncounted

@@ -36,7 +36,7 @@ use Rattle.theory_memories.proofs.Memories.Rounds.{cell_of_set, of_set_cell, nam
 use Rattle.theory_memories.proofs.Memories.ViewRelease.{reshaped, Shows, graph_is}
 use Rattle.theory_memories.proofs.Memories.Stores.{positive}
 use Rattle.theory_memories.proofs.Memories.ViewSweep.{Swept, sweep_swept}
-use Rattle.theory_memories.proofs.Memories.Recount.{swept-uncounted, recounted-length, recounted-marked, recounted-other}
+use Rattle.theory_memories.proofs.Memories.Recount.{swept_uncounted, recounted_length, recounted_marked, recounted_other}
 
 module _ (N w : ℕ) (h : Memory) (healthy : Healthy N w h) where
   abbrev r : ℕ
@@ -170,12 +170,12 @@ module _ (N w : ℕ) (h : Memory) (healthy : Healthy N w h) where
   count_after b l =
       elim (test_cases_lem (marked marks b)) [
         | inl e ↦
-            recounted-marked N w healthy.shape.whole_bytes h marks left.counts collect_swept.shape.length_counts N b (omega arith) l e
+            recounted_marked N w healthy.shape.whole_bytes h marks left.counts collect_swept.shape.length_counts N b (omega arith) l e
             ∙ ap (min (capacity w)) (references_left b)
             ∙ sym (is_collected.counted b)
         | inr e ↦
-            recounted-other N w healthy.shape.whole_bytes h marks left.counts N b (omega arith) l e
-            ∙ swept-uncounted N w healthy.shape.whole_bytes h marks healthy.shape.length_counts N b (omega arith) l (goes_or_zero e)
+            recounted_other N w healthy.shape.whole_bytes h marks left.counts N b (omega arith) l e
+            ∙ swept_uncounted N w healthy.shape.whole_bytes h marks healthy.shape.length_counts N b (omega arith) l (goes_or_zero e)
             ∙ sym (((collect_whole (capacity w) (positive N w h healthy) r before healthy.whole).balanced b).absent
             (is_collected.unreached b (λ reach. false≢true (sym e ∙ reach_marked b reach))))
       ]
@@ -208,7 +208,7 @@ module _ (N w : ℕ) (h : Memory) (healthy : Healthy N w h) where
       record {
         shape =
             reshaped N w left (collected N w h) collect_swept.shape refl refl
-            (recounted-length N w healthy.shape.whole_bytes h marks left.counts N)
+            (recounted_length N w healthy.shape.whole_bytes h marks left.counts N)
             refl
             refl
             refl

@@ -129,19 +129,19 @@ module _ (N w : ℕ) (whole : 8 * (N / 8) ≡ N) (counts : List ℕ) (len : leng
     unfolding count_down push_last
     down_past v some l d = rw (ne_eqb v 0 some, le-ltb N v l, ne_eqb (count_at (N / 8) w counts (v - 1)) (capacity w) d, count_down, push_last)
 
-    down-other :
+    down_other :
         (b : ℕ) → b < N → count_at (N / 8) w counts b ≢ capacity w
         → count_down N w (work counts stack) (suc b)
         ≡ work (set_count (N / 8) w counts b (count_at (N / 8) w counts b - 1)) (push_last (capacity w) (count_at (N / 8) w counts b) b stack)
-    down-other b l d = rw (back b) at (down_past (suc b) (omega arith) (omega arith) (rw (back b) d))
+    down_other b l d = rw (back b) at (down_past (suc b) (omega arith) (omega arith) (rw (back b) d))
 
-    pub down-shows :
+    pub down_shows :
         (v : ℕ) → v ≤ N
         → WorkShows N w (count_down N w (work counts stack) v) (graph.count_down (capacity w) (counts_of N w counts) v)
         (graph.count_down_stack (capacity w) (counts_of N w counts) v stack)
     unfolding count_down graph.count_down graph.count_down_stack
-    down-shows zero l = record { length_is = len; counts_are = refl; stack_is = refl }
-    down-shows (suc b) l =
+    down_shows zero l = record { length_is = len; counts_are = refl; stack_is = refl }
+    down_shows (suc b) l =
         elim (ℕ_discrete (count_at (N / 8) w counts b) (capacity w)) [
           | yes e ↦
               record {
@@ -154,13 +154,13 @@ module _ (N w : ℕ) (whole : 8 * (N / 8) ≡ N) (counts : List ℕ) (len : leng
               }
           | no d ↦
               record {
-                length_is = ap (λ (s : Work). length s.counts) (down-other b (omega arith) d)
+                length_is = ap (λ (s : Work). length s.counts) (down_other b (omega arith) d)
                     ∙ length_set_count (N / 8) w counts b (count_at (N / 8) w counts b - 1) ∙ len;
-                counts_are = ap (λ (s : Work). counts_of N w s.counts) (down-other b (omega arith) d)
+                counts_are = ap (λ (s : Work). counts_of N w s.counts) (down_other b (omega arith) d)
                     ∙ counts_set b (count_at (N / 8) w counts b - 1) (omega arith) (omega (arith, count_lt (N / 8) w counts b))
                     ∙ ap (set (counts_of N w counts) b)
                     (sym (ap (lowered (capacity w)) here ∙ lowered_other (capacity w) (count_at (N / 8) w counts b) d));
-                stack_is = ap (λ (s : Work). s.stack) (down-other b (omega arith) d) ∙ ap (λ (c : ℕ). push_last (capacity w) c b stack) (sym here);
+                stack_is = ap (λ (s : Work). s.stack) (down_other b (omega arith) d) ∙ ap (λ (c : ℕ). push_last (capacity w) c b stack) (sym here);
               }
         ]
       where
@@ -179,7 +179,7 @@ each_shows N w whole counts len stack cells slots j i named (suc n) same =
     let before = each_shows N w whole counts len stack cells slots j i named n (λ k l. same k (omega arith)) in
     let s : Work = count_down_each N w (work counts stack) cells j n in
     rw (same n (omega arith), ← before.counts_are, ← before.stack_is)
-    (down-shows N w whole s.counts before.length_is s.stack (get_or slots (i + n) 0) (named (i + n)))
+    (down_shows N w whole s.counts before.length_is s.stack (get_or slots (i + n) 0) (named (i + n)))
 
 -- slots that hold 0 count nothing down
 pub each_none :

@@ -16,13 +16,13 @@ use Rattle.rules.specs.Heap.{Memory, capacity, size_at, is_data, reference}
 use Rattle.rules_stores.specs.Store.{work, count_down_each, freed, naming_cells, work_after, memory_after, release}
 use Rattle.rules.proofs.Shape.{Shaped}
 use Rattle.theory_memories.proofs.Maps.Extents.{Represents, sizes_of, length_sizes_of, extent, represents_is}
-use Rattle.theory_memories.proofs.Maps.Moves.{freed-represents}
+use Rattle.theory_memories.proofs.Maps.Moves.{freed_represents}
 use Rattle.theory_graphs.proofs.Graphs.Occurrences.{nonzero_inside}
 use Rattle.theory_graphs.proofs.Graphs.Graph as graph
 use Rattle.theory_graphs.proofs.Graphs.Graph.{Graph, size, count, slot, first_slot}
 use Rattle.theory_graphs.proofs.Graphs.Balance.{Balanced, Waits, waits_head, named_object, free_balanced, free_waits}
 use Rattle.theory_graphs.proofs.Graphs.Stretch.{clear}
-use Rattle.theory_memories.proofs.Memories.Reading.{Bare, data-read, ordinary-read, freed_read, freed_bare}
+use Rattle.theory_memories.proofs.Memories.Reading.{Bare, data_read, ordinary_read, freed_read, freed_bare}
 use Rattle.theory_memories.proofs.Memories.View.{cell_refs, slots_in, view}
 use Rattle.theory_memories.proofs.Memories.Slots.{cell_slot}
 use Rattle.theory_memories.proofs.Memories.Healthy.{view_count}
@@ -137,7 +137,7 @@ module _ (N w : ℕ) (h : Memory) (x : ℕ) (rest : List ℕ) (before : Releasin
       each_none (capacity w) (view N w h).counts rest (slots_in N h) (first_slot (length h.roots) x) (4 * size (view N w h) x)
       (λ k l.
       slot_of k l
-      ∙ data-read N h.a h.b (sizes_of N h.a h.b) before.represents h.d h.cells x (4 * x + k) (omega arith, omega arith) e) in
+      ∙ data_read N h.a h.b (sizes_of N h.a h.b) before.represents h.d h.cells x (4 * x + k) (omega arith, omega arith) e) in
       record { length_is = shape.length_counts; counts_are = sym none.0; stack_is = sym none.1 }
   naming false e =
       rw size_there
@@ -146,7 +146,7 @@ module _ (N w : ℕ) (h : Memory) (x : ℕ) (rest : List ℕ) (before : Releasin
       (λ k l.
       sym
       (slot_of k l
-      ∙ ordinary-read N h.a h.b (sizes_of N h.a h.b) before.represents h.d h.cells x (4 * x + k) (omega arith, omega arith) e)))
+      ∙ ordinary_read N h.a h.b (sizes_of N h.a h.b) before.represents h.d h.cells x (4 * x + k) (omega arith, omega arith) e)))
 
   work_after_lem :
       WorkShows N w (work_after N w h x rest) (graph.free (capacity w) (length h.roots) (view N w h) x).counts
@@ -157,19 +157,19 @@ module _ (N w : ℕ) (h : Memory) (x : ℕ) (rest : List ℕ) (before : Releasin
   maps_after :
       Represents N (fill_bits h.a x (size_at N h x) 0) (set_bit h.b (x + size_at N h x - 1) 1) (set (sizes_of N h.a h.b) x 0)
   maps_after =
-      freed-represents N h.a h.b (sizes_of N h.a h.b) before.represents x (size_at N h x) (sym size_there)
+      freed_represents N h.a h.b (sizes_of N h.a h.b) before.represents x (size_at N h x) (sym size_there)
       nonzero
 
-  pub sizes-after :
+  pub sizes_after :
       set (sizes_of N h.a h.b) x 0 ≡ sizes_of N (fill_bits h.a x (size_at N h x) 0) (set_bit h.b (x + size_at N h x - 1) 1)
-  sizes-after =
+  sizes_after =
       represents_is N (fill_bits h.a x (size_at N h x) 0) (set_bit h.b (x + size_at N h x - 1) 1) (set (sizes_of N h.a h.b) x 0)
       maps_after
 
-  pub view-after : view N w (memory_after N w h x rest) ≡ graph.free (capacity w) (length h.roots) (view N w h) x
+  pub view_after : view N w (memory_after N w h x rest) ≡ graph.free (capacity w) (length h.roots) (view N w h) x
   unfolding freed graph.free
-  view-after =
-      graph_is (sym sizes-after) work_after_lem.counts_are
+  view_after =
+      graph_is (sym sizes_after) work_after_lem.counts_are
       (ap (λ (l : List ℕ). h.roots ++ l)
       (freed_read N h.a h.b (sizes_of N h.a h.b) h.d h.cells before.represents x (size_at N h x) (sym size_there) nonzero)
       ∙ clear_behind h.roots (cell_refs N h) (4 * x) (4 * size_at N h x)
@@ -184,13 +184,13 @@ module _ (N w : ℕ) (h : Memory) (x : ℕ) (rest : List ℕ) (before : Releasin
         shape = reshaped N w h (memory_after N w h x rest) shape (length_fill h.a x (size_at N h x) 0)
             (length_set_bit h.b (x + size_at N h x - 1) 1) (work_after_lem.length_is ∙ sym shape.length_counts)
             (length_clear_cells h.cells (4 * x) (4 * size_at N h x)) refl refl refl (length_set_bit h.d x 0) refl refl;
-        represents = rw (← sizes-after) maps_after;
+        represents = rw (← sizes_after) maps_after;
         positive = before.positive;
         balanced =
-            subst (λ (k : Graph). Balanced cap k 0) (sym view-after)
+            subst (λ (k : Graph). Balanced cap k 0) (sym view_after)
             (free_balanced cap before.positive r (view N w h) x uncounted before.balanced);
         waits =
-            subst (λ (k : Graph). Waits k (work_after N w h x rest).stack) (sym view-after)
+            subst (λ (k : Graph). Waits k (work_after N w h x rest).stack) (sym view_after)
             (rw work_after_lem.stack_is (free_waits cap before.positive r (view N w h) x rest before.balanced before.waits));
         bare =
             freed_bare N h.a h.b (sizes_of N h.a h.b) h.d h.cells before.represents x (size_at N h x) (sym size_there) nonzero
@@ -208,5 +208,5 @@ release_shows N w zero h stack before =
 release_shows N w (suc fuel) h [] before =
     record { shape = before.shape; represents = before.represents; roots_are = refl; view_is = refl; bare = before.bare }
 release_shows N w (suc fuel) h (x ∷ rest) before =
-    rw (← view-after N w h x rest before, ← (work_after_lem N w h x rest before).stack_is)
+    rw (← view_after N w h x rest before, ← (work_after_lem N w h x rest before).stack_is)
     (release_shows N w fuel (memory_after N w h x rest) (work_after N w h x rest).stack (releasing_next N w h x rest before))

@@ -23,7 +23,7 @@ use Rattle.rules.proofs.Tabulate.{length_tabulate, get_d_tabulate}
 use Rattle.rules.proofs.Shape.{Shaped}
 use Rattle.rules.proofs.Objects.{size_some}
 use Rattle.theory_memories.proofs.Maps.Extents.{Represents, sizes_of, size_not_first, size_first}
-use Rattle.theory_memories.proofs.Maps.Moves.{freed-represents}
+use Rattle.theory_memories.proofs.Maps.Moves.{freed_represents}
 use Rattle.theory_graphs.proofs.Graphs.Stretch.{stretch, clear}
 use Rattle.theory_graphs.proofs.Graphs.Graph.{Graph, size, count, first_slot}
 use Rattle.theory_graphs.proofs.Graphs.Sweep.{erase, sweep_one, sweep, sweep_gone, sweep_kept}
@@ -65,7 +65,7 @@ freed_swept N w h g k p x n e some =
           refl
           refl
           (length_set_bit g.d x 0) refl refl;
-      represents = freed-represents N g.a g.b k.sizes p.represents x n e some;
+      represents = freed_represents N g.a g.b k.sizes p.represents x n e some;
       same_roots = p.same_roots;
       same_waiting = p.same_waiting;
       same_sections = p.same_sections;

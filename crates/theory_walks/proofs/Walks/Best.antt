@@ -15,7 +15,7 @@ use Rattle.theory_walks.specs.Reason.{Along, here, link, IsChain, chain, Lower, 
 use Rattle.theory_walks.proofs.Walks.Chains.{Path, Chain}
 use Rattle.theory_walks.proofs.Walks.Chains as chains
 use Rattle.theory_walks.proofs.Walks.Trails.{trail_met}
-use Rattle.theory_walks.proofs.Walks.Rule.{reason_chain, reason_length, reason_least, reason-walk}
+use Rattle.theory_walks.proofs.Walks.Rule.{reason_chain, reason_length, reason_least, reason_walk}
 use Rattle.theory_walks.proofs.Walks.Reached.{inside_list, references_at, followed_zero, followed_block, follows, led_first, Named, intact_named}
 use Rattle.theory_walks.proofs.Walks.Reached.{root_led, cell_led, roots_below, cells_below, led_met}
 
@@ -84,7 +84,7 @@ module _ (N : ℕ) (h : Memory) (named : Named N h) (at : ℕ) where
       → (c : List ℕ) × (chain_to N h at ≡ some c) × (reverse c ≡ links_to (trail h.roots (followed N h) N) (suc n))
   unfolding chain_to numbered
   walk_chain n e =
-      reason-walk h.roots (followed N h) (followed_zero N h) (suc at) some_suc N (roots_below N h named) (cells_below N h named) n
+      reason_walk h.roots (followed N h) (followed_zero N h) (suc at) some_suc N (roots_below N h named) (cells_below N h named) n
       (ap (λ (l : List ℕ). number_in l (suc at)) (trail_met h.roots (followed N h) N) ∙ e)
 
   pub leads_chain : Leads N h at → (c : List ℕ) × (chain_to N h at ≡ some c)

@@ -50,8 +50,8 @@ module _ (N : ℕ) (h : Memory) where
     unfolding described
     described_other e = rw (e, described) refl
 
-    pub described-block : Block (described N h met b)
-    described-block = elim (test_cases_lem (is_data h.d b)) [
+    pub described_block : Block (described N h met b)
+    described_block = elim (test_cases_lem (is_data h.d b)) [
       | inl e ↦ record { size = size_at N h b; bit = bit_at h.d b; rest = cells_of N h b; is = described_data e; long = cells_length b }
       | inr e ↦
           record {
@@ -107,7 +107,7 @@ module _ (N M : ℕ) (h g : Memory) where
       let tails : map (number_in met) h.roots ++ joined each (length met) ≡ map (number_in met') g.roots ++ joined each' (length met') = cc in
       let parts = append_apart (map (number_in met) h.roots) (map (number_in met') g.roots) (joined each (length met)) (joined each' (length met'))
       (length-map h.roots (number_in met) ∙ count ∙ sym (length-map g.roots (number_in met'))) tails in
-      let objects = joined_apart each each' 0 (length met) (length met') (λ i. described-block N h met _) (λ i. described-block M g met' _)
+      let objects = joined_apart each each' 0 (length met) (length met') (λ i. described_block N h met _) (λ i. described_block M g met' _)
       (sym (joined_front each (length met)) ∙ parts.1 ∙ joined_front each' (length met')) in
       record { number = count; roots = parts.0; objects = objects.0; each = λ i l. objects.1 i (omega arith) (omega arith) }
 

@@ -65,113 +65,113 @@ module _ (roots : List ℕ) (out : ℕ → List ℕ) where
 
   module _ (empty : out 0 ≡ []) where
     -- past the last object the walk stands still
-    each-at-none : (l : List Entry) (p : ℕ) (vs : List ℕ) → vs ≡ [] → meet_each_at l p 0 vs ≡ l
+    each_at_none : (l : List Entry) (p : ℕ) (vs : List ℕ) → vs ≡ [] → meet_each_at l p 0 vs ≡ l
     unfolding meet_each_at
-    each-at-none l p [] e = refl
-    each-at-none l p (v ∷ vs) e = let z : ◌≡◌ {A = ℕ} 0 1 = cc in absurd (omega arith)
+    each_at_none l p [] e = refl
+    each_at_none l p (v ∷ vs) e = let z : ◌≡◌ {A = ℕ} 0 1 = cc in absurd (omega arith)
 
-    trail-stands : (k : ℕ) → length (trail roots out k) ≤ k → trail roots out (suc k) ≡ trail roots out k
+    trail_stands : (k : ℕ) → length (trail roots out k) ≤ k → trail roots out (suc k) ≡ trail roots out k
     unfolding trail
-    trail-stands k h =
+    trail_stands k h =
         let l = trail roots out k in
-        each-at-none l (suc k) (out (object_at (met_in l) (suc k)))
+        each_at_none l (suc k) (out (object_at (met_in l) (suc k)))
         (ap out (object_past (met_in l) (suc k) (omega (arith, met_length l))) ∙ empty)
 
-    trail-distinct : (k : ℕ) → Distinct (met_in (trail roots out k))
-    trail-distinct k = rw trail_met (walk_distinct roots out empty k)
+    trail_distinct : (k : ℕ) → Distinct (met_in (trail roots out k))
+    trail_distinct k = rw trail_met (walk_distinct roots out empty k)
 
-    pub trail-sound : (k : ℕ) → Sound (trail roots out k)
+    pub trail_sound : (k : ℕ) → Sound (trail roots out k)
     unfolding trail met_in links_to
-    trail-sound zero =
+    trail_sound zero =
         each_sound [] 0 0 roots (omega arith) (λ v n e. absurd (omega (arith, number_nil v)))
         (λ r s. let place : 0 + r ≡ r = omega arith in rw place (at_root refl s))
-    trail-sound (suc k) = elim (dec_lt k (length (trail roots out k))) [
+    trail_sound (suc k) = elim (dec_lt k (length (trail roots out k))) [
       | yes h ↦
-          each_sound (trail roots out k) (suc k) 0 (out (object_at (met_in (trail roots out k)) (suc k))) (omega arith) (trail-sound k)
+          each_sound (trail roots out k) (suc k) 0 (out (object_at (met_in (trail roots out k)) (suc k))) (omega arith) (trail_sound k)
           (λ i s.
           let place : 0 + i ≡ i = omega arith in
           rw place
           (further
-          (trail-sound k (object_at (met_in (trail roots out k)) (suc k)) k
-          (object_number (trail-distinct k) (suc k) (omega arith) (omega (arith, met_length (trail roots out k)))))
+          (trail_sound k (object_at (met_in (trail roots out k)) (suc k)) k
+          (object_number (trail_distinct k) (suc k) (omega arith) (omega (arith, met_length (trail roots out k)))))
           refl
           s))
-      | no h ↦ subst Sound (sym (trail-stands k (omega arith))) (trail-sound k)
+      | no h ↦ subst Sound (sym (trail_stands k (omega arith))) (trail_sound k)
     ]
 
-    pub trail-settled : (k : ℕ) → Settled (trail roots out k) (suc k)
+    pub trail_settled : (k : ℕ) → Settled (trail roots out k) (suc k)
     unfolding trail
-    trail-settled zero = going_settled (each_going [] 0 0 roots start).1
+    trail_settled zero = going_settled (each_going [] 0 0 roots start).1
       where
         start : Going [] 0 0
         start = record { rising = λ m n l h. absurd (omega arith); owned = Owned.nil; sooner = Each.nil; inside = omega arith }
-    trail-settled (suc k) = elim (dec_lt k (length (trail roots out k))) [
+    trail_settled (suc k) = elim (dec_lt k (length (trail roots out k))) [
       | yes h ↦
-          going_settled (each_going (trail roots out k) (suc k) 0 (out (object_at (met_in (trail roots out k)) (suc k))) (settled_going (trail-settled k) (omega arith))).1
-      | no h ↦ subst (λ (l : List Entry). Settled l (suc (suc k))) (sym (trail-stands k (omega arith))) (settled_next (trail-settled k))
+          going_settled (each_going (trail roots out k) (suc k) 0 (out (object_at (met_in (trail roots out k)) (suc k))) (settled_going (trail_settled k) (omega arith))).1
+      | no h ↦ subst (λ (l : List Entry). Settled l (suc (suc k))) (sym (trail_stands k (omega arith))) (settled_next (trail_settled k))
     ]
 
-    trail-next : (k : ℕ) → Keeps (trail roots out k) (trail roots out (suc k))
+    trail_next : (k : ℕ) → Keeps (trail roots out k) (trail roots out (suc k))
     unfolding trail
-    trail-next k = each_keeps (trail roots out k) (suc k) 0 (out (object_at (met_in (trail roots out k)) (suc k)))
+    trail_next k = each_keeps (trail roots out k) (suc k) 0 (out (object_at (met_in (trail roots out k)) (suc k)))
 
-    object-kept : (k n : ℕ) → n < length (trail roots out k) → object_at (met_in (trail roots out (suc k))) (suc n) ≡ object_at (met_in (trail roots out k)) (suc n)
-    object-kept k n h =
+    object_kept : (k n : ℕ) → n < length (trail roots out k) → object_at (met_in (trail roots out (suc k))) (suc n) ≡ object_at (met_in (trail roots out k)) (suc n)
+    object_kept k n h =
         rw (trail_met roots out (suc k), trail_met roots out k)
         (grows_object (walk_next roots out empty k) (suc n) (omega (arith, ap length (trail_met roots out k), met_length (trail roots out k))))
 
     -- ---- and the least
 
-    pub roots-least : (k r : ℕ) → get_or roots r 0 ≢ 0 → Least (trail roots out k) (get_or roots r 0) (r ∷ [])
+    pub roots_least : (k r : ℕ) → get_or roots r 0 ≢ 0 → Least (trail roots out k) (get_or roots r 0) (r ∷ [])
     unfolding trail links_to
-    roots-least zero r s =
+    roots_least zero r s =
         let place : 0 + r ≡ r = omega arith in
         rw place at (each_least [] 0 0 roots start r s)
       where
         start : Going [] 0 0
         start = record { rising = λ m n l h. absurd (omega arith); owned = Owned.nil; sooner = Each.nil; inside = omega arith }
-    roots-least (suc k) r s = least_kept (trail-next k) (roots-least k r s)
+    roots_least (suc k) r s = least_kept (trail_next k) (roots_least k r s)
 
-    taken-now :
+    taken_now :
         (k v j : ℕ) → k < length (trail roots out k) → object_at (met_in (trail roots out k)) (suc k) ≡ v → get_or (out v) j 0 ≢ 0
         → Least (trail roots out (suc k)) (get_or (out v) j 0) (j ∷ links_to (trail roots out k) (suc k))
     unfolding trail
-    taken-now k v j h e s =
+    taken_now k v j h e s =
         let place : 0 + j ≡ j = omega arith in
-        rw e (rw place at (each_least (trail roots out k) (suc k) 0 (out v) (settled_going (trail-settled k) (omega arith)) j s))
+        rw e (rw place at (each_least (trail roots out k) (suc k) 0 (out v) (settled_going (trail_settled k) (omega arith)) j s))
 
-    pub taken-least :
+    pub taken_least :
         (k n : ℕ) → n < k → n < length (trail roots out k) → (v : ℕ) → object_at (met_in (trail roots out k)) (suc n) ≡ v
         → (j : ℕ) → get_or (out v) j 0 ≢ 0 → Least (trail roots out k) (get_or (out v) j 0) (j ∷ links_to (trail roots out k) (suc n))
-    taken-least zero n low high v at j s = absurd (omega arith)
-    taken-least (suc k) n low high v at j s = elim (dec_lt n (length (trail roots out k))) [
-      | no h ↦ absurd (omega (arith, ap length (trail-stands k (omega arith))))
+    taken_least zero n low high v at j s = absurd (omega arith)
+    taken_least (suc k) n low high v at j s = elim (dec_lt n (length (trail roots out k))) [
+      | no h ↦ absurd (omega (arith, ap length (trail_stands k (omega arith))))
       | yes h ↦
-          let word : links_to (trail roots out (suc k)) (suc n) ≡ links_to (trail roots out k) (suc n) = (trail-next k).words (suc n) (omega arith) in
-          let same = sym (object-kept k n h) ∙ at in
+          let word : links_to (trail roots out (suc k)) (suc n) ≡ links_to (trail roots out k) (suc n) = (trail_next k).words (suc n) (omega arith) in
+          let same = sym (object_kept k n h) ∙ at in
           rw word
           (elim (ℕ_discrete n k) [
             | yes e ↦
                 rw e
-                (taken-now k v j (omega arith) (ap (λ (i : ℕ). object_at (met_in (trail roots out k)) (suc i)) (sym e) ∙ same) s)
-            | no d ↦ least_kept (trail-next k) (taken-least k n (omega arith) h v same j s)
+                (taken_now k v j (omega arith) (ap (λ (i : ℕ). object_at (met_in (trail roots out k)) (suc i)) (sym e) ∙ same) s)
+            | no d ↦ least_kept (trail_next k) (taken_least k n (omega arith) h v same j s)
           ])
     ]
 
     module _ (N : ℕ) (below : (r : ℕ) → get_or roots r 0 ≤ N) (cells_below : (v j : ℕ) → get_or (out v) j 0 ≤ N) where
-      pub trail-length : length (trail roots out N) ≤ N
-      trail-length = omega (arith, walk_length roots out empty N below cells_below N, ap length (trail_met roots out N), met_length (trail roots out N))
+      pub trail_length : length (trail roots out N) ≤ N
+      trail_length = omega (arith, walk_length roots out empty N below cells_below N, ap length (trail_met roots out N), met_length (trail roots out N))
 
-      pub word-least : {v : ℕ} {w : List ℕ} → Word roots out v w → Least (trail roots out N) v w
-      word-least (at_root {v} {r} e s) =
-          subst (λ (x : ℕ). Least (trail roots out N) x (r ∷ [])) e (roots-least N r (λ z. s (sym e ∙ z)))
-      word-least (further {p} {v} {j} {w} word e s) =
-          let before = word-least word in
+      pub word_least : {v : ℕ} {w : List ℕ} → Word roots out v w → Least (trail roots out N) v w
+      word_least (at_root {v} {r} e s) =
+          subst (λ (x : ℕ). Least (trail roots out N) x (r ∷ [])) e (roots_least N r (λ z. s (sym e ∙ z)))
+      word_least (further {p} {v} {j} {w} word e s) =
+          let before = word_least word in
           let n = before.number in
           let inside : suc n ≤ length (trail roots out N) =
           omega (arith, before.number_is, number_le (met_in (trail roots out N)) p, met_length (trail roots out N)) in
           let found : Least (trail roots out N) (get_or (out p) j 0) (j ∷ links_to (trail roots out N) (suc n)) =
-          taken-least N n (omega (arith, trail-length)) (omega arith) p (number_object (met_in (trail roots out N)) p n before.number_is) j
+          taken_least N n (omega (arith, trail_length)) (omega arith) p (number_object (met_in (trail roots out N)) p n before.number_is) j
           (λ z. s (sym e ∙ z)) in
           subst (λ (x : ℕ). Least (trail roots out N) x (j ∷ w)) e
           (record {

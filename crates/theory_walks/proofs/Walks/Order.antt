@@ -13,7 +13,7 @@ use Rattle.theory_walks.specs.Reason.{Lower, differ, agree, Best, NumberedByChai
 use Rattle.theory_walks.proofs.Walks.Words.{Before, before_trans, never_before, lower_before, shorter_before}
 use Rattle.theory_walks.proofs.Walks.Numbers.{number_le}
 use Rattle.theory_walks.proofs.Walks.Trails.{met_length, trail_met}
-use Rattle.theory_walks.proofs.Walks.Least.{trail-settled}
+use Rattle.theory_walks.proofs.Walks.Least.{trail_settled}
 use Rattle.theory_walks.proofs.Walks.Reached.{followed_zero, Named, intact_named, led_met}
 use Rattle.theory_walks.proofs.Walks.Best.{chain_leads, walk_chain, best_found}
 
@@ -97,7 +97,7 @@ module _ (N : ℕ) (h : Memory) (named : Named N h) where
 
   rises : {b c : ℕ} {x y : List ℕ} (p : Placed b x) (q : Placed c y) → p.number < q.number → Before (reverse x) (reverse y)
   rises p q l =
-      let before = (trail-settled h.roots (followed N h) (followed_zero N h) N).rising (suc p.number) (suc q.number) (omega arith) q.inside in
+      let before = (trail_settled h.roots (followed N h) (followed_zero N h) N).rising (suc p.number) (suc q.number) (omega arith) q.inside in
       rw (p.word, q.word) at before
 
   lower_ahead : {b c : ℕ} {x y : List ℕ} (p : Placed b x) (q : Placed c y) → p.number < q.number → Ahead x y

@@ -22,7 +22,7 @@ use Rattle.theory_memories.proofs.Maps.Undamaged.{damage_facts}
 use Rattle.theory_memories.proofs.Memories.Healthy.{healthy_facts}
 use Rattle.theory_memories.proofs.Memories.Cells.{cells_read}
 use Rattle.theory_walks.proofs.Walks.Numbers.{Distinct, number_le, number_object, object_number}
-use Rattle.theory_walks.proofs.Walks.Steps.{all_object, walk-all, walk_distinct, walk_length, walk_stands, roots_known, closed}
+use Rattle.theory_walks.proofs.Walks.Steps.{all_object, walk_all, walk_distinct, walk_length, walk_stands, roots_known, closed}
 
 pub inside_list : (l : List ℕ) (i : ℕ) → get_or l i 0 ≢ 0 → i < length l
 inside_list [] i n = absurd (n refl)
@@ -136,7 +136,7 @@ module _ (N : ℕ) (h : Memory) (named : Named N h) where
 
   pub met_led : (v n : ℕ) → number_in (numbered N h) v ≡ suc n → (v ≢ 0) × Leads N h (v - 1)
   unfolding numbered
-  met_led v n e = all_object (walk-all h.roots (followed N h) (followed_zero N h) {P = Led} (λ r s. (s, root_led r s)) next N) v n e
+  met_led v n e = all_object (walk_all h.roots (followed N h) (followed_zero N h) {P = Led} (λ r s. (s, root_led r s)) next N) v n e
     where
       next : (v j : ℕ) → Led v → get_or (followed N h v) j 0 ≢ 0 → Led (get_or (followed N h v) j 0)
       next v j led s =

@@ -19,7 +19,7 @@ use Rattle.theory_walks.proofs.Walks.Trails.{word_length}
 use Rattle.theory_walks.proofs.Walks.Trails as trails
 use Rattle.theory_walks.proofs.Walks.Numbers.{number_le}
 use Rattle.theory_walks.proofs.Walks.Reached.{inside_list}
-use Rattle.theory_walks.proofs.Walks.Least.{chain_word, word_chain, trail-sound, trail-settled, trail-length, word-least}
+use Rattle.theory_walks.proofs.Walks.Least.{chain_word, word_chain, trail_sound, trail_settled, trail_length, word_least}
 
 -- ---- the lowest
 
@@ -101,12 +101,12 @@ first_found f (suc n) c e = go (λ p. first_found f n c p) (first_of f n) refl e
 
 -- ---- cells
 
-module _ (roots : List ℕ) (out : ℕ → List ℕ) (empty : out 0 ≡ []) (t : ℕ) (some-object : t ≢ 0) where
+module _ (roots : List ℕ) (out : ℕ → List ℕ) (empty : out 0 ≡ []) (t : ℕ) (some_object : t ≢ 0) where
   -- from 0 nothing leads anywhere
   cells_zero : (k : ℕ) (c : List ℕ) → cells_to k out 0 t ≡ some c → ⊥
   unfolding cells_to lowest_of
   cells_zero zero c e =
-      let z : ◌≡◌ {A = ℕ} 0 1 = cc (rw (ne_eqb 0 t (λ q. some-object (sym q)), cells_to) at e) in
+      let z : ◌≡◌ {A = ℕ} 0 1 = cc (rw (ne_eqb 0 t (λ q. some_object (sym q)), cells_to) at e) in
       omega arith
   cells_zero (suc k) c e =
       let found = lowest_found (λ j. cells_to k out (get_or (out 0) j 0) t) (length (out 0)) c e in
@@ -124,8 +124,8 @@ module _ (roots : List ℕ) (out : ℕ → List ℕ) (empty : out 0 ≡ []) (t :
       let found = lowest_found (λ j. cells_to k out (get_or (out v) j 0) t) (length (out v)) c e in
       let u : ℕ = get_or (out v) found.at 0 in
       let rest = cells_sound k u found.rest found.is in
-      let some-u : u ≢ 0 = λ z. cells_zero k found.rest (ap (λ (x : ℕ). cells_to k out x t) (sym z) ∙ found.is) in
-      rw found.whole (ap suc rest.0, link {j = found.at} refl some-u rest.1)
+      let some_u : u ≢ 0 = λ z. cells_zero k found.rest (ap (λ (x : ℕ). cells_to k out x t) (sym z) ∙ found.is) in
+      rw found.whole (ap suc rest.0, link {j = found.at} refl some_u rest.1)
 
   abbrev Cells : ℕ → ℕ → List ℕ → Type 0
   Cells k v c = (d : List ℕ) × (cells_to k out v t ≡ some d) × ((d ≡ c) ⊎ Lower d c)
@@ -163,8 +163,8 @@ module _ (roots : List ℕ) (out : ℕ → List ℕ) (empty : out 0 ≡ []) (t :
       let found = lowest_found (λ r. cells_to k out (get_or roots r 0) t) (length roots) c e in
       let u : ℕ = get_or roots found.at 0 in
       let rest = cells_sound k u found.rest found.is in
-      let some-u : u ≢ 0 = λ z. cells_zero k found.rest (ap (λ (x : ℕ). cells_to k out x t) (sym z) ∙ found.is) in
-      rw found.whole (ap suc rest.0, chain {r = found.at} refl some-u rest.1)
+      let some_u : u ≢ 0 = λ z. cells_zero k found.rest (ap (λ (x : ℕ). cells_to k out x t) (sym z) ∙ found.is) in
+      rw found.whole (ap suc rest.0, chain {r = found.at} refl some_u rest.1)
 
   chain_least : (k : ℕ) {c : List ℕ} → Chain roots out t c → length c ≡ suc k → (d : List ℕ) × (chain_of k roots out t ≡ some d) × ((d ≡ c) ⊎ Lower d c)
   unfolding chain_of
@@ -229,25 +229,25 @@ module _ (roots : List ℕ) (out : ℕ → List ℕ) (empty : out 0 ≡ []) (t :
 
   module _ (N : ℕ) (below : (r : ℕ) → get_or roots r 0 ≤ N) (cells_below : (v j : ℕ) → get_or (out v) j 0 ≤ N) where
     -- the walk's word, turned round, is the rule's chain
-    pub reason-walk : (n : ℕ) → number_in (met_in (trail roots out N)) t ≡ suc n
+    pub reason_walk : (n : ℕ) → number_in (met_in (trail roots out N)) t ≡ suc n
         → (c : List ℕ) × (best_chain N roots out t ≡ some c) × (reverse c ≡ links_to (trail roots out N) (suc n))
-    reason-walk n e =
+    reason_walk n e =
         let w : List ℕ = links_to (trail roots out N) (suc n) in
-        let own = word_chain roots out (trail-sound roots out empty N t n e) in
+        let own = word_chain roots out (trail_sound roots out empty N t n e) in
         let d : List ℕ = own.0 in
         let short : length d ≤ N =
         omega (
           arith,
           ap length own.2,
           length-reverse_aux d [],
-          word_length (trail-settled roots out empty N).owned (suc n),
+          word_length (trail_settled roots out empty N).owned (suc n),
           number_le (met_in (trail roots out N)) t,
           trails.met_length (trail roots out N),
-          trail-length roots out empty N below cells_below,
+          trail_length roots out empty N below cells_below,
         ) in
         let found = reason_some N d own.1 short in
         let c : List ℕ = found.0 in
-        let walked = word-least roots out empty N below cells_below (chain_word roots out (reason_chain N c found.1)) in
+        let walked = word_least roots out empty N below cells_below (chain_word roots out (reason_chain N c found.1)) in
         let same : walked.number ≡ n = omega (arith, walked.number_is) in
         let one : AtMost w (reverse c) = subst (λ (i : ℕ). AtMost (links_to (trail roots out N) (suc i)) (reverse c)) same walked.least in
         let other : AtMost (reverse c) w =
@@ -266,13 +266,13 @@ module _ (roots : List ℕ) (out : ℕ → List ℕ) (empty : out 0 ≡ []) (t :
         go : (x : Option (List ℕ)) → best_chain N roots out t ≡ x → x ≡ none
         go none p = refl
         go (some c) p =
-            let walked = word-least roots out empty N below cells_below (chain_word roots out (reason_chain N c p)) in
+            let walked = word_least roots out empty N below cells_below (chain_word roots out (reason_chain N c p)) in
             absurd (omega (arith, walked.number_is))
 
     -- "Where there is no chain .., and this only then."
     pub none_exactly : best_chain N roots out t ≡ none → (d : List ℕ) → Chain roots out t d → ⊥
     none_exactly e d other =
-        let walked = word-least roots out empty N below cells_below (chain_word roots out other) in
-        let found = reason-walk walked.number walked.number_is in
+        let walked = word_least roots out empty N below cells_below (chain_word roots out other) in
+        let found = reason_walk walked.number walked.number_is in
         let z : ◌≡◌ {A = ℕ} 0 1 = cc found.1 in
         omega arith

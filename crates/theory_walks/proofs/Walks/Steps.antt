@@ -130,10 +130,10 @@ module _ (roots : List ℕ) (out : ℕ → List ℕ) (empty : out 0 ≡ []) wher
           absurd (s (ap (λ (v : ℕ). get_or (out v) j 0) (object_past met (suc k) (omega arith)) ∙ ap (λ (l : List ℕ). get_or l j 0) empty))
     ]
 
-    pub walk-all : (k : ℕ) → All P (walk roots out k)
+    pub walk_all : (k : ℕ) → All P (walk roots out k)
     unfolding walk
-    walk-all zero = each_all roots first nil
-    walk-all (suc k) = each_all (out (object_at (walk roots out k) (suc k))) (cells k (walk roots out k) (walk-all k)) (walk-all k)
+    walk_all zero = each_all roots first nil
+    walk_all (suc k) = each_all (out (object_at (walk roots out k) (suc k))) (cells k (walk roots out k) (walk_all k)) (walk_all k)
 
   -- the cells of what has been taken name what has a number
   abbrev pub Known : List ℕ → ℕ → Type 0
@@ -171,7 +171,7 @@ module _ (roots : List ℕ) (out : ℕ → List ℕ) (empty : out 0 ≡ []) wher
   -- N steps are enough: then every object met has been taken
   module _ (N : ℕ) (below : (r : ℕ) → get_or roots r 0 ≤ N) (cells_below : (v j : ℕ) → get_or (out v) j 0 ≤ N) where
     pub walk_length : (k : ℕ) → length (walk roots out k) ≤ N
-    walk_length k = distinct_length N (walk_distinct k) (walk-all (λ r s. below r) (λ v j p s. cells_below v j) k)
+    walk_length k = distinct_length N (walk_distinct k) (walk_all (λ r s. below r) (λ v j p s. cells_below v j) k)
 
     pub closed : (v n : ℕ) → number_in (walk roots out N) v ≡ suc n → (j : ℕ) → get_or (out v) j 0 ≢ 0 → Known (walk roots out N) (get_or (out v) j 0)
     closed v n e j s =

@@ -3,7 +3,7 @@ use Prim.Native.Nat.{◌<◌, ◌≤◌}
 use native.Mathlib.Omega.{arith}
 use borrow.Author.Rules.{rules}
 use Rattle.rules.specs.Heap.{max_blocks}
-use Rattle.walk_objects.proofs.Tracing.{trace_nothing, trace_again, space, trace-new}
+use Rattle.walk_objects.proofs.Tracing.{trace_nothing, trace_again, space, trace_new}
 use Rattle.walk_objects.proofs.meet_at.Statement.{statement}
 use Rattle.walk_objects.proofs.meet_at.Tie as tie
 
@@ -81,7 +81,7 @@ same-length-4 : tie.Need-same-length-4
 same-length-4 c = search rules
 
 returns-3 : tie.Need-returns-3
-returns-3 c = search trace-new
+returns-3 c = search trace_new
 
 pub meet-at-spec : {M : Type 1} → statement M
 meet-at-spec =

@@ -4,7 +4,7 @@ use mathlib.Core.Bool.{false≢true}
 use borrow.Author.Rules.{rules}
 use borrow.Author.Tests.{not-true, not-false}
 use Rattle.walk_reader.proofs.Laws.{not_found}
-use Rattle.walk_reader.proofs.Told.{end_no_number, end_other_length, end-other-byte, end_line}
+use Rattle.walk_reader.proofs.Told.{end_no_number, end_other_length, end_other_byte, end_line}
 use Rattle.walk_reader.proofs.ending_at.Statement.{statement}
 use Rattle.walk_reader.proofs.ending_at.Tie as tie
 
@@ -39,7 +39,7 @@ returns-3 c =
     let e : tie.Else1 = search in
     let f : tie.Else2 = search in
     let t : tie.Then3 = search in
-    not_found (end-other-byte s.args.text.now s.args.at _ _ (n.number_at.ensures.0.there (not-false _ e.if1.left)) f.if2.left t.if3.taken)
+    not_found (end_other_byte s.args.text.now s.args.at _ _ (n.number_at.ensures.0.there (not-false _ e.if1.left)) f.if2.left t.if3.taken)
 
 returns-4 : tie.Need-returns-4
 returns-4 c =

@@ -2,7 +2,7 @@
 use Prim.Native.Nat.{◌+◌, ◌-◌, ◌*◌, ◌≤◌, ◌<◌}
 use native.Mathlib.Omega.{arith}
 use lib.ListN.{length, get_or}
-use Rattle.walk_reader.proofs.Laws.{found, not_found, Counted, small_empty, small-zero, small_low, small-high, small-start}
+use Rattle.walk_reader.proofs.Laws.{found, not_found, Counted, small_empty, small_zero, small_low, small_high, small_start}
 use Rattle.walk_reader.proofs.Laws.{count_more, count_large, count_low, count_high, count_end}
 use Rattle.walk_reader.proofs.number_at.Statement.{statement}
 use Rattle.walk_reader.proofs.number_at.Tie as tie
@@ -28,7 +28,7 @@ returns-2 : tie.Need-returns-2 invariant-loop decreases-loop
 returns-2 c =
     let s : tie.Start invariant-loop decreases-loop = search in
     let t : tie.Then2 invariant-loop decreases-loop = search in
-    (found (small-zero s.args.text.now s.args.at (omega arith) t.if2.taken), omega arith, omega arith, omega arith)
+    (found (small_zero s.args.text.now s.args.at (omega arith) t.if2.taken), omega arith, omega arith, omega arith)
 
 returns-3 : tie.Need-returns-3 invariant-loop decreases-loop
 returns-3 c =
@@ -40,7 +40,7 @@ returns-4 : tie.Need-returns-4 invariant-loop decreases-loop
 returns-4 c =
     let s : tie.Start invariant-loop decreases-loop = search in
     let t : tie.Then4 invariant-loop decreases-loop = search in
-    (not_found (small-high s.args.text.now s.args.at (omega arith) t.if4.taken), omega arith, omega arith, omega arith)
+    (not_found (small_high s.args.text.now s.args.at (omega arith) t.if4.taken), omega arith, omega arith, omega arith)
 
 loop-holds : tie.Need-loop-init invariant-loop decreases-loop
 loop-holds c =
@@ -48,7 +48,7 @@ loop-holds c =
     let a : tie.Else2 invariant-loop decreases-loop = search in
     let b : tie.Else3 invariant-loop decreases-loop = search in
     let d : tie.Else4 invariant-loop decreases-loop = search in
-    (omega arith, omega arith, omega arith, small-start s.args.text.now s.args.at (omega arith) a.if2.left b.if3.left d.if4.left)
+    (omega arith, omega arith, omega arith, small_start s.args.text.now s.args.at (omega arith) a.if2.left b.if3.left d.if4.left)
 
 shared-slice-read-c : tie.Need-shared-slice-read-c invariant-loop decreases-loop
 shared-slice-read-c c = omega arith

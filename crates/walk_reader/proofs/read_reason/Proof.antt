@@ -8,7 +8,7 @@ use borrow.Author.Tests.{not-true, not-false}
 use Rattle.rules_output.specs.Sentence.{root_text, no_root_text, behind}
 use Rattle.walk_reader.specs.Reader.{small_at, links_in, counted}
 use Rattle.walk_reader.proofs.Links.{behind_inside}
-use Rattle.walk_reader.proofs.Told.{no_line_end, no_root, no_words, no_number, no-rest, no_room, all_told, cells_count}
+use Rattle.walk_reader.proofs.Told.{no_line_end, no_root, no_words, no_number, no_rest, no_room, all_told, cells_count}
 use Rattle.walk_reader.proofs.read_reason.Statement.{statement}
 use Rattle.walk_reader.proofs.read_reason.Tie as tie
 
@@ -115,7 +115,7 @@ returns-5 c =
     let l : tie.After-rest-at = search in
     let t : tie.Then5 = search in
     let n : tie.After-no-sentence4 = search in
-    no-rest s.args.text.now _ _ (other e) (root f) (number g) (l.rest_at.ensures.missing (not-true _ t.if5.taken)) n.no-sentence4.ensures
+    no_rest s.args.text.now _ _ (other e) (root f) (number g) (l.rest_at.ensures.missing (not-true _ t.if5.taken)) n.no-sentence4.ensures
 
 -- links and block
 rest : (c : tie.Else5) →

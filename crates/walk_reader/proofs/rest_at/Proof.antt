@@ -6,7 +6,7 @@ use borrow.Author.Rules.{rules}
 use borrow.Author.Tests.{not-true, not-false}
 use Rattle.rules_output.specs.Sentence.{cell_text, block_text}
 use Rattle.walk_reader.proofs.Laws.{not_found}
-use Rattle.walk_reader.proofs.Links.{behind_inside, Counting, count_start, count_link, count-no-number, count-no-block, count_end}
+use Rattle.walk_reader.proofs.Links.{behind_inside, Counting, count_start, count_link, count_no_number, count_no_block, count_end}
 use Rattle.walk_reader.proofs.rest_at.Statement.{statement}
 use Rattle.walk_reader.proofs.rest_at.Tie as tie
 
@@ -57,7 +57,7 @@ returns c =
     let t : tie.Then1 invariant-loop decreases-loop = search in
     let n : tie.After-number-at invariant-loop decreases-loop = search in
     not_found
-    (count-no-number _ _ _ _ l.loop.inv.2 (a.stands_at.ensures.there t.if1.taken)
+    (count_no_number _ _ _ _ l.loop.inv.2 (a.stands_at.ensures.there t.if1.taken)
     (n.number_at.ensures.0.missing (not-true _ c.if2.true)))
 
 add-links : tie.Need-overflow-add-links invariant-loop decreases-loop
@@ -100,7 +100,7 @@ returns-2 c =
     let e : tie.Else1 invariant-loop decreases-loop = search in
     let b : tie.After-stands-at2 invariant-loop decreases-loop = search in
     not_found
-    (count-no-block _ _ _ _ l.loop.inv.2 (a.stands_at.ensures.missing e.if1.left) (b.stands-at2.ensures.missing (not-true _ c.if3.true)))
+    (count_no_block _ _ _ _ l.loop.inv.2 (a.stands_at.ensures.missing e.if1.left) (b.stands-at2.ensures.missing (not-true _ c.if3.true)))
 
 -- " block " stands there, and ends in the text
 block : (c : tie.Else3 invariant-loop decreases-loop) →

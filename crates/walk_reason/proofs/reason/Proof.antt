@@ -5,7 +5,7 @@ use borrow.Author.Rules.{rules}
 use native.Mathlib.Omega.{arith}
 use Rattle.rules.proofs.Objects.{first_facts}
 use Rattle.walk_objects.proofs.Beginning.{walkable}
-use Rattle.walk_reason.proofs.Reasons.{refused_six, refused-short, accepted-long}
+use Rattle.walk_reason.proofs.Reasons.{refused_six, refused_short, accepted_long}
 use Rattle.walk_reason.proofs.reason.Statement.{statement}
 use Rattle.walk_reason.proofs.reason.Tie as tie
 
@@ -55,7 +55,7 @@ returns-2 c =
     let e = other f in
     let s = begin (tested e) in
     let r : tie.After-refusal2 = search in
-    refused-short s.pre s.args.at (sym (tested e).is-first.ensures ∙ not-false _ e.if1.left) f.reason-in-room.ensures _ (omega arith)
+    refused_short s.pre s.args.at (sym (tested e).is-first.ensures ∙ not-false _ e.if1.left) f.reason-in-room.ensures _ (omega arith)
     r.refusal2.ensures
 
 acceptance-requires : tie.Need-acceptance-requires
@@ -70,7 +70,7 @@ returns-3 c =
     let e = other f in
     let s = begin (tested e) in
     let r : tie.After-acceptance = search in
-    accepted-long s.pre s.args.at (sym (tested e).is-first.ensures ∙ not-false _ e.if1.left) f.reason-in-room.ensures _ (omega arith)
+    accepted_long s.pre s.args.at (sym (tested e).is-first.ensures ∙ not-false _ e.if1.left) f.reason-in-room.ensures _ (omega arith)
     r.acceptance.ensures
 
 pub reason-spec : {M : Type 1} → statement M

@@ -51,7 +51,7 @@ loop-less : tie.Need-loop-smaller invariant-loop decreases-loop
 loop-less c = omega arith
 
 loop-again : tie.Need-loop-preserved invariant-loop decreases-loop
-loop-again c = (omega arith, map_put _ _ _ _ _ _ _ _ (omega arith) c.number-of.ensures c.before.before.before.loop.invariant.1)
+loop-again c = (omega arith, map_put _ _ _ _ _ _ _ _ (omega arith) c.number_of_lem.ensures c.before.before.before.loop.invariant.1)
 
 add-result : tie.Need-overflow-add-result invariant-loop decreases-loop
 add-result c = omega arith

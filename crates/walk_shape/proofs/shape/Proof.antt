@@ -2,7 +2,7 @@
 use native.Mathlib.Omega.{arith}
 use borrow.Author.Rules.{rules}
 use Rattle.walk_objects.proofs.Beginning.{walkable}
-use Rattle.walk_shape.proofs.Bridge.{refused-short, accepted-long}
+use Rattle.walk_shape.proofs.Bridge.{refused_short, accepted_long}
 use Rattle.walk_shape.proofs.shape.Statement.{statement}
 use Rattle.walk_shape.proofs.shape.Tie as tie
 
@@ -22,7 +22,7 @@ returns : tie.Need-returns
 returns c =
     let p : tie.After-shape-in-room = search in
     let e : tie.After-refusal = search in
-    refused-short (begin p).pre p.shape-in-room.ensures _ (omega arith) e.refusal.ensures
+    refused_short (begin p).pre p.shape-in-room.ensures _ (omega arith) e.refusal.ensures
 
 acceptance-requires : tie.Need-acceptance-requires
 acceptance-requires c κs = search rules
@@ -34,7 +34,7 @@ returns-2 : tie.Need-returns-2
 returns-2 c =
     let p : tie.After-shape-in-room = search in
     let e : tie.After-acceptance = search in
-    accepted-long (begin p).pre p.shape-in-room.ensures _ (omega arith) e.acceptance.ensures
+    accepted_long (begin p).pre p.shape-in-room.ensures _ (omega arith) e.acceptance.ensures
 
 pub shape-spec : {M : Type 1} → statement M
 shape-spec =

@@ -6,7 +6,7 @@ use lib.ListN.{length, set, length-set}
 use borrow.Author.Tests.{ne_eqb}
 use Rattle.bitmap.specs.Bit.{bit_at}
 use Rattle.rules.specs.Heap.{size_from}
-use Rattle.walk_shape.proofs.Laws.{described_length, object-data, object_other}
+use Rattle.walk_shape.proofs.Laws.{described_length, object_data, object_other}
 use borrow.Author.Rules.{rules}
 use Rattle.walk_shape.proofs.write_object.Statement.{statement}
 use Rattle.walk_shape.proofs.write_object.Tie as tie
@@ -61,7 +61,7 @@ same_length c =
     c.before.before.put-cells.auto.1.1.1.0 ∙ length-set (set s.args.out.now s.args.to o.object_size.result) (s.args.to + 1) g.get-bit.result ∙ length-set s.args.out.now s.args.to o.object_size.result
 
 returns : tie.Need-returns
-returns c = search object-data
+returns c = search object_data
 
 mul-put-numbers : tie.Need-overflow-mul-put-numbers
 mul-put-numbers c = search rules

@@ -7,7 +7,7 @@ use lib.ListN.{length, get_or, length-set}
 use Rattle.rules_output.specs.Shape.{joined}
 use Rattle.text.specs.Text.{Put}
 use Rattle.walk_shape.specs.Listing.{described_in, shape_up_to}
-use Rattle.walk_shape.proofs.Laws.{length_start, shape_upto, put_start, put_none_objects, objects-kept, object-room, put_next, put-end}
+use Rattle.walk_shape.proofs.Laws.{length_start, shape_upto, put_start, put_none_objects, objects_kept, object_room, put_next, put_end}
 use Rattle.walk_shape.proofs.write_shape.Statement.{statement}
 use Rattle.walk_shape.proofs.write_shape.Tie as tie
 
@@ -83,7 +83,7 @@ write-object-requires c κs =
     let i : tie.In-loop invariant-loop decreases-loop = search in
     let l = i.before in
     let s = start l in (
-      object-room s.args.blocks s.args.b.now s.args.d.now s.args.cells.now s.args.roots.now s.args.order.now s.args.numbers.now _ _ _ _ s.pre.1 (started (first l)) _ _ _ (inside i) l.loop.inv.1,
+      object_room s.args.blocks s.args.b.now s.args.d.now s.args.cells.now s.args.roots.now s.args.order.now s.args.numbers.now _ _ _ _ s.pre.1 (started (first l)) _ _ _ (inside i) l.loop.inv.1,
       omega (arith, block i),
       s.pre.0.small,
       s.pre.0.long_b,
@@ -110,13 +110,13 @@ same_length : tie.Need-same-length invariant-loop decreases-loop
 same_length c =
     let l : tie.At-loop invariant-loop decreases-loop = search in
     let s = start l in
-    objects-kept s.args.blocks s.args.b.now s.args.d.now s.args.cells.now s.args.roots.now s.args.order.now s.args.numbers.now _ _ _ _ s.pre.1 (started (first l)) _ _ _ l.loop.inv.0 l.loop.inv.1
+    objects_kept s.args.blocks s.args.b.now s.args.d.now s.args.cells.now s.args.roots.now s.args.order.now s.args.numbers.now _ _ _ _ s.pre.1 (started (first l)) _ _ _ l.loop.inv.0 l.loop.inv.1
 
 returns : tie.Need-returns invariant-loop decreases-loop
 returns c =
     let l : tie.At-loop invariant-loop decreases-loop = search in
     let s = start l in
-    put-end s.args.blocks s.args.b.now s.args.d.now s.args.cells.now s.args.roots.now s.args.order.now s.args.numbers.now _ _ _ _ s.pre.1 (started (first l)) _ _ _ (omega arith) l.loop.inv.0 l.loop.inv.1
+    put_end s.args.blocks s.args.b.now s.args.d.now s.args.cells.now s.args.roots.now s.args.order.now s.args.numbers.now _ _ _ _ s.pre.1 (started (first l)) _ _ _ (omega arith) l.loop.inv.0 l.loop.inv.1
 
 pub write-shape-spec : {M : Type 1} → statement M
 write-shape-spec =

@@ -7,11 +7,11 @@ use lib.Dec.{eqb}
 use borrow.Author.Rules.{rules}
 use Rattle.test_allocation.proofs.AllocationReply.{allocate_passed}
 use Rattle.count_up.proofs.Shapes.{memory_of, planes_same}
-use Rattle.theory.proofs.Usable.UsableHeap.{usable-fit, usable-healthy}
+use Rattle.theory.proofs.Usable.UsableHeap.{usable_fit, usable_healthy}
 use Rattle.refinement.proofs.ReadyHeap.{usable_ready}
 use Rattle.refinement_stores.proofs.ListedHeap.{usable_listable}
-use Rattle.refinement_stores.proofs.Allocation.{born_listing, allocate-changed, allocate-freed}
-use Rattle.work_allocate.proofs.AllocationAnswer.{allocate-worked}
+use Rattle.refinement_stores.proofs.Allocation.{born_listing, allocate_changed, allocate_freed}
+use Rattle.work_allocate.proofs.AllocationAnswer.{allocate_worked}
 use Rattle.work_allocate.proofs.allocate.Statement.{statement}
 use Rattle.work_allocate.proofs.allocate.Tie as tie
 
@@ -37,13 +37,13 @@ capacity-of-requires c κs =
 add-new : tie.Need-overflow-add-new
 add-new c =
     let start : tie.Start = search in
-    omega (arith, (allocate_passed start.pre.1).inside, (usable-healthy start.pre.0).shape.blocks_max)
+    omega (arith, (allocate_passed start.pre.1).inside, (usable_healthy start.pre.0).shape.blocks_max)
 
 cast-new : tie.Need-overflow-cast-new
 cast-new c =
     let start : tie.Start = search in
     let free = allocate_passed start.pre.1 in
-    omega (arith, free.inside, free.some_blocks, (usable-healthy start.pre.0).shape.blocks_max)
+    omega (arith, free.inside, free.some_blocks, (usable_healthy start.pre.0).shape.blocks_max)
 
 place-requires : tie.Need-place-requires
 place-requires c κs =
@@ -103,7 +103,7 @@ let-go-requires c κs =
 renew-requires : tie.Need-renew-requires
 renew-requires c κs =
     let left : tie.After-let-go = search in
-    let shape = (usable-healthy (start (made left)).requires.0).shape in (
+    let shape = (usable_healthy (start (made left)).requires.0).shape in (
       left.let_go_lem.ensures.upkeep.coherent,
       omega (arith, left.let_go_lem.kept.1.1.0, (made left).place.kept.1.1.0, shape.length_a, shape.whole_bytes),
     )
@@ -116,16 +116,16 @@ returns c =
     let asData = (start making).args.as-data in
     let usable = pre.0 in
     let free = allocate_passed pre.1 in
-    let fit = usable-fit usable in
+    let fit = usable_fit usable in
     let h = memory_of (usable_ready usable) in
     let written = making.place.ensures in
     let done = left.let_go_lem.ensures in
     let capacity : tie.After-capacity-of = search in
-    allocate-worked free usable asData
-    (allocate-changed _ _ h asData _ _ _ _ written.0 written.2 fit free.some_blocks free.place free.lowest done)
+    allocate_worked free usable asData
+    (allocate_changed _ _ h asData _ _ _ _ written.0 written.2 fit free.some_blocks free.place free.lowest done)
     (renewed c).renew.ensures
     (ap (λ (most : ℕ). eqb most 1) capacity.capacity-of.ensures.0)
-    (allocate-freed _ _ h asData _ _ _ _ written.0 written.2 fit free.some_blocks free.place free.lowest done)
+    (allocate_freed _ _ h asData _ _ _ _ written.0 written.2 fit free.some_blocks free.place free.lowest done)
 
 pub allocate_spec : {M : Type 1} → statement M
 allocate_spec =

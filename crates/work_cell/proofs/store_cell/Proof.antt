@@ -5,11 +5,11 @@ use lib.ListN.{length-set}
 use borrow.Author.Rules.{rules}
 use Rattle.test_arguments.proofs.ArgumentTests.{cell_passed}
 use Rattle.count_up.proofs.Shapes.{memory_of, planes_same, extents_cell}
-use Rattle.theory.proofs.Usable.UsableHeap.{usable-fit, usable-healthy}
+use Rattle.theory.proofs.Usable.UsableHeap.{usable_fit, usable_healthy}
 use Rattle.refinement.proofs.ReadyHeap.{usable_ready, list_untouched}
 use Rattle.refinement_stores.proofs.ListedHeap.{usable_listable}
 use Rattle.refinement_stores.proofs.Presence.{sticks_present, sticks_changed}
-use Rattle.refinement_stores.proofs.CellStore.{cell_present, cell_none, cell-changed, cell-freed}
+use Rattle.refinement_stores.proofs.CellStore.{cell_present, cell_none, cell_changed, cell_freed}
 use Rattle.work_cell.proofs.CellAnswer.{cell_worked}
 use Rattle.work_cell.proofs.store_cell.Statement.{statement}
 use Rattle.work_cell.proofs.store_cell.Tie as tie
@@ -31,29 +31,29 @@ start c = search
 cast-new : tie.Need-overflow-cast-new
 cast-new c =
     let start : tie.Start = search in
-    omega (arith, (cell_passed start.pre.1).inside, (usable-healthy start.pre.0).shape.blocks_max)
+    omega (arith, (cell_passed start.pre.1).inside, (usable_healthy start.pre.0).shape.blocks_max)
 
 mul-c : tie.Need-overflow-mul-c
 mul-c c =
     let start : tie.Start = search in
-    record { fits = omega (arith, (cell_passed start.pre.1).cell_inside, (usable-healthy start.pre.0).shape.blocks_max) }
+    record { fits = omega (arith, (cell_passed start.pre.1).cell_inside, (usable_healthy start.pre.0).shape.blocks_max) }
 
 add-c : tie.Need-overflow-add-c
 add-c c =
     let start : tie.Start = search in
-    record { fits = omega (arith, (cell_passed start.pre.1).cell_inside, (usable-healthy start.pre.0).shape.blocks_max) }
+    record { fits = omega (arith, (cell_passed start.pre.1).cell_inside, (usable_healthy start.pre.0).shape.blocks_max) }
 
 mul-old : tie.Need-overflow-mul-old
 mul-old c =
     let start : tie.Start = search in
     let place = (cell_passed start.pre.1).cell_inside in
-    let cells = (usable-healthy start.pre.0).shape.length_cells in
+    let cells = (usable_healthy start.pre.0).shape.length_cells in
     search (rules, place, cells)
 
 slice-read-old : tie.Need-slice-read-old
 slice-read-old c =
     let start : tie.Start = search in
-    omega (arith, (cell_passed start.pre.1).cell_inside, (usable-healthy start.pre.0).shape.length_cells)
+    omega (arith, (cell_passed start.pre.1).cell_inside, (usable_healthy start.pre.0).shape.length_cells)
 
 returns : tie.Need-returns
 returns c =
@@ -61,7 +61,7 @@ returns c =
     let usable = start.pre.0 in
     let h = memory_of (usable_ready usable) in
     let same = c.if1.true in
-    cell_worked (cell_passed start.pre.1) usable (cell_present _ _ h _ _ _ same) (usable-fit usable).listed
+    cell_worked (cell_passed start.pre.1) usable (cell_present _ _ h _ _ _ same) (usable_fit usable).listed
     (cell_none _ _ h _ _ _ same) (sticks_present _ _ _ same)
 
 count-up-requires : tie.Need-count-up-requires
@@ -73,24 +73,24 @@ mul-cells : tie.Need-overflow-mul-cells
 mul-cells c =
     let start : tie.Start = search in
     let place = (cell_passed start.pre.1).cell_inside in
-    let cells = (usable-healthy start.pre.0).shape.length_cells in
+    let cells = (usable_healthy start.pre.0).shape.length_cells in
     search (rules, place, cells)
 
 slice-write-cells : tie.Need-slice-write-cells
 slice-write-cells c =
     let start : tie.Start = search in
-    omega (arith, (cell_passed start.pre.1).cell_inside, (usable-healthy start.pre.0).shape.length_cells)
+    omega (arith, (cell_passed start.pre.1).cell_inside, (usable_healthy start.pre.0).shape.length_cells)
 
 -- the owner's reference fits a cell
 add-let-go : tie.Need-overflow-add-let-go
 add-let-go c =
     let start : tie.Start = search in
-    record { fits = omega (arith, (cell_passed start.pre.1).cell_inside, (usable-healthy start.pre.0).shape.blocks_max) }
+    record { fits = omega (arith, (cell_passed start.pre.1).cell_inside, (usable_healthy start.pre.0).shape.blocks_max) }
 
 cast-let-go : tie.Need-overflow-cast-let-go
 cast-let-go c =
     let start : tie.Start = search in
-    omega (arith, (cell_passed start.pre.1).cell_inside, (usable-healthy start.pre.0).shape.blocks_max)
+    omega (arith, (cell_passed start.pre.1).cell_inside, (usable_healthy start.pre.0).shape.blocks_max)
 
 let-go-requires : tie.Need-let-go-requires
 let-go-requires c κs =
@@ -112,7 +112,7 @@ renew-after-requires : tie.Need-renew-after-requires
 renew-after-requires c κs =
     let gone : tie.After-let-go = search in
     let usable = (start (up gone)).requires.0 in
-    let shape = (usable-healthy usable).shape in
+    let shape = (usable_healthy usable).shape in
     let upkeep = gone.let_go_lem.ensures.upkeep in
     (upkeep.coherent, omega (arith, gone.let_go_lem.kept.1.1.0, shape.length_a, shape.whole_bytes), list_untouched usable upkeep)
 
@@ -126,12 +126,12 @@ returns-2 c =
     let counted = counting.count-up.ensures in
     let other = counting.before.before.if1.left in
     let passed = cell_passed pre.1 in
-    let fit = usable-fit usable in
+    let fit = usable_fit usable in
     let done = left.let_go_lem.ensures in
     cell_worked passed usable
-    (cell-changed _ _ h _ _ _ fit passed.first passed.place passed.ordinary passed.ref passed.inside other counted.0 done)
+    (cell_changed _ _ h _ _ _ fit passed.first passed.place passed.ordinary passed.ref passed.inside other counted.0 done)
     (renewed c).renew-after.ensures
-    (cell-freed _ _ h _ _ _ fit passed.first passed.place passed.ordinary passed.ref passed.inside other counted.0 done)
+    (cell_freed _ _ h _ _ _ fit passed.first passed.place passed.ordinary passed.ref passed.inside other counted.0 done)
     (counted.1 ∙ sticks_changed _ _ _ other)
 
 -- the cells were written before they were let go of

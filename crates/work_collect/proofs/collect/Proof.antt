@@ -5,7 +5,7 @@ use native.Mathlib.Omega.{arith}
 use borrow.Author.Rules.{rules}
 use Rattle.bitmap.proofs.Maps.{bytes_given}
 use Rattle.count_up.proofs.Shapes.{memory_of, planes_same}
-use Rattle.theory.proofs.Usable.UsableHeap.{usable-healthy}
+use Rattle.theory.proofs.Usable.UsableHeap.{usable_healthy}
 use Rattle.refinement.proofs.ReadyHeap.{usable_ready}
 use Rattle.work_collect.proofs.Collects.{collected_memory, collected_blocks}
 use Rattle.work_collect.proofs.CollectionAnswer.{collect_worked}
@@ -56,7 +56,7 @@ sweep-requires c κs =
 renew-requires : tie.Need-renew-requires
 renew-requires c κs =
     let sweeping : tie.After-sweep = search in
-    let shape = (usable-healthy (start (marked sweeping)).requires.0).shape in
+    let shape = (usable_healthy (start (marked sweeping)).requires.0).shape in
     (sweeping.sweep.ensures.2, omega (arith, sweeping.sweep.kept.1.1.0, shape.length_a, shape.whole_bytes))
 
 returns : tie.Need-returns

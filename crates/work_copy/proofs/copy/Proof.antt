@@ -10,7 +10,7 @@ use Rattle.rules.specs.Heap.{Memory, lent_memory}
 use Rattle.rules_calls.specs.Calls.{reply}
 use Rattle.rules.proofs.Shape.{Shaped, shaped_blocks}
 use Rattle.walk_objects.proofs.Beginning.{walkable}
-use Rattle.work_copy.proofs.CopyWork.{second_shape, fillable, copy_unplaced, full-usable, full-shut, copy-collected}
+use Rattle.work_copy.proofs.CopyWork.{second_shape, fillable, copy_unplaced, full_usable, full_shut, copy_collected}
 use Rattle.work_copy.proofs.copy.Statement.{statement}
 use Rattle.work_copy.proofs.copy.Tie as tie
 
@@ -99,9 +99,9 @@ collect-requires c κs =
     let w = written e in
     let s = start w in
     let all = not-false _ e.if1.left in (
-      full-usable s.pre.0 s.args.blocks2 s.args.width2 (second s) s.pre.2 s.pre.3
+      full_usable s.pre.0 s.args.blocks2 s.args.width2 (second s) s.pre.2 s.pre.3
           w.write-in-room.ensures all (idle n) (none_marked m) (none-listed l) f.find-figures.ensures,
-      full-shut s.pre.0 s.args.blocks2 s.args.width2 (second s) s.pre.2 s.pre.3
+      full_shut s.pre.0 s.args.blocks2 s.args.width2 (second s) s.pre.2 s.pre.3
           w.write-in-room.ensures all (idle n) (none_marked m) (none-listed l) f.find-figures.ensures,
     )
 
@@ -128,7 +128,7 @@ returns-2 c =
     let w = written e in
     let s = start w in
     let z : tie.After-count-zeros = search in
-    copy-collected s.pre.0 s.args.blocks2 s.args.width2 (second s) s.pre.2 s.pre.3
+    copy_collected s.pre.0 s.args.blocks2 s.args.width2 (second s) s.pre.2 s.pre.3
     w.write-in-room.ensures (not-false _ e.if1.left) (idle n) (none_marked m) (none-listed l)
     f.find-figures.ensures s.pre.1 x.collect.ensures
     (c.acceptance.ensures ∙ ap (λ (u : ℕ). reply 0 (s.args.blocks2 - u) 0) z.count_zeros.ensures.0)

@@ -1,6 +1,6 @@
 -- `work_return::clear_chosen` meets its contract.
 use native.Mathlib.Omega.{arith}
-use Rattle.theory.proofs.Usable.UsableHeap.{usable-healthy}
+use Rattle.theory.proofs.Usable.UsableHeap.{usable_healthy}
 use Rattle.work_return.proofs.ReturnAnswer.{not_chosen, zero_passes, chosen_cleared}
 use Rattle.work_return.proofs.clear_chosen.Statement.{statement}
 use Rattle.work_return.proofs.clear_chosen.Tie as tie
@@ -18,7 +18,7 @@ cleared c = search
 shr-if1 : tie.Need-overflow-shr-if1
 shr-if1 c =
     let start = entry c in
-    omega (arith, (usable-healthy start.pre.0).shape.roots_max, start.pre.1)
+    omega (arith, (usable_healthy start.pre.0).shape.roots_max, start.pre.1)
 
 returns : tie.Need-returns
 returns c = not_chosen (entry c.before).requires.0 c.if1.true

@@ -6,7 +6,7 @@ use lib.ListN.{length}
 use Rattle.bitmap.proofs.Zeros.{zeros_le}
 use Rattle.rules.specs.Heap.{lent_memory}
 use Rattle.rules.proofs.Shape.{Shaped}
-use Rattle.theory.proofs.Usable.UsableHeap.{usable-healthy}
+use Rattle.theory.proofs.Usable.UsableHeap.{usable_healthy}
 use Rattle.work_return.proofs.ReturnAnswer.{Progress, progress_start, progress_next, progress_done}
 use Rattle.work_return.proofs.clear_roots.Statement.{statement}
 use Rattle.work_return.proofs.clear_roots.Tie as tie
@@ -40,7 +40,7 @@ clear-chosen-requires c κs = ((turn c).before.loop.invariant.usable, omega arit
 add-freed : tie.Need-overflow-add-freed invariant-loop decreases-loop
 add-freed c =
     let made = (seen c).clear-chosen in
-    let shape = (usable-healthy made.ensures.usable).shape in
+    let shape = (usable_healthy made.ensures.usable).shape in
     omega (
       arith,
       made.ensures.blocks,
@@ -54,7 +54,7 @@ add-freed c =
 add_r : tie.Need-overflow-add-r invariant-loop decreases-loop
 add_r c =
     let test = turn (seen c).before in
-    omega (arith, test.loop-test.taken, (usable-healthy test.before.loop.inv.usable).shape.roots_max)
+    omega (arith, test.loop-test.taken, (usable_healthy test.before.loop.inv.usable).shape.roots_max)
 
 loop-less : tie.Need-loop-smaller invariant-loop decreases-loop
 loop-less c =
@@ -74,7 +74,7 @@ shaped-now :
     let args = (entry c.before.before).args in
     Shaped args.blocks args.width
     (lent_memory l.a l.b l.counts l.cells l.roots l.waiting l.sections l.d l.marks l.list)
-shaped-now c = (usable-healthy c.before.loop.invariant.usable).shape
+shaped-now c = (usable_healthy c.before.loop.invariant.usable).shape
 
 shaped-before :
     (c : tie.After-loop invariant-loop decreases-loop)
@@ -82,7 +82,7 @@ shaped-before :
     Shaped args.blocks args.width
     (lent_memory args.a.now args.b.now args.counts.now args.cells.now args.roots.now args.waiting.now
     args.sections.now args.d.now args.marks.now args.list.now)
-shaped-before c = (usable-healthy (entry c.before.before).pre.0).shape
+shaped-before c = (usable_healthy (entry c.before.before).pre.0).shape
 
 returns : tie.Need-returns invariant-loop decreases-loop
 returns c =

@@ -2,7 +2,7 @@
 use mathlib.Core.Path.{refl, sym, ap, ◌∙◌}
 use Rattle.types.specs.declared.Reply.{Reply}
 use Rattle.test_arguments.proofs.ArgumentTests.{own_refused, return_tested}
-use Rattle.theory.proofs.Usable.UsableHeap.{usable-fit, usable-healthy}
+use Rattle.theory.proofs.Usable.UsableHeap.{usable_fit, usable_healthy}
 use Rattle.theory.proofs.Usable.WorkDone.{worked_refused}
 use Rattle.work_return.proofs.return_roots.Statement.{statement}
 use Rattle.work_return.proofs.return_roots.Tie as tie
@@ -15,12 +15,12 @@ abbrev cleared : tie.After-slice-known20 → tie.After-clear-roots
 cleared c = search
 
 return-test-requires : tie.Need-return-test-requires
-return-test-requires c κs = (usable-healthy (entry c).requires).shape.roots_max
+return-test-requires c κs = (usable_healthy (entry c).requires).shape.roots_max
 
 returns : tie.Need-returns
 returns c =
     let usable = (entry c.before.before).requires in
-    worked_refused usable refl (own_refused (return_tested c.before.return-test.ensures) (usable-fit usable) c.if1.true)
+    worked_refused usable refl (own_refused (return_tested c.before.return-test.ensures) (usable_fit usable) c.if1.true)
     c.if1.true
 
 clear-roots-requires : tie.Need-clear-roots-requires

@@ -4,11 +4,11 @@ use native.Mathlib.Omega.{arith}
 use borrow.Author.Rules.{rules}
 use Rattle.test_arguments.proofs.ArgumentTests.{root_passed}
 use Rattle.count_up.proofs.Shapes.{memory_of, planes_same}
-use Rattle.theory.proofs.Usable.UsableHeap.{usable-fit, usable-healthy}
+use Rattle.theory.proofs.Usable.UsableHeap.{usable_fit, usable_healthy}
 use Rattle.refinement.proofs.ReadyHeap.{usable_ready, list_untouched}
 use Rattle.refinement_stores.proofs.ListedHeap.{usable_listable}
 use Rattle.refinement_stores.proofs.Presence.{sticks_present, sticks_changed}
-use Rattle.refinement_stores.proofs.RootStore.{root_present, root_none, root-changed, root-freed}
+use Rattle.refinement_stores.proofs.RootStore.{root_present, root_none, root_changed, root_freed}
 use Rattle.work_root.proofs.RootAnswer.{root_worked}
 use Rattle.work_root.proofs.store_root.Statement.{statement}
 use Rattle.work_root.proofs.store_root.Tie as tie
@@ -30,7 +30,7 @@ start c = search
 cast-new : tie.Need-overflow-cast-new
 cast-new c =
     let start : tie.Start = search in
-    omega (arith, (root_passed start.pre.1).inside, (usable-healthy start.pre.0).shape.blocks_max)
+    omega (arith, (root_passed start.pre.1).inside, (usable_healthy start.pre.0).shape.blocks_max)
 
 mul-old : tie.Need-overflow-mul-old
 mul-old c =
@@ -49,7 +49,7 @@ returns c =
     let usable = start.pre.0 in
     let h = memory_of (usable_ready usable) in
     let same = c.if1.true in
-    root_worked (root_passed start.pre.1) usable (root_present _ _ h _ _ same) (usable-fit usable).listed
+    root_worked (root_passed start.pre.1) usable (root_present _ _ h _ _ same) (usable_fit usable).listed
     (root_none _ _ h _ _ same) (sticks_present _ _ _ same)
 
 count-up-requires : tie.Need-count-up-requires
@@ -88,7 +88,7 @@ renew-after-requires : tie.Need-renew-after-requires
 renew-after-requires c κs =
     let gone : tie.After-let-go = search in
     let usable = (start (up gone)).requires.0 in
-    let shape = (usable-healthy usable).shape in
+    let shape = (usable_healthy usable).shape in
     let upkeep = gone.let_go_lem.ensures.upkeep in
     (upkeep.coherent, omega (arith, gone.let_go_lem.kept.1.1.0, shape.length_a, shape.whole_bytes), list_untouched usable upkeep)
 
@@ -102,12 +102,12 @@ returns-2 c =
     let counted = counting.count-up.ensures in
     let other = counting.before.before.if1.left in
     let passed = root_passed pre.1 in
-    let fit = usable-fit usable in
+    let fit = usable_fit usable in
     let done = left.let_go_lem.ensures in
     root_worked passed usable
-    (root-changed _ _ h _ _ fit passed.place passed.ref passed.inside other counted.0 done)
+    (root_changed _ _ h _ _ fit passed.place passed.ref passed.inside other counted.0 done)
     (renewed c).renew-after.ensures
-    (root-freed _ _ h _ _ fit passed.place passed.ref passed.inside other counted.0 done)
+    (root_freed _ _ h _ _ fit passed.place passed.ref passed.inside other counted.0 done)
     (counted.1 ∙ sticks_changed _ _ _ other)
 
 pub store-root-spec : {M : Type 1} → statement M

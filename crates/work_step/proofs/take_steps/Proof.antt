@@ -5,10 +5,10 @@ use lib.ListN.{replicate}
 use native.Mathlib.Omega.{arith}
 use borrow.Author.Rules.{rules}
 use borrow.Author.Tests.{not-true, not-false}
-use Rattle.theory.proofs.Usable.UsableHeap.{usable-fit, usable-healthy}
+use Rattle.theory.proofs.Usable.UsableHeap.{usable_fit, usable_healthy}
 use Rattle.refinement.proofs.ReadyHeap.{usable_ready}
 use Rattle.refinement_steps.proofs.EndedList.{listed_ended}
-use Rattle.refinement_steps.proofs.StepAnswer.{steps-promised, close-promised}
+use Rattle.refinement_steps.proofs.StepAnswer.{steps_promised, close_promised}
 use Rattle.work_step.proofs.take_steps.Statement.{statement}
 use Rattle.work_step.proofs.take_steps.Tie as tie
 
@@ -35,7 +35,7 @@ start c = c.before.before.before.before.before.before.before.before.before.befor
 advance-requires : tie.Need-advance-requires
 advance-requires c κs =
     let s : tie.Start = search in
-    let shape = (usable-healthy s.pre.0).shape in (
+    let shape = (usable_healthy s.pre.0).shape in (
       sym shape.whole_bytes,
       shape.blocks_max,
       omega (arith, shape.length_b, shape.whole_bytes),
@@ -43,7 +43,7 @@ advance-requires c κs =
       shape.length_cells,
       shape.length_marks,
       shape.length_list,
-      listed_ended _ _ s.pre.1 (usable-fit s.pre.0).tidy,
+      listed_ended _ _ s.pre.1 (usable_fit s.pre.0).tidy,
     )
 
 stepped-requires : tie.Need-stepped-requires
@@ -54,7 +54,7 @@ returns c =
     let s : tie.Start = search in
     let went : tie.After-advance = search in
     let moves = went.advance.ensures in
-    steps-promised s.args.budget s.pre.0 s.pre.1 moves.0 moves.1 moves.2 (not-true _ c.before.if1.true) c.stepped.ensures
+    steps_promised s.args.budget s.pre.0 s.pre.1 moves.0 moves.1 moves.2 (not-true _ c.before.if1.true) c.stepped.ensures
 
 close-requires : tie.Need-close-requires
 close-requires c κs =
@@ -73,7 +73,7 @@ renew-requires : tie.Need-renew-requires
 renew-requires c κs =
     let cleared : tie.After-clear-all = search in
     let ended = gone (filled cleared) in
-    let shape = (usable-healthy (start (moved ended)).requires.0).shape in
+    let shape = (usable_healthy (start (moved ended)).requires.0).shape in
     (ended.close.ensures.3, omega (arith, ended.close.kept.1.1.0, shape.length_a, shape.whole_bytes))
 
 stepped-requires-2 : tie.Need-stepped-requires-2
@@ -87,10 +87,10 @@ returns-2 c =
     let ended = gone mapped in
     let went = moved ended in
     let s = start went in
-    let shape = (usable-healthy s.pre.0).shape in
+    let shape = (usable_healthy s.pre.0).shape in
     let moves = went.advance.ensures in
     let left = ended.close.ensures in
-    close-promised s.args.budget s.pre.0 s.pre.1 moves.0 moves.1 moves.2
+    close_promised s.args.budget s.pre.0 s.pre.1 moves.0 moves.1 moves.2
     (not-false _ ended.before.before.before.before.before.before.before.before.before.if1.left) _ left.0 left.1 refl left.2 figured.renew.ensures
     (mapped.fill-bytes.ensures ∙ ap (λ (n : ℕ). replicate n 0) (ended.close.kept.1.1.1.1.1.1.1.1.1.0 ∙ went.advance.kept.1.1.1.1.0 ∙ shape.length_marks))
     (cleared.clear-all.ensures ∙ ap (λ (n : ℕ). replicate n 0) (went.advance.kept.1.1.1.1.1.0 ∙ shape.length_list))

@@ -13,7 +13,7 @@ use Rattle.rules.proofs.Shape.{shaped_blocks}
 use Rattle.test_allocation.proofs.AllocationReply.{replied, allocate_accepts, allocate_refused, allocate_data_refused}
 use Rattle.test_allocation.specs.Replies.{allocate_reply}
 use Rattle.theory_memories.proofs.Memories.Fit.{Fit}
-use Rattle.theory.proofs.Usable.UsableHeap.{usable-fit}
+use Rattle.theory.proofs.Usable.UsableHeap.{usable_fit}
 use Rattle.theory.proofs.Usable.WorkDone.{worked_refused}
 use borrow.Author.Rules.{rules}
 use Rattle.work_tested.proofs.allocate.Statement.{statement}
@@ -35,7 +35,7 @@ refused-so false n r tested fit fails = allocate_refused tested fit fails
 
 allocate-reply-requires : tie.Need-allocate-reply-requires
 allocate-reply-requires c κs =
-    let fit = usable-fit (start c).requires in
+    let fit = usable_fit (start c).requires in
     let shape = fit.healthy.shape in
     (shaped_blocks _ _ _ shape, omega (arith, shape.length_a, shape.whole_bytes), fit.listed)
 
@@ -44,7 +44,7 @@ returns c =
     let start : tie.Start = search in
     let args = start.args in
     worked_refused start.pre (allocation_alone args.as-data args.n args.r)
-    (refused-so args.as-data args.n args.r c.before.allocate-reply.ensures (usable-fit start.pre) c.if1.true)
+    (refused-so args.as-data args.n args.r c.before.allocate-reply.ensures (usable_fit start.pre) c.if1.true)
     c.if1.true
 
 allocate-requires : tie.Need-allocate-requires

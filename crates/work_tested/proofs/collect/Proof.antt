@@ -3,7 +3,7 @@ use mathlib.Core.Path.{refl}
 use native.Mathlib.Omega.{arith}
 use Rattle.rules.specs.Heap.{Memory, lent_memory}
 use Rattle.test_arguments.proofs.ArgumentTests.{own_refused, collect_tested, none_open}
-use Rattle.theory.proofs.Usable.UsableHeap.{usable-fit, usable-healthy}
+use Rattle.theory.proofs.Usable.UsableHeap.{usable_fit, usable_healthy}
 use Rattle.theory.proofs.Usable.WorkDone.{worked_refused}
 use borrow.Author.Rules.{rules}
 use Rattle.work_tested.proofs.collect.Statement.{statement}
@@ -22,12 +22,12 @@ done c = search
 shut-test-requires : tie.Need-shut-test-requires
 shut-test-requires c κs =
     let start : tie.Start = search in
-    omega (arith, (usable-healthy start.pre).shape.length_list)
+    omega (arith, (usable_healthy start.pre).shape.length_list)
 
 returns : tie.Need-returns
 returns c =
     let start : tie.Start = search in
-    worked_refused start.pre refl (own_refused (collect_tested c.before.shut-test.ensures) (usable-fit start.pre) c.if1.true)
+    worked_refused start.pre refl (own_refused (collect_tested c.before.shut-test.ensures) (usable_fit start.pre) c.if1.true)
     c.if1.true
 
 collect-requires : tie.Need-collect-requires

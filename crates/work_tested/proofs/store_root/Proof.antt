@@ -2,7 +2,7 @@
 use mathlib.Core.Path.{refl}
 use native.Mathlib.Omega.{arith}
 use Rattle.test_arguments.proofs.ArgumentTests.{goes_on, own_refused, root_tested}
-use Rattle.theory.proofs.Usable.UsableHeap.{usable-fit, usable-healthy}
+use Rattle.theory.proofs.Usable.UsableHeap.{usable_fit, usable_healthy}
 use Rattle.theory.proofs.Usable.WorkDone.{worked_refused}
 use borrow.Author.Rules.{rules}
 use Rattle.work_tested.proofs.store_root.Statement.{statement}
@@ -17,13 +17,13 @@ done c = search
 
 store-root-test-requires : tie.Need-store-root-test-requires
 store-root-test-requires c κs =
-    let shape = (usable-healthy (start c).requires).shape in
+    let shape = (usable_healthy (start c).requires).shape in
     (omega (arith, shape.length_a, shape.whole_bytes), omega (arith, shape.length_b, shape.whole_bytes))
 
 returns : tie.Need-returns
 returns c =
     let start : tie.Start = search in
-    worked_refused start.pre refl (own_refused (root_tested c.before.store-root-test.ensures) (usable-fit start.pre) c.if1.true)
+    worked_refused start.pre refl (own_refused (root_tested c.before.store-root-test.ensures) (usable_fit start.pre) c.if1.true)
     c.if1.true
 
 store-root-requires : tie.Need-store-root-requires

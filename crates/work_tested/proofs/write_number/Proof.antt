@@ -4,7 +4,7 @@ use native.Mathlib.Omega.{arith}
 use Rattle.rules.specs.Heap.{Memory, lent_memory}
 use Rattle.types.specs.declared.Reply.{Reply}
 use Rattle.test_arguments.proofs.ArgumentTests.{goes_on, own_refused, number_tested, number_passed}
-use Rattle.theory.proofs.Usable.UsableHeap.{usable-fit, usable-healthy}
+use Rattle.theory.proofs.Usable.UsableHeap.{usable_fit, usable_healthy}
 use Rattle.theory.proofs.Usable.WorkDone.{worked_refused}
 use Rattle.work_tested.proofs.write_number.Statement.{statement}
 use Rattle.work_tested.proofs.write_number.Tie as tie
@@ -25,7 +25,7 @@ tested c = search
 number-test-requires : tie.Need-number-test-requires
 number-test-requires c κs =
     let start : tie.Start = search in
-    let shape = (usable-healthy start.pre).shape in (
+    let shape = (usable_healthy start.pre).shape in (
       omega (arith, shape.length_a, shape.whole_bytes),
       omega (arith, shape.length_b, shape.whole_bytes),
       shape.blocks_max,
@@ -35,14 +35,14 @@ number-test-requires c κs =
 returns : tie.Need-returns
 returns c =
     let start : tie.Start = search in
-    worked_refused start.pre refl (own_refused (number_tested c.before.number-test.ensures) (usable-fit start.pre) c.if1.true)
+    worked_refused start.pre refl (own_refused (number_tested c.before.number-test.ensures) (usable_fit start.pre) c.if1.true)
     c.if1.true
 
 write-number-requires : tie.Need-write-number-requires
 write-number-requires c κs =
     let tested : tie.Else1 = search in
     let start : tie.Start = search in
-    let shape = (usable-healthy start.pre).shape in
+    let shape = (usable_healthy start.pre).shape in
     let passed = number_passed (ap (λ (y : Reply). y.number) (sym tested.before.number-test.ensures) ∙ tested.if1.left) in
     (omega (arith, passed.cell_inside, shape.length_cells), omega (arith, shape.length_cells, shape.blocks_max))
 

@@ -2,7 +2,7 @@
 use mathlib.Core.Path.{ap}
 use Prim.Native.Nat.{ℕ, ◌-◌}
 use native.Mathlib.Omega.{arith}
-use Rattle.theory.proofs.Usable.UsableHeap.{usable-healthy}
+use Rattle.theory.proofs.Usable.UsableHeap.{usable_healthy}
 use Rattle.history_figures.proofs.Ranges.{in_range_within}
 use Rattle.history_runs.proofs.Pieces.{whole_room, whole_going, piece_stopped, piece_ran}
 use Rattle.history.proofs.run.run_piece.Statement.{statement}
@@ -31,12 +31,12 @@ whole-records-requires c κs = (in_range_within _ (start c).requires.1).few
 
 count-zeros-requires : tie.Need-count-zeros-requires
 count-zeros-requires c κs =
-    let shape = (usable-healthy (start c.before.before).requires.0).shape in
+    let shape = (usable_healthy (start c.before.before).requires.0).shape in
     omega (arith, shape.length_a, shape.whole_bytes, shape.blocks_max)
 
 sub_used : tie.Need-overflow-sub-used
 sub_used c =
-    let shape = (usable-healthy (start (measured c).before).requires.0).shape in
+    let shape = (usable_healthy (start (measured c).before).requires.0).shape in
     omega (arith, c.count_zeros.ensures.1, shape.length_a, shape.whole_bytes)
 
 run-whole-requires : tie.Need-run-whole-requires

@@ -4,8 +4,8 @@ use Prim.Native.Nat.{◌-◌}
 use native.Mathlib.Omega.{arith}
 use Rattle.rules.specs.Heap.{lent_memory}
 use Rattle.rules.proofs.Shape.{Shaped}
-use Rattle.theory.proofs.Usable.UsableHeap.{usable-healthy}
-use Rattle.history_runs.proofs.Progress.{Progress, progress_start, step-going, next-usable, progress_next, progress-stop, progress_done}
+use Rattle.theory.proofs.Usable.UsableHeap.{usable_healthy}
+use Rattle.history_runs.proofs.Progress.{Progress, progress_start, step_going, next_usable, progress_next, progress_stop, progress_done}
 use Rattle.history.proofs.run.run_whole.Statement.{statement}
 use Rattle.history.proofs.run.run_whole.Tie as tie
 
@@ -37,7 +37,7 @@ shaped-at : (c : tie.At-loop invariant-loop decreases-loop) →
     Shaped args.blocks args.width
     (lent_memory args.a.now args.b.now args.counts.now args.cells.now args.roots.now args.waiting.now
     args.sections.now args.d.now args.marks.now args.list.now)
-shaped-at c = (usable-healthy (start c).requires.0).shape
+shaped-at c = (usable_healthy (start c).requires.0).shape
 
 shaped-stop : (c : tie.After-step invariant-loop decreases-loop) →
     let args = (start (record-read c.before).before.before).args in
@@ -49,8 +49,8 @@ shaped-stop : (c : tie.After-step invariant-loop decreases-loop) →
 shaped-stop c =
     let read = record-read c.before in
     let test = read.before in
-    (usable-healthy
-    (next-usable test.loop-test.taken test.before.loop.inv read.fields_at.ensures.0 c.step.ensures)
+    (usable_healthy
+    (next_usable test.loop-test.taken test.before.loop.inv read.fields_at.ensures.0 c.step.ensures)
     ).shape
 
 shaped-done : (c : tie.At-loop invariant-loop decreases-loop) →
@@ -58,7 +58,7 @@ shaped-done : (c : tie.At-loop invariant-loop decreases-loop) →
     let l = c.loop in
     Shaped args.blocks args.width (lent_memory l.a l.b l.counts l.cells l.roots l.waiting l.sections l.d
     l.marks l.list)
-shaped-done c = (usable-healthy c.loop.invariant.usable).shape
+shaped-done c = (usable_healthy c.loop.invariant.usable).shape
 
 loop-holds : tie.Need-loop-init invariant-loop decreases-loop
 loop-holds c =
@@ -72,14 +72,14 @@ step-requires : tie.Need-step-requires invariant-loop decreases-loop
 step-requires c κs =
     let read = record-read c in
     let inv = read.before.before.loop.inv in
-    (inv.usable, step-going (omega arith) inv, read.fields_at.ensures.1)
+    (inv.usable, step_going (omega arith) inv, read.fields_at.ensures.1)
 
 returns : tie.Need-returns invariant-loop decreases-loop
 returns c =
     let step = stopped c in
     let read = record-read step.before in
     let test = read.before in
-    progress-stop test.loop-test.taken test.before.loop.inv read.fields_at.ensures.0
+    progress_stop test.loop-test.taken test.before.loop.inv read.fields_at.ensures.0
     step.step.ensures c.before.if1.true
 
 add-i : tie.Need-overflow-add-i invariant-loop decreases-loop

@@ -14,11 +14,11 @@ entry c = search
 abbrev allocating : tie.After-allocate-arg10 → tie.After-plan2
 allocating c = search
 
-abbrev root-storing : tie.After-store-root-arg10 → tie.After-plan3
-root-storing c = search
+abbrev root_storing : tie.After-store-root-arg10 → tie.After-plan3
+root_storing c = search
 
-abbrev cell-storing : tie.After-store-cell-arg10 → tie.After-plan4
-cell-storing c = search
+abbrev cell_storing : tie.After-store-cell-arg10 → tie.After-plan4
+cell_storing c = search
 
 abbrev collecting : tie.After-collect-arg10 → tie.After-enum-told
 collecting c = search
@@ -54,13 +54,13 @@ enum-known-plan-3 : tie.Need-enum-known-plan-3
 enum-known-plan-3 c = search rules
 
 store-root-requires : tie.Need-store-root-requires
-store-root-requires c κs = (entry (root-storing c).before.before).requires
+store-root-requires c κs = (entry (root_storing c).before.before).requires
 
 enum-known-plan-4 : tie.Need-enum-known-plan-4
 enum-known-plan-4 c = search rules
 
 store-cell-requires : tie.Need-store-cell-requires
-store-cell-requires c κs = (entry (cell-storing c).before.before).requires
+store-cell-requires c κs = (entry (cell_storing c).before.before).requires
 
 enum_told : tie.Need-enum-told
 enum_told c = search rules
@@ -84,12 +84,12 @@ returns-2 c =
 
 returns-3 : tie.Need-returns-3
 returns-3 c =
-    let arm = root-storing (root-stored c).before in
+    let arm = root_storing (root-stored c).before in
     acted_plan _ arm.plan3.given.1 (acted_root (entry arm.before.before).requires (root-stored c).store_root_lem.ensures)
 
 returns-4 : tie.Need-returns-4
 returns-4 c =
-    let arm = cell-storing (cell-stored c).before in
+    let arm = cell_storing (cell-stored c).before in
     acted_plan _ arm.plan4.given.1 (acted_cell (entry arm.before.before).requires (cell-stored c).store_cell_lem.ensures)
 
 returns-5 : tie.Need-returns-5
