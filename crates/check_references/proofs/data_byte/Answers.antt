@@ -1,0 +1,102 @@
+use mathlib.Core.Path.{◌≡◌, sym, ap, ◌∙◌, subst}
+use mathlib.Core.Logic.{inl, inr}
+use mathlib.Core.Bool.{Bool, true, false, not}
+use Prim.Native.Nat.{ℕ, ◌≤◌, ◌<◌, ◌+◌, ◌-◌, ◌*◌, ◌%◌, ◌^◌}
+use native.Mathlib.Decide.{ℕ_discrete}
+use native.Mathlib.Omega.{arith}
+use lib.Dec.{eqb}
+use lib.Pow.{pow_mono}
+use native.Mathlib.Nat.{pow-suc}
+use native.Mathlib.Numerals.{add-one}
+use borrow.Author.Tests.{eq-eqb, ne_eqb, not-true, not-false}
+use Rattle.bitmap.specs.Bit.{bit_of}
+use Rattle.bitmap.proofs.Bits.{bit_below, bit_top, shift_exact}
+use Rattle.bitmap.proofs.Digits.{digit_past}
+use Rattle.rules.specs.Heap.{in_data}
+use Rattle.map_objects.specs.Walk.{data_before}
+use Rattle.map_objects.proofs.Walk.{walk_next}
+use Rattle.check_references.proofs.Eights.{eight_outside, eight_within}
+use Rattle.check_references.proofs.data_byte.Goals as goal
+
+-- the bits below n are the blocks of data from block `from` on, and no other bit is 1
+abbrev MadeBelow : (test : ℕ → Bool) (from made n : ℕ) → Type 0
+MadeBelow test from made n = (made < 2 ^ n) × ((t : ℕ) → t < n → test (from + t) ≡ not (eqb (bit_of made t) 0))
+
+double : (n : ℕ) → 2 ^ (n + 1) ≡ 2 ^ n * 2
+double n = ap (λ (x : ℕ). 2 ^ x) (add-one n) ∙ pow-suc 2 n
+
+-- bit n raised
+raised : (test : ℕ → Bool) (from made n : ℕ) → n < 8 → test (from + n) ≡ true → MadeBelow test from made n
+    → MadeBelow test from (made + 1 * 2 ^ n % 256) (n + 1)
+raised test from made n inside e h =
+    rw (shift_exact 1 n (omega arith) inside) (
+      omega (arith, h.0, double n),
+      λ t l. elim (ℕ_discrete t n) [
+        | yes q ↦
+            ap (λ (x : ℕ). test (from + x)) q ∙ e
+            ∙ sym (ap (λ (x : ℕ). not (eqb (bit_of (made + 1 * 2 ^ n) x) 0)) q
+            ∙ ap not (ne_eqb (bit_of (made + 1 * 2 ^ n) n) 0 (λ z. omega (arith, z, bit_top made 1 n h.0 (omega arith)))))
+        | no q ↦ h.1 t (omega arith) ∙ ap (λ (x : ℕ). not (eqb x 0)) (sym (bit_below made 1 n t (omega arith)))
+      ],
+    )
+
+-- bit n left
+left : (test : ℕ → Bool) (from made n : ℕ) → test (from + n) ≡ false → MadeBelow test from made n → MadeBelow test from made (n + 1)
+left test from made n e h = (
+  omega (arith, h.0, double n),
+  λ t l. elim (ℕ_discrete t n) [
+    | yes q ↦
+        ap (λ (x : ℕ). test (from + x)) q ∙ e
+        ∙ sym (ap not (eq-eqb (bit_of made t) 0 (ap (bit_of made) q ∙ digit_past n made n h.0 (omega arith))))
+    | no q ↦ h.1 t (omega arith)
+  ],
+)
+
+pub returns-then-not-before : goal.returns-then-not-before
+returns-then-not-before c =
+    eight_outside c.args.blocks c.args.a.now c.args.b.now c.args.d.now c.args.k c.requires.4
+    (sym (not-true c.args.before c.if-not-before.true) ∙ c.requires.5) c.if-d-k-eq0.true
+
+pub returns-then-first_byte-eq0 : goal.returns-then-first_byte-eq0
+returns-then-first_byte-eq0 c =
+    eight_within c.args.blocks c.args.a.now c.args.b.now c.args.d.now c.args.k c.requires.4
+    (sym (not-false c.args.before c.if-not-before.false) ∙ c.requires.5) c.if-a-k.true c.first_byte.result
+    (c.first_byte.ensures c.args.blocks c.requires.4) c.if-first_byte-eq0.true
+
+pub loop-s-init : goal.loop-s-init
+loop-s-init c =
+    let place : 8 * c.args.k ≡ 8 * c.args.k + 0 = omega arith in (
+      omega arith,
+      c.requires.5 ∙ ap (data_before c.args.blocks c.args.a.now c.args.b.now c.args.d.now) place,
+      (omega arith, λ t l. absurd (omega arith)),
+    )
+
+pub is_in_data-in_data-requires : goal.is_in_data-in_data-requires
+is_in_data-in_data-requires c = (omega arith, omega arith, omega arith, omega arith, c.loop-s.invariant.1)
+
+pub overflow_add-made : goal.overflow_add-made
+overflow_add-made c =
+    let n : ℕ = c.loop-s.s in
+    let most : 2 ^ (n + 1) ≤ 2 ^ 8 = pow_mono {j = 8} (omega arith) in
+    omega (arith, c.loop-s.invariant.2.0, shift_exact 1 n (omega arith) c.loop-s-test.taken, double n)
+
+pub loop-s-preserved : goal.loop-s-preserved
+loop-s-preserved c =
+    let at : ℕ = c.loop-s.s in
+    let place : 8 * c.args.k + at + 1 ≡ 8 * c.args.k + (at + 1) = omega arith in
+    let test = in_data c.args.blocks c.args.a.now c.args.b.now c.args.d.now in (
+      omega arith,
+      walk_next c.args.blocks c.args.a.now c.args.b.now c.args.d.now (8 * c.args.k + at) _ c.is_in_data-in_data.ensures
+          ∙ ap (data_before c.args.blocks c.args.a.now c.args.b.now c.args.d.now) place,
+      elim c.if-in_data.branch [
+        | inl w ↦
+            subst (λ (x : ℕ). MadeBelow test (8 * c.args.k) x (at + 1)) (sym w.1)
+            (raised test (8 * c.args.k) c.loop-s.made at (omega arith) (sym c.is_in_data-in_data.ensures ∙ w.0.taken) c.loop-s.invariant.2)
+        | inr w ↦
+            subst (λ (x : ℕ). MadeBelow test (8 * c.args.k) x (at + 1)) (sym w.1)
+            (left test (8 * c.args.k) c.loop-s.made at (sym c.is_in_data-in_data.ensures ∙ w.0.left) c.loop-s.invariant.2)
+      ],
+    )
+
+pub returns : goal.returns
+returns c = λ t u. c.loop-s.invariant.2.1 t (omega arith)

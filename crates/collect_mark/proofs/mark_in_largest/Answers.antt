@@ -1,0 +1,11 @@
+-- `collect_mark::mark_in_largest` meets its contract.
+use Prim.Native.Nat.{ℕ}
+use native.Mathlib.Omega.{arith}
+use lib.ListN.{length-replicate}
+use Rattle.rules.specs.Heap.{max_blocks}
+use Rattle.collect_mark.proofs.Scans.{zero_places}
+use Rattle.collect_mark.proofs.mark_in_largest.Goals as goal
+
+pub mark_in-requires : goal.mark_in-requires
+mark_in-requires c =
+    (c.requires, omega (arith, length-replicate {A = ℕ} max_blocks 0, c.requires.planes.most), zero_places max_blocks)

@@ -1,0 +1,12 @@
+-- `noting::with_allocation` meets its contract.
+use borrow.Author.Tests.{eq-eqb, ne_eqb}
+use Rattle.history_turns.specs.Outcomes.{with_allocation}
+use Rattle.history_turns.proofs.noting.with_allocation.Goals as goal
+
+pub returns-then-n-eq0 : goal.returns-then-n-eq0
+unfolding with_allocation
+returns-then-n-eq0 c = rw (eq-eqb _ 0 c.if-n-eq0.true, with_allocation)
+
+pub returns : goal.returns
+unfolding with_allocation
+returns c = rw (ne_eqb _ 0 c.if-n-eq0.false, with_allocation) c.allocated.ensures

@@ -1,0 +1,32 @@
+-- `public_steps::open_collection` meets its contract: the gate, and then the work on the lent heap as it is.
+use mathlib.Core.Path.{sym}
+use Rattle.rules.specs.Heap.{Memory, lent_memory}
+use Rattle.theory_memories.proofs.Memories.Fit.{undamaged_fit}
+use Rattle.test_calls.proofs.CheckAtGate.{gate_none_open}
+use Rattle.work_open.proofs.Opening.{open_promised}
+use Rattle.public_steps.proofs.open_collection.Goals as goal
+
+pub returns-then-number-ne0 : goal.returns-then-number-ne0
+returns-then-number-ne0 c = c.none_open-shut.ensures.1.refused c.if-number-ne0.true
+
+-- the lent heap
+abbrev lent-After-open_collection-arg-2-1 : (c : goal.After-open_collection-arg-2-1) → Memory
+lent-After-open_collection-arg-2-1 c =
+    lent_memory c.args.a.now c.args.b.now c.args.counts.now c.args.cells.now c.args.roots.now c.args.waiting.now
+    c.args.sections.now c.args.d.now c.args.marks.now c.args.list.now
+
+pub open_collection-requires : goal.open_collection-requires
+open_collection-requires c =
+    let shape = (undamaged_fit _ _ (lent-After-open_collection-arg-2-1 c) (c.none_open-shut.ensures.1.fit c.if-number-ne0.false)).healthy.shape in
+    (sym shape.whole_bytes, shape.blocks_max, shape.length_marks, shape.length_list)
+
+-- the lent heap
+abbrev lent-After-slice_known-4-1 : (c : goal.After-slice_known-4-1) → Memory
+lent-After-slice_known-4-1 c =
+    lent_memory c.args.a.now c.args.b.now c.args.counts.now c.args.cells.now c.args.roots.now c.args.waiting.now
+    c.args.sections.now c.args.d.now c.args.marks.now c.args.list.now
+
+pub returns : goal.returns
+returns c =
+    open_promised {h = lent-After-slice_known-4-1 c} (c.none_open-shut.ensures.1.fit c.if-number-ne0.false)
+    (gate_none_open _ _ (c.none_open-shut.ensures.1.tested c.if-number-ne0.false) c.if-number-ne0.false) c.open_collection.ensures

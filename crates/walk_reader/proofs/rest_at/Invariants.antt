@@ -1,0 +1,11 @@
+-- `walk_reader::rest_at` meets its contract.
+use Prim.Native.Nat.{◌≤◌, ◌-◌}
+use lib.ListN.{length}
+use Rattle.walk_reader.proofs.Links.{Counting}
+use Rattle.walk_reader.proofs.rest_at.Given as goal
+
+abbrev pub invariant-loop-cell : goal.invariant-loop-cell
+invariant-loop-cell l = (p ≤ length l.text) × (links ≤ p) × Counting l.text l.at p links
+
+abbrev pub decreases-loop-cell : goal.decreases-loop-cell
+decreases-loop-cell l = length l.text - p
