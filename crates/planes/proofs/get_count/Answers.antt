@@ -11,6 +11,10 @@ use Rattle.planes.proofs.PlaneBits.{plane_inside, plane_next, part_bit}
 use Rattle.planes.proofs.Counts.{count_more, count_lt}
 use Rattle.planes.proofs.get_count.Goals as goal
 
+pub loop-k-init : goal.loop-k-init
+unfolding count_at
+loop-k-init c = omega arith
+
 -- the map lies in the slice
 inside : (c : goal.In-loop-k) → c.loop-k.from + c.args.bytes ≤ length c.args.counts.now
 inside c =
