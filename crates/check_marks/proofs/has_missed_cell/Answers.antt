@@ -31,7 +31,7 @@ pub returns-then-misses_of : goal.returns-then-misses_of
 returns-then-misses_of c =
     sym
     (some_further (test-Then-misses_of c) (8 * (c.loop-k.k + 1)) c.args.blocks (omega arith)
-    (eight_hit (test-Then-misses_of c) _ c.loop-k.k (alike-Then-misses_of c) (sym c.Misses-of.ensures ∙ c.if-misses_of.true)))
+    (eight_hit (test-Then-misses_of c) _ c.loop-k.k (alike-Then-misses_of c) (sym c.misses_of.ensures ∙ c.if-misses_of.true)))
 
 -- the test, on what is lent
 abbrev test-Else-misses_of : (c : goal.Else-misses_of) → ℕ → Bool
@@ -50,7 +50,7 @@ pub loop-k-preserved : goal.loop-k-preserved
 loop-k-preserved c =
     (
       omega arith,
-      eight_past (test-Else-misses_of c) _ c.loop-k.k (alike-Else-misses_of c) (sym c.Misses-of.ensures ∙ c.if-misses_of.false) c.loop-k.invariant.1,
+      eight_past (test-Else-misses_of c) _ c.loop-k.k (alike-Else-misses_of c) (sym c.misses_of.ensures ∙ c.if-misses_of.false) c.loop-k.invariant.1,
     )
 
 -- the test, on what is lent

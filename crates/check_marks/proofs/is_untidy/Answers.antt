@@ -61,11 +61,11 @@ heap-Then-next_bit-blocks c =
     c.args.d.now c.args.marks.now c.args.list.now
 
 -- number 13 of it is that of every memory with these seven lists
-for-all-Then-next_bit-blocks : (c : goal.Then-next_bit-blocks) → (s : tie.Start) {t : Bool} → t ≡ is_untidy s.args.blocks (heap-Then-next_bit-blocks s) → (counts waiting sections : List ℕ)
-    → t ≡ is_untidy s.args.blocks
-    (lent_memory s.args.a.now s.args.b.now counts s.args.cells.now s.args.roots.now waiting sections
-    s.args.d.now s.args.marks.now s.args.list.now)
-for-all-Then-next_bit-blocks c s e counts waiting sections = e ∙ unread s.args.blocks (heap-Then-next_bit-blocks s) counts waiting sections
+for-all-Then-next_bit-blocks : (c : goal.Then-next_bit-blocks) → {t : Bool} → t ≡ is_untidy c.args.blocks (heap-Then-next_bit-blocks c) → (counts waiting sections : List ℕ)
+    → t ≡ is_untidy c.args.blocks
+    (lent_memory c.args.a.now c.args.b.now counts c.args.cells.now c.args.roots.now waiting sections
+    c.args.d.now c.args.marks.now c.args.list.now)
+for-all-Then-next_bit-blocks c e counts waiting sections = e ∙ unread c.args.blocks (heap-Then-next_bit-blocks c) counts waiting sections
 
 pub returns-then-next_bit-blocks : goal.returns-then-next_bit-blocks
 returns-then-next_bit-blocks c =
@@ -95,11 +95,11 @@ heap-After-has_number c =
     c.args.d.now c.args.marks.now c.args.list.now
 
 -- number 13 of it is that of every memory with these seven lists
-for-all-After-has_number : (c : goal.After-has_number) → (s : tie.Start) {t : Bool} → t ≡ is_untidy s.args.blocks (heap-After-has_number s) → (counts waiting sections : List ℕ)
-    → t ≡ is_untidy s.args.blocks
-    (lent_memory s.args.a.now s.args.b.now counts s.args.cells.now s.args.roots.now waiting sections
-    s.args.d.now s.args.marks.now s.args.list.now)
-for-all-After-has_number c s e counts waiting sections = e ∙ unread s.args.blocks (heap-After-has_number s) counts waiting sections
+for-all-After-has_number : (c : goal.After-has_number) → {t : Bool} → t ≡ is_untidy c.args.blocks (heap-After-has_number c) → (counts waiting sections : List ℕ)
+    → t ≡ is_untidy c.args.blocks
+    (lent_memory c.args.a.now c.args.b.now counts c.args.cells.now c.args.roots.now waiting sections
+    c.args.d.now c.args.marks.now c.args.list.now)
+for-all-After-has_number c e counts waiting sections = e ∙ unread c.args.blocks (heap-After-has_number c) counts waiting sections
 
 pub returns-then-list-blocks-ne1 : goal.returns-then-list-blocks-ne1
 returns-then-list-blocks-ne1 c =
@@ -131,17 +131,17 @@ heap-Then-not-read_list c =
     c.args.d.now c.args.marks.now c.args.list.now
 
 -- number 13 of it is that of every memory with these seven lists
-for-all-Then-not-read_list : (c : goal.Then-not-read_list) → (s : tie.Start) {t : Bool} → t ≡ is_untidy s.args.blocks (heap-Then-not-read_list s) → (counts waiting sections : List ℕ)
-    → t ≡ is_untidy s.args.blocks
-    (lent_memory s.args.a.now s.args.b.now counts s.args.cells.now s.args.roots.now waiting sections
-    s.args.d.now s.args.marks.now s.args.list.now)
-for-all-Then-not-read_list c s e counts waiting sections = e ∙ unread s.args.blocks (heap-Then-not-read_list s) counts waiting sections
+for-all-Then-not-read_list : (c : goal.Then-not-read_list) → {t : Bool} → t ≡ is_untidy c.args.blocks (heap-Then-not-read_list c) → (counts waiting sections : List ℕ)
+    → t ≡ is_untidy c.args.blocks
+    (lent_memory c.args.a.now c.args.b.now counts c.args.cells.now c.args.roots.now waiting sections
+    c.args.d.now c.args.marks.now c.args.list.now)
+for-all-Then-not-read_list c e counts waiting sections = e ∙ unread c.args.blocks (heap-Then-not-read_list c) counts waiting sections
 
 pub returns-then-not-read_list : goal.returns-then-not-read_list
 returns-then-not-read_list c =
     for-all-Then-not-read_list c
     (unread_list (heap-Then-not-read_list c) c.requires.4 c.if-list-blocks-ne1.false
-    (subst (Read c.args.blocks c.args.list.now _) (not-true _ c.if-not-read_list.true) c.read_list.ensures))
+    (subst (Read c.args.blocks c.args.list.now _) (not-true _ c.if-not-read_list.true-raw) c.read_list.ensures))
 
 -- the heap that 1 and 2 did not refuse
 abbrev heap-Else-not-read_list : (c : goal.Else-not-read_list) → Memory
@@ -168,17 +168,17 @@ heap-Then-has_stray_data c =
     c.args.d.now c.args.marks.now c.args.list.now
 
 -- number 13 of it is that of every memory with these seven lists
-for-all-Then-has_stray_data : (c : goal.Then-has_stray_data) → (s : tie.Start) {t : Bool} → t ≡ is_untidy s.args.blocks (heap-Then-has_stray_data s) → (counts waiting sections : List ℕ)
-    → t ≡ is_untidy s.args.blocks
-    (lent_memory s.args.a.now s.args.b.now counts s.args.cells.now s.args.roots.now waiting sections
-    s.args.d.now s.args.marks.now s.args.list.now)
-for-all-Then-has_stray_data c s e counts waiting sections = e ∙ unread s.args.blocks (heap-Then-has_stray_data s) counts waiting sections
+for-all-Then-has_stray_data : (c : goal.Then-has_stray_data) → {t : Bool} → t ≡ is_untidy c.args.blocks (heap-Then-has_stray_data c) → (counts waiting sections : List ℕ)
+    → t ≡ is_untidy c.args.blocks
+    (lent_memory c.args.a.now c.args.b.now counts c.args.cells.now c.args.roots.now waiting sections
+    c.args.d.now c.args.marks.now c.args.list.now)
+for-all-Then-has_stray_data c e counts waiting sections = e ∙ unread c.args.blocks (heap-Then-has_stray_data c) counts waiting sections
 
 pub returns-then-has_stray_data : goal.returns-then-has_stray_data
 returns-then-has_stray_data c =
     for-all-Then-has_stray_data c
     (stray_mark_lem (heap-Then-has_stray_data c) c.requires.4 c.if-list-blocks-ne1.false
-    (subst (Read c.args.blocks c.args.list.now _) (not-false _ c.if-not-read_list.false) c.read_list.ensures)
+    (subst (Read c.args.blocks c.args.list.now _) (not-false _ c.if-not-read_list.false-raw) c.read_list.ensures)
     (sym c.if-has_stray_data.true ∙ c.has_stray_data.ensures))
 
 -- the heap that 1 and 2 did not refuse
@@ -206,17 +206,17 @@ heap-Then-has_unmarked c =
     c.args.d.now c.args.marks.now c.args.list.now
 
 -- number 13 of it is that of every memory with these seven lists
-for-all-Then-has_unmarked : (c : goal.Then-has_unmarked) → (s : tie.Start) {t : Bool} → t ≡ is_untidy s.args.blocks (heap-Then-has_unmarked s) → (counts waiting sections : List ℕ)
-    → t ≡ is_untidy s.args.blocks
-    (lent_memory s.args.a.now s.args.b.now counts s.args.cells.now s.args.roots.now waiting sections
-    s.args.d.now s.args.marks.now s.args.list.now)
-for-all-Then-has_unmarked c s e counts waiting sections = e ∙ unread s.args.blocks (heap-Then-has_unmarked s) counts waiting sections
+for-all-Then-has_unmarked : (c : goal.Then-has_unmarked) → {t : Bool} → t ≡ is_untidy c.args.blocks (heap-Then-has_unmarked c) → (counts waiting sections : List ℕ)
+    → t ≡ is_untidy c.args.blocks
+    (lent_memory c.args.a.now c.args.b.now counts c.args.cells.now c.args.roots.now waiting sections
+    c.args.d.now c.args.marks.now c.args.list.now)
+for-all-Then-has_unmarked c e counts waiting sections = e ∙ unread c.args.blocks (heap-Then-has_unmarked c) counts waiting sections
 
 pub returns-then-has_unmarked : goal.returns-then-has_unmarked
 returns-then-has_unmarked c =
     for-all-Then-has_unmarked c
     (unmarked_listed (heap-Then-has_unmarked c) c.requires.4 c.if-list-blocks-ne1.false
-    (subst (Read c.args.blocks c.args.list.now _) (not-false _ c.if-not-read_list.false) c.read_list.ensures)
+    (subst (Read c.args.blocks c.args.list.now _) (not-false _ c.if-not-read_list.false-raw) c.read_list.ensures)
     (sym c.if-has_unmarked.true ∙ c.has_unmarked.ensures))
 
 -- the heap that 1 and 2 did not refuse
@@ -239,17 +239,17 @@ heap-Then-has_missed_root c =
     c.args.d.now c.args.marks.now c.args.list.now
 
 -- number 13 of it is that of every memory with these seven lists
-for-all-Then-has_missed_root : (c : goal.Then-has_missed_root) → (s : tie.Start) {t : Bool} → t ≡ is_untidy s.args.blocks (heap-Then-has_missed_root s) → (counts waiting sections : List ℕ)
-    → t ≡ is_untidy s.args.blocks
-    (lent_memory s.args.a.now s.args.b.now counts s.args.cells.now s.args.roots.now waiting sections
-    s.args.d.now s.args.marks.now s.args.list.now)
-for-all-Then-has_missed_root c s e counts waiting sections = e ∙ unread s.args.blocks (heap-Then-has_missed_root s) counts waiting sections
+for-all-Then-has_missed_root : (c : goal.Then-has_missed_root) → {t : Bool} → t ≡ is_untidy c.args.blocks (heap-Then-has_missed_root c) → (counts waiting sections : List ℕ)
+    → t ≡ is_untidy c.args.blocks
+    (lent_memory c.args.a.now c.args.b.now counts c.args.cells.now c.args.roots.now waiting sections
+    c.args.d.now c.args.marks.now c.args.list.now)
+for-all-Then-has_missed_root c e counts waiting sections = e ∙ unread c.args.blocks (heap-Then-has_missed_root c) counts waiting sections
 
 pub returns-then-has_missed_root : goal.returns-then-has_missed_root
 returns-then-has_missed_root c =
     for-all-Then-has_missed_root c
     (missed_root (heap-Then-has_missed_root c) c.requires.4 c.if-list-blocks-ne1.false
-    (subst (Read c.args.blocks c.args.list.now _) (not-false _ c.if-not-read_list.false) c.read_list.ensures)
+    (subst (Read c.args.blocks c.args.list.now _) (not-false _ c.if-not-read_list.false-raw) c.read_list.ensures)
     (sym c.if-has_stray_data.false ∙ c.has_stray_data.ensures) (sym c.if-has_unmarked.false ∙ c.has_unmarked.ensures)
     (sym c.if-has_missed_root.true ∙ c.has_missed_root.ensures))
 
@@ -282,16 +282,16 @@ heap-After-has_missed_cell c =
     c.args.d.now c.args.marks.now c.args.list.now
 
 -- number 13 of it is that of every memory with these seven lists
-for-all-After-has_missed_cell : (c : goal.After-has_missed_cell) → (s : tie.Start) {t : Bool} → t ≡ is_untidy s.args.blocks (heap-After-has_missed_cell s) → (counts waiting sections : List ℕ)
-    → t ≡ is_untidy s.args.blocks
-    (lent_memory s.args.a.now s.args.b.now counts s.args.cells.now s.args.roots.now waiting sections
-    s.args.d.now s.args.marks.now s.args.list.now)
-for-all-After-has_missed_cell c s e counts waiting sections = e ∙ unread s.args.blocks (heap-After-has_missed_cell s) counts waiting sections
+for-all-After-has_missed_cell : (c : goal.After-has_missed_cell) → {t : Bool} → t ≡ is_untidy c.args.blocks (heap-After-has_missed_cell c) → (counts waiting sections : List ℕ)
+    → t ≡ is_untidy c.args.blocks
+    (lent_memory c.args.a.now c.args.b.now counts c.args.cells.now c.args.roots.now waiting sections
+    c.args.d.now c.args.marks.now c.args.list.now)
+for-all-After-has_missed_cell c e counts waiting sections = e ∙ unread c.args.blocks (heap-After-has_missed_cell c) counts waiting sections
 
 pub returns : goal.returns
 returns c =
     for-all-After-has_missed_cell c
     (missed_cell (heap-After-has_missed_cell c) c.requires.4 c.if-list-blocks-ne1.false
-    (subst (Read c.args.blocks c.args.list.now _) (not-false _ c.if-not-read_list.false) c.read_list.ensures)
+    (subst (Read c.args.blocks c.args.list.now _) (not-false _ c.if-not-read_list.false-raw) c.read_list.ensures)
     (sym c.if-has_stray_data.false ∙ c.has_stray_data.ensures) (sym c.if-has_unmarked.false ∙ c.has_unmarked.ensures)
     (sym c.if-has_missed_root.false ∙ c.has_missed_root.ensures) c.has_missed_cell.ensures)

@@ -35,7 +35,7 @@ tests-Then-not-is_blocks c =
 pub returns-then-not-is_blocks : goal.returns-then-not-is_blocks
 unfolding shape
 returns-then-not-is_blocks c =
-    sym (all_failed (tests-Then-not-is_blocks c) 0 (sym c.is_blocks.ensures ∙ not-true c.is_blocks.result c.if-not-is_blocks.true))
+    sym (all_failed (tests-Then-not-is_blocks c) 0 (sym c.is_blocks.ensures ∙ not-true c.is_blocks.result c.if-not-is_blocks.true-raw))
 
 -- the tests, in their order
 abbrev tests-Then-width-lt1 : (c : goal.Then-width-lt1) → List Bool
@@ -211,7 +211,7 @@ returns-then-counts-width c =
 
 -- past the first test
 right-blocks-Else-counts-width : (c : goal.Else-counts-width) → is_blocks c.args.blocks ≡ true
-right-blocks-Else-counts-width c = sym c.is_blocks.ensures ∙ not-false c.is_blocks.result c.if-not-is_blocks.false
+right-blocks-Else-counts-width c = sym c.is_blocks.ensures ∙ not-false c.is_blocks.result c.if-not-is_blocks.false-raw
 
 pub overflow_mul-blocks : goal.overflow_mul-blocks
 overflow_mul-blocks c =
@@ -267,7 +267,7 @@ returns-then-waiting-blocks c =
 
 -- past the first test
 right-blocks-Else-waiting-blocks : (c : goal.Else-waiting-blocks) → is_blocks c.args.blocks ≡ true
-right-blocks-Else-waiting-blocks c = sym c.is_blocks.ensures ∙ not-false c.is_blocks.result c.if-not-is_blocks.false
+right-blocks-Else-waiting-blocks c = sym c.is_blocks.ensures ∙ not-false c.is_blocks.result c.if-not-is_blocks.false-raw
 
 pub section_count-requires : goal.section_count-requires
 section_count-requires c = right-blocks-Else-waiting-blocks c
@@ -348,7 +348,7 @@ returns-then-marks-blocks c =
 
 -- past the first test
 right-blocks-Else-marks-blocks : (c : goal.Else-marks-blocks) → is_blocks c.args.blocks ≡ true
-right-blocks-Else-marks-blocks c = sym c.is_blocks.ensures ∙ not-false c.is_blocks.result c.if-not-is_blocks.false
+right-blocks-Else-marks-blocks c = sym c.is_blocks.ensures ∙ not-false c.is_blocks.result c.if-not-is_blocks.false-raw
 
 pub overflow_add-result : goal.overflow_add-result
 overflow_add-result c =

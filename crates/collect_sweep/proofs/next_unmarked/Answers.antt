@@ -33,10 +33,10 @@ overflow_add-result c =
     )
 
 -- a block that is passed, in an earlier turn or in this one
-passed-Then-rest-ne0 : (c : goal.Then-rest-ne0) → (c : tie.After-unmarked-byte invariant-loop decreases-loop) (to : ℕ)
+passed-Then-rest-ne0 : (c : goal.Then-rest-ne0) → (to : ℕ)
     → ((j : ℕ) → c.loop-at.at ≤ j → j < to → test-Then-rest-ne0 c j ≡ false)
     → (j : ℕ) → c.args.i ≤ j → j < to → test-Then-rest-ne0 c j ≡ false
-passed-Then-rest-ne0 c c to now j l u = elim (dec_lt j c.loop-at.at) [ yes s ↦ c.loop-at.invariant.2 j l s | no s ↦ now j (omega arith) u ]
+passed-Then-rest-ne0 c to now j l u = elim (dec_lt j c.loop-at.at) [ yes s ↦ c.loop-at.invariant.2 j l s | no s ↦ now j (omega arith) u ]
 
 pub returns-then-rest-ne0 : goal.returns-then-rest-ne0
 returns-then-rest-ne0 c =
@@ -59,10 +59,10 @@ abbrev test-Else-rest-ne0 : (c : goal.Else-rest-ne0) → ℕ → Bool
 test-Else-rest-ne0 c = is_unmarked c.args.blocks c.args.width (part_memory c.args.a.now c.args.b.now c.args.counts.now [] [] [])
 
 -- a block that is passed, in an earlier turn or in this one
-passed-Else-rest-ne0 : (c : goal.Else-rest-ne0) → (c : tie.After-unmarked-byte invariant-loop decreases-loop) (to : ℕ)
+passed-Else-rest-ne0 : (c : goal.Else-rest-ne0) → (to : ℕ)
     → ((j : ℕ) → c.loop-at.at ≤ j → j < to → test-Else-rest-ne0 c j ≡ false)
     → (j : ℕ) → c.args.i ≤ j → j < to → test-Else-rest-ne0 c j ≡ false
-passed-Else-rest-ne0 c c to now j l u = elim (dec_lt j c.loop-at.at) [ yes s ↦ c.loop-at.invariant.2 j l s | no s ↦ now j (omega arith) u ]
+passed-Else-rest-ne0 c to now j l u = elim (dec_lt j c.loop-at.at) [ yes s ↦ c.loop-at.invariant.2 j l s | no s ↦ now j (omega arith) u ]
 
 pub loop-at-preserved : goal.loop-at-preserved
 loop-at-preserved c =

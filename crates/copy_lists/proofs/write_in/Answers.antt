@@ -45,7 +45,7 @@ laid-Then-not-plan c =
 
 pub returns-then-not-plan : goal.returns-then-not-plan
 returns-then-not-plan c =
-    left_unwritten c.plan.ensures (laid-Then-not-plan c) (not-true _ c.if-not-plan.true)
+    left_unwritten c.plan.ensures (laid-Then-not-plan c) (not-true _ c.if-not-plan.true-raw)
 
 -- what is met
 met-After-fill_lists-arg-6-1 : (c : goal.After-fill_lists-arg-6-1) → Walked c.args.blocks
@@ -59,7 +59,7 @@ pub fill_lists-requires : goal.fill_lists-requires
 fill_lists-requires c =
     (
       c.requires.0,
-      routed _ _ _ _ _ _ c.requires.0 (met-After-fill_lists-arg-6-1 c) c.plan.ensures (not-false _ c.if-not-plan.false) c.plan.auto.numbers,
+      routed _ _ _ _ _ _ c.requires.0 (met-After-fill_lists-arg-6-1 c) c.plan.ensures (not-false _ c.if-not-plan.false-raw) c.plan.auto.numbers,
       c.requires.1,
     )
 
@@ -79,4 +79,4 @@ laid-After-slice_known-21-1 c =
 
 pub returns : goal.returns
 returns c =
-    lists_filled c.plan.ensures (laid-After-slice_known-21-1 c) (not-false _ c.if-not-plan.false) c.fill_lists.ensures
+    lists_filled c.plan.ensures (laid-After-slice_known-21-1 c) (not-false _ c.if-not-plan.false-raw) c.fill_lists.ensures

@@ -38,13 +38,13 @@ pub lay_one-place-requires : goal.lay_one-place-requires
 lay_one-place-requires c = c.loop-k.invariant.2
 
 -- the object's size is that of the rule
-laid-here-Then-place-blocks2 : (c : goal.Then-place-blocks2) → (o : tie.After-object-size invariant-loop decreases-loop) {map map' from' : List ℕ} {at : ℕ}
-    → LaidOne (start (turn o).before).args.blocks2 o.object_size.result map map' from' at
-    → LaidOne (start (turn o).before).args.blocks2
-    (sizes_in (start (turn o).before).args.blocks (start (turn o).before).args.b.now (start (turn o).before).args.order.now (turn o).before.loop.k)
+laid-here-Then-place-blocks2 : (c : goal.Then-place-blocks2) → {map map' from' : List ℕ} {at : ℕ}
+    → LaidOne c.args.blocks2 c.object_size-n.result map map' from' at
+    → LaidOne c.args.blocks2
+    (sizes_in c.args.blocks c.args.b.now c.args.order.now c.loop-k.k)
     map map' from' at
-laid-here-Then-place-blocks2 c o {map} {map'} {from'} {at} laid =
-    subst (λ (n : ℕ). LaidOne (start (turn o).before).args.blocks2 n map map' from' at) o.object_size.ensures.0 laid
+laid-here-Then-place-blocks2 c {map} {map'} {from'} {at} laid =
+    subst (λ (n : ℕ). LaidOne c.args.blocks2 n map map' from' at) c.object_size-n.ensures.0 laid
 
 pub returns-then-place-blocks2 : goal.returns-then-place-blocks2
 returns-then-place-blocks2 c =
@@ -65,13 +65,13 @@ bounds-numbers-at c =
     omega (arith, c.loop-k.invariant.1.kept, c.requires.0.long_numbers, c.requires.0.some c.loop-k.k l, c.requires.0.below c.loop-k.k l)
 
 -- the object's size is that of the rule
-laid-here-Else-place-blocks2 : (c : goal.Else-place-blocks2) → (o : tie.After-object-size invariant-loop decreases-loop) {map map' from' : List ℕ} {at : ℕ}
-    → LaidOne (start (turn o).before).args.blocks2 o.object_size.result map map' from' at
-    → LaidOne (start (turn o).before).args.blocks2
-    (sizes_in (start (turn o).before).args.blocks (start (turn o).before).args.b.now (start (turn o).before).args.order.now (turn o).before.loop.k)
+laid-here-Else-place-blocks2 : (c : goal.Else-place-blocks2) → {map map' from' : List ℕ} {at : ℕ}
+    → LaidOne c.args.blocks2 c.object_size-n.result map map' from' at
+    → LaidOne c.args.blocks2
+    (sizes_in c.args.blocks c.args.b.now c.args.order.now c.loop-k.k)
     map map' from' at
-laid-here-Else-place-blocks2 c o {map} {map'} {from'} {at} laid =
-    subst (λ (n : ℕ). LaidOne (start (turn o).before).args.blocks2 n map map' from' at) o.object_size.ensures.0 laid
+laid-here-Else-place-blocks2 c {map} {map'} {from'} {at} laid =
+    subst (λ (n : ℕ). LaidOne c.args.blocks2 n map map' from' at) c.object_size-n.ensures.0 laid
 
 pub loop-k-preserved : goal.loop-k-preserved
 loop-k-preserved c =

@@ -11,8 +11,8 @@ drop_cells-t-requires c =
 pub returns : goal.returns
 returns c =
     (
-      rw (← c.end_kind-named.ensures.0) c.drop-Cells.ensures.0,
-      clear_rest _ _ _ _ c.end_kind-named.ensures.1 c.drop-Cells.ensures.1 c.clear_cells.ensures,
+      rw (← c.end_kind-named.ensures.0) c.drop_cells-t.ensures.0,
+      clear_rest _ _ _ _ c.end_kind-named.ensures.1 c.drop_cells-t.ensures.1 c.clear_cells.ensures,
       c.end_kind-named.ensures.2,
       rw (← c.end_kind-named.ensures.0) c.shade_freed.ensures,
     )

@@ -8,11 +8,11 @@ use Rattle.history_plans.proofs.Plans.{nonzero_asked, known_asked, unknown_asked
 use Rattle.history_plans.proofs.plan_of.Goals as goal
 
 pub returns-then-not-unnamed_are_zero : goal.returns-then-not-unnamed_are_zero
-returns-then-not-unnamed_are_zero c = sym (nonzero_asked _ _ _ (sym c.unnamed_are_zero.ensures ∙ not-true _ c.if-not-unnamed_are_zero.true))
+returns-then-not-unnamed_are_zero c = sym (nonzero_asked _ _ _ (sym c.unnamed_are_zero.ensures ∙ not-true _ c.if-not-unnamed_are_zero.true-raw))
 
 -- past the first test the unnamed fields are 0
 zero-In-1 : (c : goal.In-1) → are_zero (unnamed c.args.f) ≡ true
-zero-In-1 c = sym c.unnamed_are_zero.ensures ∙ not-false _ c.if-not-unnamed_are_zero.false
+zero-In-1 c = sym c.unnamed_are_zero.ensures ∙ not-false _ c.if-not-unnamed_are_zero.false-raw
 
 pub returns-in-1 : goal.returns-in-1
 unfolding allocating
@@ -20,7 +20,7 @@ returns-in-1 c = sym (known_asked _ _ _ (zero-In-1 c) 1 c.in-1.is)
 
 -- past the first test the unnamed fields are 0
 zero-After-plan_copy : (c : goal.After-plan_copy) → are_zero (unnamed c.args.f) ≡ true
-zero-After-plan_copy c = sym c.unnamed_are_zero.ensures ∙ not-false _ c.if-not-unnamed_are_zero.false
+zero-After-plan_copy c = sym c.unnamed_are_zero.ensures ∙ not-false _ c.if-not-unnamed_are_zero.false-raw
 
 pub returns-in-2 : goal.returns-in-2
 unfolding copying on_roots
@@ -28,7 +28,7 @@ returns-in-2 c = c.plan_copy.ensures ∙ sym (known_asked _ _ _ (zero-After-plan
 
 -- past the first test the unnamed fields are 0
 zero-After-plan_write : (c : goal.After-plan_write) → are_zero (unnamed c.args.f) ≡ true
-zero-After-plan_write c = sym c.unnamed_are_zero.ensures ∙ not-false _ c.if-not-unnamed_are_zero.false
+zero-After-plan_write c = sym c.unnamed_are_zero.ensures ∙ not-false _ c.if-not-unnamed_are_zero.false-raw
 
 pub returns-in-3 : goal.returns-in-3
 unfolding writing on_roots
@@ -36,14 +36,14 @@ returns-in-3 c = c.plan_write.ensures ∙ sym (known_asked _ _ _ (zero-After-pla
 
 -- past the first test the unnamed fields are 0
 zero-After-plan_read : (c : goal.After-plan_read) → are_zero (unnamed c.args.f) ≡ true
-zero-After-plan_read c = sym c.unnamed_are_zero.ensures ∙ not-false _ c.if-not-unnamed_are_zero.false
+zero-After-plan_read c = sym c.unnamed_are_zero.ensures ∙ not-false _ c.if-not-unnamed_are_zero.false-raw
 
 pub returns-in-4 : goal.returns-in-4
 returns-in-4 c = c.plan_read.ensures ∙ sym (known_asked _ _ _ (zero-After-plan_read c) 4 c.in-4.is)
 
 -- past the first test the unnamed fields are 0
 zero-After-plan_clear : (c : goal.After-plan_clear) → are_zero (unnamed c.args.f) ≡ true
-zero-After-plan_clear c = sym c.unnamed_are_zero.ensures ∙ not-false _ c.if-not-unnamed_are_zero.false
+zero-After-plan_clear c = sym c.unnamed_are_zero.ensures ∙ not-false _ c.if-not-unnamed_are_zero.false-raw
 
 pub returns-in-5 : goal.returns-in-5
 unfolding clearing
@@ -51,14 +51,14 @@ returns-in-5 c = c.plan_clear.ensures ∙ sym (known_asked _ _ _ (zero-After-pla
 
 -- past the first test the unnamed fields are 0
 zero-In-6 : (c : goal.In-6) → are_zero (unnamed c.args.f) ≡ true
-zero-In-6 c = sym c.unnamed_are_zero.ensures ∙ not-false _ c.if-not-unnamed_are_zero.false
+zero-In-6 c = sym c.unnamed_are_zero.ensures ∙ not-false _ c.if-not-unnamed_are_zero.false-raw
 
 pub returns-in-6 : goal.returns-in-6
 returns-in-6 c = sym (known_asked _ _ _ (zero-In-6 c) 6 c.in-6.is)
 
 -- past the first test the unnamed fields are 0
 zero-In-7 : (c : goal.In-7) → are_zero (unnamed c.args.f) ≡ true
-zero-In-7 c = sym c.unnamed_are_zero.ensures ∙ not-false _ c.if-not-unnamed_are_zero.false
+zero-In-7 c = sym c.unnamed_are_zero.ensures ∙ not-false _ c.if-not-unnamed_are_zero.false-raw
 
 pub returns-in-7 : goal.returns-in-7
 unfolding allocating_data
@@ -66,7 +66,7 @@ returns-in-7 c = sym (known_asked _ _ _ (zero-In-7 c) 7 c.in-7.is)
 
 -- past the first test the unnamed fields are 0
 zero-After-plan_number : (c : goal.After-plan_number) → are_zero (unnamed c.args.f) ≡ true
-zero-After-plan_number c = sym c.unnamed_are_zero.ensures ∙ not-false _ c.if-not-unnamed_are_zero.false
+zero-After-plan_number c = sym c.unnamed_are_zero.ensures ∙ not-false _ c.if-not-unnamed_are_zero.false-raw
 
 pub returns-in-8 : goal.returns-in-8
 unfolding writing_number
@@ -74,7 +74,7 @@ returns-in-8 c = c.plan_number.ensures ∙ sym (known_asked _ _ _ (zero-After-pl
 
 -- past the first test the unnamed fields are 0
 zero-In_default : (c : goal.In_default) → are_zero (unnamed c.args.f) ≡ true
-zero-In_default c = sym c.unnamed_are_zero.ensures ∙ not-false _ c.if-not-unnamed_are_zero.false
+zero-In_default c = sym c.unnamed_are_zero.ensures ∙ not-false _ c.if-not-unnamed_are_zero.false-raw
 
 pub returns-in_default : goal.returns-in_default
 returns-in_default c =

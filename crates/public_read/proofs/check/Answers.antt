@@ -21,7 +21,7 @@ lent-After-refusal c =
 
 pub returns-then-not-is_shaped : goal.returns-then-not-is_shaped
 returns-then-not-is_shaped c =
-    check_unshaped {h = lent-After-refusal c} (sym c.is_shaped.ensures ∙ not-true _ c.if-not-is_shaped.true)
+    check_unshaped {h = lent-After-refusal c} (sym c.is_shaped.ensures ∙ not-true _ c.if-not-is_shaped.true-raw)
     c.refusal.ensures
 
 -- the lent heap
@@ -32,7 +32,7 @@ lent-Else-not-is_shaped c =
 
 -- past the first test its shape is right
 shape_is-Else-not-is_shaped : (c : goal.Else-not-is_shaped) → shaped c.args.blocks c.args.width (lent-Else-not-is_shaped c) ≡ true
-shape_is-Else-not-is_shaped c = sym c.is_shaped.ensures ∙ not-false _ c.if-not-is_shaped.false
+shape_is-Else-not-is_shaped c = sym c.is_shaped.ensures ∙ not-false _ c.if-not-is_shaped.false-raw
 
 pub damage_kind-kind-requires : goal.damage_kind-kind-requires
 damage_kind-kind-requires c =
@@ -46,7 +46,7 @@ lent-Then-kind-ne0 c =
 
 -- past the first test its shape is right
 shape_is-Then-kind-ne0 : (c : goal.Then-kind-ne0) → shaped c.args.blocks c.args.width (lent-Then-kind-ne0 c) ≡ true
-shape_is-Then-kind-ne0 c = sym c.is_shaped.ensures ∙ not-false _ c.if-not-is_shaped.false
+shape_is-Then-kind-ne0 c = sym c.is_shaped.ensures ∙ not-false _ c.if-not-is_shaped.false-raw
 
 -- what the test of damage found, of all that is lent
 kind-is-Then-kind-ne0 : (c : goal.Then-kind-ne0) → c.damage_kind-kind.result ≡ damage c.args.blocks c.args.width (lent-Then-kind-ne0 c)
@@ -64,7 +64,7 @@ lent-Else-kind-ne0 c =
 
 -- past the first test its shape is right
 shape_is-Else-kind-ne0 : (c : goal.Else-kind-ne0) → shaped c.args.blocks c.args.width (lent-Else-kind-ne0 c) ≡ true
-shape_is-Else-kind-ne0 c = sym c.is_shaped.ensures ∙ not-false _ c.if-not-is_shaped.false
+shape_is-Else-kind-ne0 c = sym c.is_shaped.ensures ∙ not-false _ c.if-not-is_shaped.false-raw
 
 pub is_stale-requires : goal.is_stale-requires
 is_stale-requires c =
@@ -79,7 +79,7 @@ lent-After-refusal-then-is_stale c =
 
 -- past the first test its shape is right
 shape_is-After-refusal-then-is_stale : (c : goal.After-refusal-then-is_stale) → shaped c.args.blocks c.args.width (lent-After-refusal-then-is_stale c) ≡ true
-shape_is-After-refusal-then-is_stale c = sym c.is_shaped.ensures ∙ not-false _ c.if-not-is_shaped.false
+shape_is-After-refusal-then-is_stale c = sym c.is_shaped.ensures ∙ not-false _ c.if-not-is_shaped.false-raw
 
 -- what the test of damage found, of all that is lent
 kind-is-After-refusal-then-is_stale : (c : goal.After-refusal-then-is_stale) → c.damage_kind-kind.result ≡ damage c.args.blocks c.args.width (lent-After-refusal-then-is_stale c)
@@ -102,7 +102,7 @@ lent-Else-is_stale c =
 
 -- past the first test its shape is right
 shape_is-Else-is_stale : (c : goal.Else-is_stale) → shaped c.args.blocks c.args.width (lent-Else-is_stale c) ≡ true
-shape_is-Else-is_stale c = sym c.is_shaped.ensures ∙ not-false _ c.if-not-is_shaped.false
+shape_is-Else-is_stale c = sym c.is_shaped.ensures ∙ not-false _ c.if-not-is_shaped.false-raw
 
 -- what the test of damage found, of all that is lent
 kind-is-Else-is_stale : (c : goal.Else-is_stale) → c.damage_kind-kind.result ≡ damage c.args.blocks c.args.width (lent-Else-is_stale c)
@@ -127,7 +127,7 @@ lent-After-refusal-then-is_untidy c =
 
 -- past the first test its shape is right
 shape_is-After-refusal-then-is_untidy : (c : goal.After-refusal-then-is_untidy) → shaped c.args.blocks c.args.width (lent-After-refusal-then-is_untidy c) ≡ true
-shape_is-After-refusal-then-is_untidy c = sym c.is_shaped.ensures ∙ not-false _ c.if-not-is_shaped.false
+shape_is-After-refusal-then-is_untidy c = sym c.is_shaped.ensures ∙ not-false _ c.if-not-is_shaped.false-raw
 
 -- what the test of damage found, of all that is lent
 kind-is-After-refusal-then-is_untidy : (c : goal.After-refusal-then-is_untidy) → c.damage_kind-kind.result ≡ damage c.args.blocks c.args.width (lent-After-refusal-then-is_untidy c)
@@ -161,7 +161,7 @@ lent-After-acceptance c =
 
 -- past the first test its shape is right
 shape_is-After-acceptance : (c : goal.After-acceptance) → shaped c.args.blocks c.args.width (lent-After-acceptance c) ≡ true
-shape_is-After-acceptance c = sym c.is_shaped.ensures ∙ not-false _ c.if-not-is_shaped.false
+shape_is-After-acceptance c = sym c.is_shaped.ensures ∙ not-false _ c.if-not-is_shaped.false-raw
 
 -- what the test of damage found, of all that is lent
 kind-is-After-acceptance : (c : goal.After-acceptance) → c.damage_kind-kind.result ≡ damage c.args.blocks c.args.width (lent-After-acceptance c)

@@ -253,15 +253,15 @@ bytes-preserved c =
     )
 
 pub returns-then-from-looks : goal.returns-then-from-looks
-returns-then-from-looks c =
+returns-then-from-looks c k e =
     walked_none c.args.from c.args.to c.args.a.now c.args.size c.bytes.looks c.bytes.stretch c.bytes.invariant.1 c.requires.0 c.if-from-looks.true k e
 
 pub returns-then-is_judged_free : goal.returns-then-is_judged_free
-returns-then-is_judged_free c =
+returns-then-is_judged_free c k e =
     judged_free_lem c.args.from c.args.to c.args.a.now c.args.size (c.loop-i.looks + c.args.size) (c.loop-i.stretch + c.args.size) (longer-Then-is_judged_free c) c.requires.0
     (sym c.is_judged_free.ensures ∙ c.if-is_judged_free.true) k e
 
 pub returns-then-is_judged_free-2 : goal.returns-then-is_judged_free-2
-returns-then-is_judged_free-2 c =
+returns-then-is_judged_free-2 c k e =
     judged_free_lem c.args.from c.args.to c.args.a.now c.args.size (c.bytes.looks + 8) (c.bytes.stretch + 8) (eight-free-Then-is_judged_free-2 c) c.requires.0
     (sym c.is_judged_free-in-bytes.ensures ∙ c.if-is_judged_free-2.true) k e

@@ -107,7 +107,7 @@ loop-free-preserved c =
     )
 
 pub returns-then-from-looks : goal.returns-then-from-looks
-returns-then-from-looks c =
+returns-then-from-looks c k e =
     passed_none c.args.from c.args.to c.args.a.now c.args.size c.words.looks c.words.invariant c.requires.0 c.if-from-looks.true k e
 
 pub returns-then-s-size : goal.returns-then-s-size

@@ -6,7 +6,7 @@ pub returns : goal.returns
 returns c = λ k a i l e f.
     record {
       first = c.twice-first.ensures k a i l e f.first;
-      c = c.twice-second.ensures k a _ l e f.second;
-      c = c.twice-third.ensures k a _ l e f.third;
+      second = c.twice-second.ensures k a _ l e f.second;
+      third = c.twice-third.ensures k a _ l e f.third;
       fourth = c.twice-fourth.ensures k a _ l e f.fourth;
     }

@@ -9,14 +9,14 @@ use Rattle.text.proofs.put_decimal.Goals as goal
 
 -- what the kit wrote into the local buffer
 digits_are-After-digits-2-1 : (c : goal.After-digits-2-1) → take c.decimal-k.result c.decimal-k.new.out ≡ decimal c.args.n
-digits_are-After-digits-2-1 c = c.decimal-k.ensures.1.1 ∙ decimal_is _ _ c.decimal-k.ensures.1.0
+digits_are-After-digits-2-1 c = c.decimal-k.ensures.digits ∙ decimal_is _ _ c.decimal-k.ensures.len
 
 pub put_text-requires : goal.put_text-requires
 put_text-requires c = rw (digits_are-After-digits-2-1 c) c.requires
 
 -- what the kit wrote into the local buffer
 digits_are-After-slice_known-2-1 : (c : goal.After-slice_known-2-1) → take c.decimal-k.result c.decimal-k.new.out ≡ decimal c.args.n
-digits_are-After-slice_known-2-1 c = c.decimal-k.ensures.1.1 ∙ decimal_is _ _ c.decimal-k.ensures.1.0
+digits_are-After-slice_known-2-1 c = c.decimal-k.ensures.digits ∙ decimal_is _ _ c.decimal-k.ensures.len
 
 pub returns : goal.returns
 returns c =

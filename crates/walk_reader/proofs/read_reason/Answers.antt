@@ -16,12 +16,12 @@ ending_at-end-requires c =
 
 pub returns-then-not-end : goal.returns-then-not-end
 returns-then-not-end c =
-    no_line_end c.args.text.now _ _ (c.stands_at.ensures.there c.if-stands_at.true) (c.Ending-at.ensures.missing (not-true _ c.if-not-end.true))
+    no_line_end c.args.text.now _ _ (c.stands_at.ensures.there c.if-stands_at.true) (c.ending_at-end.ensures.missing (not-true _ c.if-not-end.true))
     c.no_sentence.ensures
 
 pub returns-then-stands_at : goal.returns-then-stands_at
 returns-then-stands_at c =
-    no_root c.args.text.now _ _ (c.stands_at.ensures.there c.if-stands_at.true) (c.Ending-at.ensures.there (not-false _ c.if-not-end.false)) refl
+    no_root c.args.text.now _ _ (c.stands_at.ensures.there c.if-stands_at.true) (c.ending_at-end.ensures.there (not-false _ c.if-not-end.false)) refl
 
 -- "no root reaches block " does not stand there
 other-After-no_sentence-then-not-stands_at : (c : goal.After-no_sentence-then-not-stands_at) → behind no_root_text c.args.text.now ≡ none
@@ -29,11 +29,11 @@ other-After-no_sentence-then-not-stands_at c = c.stands_at.ensures.missing c.if-
 
 pub returns-then-not-stands_at : goal.returns-then-not-stands_at
 returns-then-not-stands_at c =
-    no_words c.args.text.now _ _ (other-After-no_sentence-then-not-stands_at c) (c.stands_at-2.ensures.missing (not-true _ c.if-not-stands_at.true)) c.no_sentence-then-not-stands_at.ensures
+    no_words c.args.text.now _ _ (other-After-no_sentence-then-not-stands_at c) (c.stands_at-2.ensures.missing (not-true _ c.if-not-stands_at.true-raw)) c.no_sentence-then-not-stands_at.ensures
 
 -- "root " does
 root-Else-not-stands_at : (c : goal.Else-not-stands_at) → behind root_text c.args.text.now ≡ some (drop 5 c.args.text.now)
-root-Else-not-stands_at c = c.stands_at-2.ensures.there (not-false _ c.if-not-stands_at.false)
+root-Else-not-stands_at c = c.stands_at-2.ensures.there (not-false _ c.if-not-stands_at.false-raw)
 
 pub number_at-root-requires : goal.number_at-root-requires
 number_at-root-requires c =
@@ -45,7 +45,7 @@ other-After-no_sentence-then-not-root c = c.stands_at.ensures.missing c.if-stand
 
 -- "root " does
 root-After-no_sentence-then-not-root : (c : goal.After-no_sentence-then-not-root) → behind root_text c.args.text.now ≡ some (drop 5 c.args.text.now)
-root-After-no_sentence-then-not-root c = c.stands_at-2.ensures.there (not-false _ c.if-not-stands_at.false)
+root-After-no_sentence-then-not-root c = c.stands_at-2.ensures.there (not-false _ c.if-not-stands_at.false-raw)
 
 pub returns-then-not-root : goal.returns-then-not-root
 returns-then-not-root c =
@@ -57,7 +57,7 @@ other-After-no_sentence-then-not-rest c = c.stands_at.ensures.missing c.if-stand
 
 -- "root " does
 root-After-no_sentence-then-not-rest : (c : goal.After-no_sentence-then-not-rest) → behind root_text c.args.text.now ≡ some (drop 5 c.args.text.now)
-root-After-no_sentence-then-not-rest c = c.stands_at-2.ensures.there (not-false _ c.if-not-stands_at.false)
+root-After-no_sentence-then-not-rest c = c.stands_at-2.ensures.there (not-false _ c.if-not-stands_at.false-raw)
 
 -- the root's number
 number-After-no_sentence-then-not-rest : (c : goal.After-no_sentence-then-not-rest) → small_at (drop 5 c.args.text.now) ≡ some (c.number_at-root.result.value, drop c.number_at-root.result.next c.args.text.now)
@@ -73,7 +73,7 @@ other-Then-cells-rest c = c.stands_at.ensures.missing c.if-stands_at.false
 
 -- "root " does
 root-Then-cells-rest : (c : goal.Then-cells-rest) → behind root_text c.args.text.now ≡ some (drop 5 c.args.text.now)
-root-Then-cells-rest c = c.stands_at-2.ensures.there (not-false _ c.if-not-stands_at.false)
+root-Then-cells-rest c = c.stands_at-2.ensures.there (not-false _ c.if-not-stands_at.false-raw)
 
 -- the root's number
 number-Then-cells-rest : (c : goal.Then-cells-rest) → small_at (drop 5 c.args.text.now) ≡ some (c.number_at-root.result.value, drop c.number_at-root.result.next c.args.text.now)
@@ -101,7 +101,7 @@ other-After-slice_known-2-1 c = c.stands_at.ensures.missing c.if-stands_at.false
 
 -- "root " does
 root-After-slice_known-2-1 : (c : goal.After-slice_known-2-1) → behind root_text c.args.text.now ≡ some (drop 5 c.args.text.now)
-root-After-slice_known-2-1 c = c.stands_at-2.ensures.there (not-false _ c.if-not-stands_at.false)
+root-After-slice_known-2-1 c = c.stands_at-2.ensures.there (not-false _ c.if-not-stands_at.false-raw)
 
 -- the root's number
 number-After-slice_known-2-1 : (c : goal.After-slice_known-2-1) → small_at (drop 5 c.args.text.now) ≡ some (c.number_at-root.result.value, drop c.number_at-root.result.next c.args.text.now)

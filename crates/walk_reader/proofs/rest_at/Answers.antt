@@ -62,12 +62,12 @@ stands_at-requires-2 c =
 pub returns-then-not-stands_at : goal.returns-then-not-stands_at
 returns-then-not-stands_at c =
     not_found
-    (count_no_block _ _ _ _ c.loop-cell.invariant.2 (c.stands_at.ensures.missing c.loop-cell-test.false) (c.stands_at-2.ensures.missing (not-true _ c.if-not-stands_at.true)))
+    (count_no_block _ _ _ _ c.loop-cell.invariant.2 (c.stands_at.ensures.missing c.loop-cell-test.false) (c.stands_at-2.ensures.missing (not-true _ c.if-not-stands_at.true-raw)))
 
 -- " block " stands there, and ends in the text
 block-Else-not-stands_at : (c : goal.Else-not-stands_at) → c.loop-cell.p + 7 ≤ length c.args.text.now
 block-Else-not-stands_at c =
-    behind_inside _ block_text _ _ c.loop-cell.invariant.0 (c.stands_at-2.ensures.there (not-false _ c.if-not-stands_at.false))
+    behind_inside _ block_text _ _ c.loop-cell.invariant.0 (c.stands_at-2.ensures.there (not-false _ c.if-not-stands_at.false-raw))
 
 pub overflow_add-p-2 : goal.overflow_add-p-2
 overflow_add-p-2 c = omega (arith, block-Else-not-stands_at c)
@@ -79,9 +79,9 @@ ending_at-end-requires c =
 -- " block " stands there, and ends in the text
 block-After-ending_at-end : (c : goal.After-ending_at-end) → c.loop-cell.p + 7 ≤ length c.args.text.now
 block-After-ending_at-end c =
-    behind_inside _ block_text _ _ c.loop-cell.invariant.0 (c.stands_at-2.ensures.there (not-false _ c.if-not-stands_at.false))
+    behind_inside _ block_text _ _ c.loop-cell.invariant.0 (c.stands_at-2.ensures.there (not-false _ c.if-not-stands_at.false-raw))
 
 pub returns : goal.returns
 returns c =
     count_end _ _ _ _ c.loop-cell.invariant.2 _ (omega (arith, block-After-ending_at-end c)) (c.stands_at.ensures.missing c.loop-cell-test.false)
-    (c.stands_at-2.ensures.there (not-false _ c.if-not-stands_at.false)) _ _ c.Ending-at.ensures
+    (c.stands_at-2.ensures.there (not-false _ c.if-not-stands_at.false-raw)) _ _ c.ending_at-end.ensures

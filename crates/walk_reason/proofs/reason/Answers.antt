@@ -14,19 +14,19 @@ is_first-requires c =
 
 pub returns-then-not-is_first : goal.returns-then-not-is_first
 returns-then-not-is_first c =
-    refused_six c.requires c.args.at _ _ (sym c.is_first.ensures ∙ not-true _ c.if-not-is_first.true) c.refusal.ensures
+    refused_six c.requires c.args.at _ _ (sym c.is_first.ensures ∙ not-true _ c.if-not-is_first.true-raw) c.refusal.ensures
 
 pub reason_in_room-length-requires : goal.reason_in_room-length-requires
 reason_in_room-length-requires c =
-    let first = sym c.is_first.ensures ∙ not-false _ c.if-not-is_first.false in
+    let first = sym c.is_first.ensures ∙ not-false _ c.if-not-is_first.false-raw in
     (walkable c.requires, (first_facts c.args.blocks c.args.a.now c.args.b.now c.args.at first).inside, omega arith)
 
 pub returns-then-out-length : goal.returns-then-out-length
 returns-then-out-length c =
-    refused_short c.requires c.args.at (sym c.is_first.ensures ∙ not-false _ c.if-not-is_first.false) c.reason_in_room-length.ensures _ (omega arith)
+    refused_short c.requires c.args.at (sym c.is_first.ensures ∙ not-false _ c.if-not-is_first.false-raw) c.reason_in_room-length.ensures _ (omega arith)
     c.refusal-then-out-length.ensures
 
 pub returns : goal.returns
 returns c =
-    accepted_long c.requires c.args.at (sym c.is_first.ensures ∙ not-false _ c.if-not-is_first.false) c.reason_in_room-length.ensures _ (omega arith)
+    accepted_long c.requires c.args.at (sym c.is_first.ensures ∙ not-false _ c.if-not-is_first.false-raw) c.reason_in_room-length.ensures _ (omega arith)
     c.acceptance.ensures

@@ -34,7 +34,7 @@ returns c =
     (record {
       a = bytes_given _ c.type_inv.a;
       b = bytes_given _ c.type_inv.b;
-      c.mark.ensures = bytes_given _ c.type_inv.counts;
+      counts = bytes_given _ c.type_inv.counts;
       d = bytes_given _ c.type_inv.d;
     })
     (collected_memory _ _ (memory_of ready) ready.idle c.mark.ensures.0 c.mark.ensures.1 c.sweep-freed.ensures.0)

@@ -11,7 +11,7 @@ pub loop-i-init : goal.loop-i-init
 loop-i-init c = (omega arith, fill_none c.args.refs.now 0, refl)
 
 pub offset_bounds-refs-i : goal.offset_bounds-refs-i
-offset_bounds-refs-i c = omega (arith, c.well-formed)
+offset_bounds-refs-i c = omega (arith, c.well_formed)
 
 pub loop-i-preserved : goal.loop-i-preserved
 loop-i-preserved c =
@@ -19,5 +19,5 @@ loop-i-preserved c =
 
 pub returns : goal.returns
 returns c =
-    let done : c.loop-i.i ≡ length c.args.refs.now = omega arith in
+    let done : c.loop-i.i ≡ length refs = omega arith in
     c.loop-i.invariant.1 ∙ rw (done, drop-length, append-nil)

@@ -14,19 +14,19 @@ use Rattle.test_arguments.proofs.cells.cell_test.Goals as goal
 pub returns-then-not-is_first : goal.returns-then-not-is_first
 unfolding cell_test first_number
 returns-then-not-is_first c =
-    let fails = sym c.is_first.ensures ∙ not-true _ c.if-not-is_first.true in
+    let fails = sym c.is_first.ensures ∙ not-true _ c.if-not-is_first.true-raw in
     rw (fails, cell_test, first_number) c.refusal.ensures
 
 -- past the first test block `at` is a first block
 first-Else-not-is_first : (c : goal.Else-not-is_first) → first_in c.args.blocks c.args.a.now c.args.b.now c.args.at ≡ true
-first-Else-not-is_first c = sym c.is_first.ensures ∙ not-false _ c.if-not-is_first.false
+first-Else-not-is_first c = sym c.is_first.ensures ∙ not-false _ c.if-not-is_first.false-raw
 
 pub object_size-requires : goal.object_size-requires
 object_size-requires c = omega (arith, (first_facts _ _ _ _ (first-Else-not-is_first c)).inside)
 
 -- past the first test block `at` is a first block
 first-After-refusal-then-object_size-j : (c : goal.After-refusal-then-object_size-j) → first_in c.args.blocks c.args.a.now c.args.b.now c.args.at ≡ true
-first-After-refusal-then-object_size-j c = sym c.is_first.ensures ∙ not-false _ c.if-not-is_first.false
+first-After-refusal-then-object_size-j c = sym c.is_first.ensures ∙ not-false _ c.if-not-is_first.false-raw
 
 pub returns-then-object_size-j : goal.returns-then-object_size-j
 unfolding cell_test first_number
@@ -36,7 +36,7 @@ returns-then-object_size-j c =
 
 -- past the first test block `at` is a first block
 first-After-acceptance : (c : goal.After-acceptance) → first_in c.args.blocks c.args.a.now c.args.b.now c.args.at ≡ true
-first-After-acceptance c = sym c.is_first.ensures ∙ not-false _ c.if-not-is_first.false
+first-After-acceptance c = sym c.is_first.ensures ∙ not-false _ c.if-not-is_first.false-raw
 
 -- past the second one it has cell j
 inside : (c : goal.After-acceptance) → ltb c.args.j (4 * size_from (c.args.blocks - c.args.at) c.args.b.now c.args.at) ≡ true

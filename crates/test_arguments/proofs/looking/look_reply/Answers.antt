@@ -11,19 +11,19 @@ use Rattle.test_arguments.proofs.looking.look_reply.Goals as goal
 pub returns-then-not-is_first : goal.returns-then-not-is_first
 unfolding look_reply
 returns-then-not-is_first c =
-    let fails = sym c.is_first.ensures ∙ not-true _ c.if-not-is_first.true in
+    let fails = sym c.is_first.ensures ∙ not-true _ c.if-not-is_first.true-raw in
     rw (fails, look_reply) c.refusal.ensures
 
 -- past the test block `at` is a first block
 first-Else-not-is_first : (c : goal.Else-not-is_first) → first_in c.args.blocks c.args.a.now c.args.b.now c.args.at ≡ true
-first-Else-not-is_first c = sym c.is_first.ensures ∙ not-false _ c.if-not-is_first.false
+first-Else-not-is_first c = sym c.is_first.ensures ∙ not-false _ c.if-not-is_first.false-raw
 
 pub object_size-size-requires : goal.object_size-size-requires
 object_size-size-requires c = omega (arith, (first_facts _ _ _ _ (first-Else-not-is_first c)).inside)
 
 -- past the test block `at` is a first block
 first-After-get_count-count : (c : goal.After-get_count-count) → first_in c.args.blocks c.args.a.now c.args.b.now c.args.at ≡ true
-first-After-get_count-count c = sym c.is_first.ensures ∙ not-false _ c.if-not-is_first.false
+first-After-get_count-count c = sym c.is_first.ensures ∙ not-false _ c.if-not-is_first.false-raw
 
 pub returns : goal.returns
 unfolding look_reply

@@ -86,7 +86,7 @@ then-After-refusal-then-not-is_reference c =
 pub returns-then-not-is_reference : goal.returns-then-not-is_reference
 unfolding first_number
 returns-then-not-is_reference c =
-    let fails = sym c.is_reference.ensures ∙ not-true _ c.if-not-is_reference.true in
+    let fails = sym c.is_reference.ensures ∙ not-true _ c.if-not-is_reference.true-raw in
     rw (then-After-refusal-then-not-is_reference c, fails, first_number) c.refusal-then-not-is_reference.ensures
 
 -- the maps
@@ -112,5 +112,5 @@ then-After-acceptance c =
 pub returns : goal.returns
 unfolding first_number
 returns c =
-    let passes = sym c.is_reference.ensures ∙ not-false _ c.if-not-is_reference.false in
+    let passes = sym c.is_reference.ensures ∙ not-false _ c.if-not-is_reference.false-raw in
     rw (then-After-acceptance c, passes, first_number) c.acceptance.ensures

@@ -23,7 +23,7 @@ inside-After-refusal-then-not-is_reference c =
 pub returns-then-not-is_reference : goal.returns-then-not-is_reference
 unfolding own_test own_refusals first_number
 returns-then-not-is_reference c =
-    let fails = sym c.is_reference.ensures ∙ not-true _ c.if-not-is_reference.true in
+    let fails = sym c.is_reference.ensures ∙ not-true _ c.if-not-is_reference.true-raw in
     rw (inside-After-refusal-then-not-is_reference c, fails, own_test, own_refusals, first_number) c.refusal-then-not-is_reference.ensures
 
 -- past the first test there is a root r
@@ -34,5 +34,5 @@ inside-After-acceptance c =
 pub returns : goal.returns
 unfolding own_test own_refusals first_number
 returns c =
-    let passes = sym c.is_reference.ensures ∙ not-false _ c.if-not-is_reference.false in
+    let passes = sym c.is_reference.ensures ∙ not-false _ c.if-not-is_reference.false-raw in
     rw (inside-After-acceptance c, passes, own_test, own_refusals, first_number) c.acceptance.ensures

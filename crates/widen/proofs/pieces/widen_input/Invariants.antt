@@ -6,7 +6,7 @@ use Rattle.widen.specs.Meaning.{full_piece}
 use Rattle.widen.proofs.pieces.widen_input.Given as goal
 
 abbrev pub invariant-loop-k : goal.invariant-loop-k
-invariant-loop-k l = length l.k ≡ full_piece
+invariant-loop-k l = length l.buffer ≡ full_piece
 
 abbrev pub decreases-loop-k : goal.decreases-loop-k
-decreases-loop-k l = 562949953421312 - k
+decreases-loop-k l = 562949953421312 - l.k

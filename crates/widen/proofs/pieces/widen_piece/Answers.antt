@@ -17,7 +17,7 @@ pub hand_on-requires : goal.hand_on-requires
 hand_on-requires c = (widened_front c.widen-n.ensures (omega arith)).0
 
 pub returns-then-not-hand_on : goal.returns-then-not-hand_on
-returns-then-not-hand_on c = absurd (true≢false (sym e))
+returns-then-not-hand_on c e = absurd (true≢false (sym e))
 
 pub returns : goal.returns
-returns c = eqb-true _ _ full
+returns c full = eqb-true _ _ full
