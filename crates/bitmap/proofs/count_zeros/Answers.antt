@@ -28,6 +28,6 @@ loop-i-preserved c =
 pub returns : goal.returns
 unfolding zeros
 returns c =
-    let done : c.loop-i.i ≡ length map = omega arith in
+    let done : c.loop-i.i ≡ length c.args.map.now = omega arith in
     let all = c.loop-i.invariant.1 ∙ ap (λ (k : ℕ). zeros_below c.args.map.now (8 * k)) done in
     (all, omega (arith, zeros_le c.args.map.now))

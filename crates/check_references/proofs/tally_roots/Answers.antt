@@ -75,7 +75,7 @@ loop-r-preserved c =
 
 pub returns : goal.returns
 returns c =
-    let done : c.loop-r.r ≡ length roots = omega (arith, c.loop-r.invariant.0.0) in
+    let done : c.loop-r.r ≡ length c.args.roots.now = omega (arith, c.loop-r.invariant.0.0) in
     record {
       told = searched_all (wild_root c.args.blocks c.args.roots.now) (length c.args.roots.now) c.loop-r.r c.loop-r.invariant.0 (omega arith);
       tallied = λ e. subst (λ (n : ℕ). Tallied (λ i. get_or c.args.roots.now i 0) n c.args.at.now c.loop-r.at) done c.loop-r.invariant.1;

@@ -15,7 +15,7 @@ loop-size-smaller c = omega (arith, pow_pos c.loop-size.k)
 
 pub loop-size-preserved : goal.loop-size-preserved
 loop-size-preserved c =
-    let below : 2 ^ c.loop-size.k < n = omega arith in (
+    let below : 2 ^ c.loop-size.k < c.args.n = omega arith in (
       omega (arith, ap (λ (x : ℕ). 2 ^ x) (add-one c.loop-size.k), pow-suc 2 c.loop-size.k),
       omega (arith, exponent_lt c.loop-size.k 16 (omega arith)),
       sym (exponent_next c.args.n c.loop-size.k below) ∙ c.loop-size.invariant.2,

@@ -16,7 +16,7 @@ loop-size-smaller c = omega (arith, pow_pos c.loop-size.invariant.0)
 
 pub loop-size-preserved : goal.loop-size-preserved
 loop-size-preserved c =
-    let below : 2 ^ c.loop-size.invariant.0 < n = omega arith in (
+    let below : 2 ^ c.loop-size.invariant.0 < c.args.n = omega arith in (
       c.loop-size.invariant.0 + 1,
       omega (arith, ap (λ (x : ℕ). 2 ^ x) (add-one c.loop-size.invariant.0), pow-suc 2 c.loop-size.invariant.0),
       omega (arith, exponent_lt c.loop-size.invariant.0 16 (omega arith)),
@@ -25,5 +25,5 @@ loop-size-preserved c =
 
 pub returns : goal.returns
 returns c =
-    let done : c.loop-size.invariant.0 ≡ exponent n = sym (exponent_here c.args.n c.loop-size.invariant.0 (omega arith)) ∙ c.loop-size.invariant.3 in
+    let done : c.loop-size.invariant.0 ≡ exponent c.args.n = sym (exponent_here c.args.n c.loop-size.invariant.0 (omega arith)) ∙ c.loop-size.invariant.3 in
     (c.loop-size.invariant.1 ∙ ap (λ (x : ℕ). 2 ^ x) done, omega (arith, pow_mono {i = c.loop-size.invariant.0} {j = 16} c.loop-size.invariant.2))

@@ -19,5 +19,5 @@ loop-i-preserved c =
 
 pub returns : goal.returns
 returns c =
-    let done : c.loop-i.i ≡ length refs = omega arith in
+    let done : c.loop-i.i ≡ length c.args.refs.now = omega arith in
     c.loop-i.invariant.1 ∙ rw (done, drop-length, append-nil)
