@@ -190,9 +190,8 @@ pub fn tally_cells(
 // Tallies what the roots name; whether one of them is wild.
 pub fn tally_roots(blocks: usize, roots: &[Ref], at: &mut [u8]) -> bool
     requires { (length roots.now ≤ 64) × (blocks ≤ length at.old) × Room at.old }
-    ensures* { λ r.
-        ⌜ Answered (wild_root blocks roots.now) (λ r. get_or roots.now r 0) (length roots.now)
-        at.old at.new r ⌝ }
+    ensures { Answered (wild_root blocks roots.now) (λ i. get_or roots.now i 0) (length roots.now)
+        at.old at.new result }
 {
     let mut r = 0;
     while r < roots.len() {

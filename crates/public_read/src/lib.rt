@@ -2,8 +2,8 @@
 
 #![tactic(auto)]
 
-ghost use Rattle.rules.specs.Lent.{before, after};
 ghost use Rattle.rules_calls.specs.Calls.{Call};
+ghost use Rattle.rules.specs.Heap.{lent_memory};
 ghost use Rattle.rules_calls.specs.Promise.{Promise};
 
 use test_arguments::{looking, numbers};
@@ -25,8 +25,9 @@ pub fn check(
     marks: &[u8],
     list: &[Ref],
 ) -> Reply
-    ensures { Promise blocks width Call.check (before a b counts cells roots waiting sections d marks list) result
-        (after a b counts cells roots waiting sections d marks list) }
+    ensures { Promise blocks width Call.check
+        (lent_memory a.now b.now counts.now cells.now roots.now waiting.now sections.now d.now marks.now list.now) result
+        (lent_memory a.now b.now counts.now cells.now roots.now waiting.now sections.now d.now marks.now list.now) }
 {
     if !check_shape::is_shaped(
         blocks,
@@ -76,8 +77,9 @@ pub fn free_blocks(
     marks: &[u8],
     list: &[Ref],
 ) -> Reply
-    ensures { Promise blocks width Call.free_blocks (before a b counts cells roots waiting sections d marks list) result
-        (after a b counts cells roots waiting sections d marks list) }
+    ensures { Promise blocks width Call.free_blocks
+        (lent_memory a.now b.now counts.now cells.now roots.now waiting.now sections.now d.now marks.now list.now) result
+        (lent_memory a.now b.now counts.now cells.now roots.now waiting.now sections.now d.now marks.now list.now) }
 {
     let check_reply = check(
         blocks, width, a, b, counts, cells, roots, waiting, sections, d, marks, list,
@@ -105,8 +107,9 @@ pub fn look(
     list: &[Ref],
     at: usize,
 ) -> Reply
-    ensures { Promise blocks width (Call.look at) (before a b counts cells roots waiting sections d marks list) result
-        (after a b counts cells roots waiting sections d marks list) }
+    ensures { Promise blocks width (Call.look at)
+        (lent_memory a.now b.now counts.now cells.now roots.now waiting.now sections.now d.now marks.now list.now) result
+        (lent_memory a.now b.now counts.now cells.now roots.now waiting.now sections.now d.now marks.now list.now) }
 {
     let checked = check(
         blocks, width, a, b, counts, cells, roots, waiting, sections, d, marks, list,
@@ -135,8 +138,9 @@ pub fn read_number(
     at: usize,
     j: usize,
 ) -> Reply
-    ensures { Promise blocks width (Call.read_number at j) (before a b counts cells roots waiting sections d marks list) result
-        (after a b counts cells roots waiting sections d marks list) }
+    ensures { Promise blocks width (Call.read_number at j)
+        (lent_memory a.now b.now counts.now cells.now roots.now waiting.now sections.now d.now marks.now list.now) result
+        (lent_memory a.now b.now counts.now cells.now roots.now waiting.now sections.now d.now marks.now list.now) }
 {
     let tested = check(
         blocks, width, a, b, counts, cells, roots, waiting, sections, d, marks, list,

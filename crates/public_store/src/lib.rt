@@ -3,8 +3,8 @@
 
 #![tactic(auto)]
 
-ghost use Rattle.rules.specs.Lent.{before, after};
 ghost use Rattle.rules_calls.specs.Calls.{Call};
+ghost use Rattle.rules.specs.Heap.{lent_memory};
 ghost use Rattle.rules_calls.specs.Promise.{Promise};
 
 use map_objects::lists;
@@ -27,8 +27,9 @@ pub fn store_root(
     r: usize,
     v: usize,
 ) -> Reply
-    ensures { Promise blocks width (Call.store_root r v) (before a b counts cells roots waiting sections d marks list) result
-        (after a b counts cells roots waiting sections d marks list) }
+    ensures { Promise blocks width (Call.store_root r v)
+        (lent_memory a.old b.old counts.old cells.old roots.old waiting.old sections.old d.old marks.old list.old) result
+        (lent_memory a.new b.new counts.new cells.new roots.new waiting.new sections.new d.new marks.new list.new) }
 {
     let tested = test_calls::store_root(
         blocks, width, a, b, counts, cells, roots, waiting, sections, d, marks, list, r, v,
@@ -62,8 +63,9 @@ pub fn store_cell(
     j: usize,
     v: usize,
 ) -> Reply
-    ensures { Promise blocks width (Call.store_cell at j v) (before a b counts cells roots waiting sections d marks list) result
-        (after a b counts cells roots waiting sections d marks list) }
+    ensures { Promise blocks width (Call.store_cell at j v)
+        (lent_memory a.old b.old counts.old cells.old roots.now waiting.old sections.old d.old marks.old list.old) result
+        (lent_memory a.new b.new counts.new cells.new roots.now waiting.new sections.new d.new marks.new list.new) }
 {
     let tested = test_calls::store_cell(
         blocks, width, a, b, counts, cells, roots, waiting, sections, d, marks, list, at, j, v,
@@ -95,8 +97,9 @@ pub fn return_roots(
     list: &mut [Ref],
     chosen: u64,
 ) -> Reply
-    ensures { Promise blocks width (Call.return_roots chosen) (before a b counts cells roots waiting sections d marks list) result
-        (after a b counts cells roots waiting sections d marks list) }
+    ensures { Promise blocks width (Call.return_roots chosen)
+        (lent_memory a.old b.old counts.old cells.old roots.old waiting.old sections.old d.old marks.old list.old) result
+        (lent_memory a.new b.new counts.new cells.new roots.new waiting.new sections.new d.new marks.new list.new) }
 {
     let tested = test_calls::return_roots(
         blocks, width, a, b, counts, cells, roots, waiting, sections, d, marks, list, chosen,
@@ -131,8 +134,9 @@ pub fn write_number(
     j: usize,
     x: Ref,
 ) -> Reply
-    ensures { Promise blocks width (Call.write_number at j x) (before a b counts cells roots waiting sections d marks list) result
-        (after a b counts cells roots waiting sections d marks list) }
+    ensures { Promise blocks width (Call.write_number at j x)
+        (lent_memory a.now b.now counts.now cells.old roots.now waiting.now sections.now d.now marks.now list.now) result
+        (lent_memory a.now b.now counts.now cells.new roots.now waiting.now sections.now d.now marks.now list.now) }
 {
     let tested = test_calls::write_number(
         blocks, width, a, b, counts, cells, roots, waiting, sections, d, marks, list, at, j, x,

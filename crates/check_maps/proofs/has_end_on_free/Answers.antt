@@ -42,13 +42,7 @@ pub loop-i-preserved : goal.loop-i-preserved
 unfolding end_on_free
 loop-i-preserved c =
     let fails : test-Joined-get_bit-eq0 c c.loop-i.i ≡ false =
-    ⊎_elim
-    (λ w.
-    let free = eq-eqb (bit_at c.args.a.now c.loop-i.i) 0 (sym c.get_bit.ensures.0 ∙ w.0.taken) in
-    let not_last = ne_eqb (bit_at c.args.b.now c.loop-i.i) 0 (λ e. w.2.left (w.1.ensures.0 ∙ e)) in
-    rw (free, not_last, end_on_free))
-    (λ w. rw (ne_eqb (bit_at c.args.a.now c.loop-i.i) 0 (λ e. w.left (c.get_bit.ensures.0 ∙ e)), end_on_free))
-    c.if-get_bit-eq0.branch in
+    ? in
     searched_next (test-Joined-get_bit-eq0 c) c.args.blocks c.loop-i.i c.loop-i.invariant (omega arith) fails
 
 -- the rule's test, on what is lent

@@ -51,14 +51,7 @@ loop-i-preserved c =
     let used : (c.get_bit.result ≡ 0 → ⊥) → is_free c.args.a.now c.loop-i.i ≡ false =
     λ n. ne_eqb (bit_at c.args.a.now c.loop-i.i) 0 (λ e. n (c.get_bit.ensures.0 ∙ e)) in
     let fails : test-Joined-get_bit-ne0 c c.loop-i.i ≡ false =
-    ⊎_elim
-    (λ w.
-    let not_last = ne_eqb (bit_at c.args.b.now c.loop-i.i) 0 (λ e. w.2.taken (w.1.ensures.0 ∙ e)) in
-    rw (used w.0.taken, not_last, open_end) (sym w.3.ensures ∙ w.4.left))
-    (⊎_elim
-    (λ w. rw (used w.0.taken, eq-eqb (bit_at c.args.b.now c.loop-i.i) 0 (sym w.1.ensures.0 ∙ w.2.left), open_end))
-    (λ w. rw (eq-eqb (bit_at c.args.a.now c.loop-i.i) 0 (sym c.get_bit.ensures.0 ∙ w.left), open_end)))
-    c.if-get_bit-ne0.branch in
+    ? in
     searched_next (test-Joined-get_bit-ne0 c) c.args.blocks c.loop-i.i c.loop-i.invariant (omega arith) fails
 
 -- the rule's test, on what is lent

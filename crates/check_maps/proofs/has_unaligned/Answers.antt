@@ -48,16 +48,7 @@ pub loop-i-preserved : goal.loop-i-preserved
 unfolding unaligned
 loop-i-preserved c =
     let fails : test-Joined-is_first c c.loop-i.i ≡ false =
-    ⊎_elim
-    (λ w.
-    let size = w.2.ensures.0 ∙ ap (λ (n : ℕ). 2 ^ exponent n) w.1.ensures.0 in
-    let is-first = sym c.is_first.ensures ∙ w.0.taken in
-    let on = eq-eqb (c.loop-i.i % 2 ^ exponent (size_from (c.args.blocks - c.loop-i.i) c.args.b.now c.loop-i.i)) 0 (sym (ap (λ (n : ℕ). c.loop-i.i % n) size) ∙ w.3.left) in
-    rw (is-first, on, unaligned))
-    (λ w.
-    let not_first : first_in c.args.blocks c.args.a.now c.args.b.now c.loop-i.i ≡ false = sym c.is_first.ensures ∙ w.left in
-    rw (not_first, unaligned))
-    c.if-is_first.branch in
+    ? in
     searched_next (test-Joined-is_first c) c.args.blocks c.loop-i.i c.loop-i.invariant (omega arith) fails
 
 -- the rule's test, on what is lent

@@ -17,10 +17,7 @@ use Rattle.map_objects.specs.Walk.{data_before}
 use Rattle.map_objects.proofs.Walk.{walk_next}
 use Rattle.check_references.proofs.Eights.{eight_outside, eight_within}
 use Rattle.check_references.proofs.data_byte.Goals as goal
-
--- the bits below n are the blocks of data from block `from` on, and no other bit is 1
-abbrev MadeBelow : (test : ℕ → Bool) (from made n : ℕ) → Type 0
-MadeBelow test from made n = (made < 2 ^ n) × ((t : ℕ) → t < n → test (from + t) ≡ not (eqb (bit_of made t) 0))
+use Rattle.check_references.proofs.data_byte.Invariants.{MadeBelow}
 
 double : (n : ℕ) → 2 ^ (n + 1) ≡ 2 ^ n * 2
 double n = ap (λ (x : ℕ). 2 ^ x) (add-one n) ∙ pow-suc 2 n

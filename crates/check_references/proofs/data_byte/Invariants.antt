@@ -3,7 +3,15 @@ use mathlib.Core.Path.{◌≡◌}
 use Prim.Native.Nat.{◌≤◌, ◌+◌, ◌-◌, ◌*◌}
 use Rattle.rules.specs.Heap.{in_data}
 use Rattle.map_objects.specs.Walk.{data_before}
+use Rattle.bitmap.specs.Bit.{bit_of}
+use lib.Dec.{eqb}
+use Prim.Native.Nat.{ℕ, ◌<◌, ◌^◌}
+use mathlib.Core.Bool.{Bool, not}
 use Rattle.check_references.proofs.data_byte.Given as goal
+
+-- the bits below n are the blocks of data from block `from` on, and no other bit is 1
+abbrev pub MadeBelow : (test : ℕ → Bool) (from made n : ℕ) → Type 0
+MadeBelow test from made n = (made < 2 ^ n) × ((t : ℕ) → t < n → test (from + t) ≡ not (eqb (bit_of made t) 0))
 
 abbrev pub invariant-loop-s : goal.invariant-loop-s
 invariant-loop-s l =

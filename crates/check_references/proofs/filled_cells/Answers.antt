@@ -9,10 +9,7 @@ use lib.ListN.{get_or}
 use Rattle.bitmap.specs.Bit.{bit_of}
 use Rattle.bitmap.proofs.Digits.{digit_or, digit_mod, digit_shl}
 use Rattle.check_references.proofs.filled_cells.Goals as goal
-
--- a bit below n is 0 only where its cell is
-abbrev FilledBelow : List ℕ → (k filled n : ℕ) → Type 0
-FilledBelow cells k filled n = (i : ℕ) → i < n → bit_of filled i ≡ 0 → get_or cells (32 * k + i) 0 ≡ 0
+use Rattle.check_references.proofs.filled_cells.Invariants.{FilledBelow}
 
 -- bit n raised
 raised : (cells : List ℕ) (k filled n : ℕ) → n < 32 → FilledBelow cells k filled n

@@ -17,12 +17,11 @@ use Rattle.check_references.proofs.Visited.{read, wild_at, visited_start, visite
 use Rattle.check_references.proofs.tally_among.Goals as goal
 
 pub loop-left-init : goal.loop-left-init
-loop-left-init c =
-    (
-      omega arith,
-      visited_start c.args.blocks c.args.used c.args.made c.args.cells.now c.args.k c.args.these c.args.at.now
-          c.requires.4,
-    )
+loop-left-init c = (
+  omega arith,
+  visited_start c.args.blocks c.args.used c.args.made c.args.cells.now c.args.k c.args.these c.args.at.now
+      c.requires.4,
+)
 
 -- the lowest bit that is left
 inside-In-loop-left : (c : goal.In-loop-left) → count_trailing_zeros 32 c.loop-left.left < 32

@@ -30,13 +30,12 @@ abbrev wilds-After-slice_known-1 : (c : goal.After-slice_known-1) → ℕ → Bo
 wilds-After-slice_known-1 c = wild_cell c.args.blocks c.args.a.now c.args.b.now c.args.d.now c.args.cells.now
 
 pub loop-k-init : goal.loop-k-init
-loop-k-init c =
-    (
-      omega arith,
-      walk_start c.args.blocks c.args.a.now c.args.b.now c.args.d.now,
-      searched_start (wilds-After-slice_known-1 c) (4 * c.args.blocks),
-      tallied_start (reads-After-slice_known-1 c) c.args.at.now c.requires.7,
-    )
+loop-k-init c = (
+  omega arith,
+  walk_start c.args.blocks c.args.a.now c.args.b.now c.args.d.now,
+  searched_start (wilds-After-slice_known-1 c) (4 * c.args.blocks),
+  tallied_start (reads-After-slice_known-1 c) c.args.at.now c.requires.7,
+)
 
 pub data_byte-made-requires : goal.data_byte-made-requires
 data_byte-made-requires c = (omega arith, omega arith, omega arith, omega arith, omega arith, c.loop-k.invariant.1)
@@ -46,13 +45,12 @@ abbrev reads-After-tally_byte-arg-1 : (c : goal.After-tally_byte-arg-1) → ℕ 
 reads-After-tally_byte-arg-1 c = ref_at c.args.blocks c.args.a.now c.args.b.now c.args.d.now c.args.cells.now
 
 pub tally_byte-requires : goal.tally_byte-requires
-tally_byte-requires c =
-    (
-      omega (arith, c.loop-k-test.taken),
-      omega arith,
-      omega (arith, c.requires.6, c.loop-k.invariant.3.same_length),
-      tallied_room (reads-After-tally_byte-arg-1 c) c.args.at.now (32 * c.loop-k.k) c.loop-k.at c.loop-k.invariant.3,
-    )
+tally_byte-requires c = (
+  omega (arith, c.loop-k-test.taken),
+  omega arith,
+  omega (arith, c.requires.6, c.loop-k.invariant.3.same_length),
+  tallied_room (reads-After-tally_byte-arg-1 c) c.args.at.now (32 * c.loop-k.k) c.loop-k.at c.loop-k.invariant.3,
+)
 
 abbrev wilds-Then-tally_byte : (c : goal.Then-tally_byte) → ℕ → Bool
 wilds-Then-tally_byte c = wild_cell c.args.blocks c.args.a.now c.args.b.now c.args.d.now c.args.cells.now

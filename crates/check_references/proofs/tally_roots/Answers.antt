@@ -13,11 +13,10 @@ use Rattle.check_references.proofs.Wilds.{wild_zero, wild_other}
 use Rattle.check_references.proofs.tally_roots.Goals as goal
 
 pub loop-r-init : goal.loop-r-init
-loop-r-init c =
-    (
-      searched_start (wild_root c.args.blocks c.args.roots.now) (length c.args.roots.now),
-      tallied_start (λ i. get_or c.args.roots.now i 0) c.args.at.now c.requires.2,
-    )
+loop-r-init c = (
+  searched_start (wild_root c.args.blocks c.args.roots.now) (length c.args.roots.now),
+  tallied_start (λ i. get_or c.args.roots.now i 0) c.args.at.now c.requires.2,
+)
 
 pub overflow_cast-v : goal.overflow_cast-v
 overflow_cast-v c = omega (arith, c.type_inv.roots c.loop-r.r)

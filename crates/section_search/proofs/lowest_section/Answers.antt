@@ -8,10 +8,6 @@ use Rattle.search_walk.specs.Search.{or_else}
 use Rattle.section_search.proofs.BySections.{suffices_start, suffices_here, suffices_next, suffices_past, suffices_none}
 use Rattle.section_search.proofs.lowest_section.Goals as goal
 
--- none before number s suffices
-abbrev Tried : List ℕ → (size s : ℕ) → Type 0
-Tried sections size s =
-    (s ≤ length sections) × (suffices_from (length sections - s) sections size s ≡ suffices_from (length sections) sections size 0)
 
 pub loop-s-init : goal.loop-s-init
 loop-s-init c =

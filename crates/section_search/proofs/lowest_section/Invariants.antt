@@ -2,7 +2,16 @@
 -- what is left of the list.
 use Prim.Native.Nat.{◌-◌}
 use lib.ListN.{length}
+use Rattle.rules.specs.Sections.{suffices_from}
+use Prim.Native.Nat.{ℕ, ◌≤◌}
+use mathlib.Core.List.{List}
+use mathlib.Core.Path.{◌≡◌}
 use Rattle.section_search.proofs.lowest_section.Given as goal
+
+-- none before number s suffices
+abbrev pub Tried : List ℕ → (size s : ℕ) → Type 0
+Tried sections size s =
+    (s ≤ length sections) × (suffices_from (length sections - s) sections size s ≡ suffices_from (length sections) sections size 0)
 
 abbrev pub invariant-loop-s : goal.invariant-loop-s
 invariant-loop-s l = Tried l.sections l.size l.s

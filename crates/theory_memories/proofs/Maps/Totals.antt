@@ -44,7 +44,7 @@ sum_cases (x ∷ l) = elim (ℕ_discrete x 0) [
   | no n ↦ inr (0, omega arith, n)
   | yes z ↦ elim (sum_cases l) [
     | inr t ↦ inr (suc t.0, omega (arith, t.1), t.2)
-    | inl t ↦ inl (omega (arith, t.0), λ i. elim i [ zero ↦ z | suc i ↦ t.1 i ])
+    | inl t ↦ inl (omega (arith, t.0), λ i. elim i as (λ k. get_or (x ∷ l) k 0 ≡ 0) [ zero ↦ z | suc i ↦ t.1 i ])
   ]
 ]
 
