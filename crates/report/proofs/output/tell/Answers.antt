@@ -5,4 +5,4 @@ use Rattle.report.specs.Meaning.{Reported}
 use Rattle.report.proofs.output.tell.Goals as goal
 
 pub print_line-requires : goal.print_line-requires
-print_line-requires c = subst (λ (t : Outcome). Reported t) c.in-Ran.is c.requires
+print_line-requires g c = subst (λ (t : Outcome). Reported t) c.in-Ran.is c.requires
