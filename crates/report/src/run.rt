@@ -7,6 +7,7 @@ use history_figures::tally;
 use history_figures::tally::Run;
 use history_records::RECORD;
 use report_heap::{BLOCKS, CELLS, COUNT_BYTES, LIST, MAP_BYTES, ROOTS, SECTIONS, WIDTH};
+use std::io::Read;
 use types::Ref;
 
 // The bytes of a full piece, of whole records: the heap is checked once a piece.
@@ -62,8 +63,8 @@ pub fn run_piece(
     PieceOutcome::GoesOn(next)
 }
 
-// Runs the pieces of standard input on a new heap, until it ends or the run is stopped, which the limit of its records makes sure of.
-pub fn run_input() -> Outcome
+// Runs the pieces of an input, as standard input, on a new heap, until it ends or the run is stopped, which the limit of its records makes sure of.
+pub fn run_input(input: &mut impl Read) -> Outcome
     ensures { Reported result }
 {
     let mut a = [0u8; MAP_BYTES];
@@ -91,7 +92,7 @@ pub fn run_input() -> Outcome
     let mut run = tally::new_run();
     let mut buffer = [0u8; PIECE];
     loop {
-        let piece = history_input::read_piece(&mut buffer);
+        let piece = history_input::read_piece(input, &mut buffer);
         if piece.failed {
             return Outcome::ReadFailed;
         }
