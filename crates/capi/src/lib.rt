@@ -31,8 +31,9 @@ pub extern "C" fn huwekapo_format(
     marks: &mut [u8],
     list: &mut [Ref],
 ) -> Reply
-    ensures { Promise blocks width Call.format (before a b counts cells roots waiting sections d marks list) result
-        (after a b counts cells roots waiting sections d marks list) }
+    ensures { Promise blocks width Call.format
+        (before a.old b.old counts.old cells.old roots.old waiting.old sections.old d.old marks.old list.old) result
+        (after a.new b.new counts.new cells.new roots.new waiting.new sections.new d.new marks.new list.new) }
 {
     public_heap::format(
         blocks, width, a, b, counts, cells, roots, waiting, sections, d, marks, list,
@@ -56,8 +57,9 @@ pub extern "C" fn huwekapo_allocate(
     n: usize,
     r: usize,
 ) -> Reply
-    ensures { Promise blocks width (Call.allocate n r) (before a b counts cells roots waiting sections d marks list) result
-        (after a b counts cells roots waiting sections d marks list) }
+    ensures { Promise blocks width (Call.allocate n r)
+        (before a.old b.old counts.old cells.old roots.old waiting.old sections.old d.old marks.old list.old) result
+        (after a.new b.new counts.new cells.new roots.new waiting.new sections.new d.new marks.new list.new) }
 {
     public_heap::allocate(
         blocks, width, a, b, counts, cells, roots, waiting, sections, d, marks, list, n, r,
@@ -81,8 +83,9 @@ pub extern "C" fn huwekapo_store_root(
     r: usize,
     v: usize,
 ) -> Reply
-    ensures { Promise blocks width (Call.store_root r v) (before a b counts cells roots waiting sections d marks list) result
-        (after a b counts cells roots waiting sections d marks list) }
+    ensures { Promise blocks width (Call.store_root r v)
+        (before a.old b.old counts.old cells.old roots.old waiting.old sections.old d.old marks.old list.old) result
+        (after a.new b.new counts.new cells.new roots.new waiting.new sections.new d.new marks.new list.new) }
 {
     public_store::store_root(
         blocks, width, a, b, counts, cells, roots, waiting, sections, d, marks, list, r, v,
@@ -107,8 +110,9 @@ pub extern "C" fn huwekapo_store_cell(
     j: usize,
     v: usize,
 ) -> Reply
-    ensures { Promise blocks width (Call.store_cell at j v) (before a b counts cells roots waiting sections d marks list) result
-        (after a b counts cells roots waiting sections d marks list) }
+    ensures { Promise blocks width (Call.store_cell at j v)
+        (before a.old b.old counts.old cells.old roots.now waiting.old sections.old d.old marks.old list.old) result
+        (after a.new b.new counts.new cells.new roots.now waiting.new sections.new d.new marks.new list.new) }
 {
     public_store::store_cell(
         blocks, width, a, b, counts, cells, roots, waiting, sections, d, marks, list, at, j, v,
@@ -131,8 +135,9 @@ pub extern "C" fn huwekapo_return_roots(
     list: &mut [Ref],
     chosen: u64,
 ) -> Reply
-    ensures { Promise blocks width (Call.return_roots chosen) (before a b counts cells roots waiting sections d marks list) result
-        (after a b counts cells roots waiting sections d marks list) }
+    ensures { Promise blocks width (Call.return_roots chosen)
+        (before a.old b.old counts.old cells.old roots.old waiting.old sections.old d.old marks.old list.old) result
+        (after a.new b.new counts.new cells.new roots.new waiting.new sections.new d.new marks.new list.new) }
 {
     public_store::return_roots(
         blocks, width, a, b, counts, cells, roots, waiting, sections, d, marks, list, chosen,
@@ -154,8 +159,9 @@ pub extern "C" fn huwekapo_collect(
     marks: &[u8],
     list: &[Ref],
 ) -> Reply
-    ensures { Promise blocks width Call.collect (before a b counts cells roots waiting sections d marks list) result
-        (after a b counts cells roots waiting sections d marks list) }
+    ensures { Promise blocks width Call.collect
+        (before a.old b.old counts.old cells.old roots.now waiting.old sections.old d.old marks.now list.now) result
+        (after a.new b.new counts.new cells.new roots.now waiting.new sections.new d.new marks.now list.now) }
 {
     public_heap::collect(
         blocks, width, a, b, counts, cells, roots, waiting, sections, d, marks, list,
@@ -177,8 +183,9 @@ pub extern "C" fn huwekapo_check(
     marks: &[u8],
     list: &[Ref],
 ) -> Reply
-    ensures { Promise blocks width Call.check (before a b counts cells roots waiting sections d marks list) result
-        (after a b counts cells roots waiting sections d marks list) }
+    ensures { Promise blocks width Call.check
+        (before a.now b.now counts.now cells.now roots.now waiting.now sections.now d.now marks.now list.now) result
+        (after a.now b.now counts.now cells.now roots.now waiting.now sections.now d.now marks.now list.now) }
 {
     public_read::check(
         blocks, width, a, b, counts, cells, roots, waiting, sections, d, marks, list,
@@ -200,8 +207,9 @@ pub extern "C" fn huwekapo_free_blocks(
     marks: &[u8],
     list: &[Ref],
 ) -> Reply
-    ensures { Promise blocks width Call.free_blocks (before a b counts cells roots waiting sections d marks list) result
-        (after a b counts cells roots waiting sections d marks list) }
+    ensures { Promise blocks width Call.free_blocks
+        (before a.now b.now counts.now cells.now roots.now waiting.now sections.now d.now marks.now list.now) result
+        (after a.now b.now counts.now cells.now roots.now waiting.now sections.now d.now marks.now list.now) }
 {
     public_read::free_blocks(
         blocks, width, a, b, counts, cells, roots, waiting, sections, d, marks, list,
@@ -224,8 +232,9 @@ pub extern "C" fn huwekapo_look(
     list: &[Ref],
     at: usize,
 ) -> Reply
-    ensures { Promise blocks width (Call.look at) (before a b counts cells roots waiting sections d marks list) result
-        (after a b counts cells roots waiting sections d marks list) }
+    ensures { Promise blocks width (Call.look at)
+        (before a.now b.now counts.now cells.now roots.now waiting.now sections.now d.now marks.now list.now) result
+        (after a.now b.now counts.now cells.now roots.now waiting.now sections.now d.now marks.now list.now) }
 {
     public_read::look(
         blocks, width, a, b, counts, cells, roots, waiting, sections, d, marks, list, at,
@@ -249,8 +258,9 @@ pub extern "C" fn huwekapo_allocate_data(
     n: usize,
     r: usize,
 ) -> Reply
-    ensures { Promise blocks width (Call.allocate_data n r) (before a b counts cells roots waiting sections d marks list) result
-        (after a b counts cells roots waiting sections d marks list) }
+    ensures { Promise blocks width (Call.allocate_data n r)
+        (before a.old b.old counts.old cells.old roots.old waiting.old sections.old d.old marks.old list.old) result
+        (after a.new b.new counts.new cells.new roots.new waiting.new sections.new d.new marks.new list.new) }
 {
     public_heap::allocate_data(
         blocks, width, a, b, counts, cells, roots, waiting, sections, d, marks, list, n, r,
@@ -275,8 +285,9 @@ pub extern "C" fn huwekapo_write_number(
     j: usize,
     v: Ref,
 ) -> Reply
-    ensures { Promise blocks width (Call.write_number at j v) (before a b counts cells roots waiting sections d marks list) result
-        (after a b counts cells roots waiting sections d marks list) }
+    ensures { Promise blocks width (Call.write_number at j v)
+        (before a.now b.now counts.now cells.old roots.now waiting.now sections.now d.now marks.now list.now) result
+        (after a.now b.now counts.now cells.new roots.now waiting.now sections.now d.now marks.now list.now) }
 {
     public_store::write_number(
         blocks, width, a, b, counts, cells, roots, waiting, sections, d, marks, list, at, j, v,
@@ -300,8 +311,9 @@ pub extern "C" fn huwekapo_read_number(
     at: usize,
     j: usize,
 ) -> Reply
-    ensures { Promise blocks width (Call.read_number at j) (before a b counts cells roots waiting sections d marks list) result
-        (after a b counts cells roots waiting sections d marks list) }
+    ensures { Promise blocks width (Call.read_number at j)
+        (before a.now b.now counts.now cells.now roots.now waiting.now sections.now d.now marks.now list.now) result
+        (after a.now b.now counts.now cells.now roots.now waiting.now sections.now d.now marks.now list.now) }
 {
     public_read::read_number(
         blocks, width, a, b, counts, cells, roots, waiting, sections, d, marks, list, at, j,
@@ -323,8 +335,9 @@ pub extern "C" fn huwekapo_open_collection(
     marks: &mut [u8],
     list: &mut [Ref],
 ) -> Reply
-    ensures { Promise blocks width Call.open_collection (before a b counts cells roots waiting sections d marks list) result
-        (after a b counts cells roots waiting sections d marks list) }
+    ensures { Promise blocks width Call.open_collection
+        (before a.now b.now counts.now cells.now roots.now waiting.now sections.now d.now marks.old list.old) result
+        (after a.now b.now counts.now cells.now roots.now waiting.now sections.now d.now marks.new list.new) }
 {
     public_steps::open_collection(
         blocks, width, a, b, counts, cells, roots, waiting, sections, d, marks, list,
@@ -347,8 +360,9 @@ pub extern "C" fn huwekapo_step_collection(
     list: &mut [Ref],
     budget: usize,
 ) -> Reply
-    ensures { Promise blocks width (Call.take_steps budget) (before a b counts cells roots waiting sections d marks list) result
-        (after a b counts cells roots waiting sections d marks list) }
+    ensures { Promise blocks width (Call.take_steps budget)
+        (before a.old b.old counts.old cells.old roots.now waiting.old sections.old d.old marks.old list.old) result
+        (after a.new b.new counts.new cells.new roots.now waiting.new sections.new d.new marks.new list.new) }
 {
     public_steps::step_collection(
         blocks, width, a, b, counts, cells, roots, waiting, sections, d, marks, list, budget,
@@ -373,9 +387,9 @@ pub extern "C" fn huwekapo_replay(
     replies: &mut [u64],
 ) -> Reply
     ensures { Replayed blocks width
-        (before a b counts cells roots waiting sections d marks list)
+        (before a.old b.old counts.old cells.old roots.old waiting.old sections.old d.old marks.old list.old)
         calls.now replies.old result
-        (after a b counts cells roots waiting sections d marks list)
+        (after a.new b.new counts.new cells.new roots.new waiting.new sections.new d.new marks.new list.new)
         replies.new }
 {
     replay::replay(
@@ -402,9 +416,9 @@ pub extern "C" fn huwekapo_make_calls(
     replies: &mut [u64],
 ) -> Reply
     ensures { Batch blocks width
-        (before a b counts cells roots waiting sections d marks list)
+        (before a.old b.old counts.old cells.old roots.old waiting.old sections.old d.old marks.old list.old)
         calls.now replies.old result
-        (after a b counts cells roots waiting sections d marks list)
+        (after a.new b.new counts.new cells.new roots.new waiting.new sections.new d.new marks.new list.new)
         replies.new }
 {
     replay_batch::make_calls(

@@ -24,8 +24,9 @@ pub extern "C" fn huwekapo_reason(
     at: usize,
     out: &mut [u8],
 ) -> Reply
-    ensures { ReasonPromise blocks width at (before a b counts cells roots waiting sections d marks list) out.old result
-        (after a b counts cells roots waiting sections d marks list) out.new }
+    ensures { ReasonPromise blocks width at
+        (before a.now b.now counts.now cells.now roots.now waiting.now sections.now d.now marks.now list.now) out.old result
+        (after a.now b.now counts.now cells.now roots.now waiting.now sections.now d.now marks.now list.now) out.new }
 {
     public_output::reason(
         blocks, width, a, b, counts, cells, roots, waiting, sections, d, marks, list, at, out,
@@ -48,8 +49,9 @@ pub extern "C" fn huwekapo_shape(
     list: &[Ref],
     out: &mut [u32],
 ) -> Reply
-    ensures { ShapePromise blocks width (before a b counts cells roots waiting sections d marks list) out.old result
-        (after a b counts cells roots waiting sections d marks list) out.new }
+    ensures { ShapePromise blocks width
+        (before a.now b.now counts.now cells.now roots.now waiting.now sections.now d.now marks.now list.now) out.old result
+        (after a.now b.now counts.now cells.now roots.now waiting.now sections.now d.now marks.now list.now) out.new }
 {
     public_output::shape(
         blocks, width, a, b, counts, cells, roots, waiting, sections, d, marks, list, out,

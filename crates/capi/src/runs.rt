@@ -23,8 +23,9 @@ pub extern "C" fn huwekapo_run_records(
     run: Run,
     bytes: &[u8],
 ) -> Ran
-    ensures { Promised blocks width bytes.now (before a b counts cells roots waiting sections d marks list) run result
-        (after a b counts cells roots waiting sections d marks list) }
+    ensures { Promised blocks width bytes.now
+        (before a.old b.old counts.old cells.old roots.old waiting.old sections.old d.old marks.old list.old) run result
+        (after a.new b.new counts.new cells.new roots.new waiting.new sections.new d.new marks.new list.new) }
 {
     history::run_records(
         blocks, width, a, b, counts, cells, roots, waiting, sections, d, marks, list, run, bytes,

@@ -43,7 +43,8 @@ fn run_reply(
     list: &[Ref],
     run: Run,
 ) -> Reply
-    ensures { result ≡ run_reply blocks width (before a b counts cells roots waiting sections d marks list) run }
+    ensures { result ≡ run_reply blocks width
+        (before a.now b.now counts.now cells.now roots.now waiting.now sections.now d.now marks.now list.now) run }
 {
     let checked = public_read::check(
         blocks, width, a, b, counts, cells, roots, waiting, sections, d, marks, list,
@@ -76,8 +77,9 @@ pub fn run_records(
     run: Run,
     bytes: &[u8],
 ) -> Ran
-    ensures { Promised blocks width bytes.now (before a b counts cells roots waiting sections d marks list) run result
-        (after a b counts cells roots waiting sections d marks list) }
+    ensures { Promised blocks width bytes.now
+        (before a.old b.old counts.old cells.old roots.old waiting.old sections.old d.old marks.old list.old) run result
+        (after a.new b.new counts.new cells.new roots.new waiting.new sections.new d.new marks.new list.new) }
 {
     let reply = run_reply(
         blocks, width, a, b, counts, cells, roots, waiting, sections, d, marks, list, run,

@@ -31,12 +31,13 @@ fn run_whole(
     n: usize,
     start: Running,
 ) -> Run
-    requires { Usable blocks width (lent a b counts cells roots waiting sections d marks list)
-        × Going blocks (lent a b counts cells roots waiting sections d marks list) n start
+    requires { Usable blocks width (lent a.old b.old counts.old cells.old roots.old waiting.old sections.old d.old marks.old list.old)
+        × Going blocks (lent a.old b.old counts.old cells.old roots.old waiting.old sections.old d.old marks.old list.old) n start
         × (record_length wide * n ≤ length bytes.now) }
     ensures { RunBy blocks width
-        (ran_from wide n blocks width bytes.now 0 (before a b counts cells roots waiting sections d marks list) start.run) result
-        (after a b counts cells roots waiting sections d marks list) }
+        (ran_from wide n blocks width bytes.now 0
+        (before a.old b.old counts.old cells.old roots.old waiting.old sections.old d.old marks.old list.old) start.run) result
+        (after a.new b.new counts.new cells.new roots.new waiting.new sections.new d.new marks.new list.new) }
 {
     let mut state = start;
     let mut i = 0;
@@ -104,10 +105,11 @@ pub(crate) fn run_piece(
     bytes: &[u8],
     run: Run,
 ) -> Run
-    requires { Usable blocks width (lent a b counts cells roots waiting sections d marks list)
+    requires { Usable blocks width (lent a.old b.old counts.old cells.old roots.old waiting.old sections.old d.old marks.old list.old)
         × (in_range run ≡ true) }
-    ensures { RunBy blocks width (ran wide blocks width bytes.now (before a b counts cells roots waiting sections d marks list) run) result
-        (after a b counts cells roots waiting sections d marks list) }
+    ensures { RunBy blocks width (ran wide blocks width bytes.now
+        (before a.old b.old counts.old cells.old roots.old waiting.old sections.old d.old marks.old list.old) run) result
+        (after a.new b.new counts.new cells.new roots.new waiting.new sections.new d.new marks.new list.new) }
 {
     let number = run.number;
     if number != 0 {

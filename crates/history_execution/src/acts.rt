@@ -25,10 +25,11 @@ pub(crate) fn act(
     list: &mut [Ref],
     plan: Plan,
 ) -> Done
-    requires { Usable blocks width (lent a b counts cells roots waiting sections d marks list) }
-    ensures { Acted blocks (before a b counts cells roots waiting sections d marks list)
-        (turn_of blocks width (before a b counts cells roots waiting sections d marks list) (meaning plan)) result
-        (after a b counts cells roots waiting sections d marks list) }
+    requires { Usable blocks width (lent a.old b.old counts.old cells.old roots.old waiting.old sections.old d.old marks.old list.old) }
+    ensures { Acted blocks (before a.old b.old counts.old cells.old roots.old waiting.old sections.old d.old marks.old list.old)
+        (turn_of blocks width
+        (before a.old b.old counts.old cells.old roots.old waiting.old sections.old d.old marks.old list.old) (meaning plan)) result
+        (after a.new b.new counts.new cells.new roots.new waiting.new sections.new d.new marks.new list.new) }
 {
     match plan {
         Plan::Stop(number) => Done {

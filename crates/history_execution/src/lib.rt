@@ -34,13 +34,13 @@ pub fn step(
     f: Fields,
     state: Running,
 ) -> Running
-    requires { Usable blocks width (lent a b counts cells roots waiting sections d marks list)
-        × Going blocks (lent a b counts cells roots waiting sections d marks list) 1 state
+    requires { Usable blocks width (lent a.old b.old counts.old cells.old roots.old waiting.old sections.old d.old marks.old list.old)
+        × Going blocks (lent a.old b.old counts.old cells.old roots.old waiting.old sections.old d.old marks.old list.old) 1 state
         × (f.size ≤ max_number) }
     ensures { Stepped blocks
-        (turn_of blocks width (before a b counts cells roots waiting sections d marks list)
-        (asked blocks (before a b counts cells roots waiting sections d marks list) f))
-        state result (after a b counts cells roots waiting sections d marks list) }
+        (turn_of blocks width (before a.old b.old counts.old cells.old roots.old waiting.old sections.old d.old marks.old list.old)
+        (asked blocks (before a.old b.old counts.old cells.old roots.old waiting.old sections.old d.old marks.old list.old) f))
+        state result (after a.new b.new counts.new cells.new roots.new waiting.new sections.new d.new marks.new list.new) }
 {
     let plan = history_plans::plan_of(blocks, b, cells, roots, d, f);
     let done = acts::act(

@@ -33,10 +33,11 @@ pub fn allocate(
     n: usize,
     r: usize,
 ) -> Done
-    requires { Usable blocks width (lent a b counts cells roots waiting sections d marks list) }
-    ensures { Acted blocks (before a b counts cells roots waiting sections d marks list)
-        (turn_of blocks width (before a b counts cells roots waiting sections d marks list) (makes (allocate_as as_data n r))) result
-        (after a b counts cells roots waiting sections d marks list) }
+    requires { Usable blocks width (lent a.old b.old counts.old cells.old roots.old waiting.old sections.old d.old marks.old list.old) }
+    ensures { Acted blocks (before a.old b.old counts.old cells.old roots.old waiting.old sections.old d.old marks.old list.old)
+        (turn_of blocks width
+        (before a.old b.old counts.old cells.old roots.old waiting.old sections.old d.old marks.old list.old) (makes (allocate_as as_data n r))) result
+        (after a.new b.new counts.new cells.new roots.new waiting.new sections.new d.new marks.new list.new) }
 {
     let first = work_tested::allocate(
         blocks, width, a, b, counts, cells, roots, waiting, sections, d, marks, list, as_data, n, r,

@@ -38,7 +38,8 @@ fn test(
     marks2: usize,
     list2: usize,
 ) -> Reply
-    ensures { CopyGated blocks width (before a b counts cells roots waiting sections d marks list) blocks2 width2
+    ensures { CopyGated blocks width
+        (before a.now b.now counts.now cells.now roots.now waiting.now sections.now d.now marks.now list.now) blocks2 width2
         (shape blocks2 width2 a2 b2 counts2 cells2 roots2 waiting2 sections2 d2 marks2 list2) roots2 result }
 {
     if !check_shape::is_shaped(
@@ -81,10 +82,11 @@ pub fn copy(
     marks2: &mut [u8],
     list2: &mut [Ref],
 ) -> Reply
-    ensures { CopyPromise blocks width (before a b counts cells roots waiting sections d marks list) blocks2 width2
-        (before a2 b2 counts2 cells2 roots2 waiting2 sections2 d2 marks2 list2) result
-        (after a b counts cells roots waiting sections d marks list)
-        (after a2 b2 counts2 cells2 roots2 waiting2 sections2 d2 marks2 list2) }
+    ensures { CopyPromise blocks width
+        (before a.now b.now counts.now cells.now roots.now waiting.now sections.now d.now marks.now list.now) blocks2 width2
+        (before a2.old b2.old counts2.old cells2.old roots2.old waiting2.old sections2.old d2.old marks2.old list2.old) result
+        (after a.now b.now counts.now cells.now roots.now waiting.now sections.now d.now marks.now list.now)
+        (after a2.new b2.new counts2.new cells2.new roots2.new waiting2.new sections2.new d2.new marks2.new list2.new) }
 {
     let tested = test(
         blocks,

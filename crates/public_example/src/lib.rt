@@ -26,8 +26,8 @@ pub fn one_life(
     marks: &mut [u8],
     list: &mut [Ref],
 ) -> Reply
-    ensures { Lived blocks width (before a b counts cells roots waiting sections d marks list) result
-        (after a b counts cells roots waiting sections d marks list) }
+    ensures { Lived blocks width (before a.old b.old counts.old cells.old roots.old waiting.old sections.old d.old marks.old list.old) result
+        (after a.new b.new counts.new cells.new roots.new waiting.new sections.new d.new marks.new list.new) }
 {
     let formatting = public_heap::format(
         blocks, width, a, b, counts, cells, roots, waiting, sections, d, marks, list,

@@ -25,8 +25,9 @@ pub fn format(
     marks: &mut [u8],
     list: &mut [Ref],
 ) -> Reply
-    ensures { Promise blocks width Call.format (before a b counts cells roots waiting sections d marks list) result
-        (after a b counts cells roots waiting sections d marks list) }
+    ensures { Promise blocks width Call.format
+        (before a.old b.old counts.old cells.old roots.old waiting.old sections.old d.old marks.old list.old) result
+        (after a.new b.new counts.new cells.new roots.new waiting.new sections.new d.new marks.new list.new) }
 {
     if !check_shape::is_shaped(
         blocks,
@@ -66,8 +67,9 @@ pub fn allocate(
     n: usize,
     r: usize,
 ) -> Reply
-    ensures { Promise blocks width (Call.allocate n r) (before a b counts cells roots waiting sections d marks list) result
-        (after a b counts cells roots waiting sections d marks list) }
+    ensures { Promise blocks width (Call.allocate n r)
+        (before a.old b.old counts.old cells.old roots.old waiting.old sections.old d.old marks.old list.old) result
+        (after a.new b.new counts.new cells.new roots.new waiting.new sections.new d.new marks.new list.new) }
 {
     let found = test_calls::allocate(
         blocks, width, a, b, counts, cells, roots, waiting, sections, d, marks, list, n, r,
@@ -102,8 +104,9 @@ pub fn allocate_data(
     n: usize,
     r: usize,
 ) -> Reply
-    ensures { Promise blocks width (Call.allocate_data n r) (before a b counts cells roots waiting sections d marks list) result
-        (after a b counts cells roots waiting sections d marks list) }
+    ensures { Promise blocks width (Call.allocate_data n r)
+        (before a.old b.old counts.old cells.old roots.old waiting.old sections.old d.old marks.old list.old) result
+        (after a.new b.new counts.new cells.new roots.new waiting.new sections.new d.new marks.new list.new) }
 {
     let tested = test_calls::allocate_data(
         blocks, width, a, b, counts, cells, roots, waiting, sections, d, marks, list, n, r,
@@ -137,8 +140,9 @@ pub fn collect(
     marks: &[u8],
     list: &[Ref],
 ) -> Reply
-    ensures { Promise blocks width Call.collect (before a b counts cells roots waiting sections d marks list) result
-        (after a b counts cells roots waiting sections d marks list) }
+    ensures { Promise blocks width Call.collect
+        (before a.old b.old counts.old cells.old roots.now waiting.old sections.old d.old marks.now list.now) result
+        (after a.new b.new counts.new cells.new roots.now waiting.new sections.new d.new marks.now list.now) }
 {
     let checked = test_calls::none_open(
         blocks, width, a, b, counts, cells, roots, waiting, sections, d, marks, list,

@@ -25,8 +25,9 @@ pub fn reason(
     at: usize,
     out: &mut [u8],
 ) -> Reply
-    ensures { ReasonPromise blocks width at (before a b counts cells roots waiting sections d marks list) out.old result
-        (after a b counts cells roots waiting sections d marks list) out.new }
+    ensures { ReasonPromise blocks width at
+        (before a.now b.now counts.now cells.now roots.now waiting.now sections.now d.now marks.now list.now) out.old result
+        (after a.now b.now counts.now cells.now roots.now waiting.now sections.now d.now marks.now list.now) out.new }
 {
     let checked = public_read::check(
         blocks, width, a, b, counts, cells, roots, waiting, sections, d, marks, list,
@@ -56,8 +57,9 @@ pub fn shape(
     list: &[Ref],
     out: &mut [u32],
 ) -> Reply
-    ensures { ShapePromise blocks width (before a b counts cells roots waiting sections d marks list) out.old result
-        (after a b counts cells roots waiting sections d marks list) out.new }
+    ensures { ShapePromise blocks width
+        (before a.now b.now counts.now cells.now roots.now waiting.now sections.now d.now marks.now list.now) out.old result
+        (after a.now b.now counts.now cells.now roots.now waiting.now sections.now d.now marks.now list.now) out.new }
 {
     let tested = public_read::check(
         blocks, width, a, b, counts, cells, roots, waiting, sections, d, marks, list,

@@ -25,8 +25,9 @@ pub fn check(
     marks: &[u8],
     list: &[Ref],
 ) -> Reply
-    ensures { Promise blocks width Call.check (before a b counts cells roots waiting sections d marks list) result
-        (after a b counts cells roots waiting sections d marks list) }
+    ensures { Promise blocks width Call.check
+        (before a.now b.now counts.now cells.now roots.now waiting.now sections.now d.now marks.now list.now) result
+        (after a.now b.now counts.now cells.now roots.now waiting.now sections.now d.now marks.now list.now) }
 {
     if !check_shape::is_shaped(
         blocks,
@@ -76,8 +77,9 @@ pub fn free_blocks(
     marks: &[u8],
     list: &[Ref],
 ) -> Reply
-    ensures { Promise blocks width Call.free_blocks (before a b counts cells roots waiting sections d marks list) result
-        (after a b counts cells roots waiting sections d marks list) }
+    ensures { Promise blocks width Call.free_blocks
+        (before a.now b.now counts.now cells.now roots.now waiting.now sections.now d.now marks.now list.now) result
+        (after a.now b.now counts.now cells.now roots.now waiting.now sections.now d.now marks.now list.now) }
 {
     let check_reply = check(
         blocks, width, a, b, counts, cells, roots, waiting, sections, d, marks, list,
@@ -105,8 +107,9 @@ pub fn look(
     list: &[Ref],
     at: usize,
 ) -> Reply
-    ensures { Promise blocks width (Call.look at) (before a b counts cells roots waiting sections d marks list) result
-        (after a b counts cells roots waiting sections d marks list) }
+    ensures { Promise blocks width (Call.look at)
+        (before a.now b.now counts.now cells.now roots.now waiting.now sections.now d.now marks.now list.now) result
+        (after a.now b.now counts.now cells.now roots.now waiting.now sections.now d.now marks.now list.now) }
 {
     let checked = check(
         blocks, width, a, b, counts, cells, roots, waiting, sections, d, marks, list,
@@ -135,8 +138,9 @@ pub fn read_number(
     at: usize,
     j: usize,
 ) -> Reply
-    ensures { Promise blocks width (Call.read_number at j) (before a b counts cells roots waiting sections d marks list) result
-        (after a b counts cells roots waiting sections d marks list) }
+    ensures { Promise blocks width (Call.read_number at j)
+        (before a.now b.now counts.now cells.now roots.now waiting.now sections.now d.now marks.now list.now) result
+        (after a.now b.now counts.now cells.now roots.now waiting.now sections.now d.now marks.now list.now) }
 {
     let tested = check(
         blocks, width, a, b, counts, cells, roots, waiting, sections, d, marks, list,

@@ -26,8 +26,9 @@ pub fn open_collection(
     marks: &mut [u8],
     list: &mut [Ref],
 ) -> Reply
-    ensures { Promise blocks width Call.open_collection (before a b counts cells roots waiting sections d marks list) result
-        (after a b counts cells roots waiting sections d marks list) }
+    ensures { Promise blocks width Call.open_collection
+        (before a.now b.now counts.now cells.now roots.now waiting.now sections.now d.now marks.old list.old) result
+        (after a.now b.now counts.now cells.now roots.now waiting.now sections.now d.now marks.new list.new) }
 {
     let shut = test_calls::none_open(
         blocks, width, a, b, counts, cells, roots, waiting, sections, d, marks, list,
@@ -56,8 +57,9 @@ pub fn step_collection(
     list: &mut [Ref],
     budget: usize,
 ) -> Reply
-    ensures { Promise blocks width (Call.take_steps budget) (before a b counts cells roots waiting sections d marks list) result
-        (after a b counts cells roots waiting sections d marks list) }
+    ensures { Promise blocks width (Call.take_steps budget)
+        (before a.old b.old counts.old cells.old roots.now waiting.old sections.old d.old marks.old list.old) result
+        (after a.new b.new counts.new cells.new roots.now waiting.new sections.new d.new marks.new list.new) }
 {
     let tested = test_calls::one_open(
         blocks, width, a, b, counts, cells, roots, waiting, sections, d, marks, list,

@@ -27,8 +27,9 @@ pub fn store_root(
     r: usize,
     v: usize,
 ) -> Reply
-    ensures { Promise blocks width (Call.store_root r v) (before a b counts cells roots waiting sections d marks list) result
-        (after a b counts cells roots waiting sections d marks list) }
+    ensures { Promise blocks width (Call.store_root r v)
+        (before a.old b.old counts.old cells.old roots.old waiting.old sections.old d.old marks.old list.old) result
+        (after a.new b.new counts.new cells.new roots.new waiting.new sections.new d.new marks.new list.new) }
 {
     let tested = test_calls::store_root(
         blocks, width, a, b, counts, cells, roots, waiting, sections, d, marks, list, r, v,
@@ -62,8 +63,9 @@ pub fn store_cell(
     j: usize,
     v: usize,
 ) -> Reply
-    ensures { Promise blocks width (Call.store_cell at j v) (before a b counts cells roots waiting sections d marks list) result
-        (after a b counts cells roots waiting sections d marks list) }
+    ensures { Promise blocks width (Call.store_cell at j v)
+        (before a.old b.old counts.old cells.old roots.now waiting.old sections.old d.old marks.old list.old) result
+        (after a.new b.new counts.new cells.new roots.now waiting.new sections.new d.new marks.new list.new) }
 {
     let tested = test_calls::store_cell(
         blocks, width, a, b, counts, cells, roots, waiting, sections, d, marks, list, at, j, v,
@@ -95,8 +97,9 @@ pub fn return_roots(
     list: &mut [Ref],
     chosen: u64,
 ) -> Reply
-    ensures { Promise blocks width (Call.return_roots chosen) (before a b counts cells roots waiting sections d marks list) result
-        (after a b counts cells roots waiting sections d marks list) }
+    ensures { Promise blocks width (Call.return_roots chosen)
+        (before a.old b.old counts.old cells.old roots.old waiting.old sections.old d.old marks.old list.old) result
+        (after a.new b.new counts.new cells.new roots.new waiting.new sections.new d.new marks.new list.new) }
 {
     let tested = test_calls::return_roots(
         blocks, width, a, b, counts, cells, roots, waiting, sections, d, marks, list, chosen,
@@ -131,8 +134,9 @@ pub fn write_number(
     j: usize,
     x: Ref,
 ) -> Reply
-    ensures { Promise blocks width (Call.write_number at j x) (before a b counts cells roots waiting sections d marks list) result
-        (after a b counts cells roots waiting sections d marks list) }
+    ensures { Promise blocks width (Call.write_number at j x)
+        (before a.now b.now counts.now cells.old roots.now waiting.now sections.now d.now marks.now list.now) result
+        (after a.now b.now counts.now cells.new roots.now waiting.now sections.now d.now marks.now list.now) }
 {
     let tested = test_calls::write_number(
         blocks, width, a, b, counts, cells, roots, waiting, sections, d, marks, list, at, j, x,

@@ -28,9 +28,9 @@ pub fn replay(
     replies: &mut [u64],
 ) -> Reply
     ensures { Replayed blocks width
-        (before a b counts cells roots waiting sections d marks list)
+        (before a.old b.old counts.old cells.old roots.old waiting.old sections.old d.old marks.old list.old)
         calls.now replies.old result
-        (after a b counts cells roots waiting sections d marks list)
+        (after a.new b.new counts.new cells.new roots.new waiting.new sections.new d.new marks.new list.new)
         replies.new }
 {
     let test = tests::replay_reply(

@@ -28,7 +28,8 @@ fn batch_reply(
     calls: &[u64],
     room: usize,
 ) -> Reply
-    ensures { result ≡ batch_reply blocks width (before a b counts cells roots waiting sections d marks list) calls.now room }
+    ensures { result ≡ batch_reply blocks width
+        (before a.now b.now counts.now cells.now roots.now waiting.now sections.now d.now marks.now list.now) calls.now room }
 {
     let checked = public_read::check(
         blocks, width, a, b, counts, cells, roots, waiting, sections, d, marks, list,
@@ -74,9 +75,9 @@ pub fn make_calls(
     replies: &mut [u64],
 ) -> Reply
     ensures { Batch blocks width
-        (before a b counts cells roots waiting sections d marks list)
+        (before a.old b.old counts.old cells.old roots.old waiting.old sections.old d.old marks.old list.old)
         calls.now replies.old result
-        (after a b counts cells roots waiting sections d marks list)
+        (after a.new b.new counts.new cells.new roots.new waiting.new sections.new d.new marks.new list.new)
         replies.new }
 {
     let reply = batch_reply(

@@ -28,9 +28,10 @@ pub fn step(
     y: u64,
     z: u64,
 ) -> Reply
-    requires { Usable blocks width (lent a b counts cells roots waiting sections d marks list) }
-    ensures { Dispatched blocks width code x y z (before a b counts cells roots waiting sections d marks list) result
-        (after a b counts cells roots waiting sections d marks list) }
+    requires { Usable blocks width (lent a.old b.old counts.old cells.old roots.old waiting.old sections.old d.old marks.old list.old) }
+    ensures { Dispatched blocks width code x y z
+        (before a.old b.old counts.old cells.old roots.old waiting.old sections.old d.old marks.old list.old) result
+        (after a.new b.new counts.new cells.new roots.new waiting.new sections.new d.new marks.new list.new) }
 {
     match code {
         0 => work_format::format(

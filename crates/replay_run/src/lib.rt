@@ -28,12 +28,12 @@ pub fn run_all(
     calls: &[u64],
     replies: &mut [u64],
 )
-    requires { Usable blocks width (lent a b counts cells roots waiting sections d marks list)
+    requires { Usable blocks width (lent a.old b.old counts.old cells.old roots.old waiting.old sections.old d.old marks.old list.old)
         × (are_calls calls.now (length calls.now / 4) ≡ true) × (3 * (length calls.now / 4) ≤ length replies.old) }
     ensures { AsRun blocks width
-        (before a b counts cells roots waiting sections d marks list)
+        (before a.old b.old counts.old cells.old roots.old waiting.old sections.old d.old marks.old list.old)
         calls.now replies.old
-        (after a b counts cells roots waiting sections d marks list)
+        (after a.new b.new counts.new cells.new roots.new waiting.new sections.new d.new marks.new list.new)
         replies.new }
 {
     let n = calls.len() / 4;

@@ -43,8 +43,8 @@ pub fn run_piece(
     list: &mut [Ref; LIST],
     bytes: &[u8],
 ) -> PieceOutcome
-    ensures { piece_meaning bytes.now (before a b counts cells roots waiting sections d marks list) run result
-        (after a b counts cells roots waiting sections d marks list)
+    ensures { piece_meaning bytes.now (before a.old b.old counts.old cells.old roots.old waiting.old sections.old d.old marks.old list.old) run result
+        (after a.new b.new counts.new cells.new roots.new waiting.new sections.new d.new marks.new list.new)
         × Bytes bytes.now }
 {
     let ran = history::run_records(

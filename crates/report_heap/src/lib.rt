@@ -38,7 +38,7 @@ pub fn format(
     marks: &mut [u8; MAP_BYTES],
     list: &mut [Ref; LIST],
 )
-    ensures { after a b counts cells roots waiting sections d marks list ≡ new_heap }
+    ensures { after a.new b.new counts.new cells.new roots.new waiting.new sections.new d.new marks.new list.new ≡ new_heap }
 {
     public_heap::format(
         BLOCKS, WIDTH, a, b, counts, cells, roots, waiting, sections, d, marks, list,

@@ -31,7 +31,8 @@ pub fn allocate(
     n: usize,
     r: usize,
 ) -> Reply
-    ensures { Gated blocks width (Call.allocate n r) (before a b counts cells roots waiting sections d marks list) result
+    ensures { Gated blocks width (Call.allocate n r)
+        (before a.now b.now counts.now cells.now roots.now waiting.now sections.now d.now marks.now list.now) result
         (allocate_reply blocks a.now (length roots.now) n r) }
 {
     let checked = public_read::check(
@@ -61,7 +62,8 @@ pub fn allocate_data(
     n: usize,
     r: usize,
 ) -> Reply
-    ensures { Gated blocks width (Call.allocate_data n r) (before a b counts cells roots waiting sections d marks list) result
+    ensures { Gated blocks width (Call.allocate_data n r)
+        (before a.now b.now counts.now cells.now roots.now waiting.now sections.now d.now marks.now list.now) result
         (allocate_reply blocks a.now (length roots.now) n r) }
 {
     let checked = public_read::check(
@@ -92,7 +94,8 @@ pub fn store_root(
     r: usize,
     v: usize,
 ) -> Reply
-    ensures { Gated blocks width (Call.store_root r v) (before a b counts cells roots waiting sections d marks list) result
+    ensures { Gated blocks width (Call.store_root r v)
+        (before a.now b.now counts.now cells.now roots.now waiting.now sections.now d.now marks.now list.now) result
         (store_root_test blocks (memory a.now b.now [] [] roots.now []) r v) }
 {
     let checked = public_read::check(
@@ -123,7 +126,8 @@ pub fn store_cell(
     j: usize,
     v: usize,
 ) -> Reply
-    ensures { Gated blocks width (Call.store_cell at j v) (before a b counts cells roots waiting sections d marks list) result
+    ensures { Gated blocks width (Call.store_cell at j v)
+        (before a.now b.now counts.now cells.now roots.now waiting.now sections.now d.now marks.now list.now) result
         (store_cell_test blocks (lent_memory a.now b.now [] [] [] [] [] d.now [] []) at j v) }
 {
     let checked = public_read::check(
@@ -152,7 +156,8 @@ pub fn return_roots(
     list: &[Ref],
     chosen: u64,
 ) -> Reply
-    ensures { Gated blocks width (Call.return_roots chosen) (before a b counts cells roots waiting sections d marks list) result
+    ensures { Gated blocks width (Call.return_roots chosen)
+        (before a.now b.now counts.now cells.now roots.now waiting.now sections.now d.now marks.now list.now) result
         (return_test (length roots.now) chosen) }
 {
     let checked = public_read::check(
@@ -183,7 +188,8 @@ pub fn write_number(
     j: usize,
     v: Ref,
 ) -> Reply
-    ensures { Gated blocks width (Call.write_number at j v) (before a b counts cells roots waiting sections d marks list) result
+    ensures { Gated blocks width (Call.write_number at j v)
+        (before a.now b.now counts.now cells.now roots.now waiting.now sections.now d.now marks.now list.now) result
         (number_test blocks (lent_memory a.now b.now [] [] [] [] [] d.now [] []) at j) }
 {
     let checked = public_read::check(
@@ -211,9 +217,11 @@ pub fn none_open(
     marks: &[u8],
     list: &[Ref],
 ) -> Reply
-    ensures { Gated blocks width Call.collect (before a b counts cells roots waiting sections d marks list) result
+    ensures { Gated blocks width Call.collect
+        (before a.now b.now counts.now cells.now roots.now waiting.now sections.now d.now marks.now list.now) result
         (shut_test blocks list.now)
-        × Gated blocks width Call.open_collection (before a b counts cells roots waiting sections d marks list) result
+        × Gated blocks width Call.open_collection
+        (before a.now b.now counts.now cells.now roots.now waiting.now sections.now d.now marks.now list.now) result
         (shut_test blocks list.now) }
 {
     let checked = public_read::check(
@@ -242,7 +250,8 @@ pub fn one_open(
     list: &[Ref],
 ) -> Reply
     ensures { (budget : ℕ)
-        → Gated blocks width (Call.take_steps budget) (before a b counts cells roots waiting sections d marks list) result
+        → Gated blocks width (Call.take_steps budget)
+        (before a.now b.now counts.now cells.now roots.now waiting.now sections.now d.now marks.now list.now) result
         (open_test blocks list.now) }
 {
     let tested = public_read::check(

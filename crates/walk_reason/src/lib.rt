@@ -277,9 +277,10 @@ pub fn reason(
     at: usize,
     out: &mut [u8],
 ) -> Reply
-    requires { Undamaged blocks width (lent a b counts cells roots waiting sections d marks list) }
-    ensures { ReasonPromise blocks width at (before a b counts cells roots waiting sections d marks list) out.old result
-        (after a b counts cells roots waiting sections d marks list) out.new }
+    requires { Undamaged blocks width (lent a.now b.now counts.now cells.now roots.now waiting.now sections.now d.now marks.now list.now) }
+    ensures { ReasonPromise blocks width at
+        (before a.now b.now counts.now cells.now roots.now waiting.now sections.now d.now marks.now list.now) out.old result
+        (after a.now b.now counts.now cells.now roots.now waiting.now sections.now d.now marks.now list.now) out.new }
 {
     if !map_objects::objects::is_first(blocks, a, b, at) {
         return replies::refusal(6);

@@ -310,9 +310,10 @@ pub fn shape(
     list: &[Ref],
     out: &mut [u32],
 ) -> Reply
-    requires { Undamaged blocks width (lent a b counts cells roots waiting sections d marks list) }
-    ensures { ShapePromise blocks width (before a b counts cells roots waiting sections d marks list) out.old result
-        (after a b counts cells roots waiting sections d marks list) out.new }
+    requires { Undamaged blocks width (lent a.now b.now counts.now cells.now roots.now waiting.now sections.now d.now marks.now list.now) }
+    ensures { ShapePromise blocks width
+        (before a.now b.now counts.now cells.now roots.now waiting.now sections.now d.now marks.now list.now) out.old result
+        (after a.now b.now counts.now cells.now roots.now waiting.now sections.now d.now marks.now list.now) out.new }
 {
     let length = shape_in_room(SMALL_ROOM, blocks, a, b, d, cells, roots, out);
     if out.len() < length {

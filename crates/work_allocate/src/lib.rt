@@ -32,10 +32,11 @@ pub fn allocate(
     r: usize,
     at: usize,
 ) -> Outcome
-    requires { Usable blocks width (lent a b counts cells roots waiting sections d marks list)
+    requires { Usable blocks width (lent a.old b.old counts.old cells.old roots.old waiting.old sections.old d.old marks.old list.old)
         × (allocate_reply blocks a.old (length roots.old) n r ≡ reply 0 at 0) }
-    ensures { Worked blocks width (allocate_as as_data n r) (before a b counts cells roots waiting sections d marks list) result
-        (after a b counts cells roots waiting sections d marks list) }
+    ensures { Worked blocks width (allocate_as as_data n r)
+        (before a.old b.old counts.old cells.old roots.old waiting.old sections.old d.old marks.old list.old) result
+        (after a.new b.new counts.new cells.new roots.new waiting.new sections.new d.new marks.new list.new) }
 {
     let stuck = types::capacity_of(width) == 1;
     let new = (at + 1) as Ref;

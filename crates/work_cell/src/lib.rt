@@ -31,10 +31,12 @@ pub fn store_cell(
     j: usize,
     v: usize,
 ) -> Outcome
-    requires { Usable blocks width (lent a b counts cells roots waiting sections d marks list)
-        × ((store_cell_test blocks (lent a b counts cells roots waiting sections d marks list) at j v).number ≡ 0) }
-    ensures { Worked blocks width (Call.store_cell at j v) (before a b counts cells roots waiting sections d marks list) result
-        (after a b counts cells roots waiting sections d marks list) }
+    requires { Usable blocks width (lent a.old b.old counts.old cells.old roots.now waiting.old sections.old d.old marks.old list.old)
+        × ((store_cell_test blocks
+        (lent a.old b.old counts.old cells.old roots.now waiting.old sections.old d.old marks.old list.old) at j v).number ≡ 0) }
+    ensures { Worked blocks width (Call.store_cell at j v)
+        (before a.old b.old counts.old cells.old roots.now waiting.old sections.old d.old marks.old list.old) result
+        (after a.new b.new counts.new cells.new roots.now waiting.new sections.new d.new marks.new list.new) }
 {
     let new = v as Ref;
     let c = 4 * at + j;

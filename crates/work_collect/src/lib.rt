@@ -27,10 +27,11 @@ pub fn collect(
     marks: &[u8],
     list: &[Ref],
 ) -> Outcome
-    requires { Usable blocks width (lent a b counts cells roots waiting sections d marks list)
-        × (is_open blocks (lent a b counts cells roots waiting sections d marks list) ≡ false) }
-    ensures { Worked blocks width Call.collect (before a b counts cells roots waiting sections d marks list) result
-        (after a b counts cells roots waiting sections d marks list) }
+    requires { Usable blocks width (lent a.old b.old counts.old cells.old roots.now waiting.old sections.old d.old marks.now list.now)
+        × (is_open blocks (lent a.old b.old counts.old cells.old roots.now waiting.old sections.old d.old marks.now list.now) ≡ false) }
+    ensures { Worked blocks width Call.collect
+        (before a.old b.old counts.old cells.old roots.now waiting.old sections.old d.old marks.now list.now) result
+        (after a.new b.new counts.new cells.new roots.now waiting.new sections.new d.new marks.now list.now) }
 {
     collect_mark::mark(blocks, width, b, counts, cells, roots, waiting, d);
     let freed = collect_sweep::sweep(blocks, width, a, b, counts, cells, sections, d);

@@ -57,13 +57,14 @@ pub fn copy(
     marks2: &mut [u8],
     list2: &mut [Ref],
 ) -> Reply
-    requires { Undamaged blocks width (lent a b counts cells roots waiting sections d marks list)
-        × (is_open blocks (lent a b counts cells roots waiting sections d marks list) ≡ false)
-        × (shaped blocks2 width2 (lent a2 b2 counts2 cells2 roots2 waiting2 sections2 d2 marks2 list2) ≡ true)
+    requires { Undamaged blocks width (lent a.now b.now counts.now cells.now roots.now waiting.now sections.now d.now marks.now list.now)
+        × (is_open blocks (lent a.now b.now counts.now cells.now roots.now waiting.now sections.now d.now marks.now list.now) ≡ false)
+        × (shaped blocks2 width2 (lent a2.old b2.old counts2.old cells2.old roots2.old waiting2.old sections2.old d2.old marks2.old list2.old) ≡ true)
         × (length roots.now ≡ length roots2.old) }
-    ensures { Promise blocks2 width2 (Call.copy_from blocks width (before a b counts cells roots waiting sections d marks list))
-        (before a2 b2 counts2 cells2 roots2 waiting2 sections2 d2 marks2 list2) result
-        (after a2 b2 counts2 cells2 roots2 waiting2 sections2 d2 marks2 list2) }
+    ensures { Promise blocks2 width2 (Call.copy_from blocks width
+        (before a.now b.now counts.now cells.now roots.now waiting.now sections.now d.now marks.now list.now))
+        (before a2.old b2.old counts2.old cells2.old roots2.old waiting2.old sections2.old d2.old marks2.old list2.old) result
+        (after a2.new b2.new counts2.new cells2.new roots2.new waiting2.new sections2.new d2.new marks2.new list2.new) }
 {
     if !copy_lists::write_in_room(
         copy_lists::SMALL_ROOM,

@@ -26,9 +26,10 @@ pub fn format(
     marks: &mut [u8],
     list: &mut [Ref],
 ) -> Reply
-    requires { shaped blocks width (lent a b counts cells roots waiting sections d marks list) ≡ true }
-    ensures { Promise blocks width Call.format (before a b counts cells roots waiting sections d marks list) result
-        (after a b counts cells roots waiting sections d marks list) }
+    requires { shaped blocks width (lent a.old b.old counts.old cells.old roots.old waiting.old sections.old d.old marks.old list.old) ≡ true }
+    ensures { Promise blocks width Call.format
+        (before a.old b.old counts.old cells.old roots.old waiting.old sections.old d.old marks.old list.old) result
+        (after a.new b.new counts.new cells.new roots.new waiting.new sections.new d.new marks.new list.new) }
 {
     bitmap::fill_bytes(a, 0);
     bitmap::fill_bytes(b, 255);

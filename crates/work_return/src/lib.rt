@@ -31,12 +31,12 @@ fn clear_chosen(
     chosen: u64,
     r: usize,
 ) -> usize
-    requires { Usable blocks width (lent a b counts cells roots waiting sections d marks list)
+    requires { Usable blocks width (lent a.old b.old counts.old cells.old roots.old waiting.old sections.old d.old marks.old list.old)
         × (r < length roots.old) }
     ensures { ClearedIfChosen blocks width
-        (before a b counts cells roots waiting sections d marks list)
+        (before a.old b.old counts.old cells.old roots.old waiting.old sections.old d.old marks.old list.old)
         chosen r
-        (after a b counts cells roots waiting sections d marks list)
+        (after a.new b.new counts.new cells.new roots.new waiting.new sections.new d.new marks.new list.new)
         result }
 {
     if (chosen >> r) % 2 != 1 {
@@ -64,10 +64,11 @@ pub fn clear_roots(
     list: &mut [Ref],
     chosen: u64,
 ) -> Outcome
-    requires { Usable blocks width (lent a b counts cells roots waiting sections d marks list)
+    requires { Usable blocks width (lent a.old b.old counts.old cells.old roots.old waiting.old sections.old d.old marks.old list.old)
         × ((return_test (length roots.old) chosen).number ≡ 0) }
-    ensures { Worked blocks width (Call.return_roots chosen) (before a b counts cells roots waiting sections d marks list) result
-        (after a b counts cells roots waiting sections d marks list) }
+    ensures { Worked blocks width (Call.return_roots chosen)
+        (before a.old b.old counts.old cells.old roots.old waiting.old sections.old d.old marks.old list.old) result
+        (after a.new b.new counts.new cells.new roots.new waiting.new sections.new d.new marks.new list.new) }
 {
     let mut freed: usize = 0;
     let mut r = 0;
@@ -102,9 +103,10 @@ pub fn return_roots(
     list: &mut [Ref],
     chosen: u64,
 ) -> Outcome
-    requires { Usable blocks width (lent a b counts cells roots waiting sections d marks list) }
-    ensures { Worked blocks width (Call.return_roots chosen) (before a b counts cells roots waiting sections d marks list) result
-        (after a b counts cells roots waiting sections d marks list) }
+    requires { Usable blocks width (lent a.old b.old counts.old cells.old roots.old waiting.old sections.old d.old marks.old list.old) }
+    ensures { Worked blocks width (Call.return_roots chosen)
+        (before a.old b.old counts.old cells.old roots.old waiting.old sections.old d.old marks.old list.old) result
+        (after a.new b.new counts.new cells.new roots.new waiting.new sections.new d.new marks.new list.new) }
 {
     let test = returning::return_test(roots.len(), chosen);
     let number = test.number;

@@ -30,10 +30,12 @@ pub fn store_root(
     r: usize,
     v: usize,
 ) -> Outcome
-    requires { Usable blocks width (lent a b counts cells roots waiting sections d marks list)
-        × ((store_root_test blocks (lent a b counts cells roots waiting sections d marks list) r v).number ≡ 0) }
-    ensures { Worked blocks width (Call.store_root r v) (before a b counts cells roots waiting sections d marks list) result
-        (after a b counts cells roots waiting sections d marks list) }
+    requires { Usable blocks width (lent a.old b.old counts.old cells.old roots.old waiting.old sections.old d.old marks.old list.old)
+        × ((store_root_test blocks
+        (lent a.old b.old counts.old cells.old roots.old waiting.old sections.old d.old marks.old list.old) r v).number ≡ 0) }
+    ensures { Worked blocks width (Call.store_root r v)
+        (before a.old b.old counts.old cells.old roots.old waiting.old sections.old d.old marks.old list.old) result
+        (after a.new b.new counts.new cells.new roots.new waiting.new sections.new d.new marks.new list.new) }
 {
     let new = v as Ref;
     let old = roots[r];

@@ -39,10 +39,11 @@ pub fn take_steps(
     list: &mut [Ref],
     budget: usize,
 ) -> Reply
-    requires { Usable blocks width (lent a b counts cells roots waiting sections d marks list)
-        × (is_open blocks (lent a b counts cells roots waiting sections d marks list) ≡ true) }
-    ensures { Promise blocks width (Call.take_steps budget) (before a b counts cells roots waiting sections d marks list) result
-        (after a b counts cells roots waiting sections d marks list) }
+    requires { Usable blocks width (lent a.old b.old counts.old cells.old roots.now waiting.old sections.old d.old marks.old list.old)
+        × (is_open blocks (lent a.old b.old counts.old cells.old roots.now waiting.old sections.old d.old marks.old list.old) ≡ true) }
+    ensures { Promise blocks width (Call.take_steps budget)
+        (before a.old b.old counts.old cells.old roots.now waiting.old sections.old d.old marks.old list.old) result
+        (after a.new b.new counts.new cells.new roots.now waiting.new sections.new d.new marks.new list.new) }
 {
     let moves = step_advance::advance(blocks, b, d, cells, marks, list, budget);
     if !moves.done {

@@ -28,9 +28,10 @@ pub fn allocate(
     n: usize,
     r: usize,
 ) -> Outcome
-    requires { Usable blocks width (lent a b counts cells roots waiting sections d marks list) }
-    ensures { Worked blocks width (allocate_as as_data n r) (before a b counts cells roots waiting sections d marks list) result
-        (after a b counts cells roots waiting sections d marks list) }
+    requires { Usable blocks width (lent a.old b.old counts.old cells.old roots.old waiting.old sections.old d.old marks.old list.old) }
+    ensures { Worked blocks width (allocate_as as_data n r)
+        (before a.old b.old counts.old cells.old roots.old waiting.old sections.old d.old marks.old list.old) result
+        (after a.new b.new counts.new cells.new roots.new waiting.new sections.new d.new marks.new list.new) }
 {
     let test = test_allocation::allocate_reply(blocks, a, sections, roots.len(), n, r);
     let number = test.number;
@@ -66,9 +67,10 @@ pub fn store_root(
     r: usize,
     v: usize,
 ) -> Outcome
-    requires { Usable blocks width (lent a b counts cells roots waiting sections d marks list) }
-    ensures { Worked blocks width (Call.store_root r v) (before a b counts cells roots waiting sections d marks list) result
-        (after a b counts cells roots waiting sections d marks list) }
+    requires { Usable blocks width (lent a.old b.old counts.old cells.old roots.old waiting.old sections.old d.old marks.old list.old) }
+    ensures { Worked blocks width (Call.store_root r v)
+        (before a.old b.old counts.old cells.old roots.old waiting.old sections.old d.old marks.old list.old) result
+        (after a.new b.new counts.new cells.new roots.new waiting.new sections.new d.new marks.new list.new) }
 {
     let test = storing::store_root_test(blocks, a, b, roots, r, v);
     let number = test.number;
@@ -103,9 +105,10 @@ pub fn store_cell(
     j: usize,
     v: usize,
 ) -> Outcome
-    requires { Usable blocks width (lent a b counts cells roots waiting sections d marks list) }
-    ensures { Worked blocks width (Call.store_cell at j v) (before a b counts cells roots waiting sections d marks list) result
-        (after a b counts cells roots waiting sections d marks list) }
+    requires { Usable blocks width (lent a.old b.old counts.old cells.old roots.now waiting.old sections.old d.old marks.old list.old) }
+    ensures { Worked blocks width (Call.store_cell at j v)
+        (before a.old b.old counts.old cells.old roots.now waiting.old sections.old d.old marks.old list.old) result
+        (after a.new b.new counts.new cells.new roots.now waiting.new sections.new d.new marks.new list.new) }
 {
     let test = storing::store_cell_test(blocks, a, b, d, at, j, v);
     let number = test.number;
@@ -140,9 +143,10 @@ pub fn write_number(
     j: usize,
     x: Ref,
 ) -> Outcome
-    requires { Usable blocks width (lent a b counts cells roots waiting sections d marks list) }
-    ensures { Worked blocks width (Call.write_number at j x) (before a b counts cells roots waiting sections d marks list) result
-        (after a b counts cells roots waiting sections d marks list) }
+    requires { Usable blocks width (lent a.now b.now counts.now cells.old roots.now waiting.now sections.now d.now marks.now list.now) }
+    ensures { Worked blocks width (Call.write_number at j x)
+        (before a.now b.now counts.now cells.old roots.now waiting.now sections.now d.now marks.now list.now) result
+        (after a.now b.now counts.now cells.new roots.now waiting.now sections.now d.now marks.now list.now) }
 {
     let test = numbers::number_test(blocks, a, b, d, at, j);
     let number = test.number;
@@ -172,9 +176,10 @@ pub fn collect(
     marks: &[u8],
     list: &[Ref],
 ) -> Outcome
-    requires { Usable blocks width (lent a b counts cells roots waiting sections d marks list) }
-    ensures { Worked blocks width Call.collect (before a b counts cells roots waiting sections d marks list) result
-        (after a b counts cells roots waiting sections d marks list) }
+    requires { Usable blocks width (lent a.old b.old counts.old cells.old roots.now waiting.old sections.old d.old marks.now list.now) }
+    ensures { Worked blocks width Call.collect
+        (before a.old b.old counts.old cells.old roots.now waiting.old sections.old d.old marks.now list.now) result
+        (after a.new b.new counts.new cells.new roots.now waiting.new sections.new d.new marks.now list.now) }
 {
     let test = collecting::shut_test(blocks, list);
     let number = test.number;
