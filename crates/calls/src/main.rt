@@ -5,13 +5,14 @@
 mod reading;
 mod run;
 
-fn main() {
-    let heap = reading::read_entry(8);
+fn main(rt: HostRuntime) {
+    let mut input = rt.stdin();
+    let heap = reading::read_entry(&mut input, 8);
     if heap.bytes < 24 {
-        calls_output::say(b"header: cut off\n");
+        calls_output::say(&rt, b"header: cut off\n");
     } else if calls_lent::is_too_large(heap.x, heap.y, heap.z) {
-        calls_output::say(b"header: too large\n");
+        calls_output::say(&rt, b"header: too large\n");
     } else {
-        run::run(heap);
+        run::run(&rt, &mut input, heap);
     }
 }

@@ -1,8 +1,8 @@
-// Entries read from standard input: four little-endian words of eight bytes each.
+// Entries read from an input, as standard input: four little-endian words of eight bytes each.
 ghost use Rattle.std.specs.Prelude.{◌+◌, ◌^◌, ◌<◌, ◌≤◌};
 
 use calls_entries::Entry;
-use libc::STDIN_FILENO;
+use std::io::Read;
 
 // The number of four bytes, the lowest first.
 fn half(bytes: &[u8; 32], at: usize) -> usize
@@ -22,14 +22,14 @@ fn word(bytes: &[u8; 32], at: usize) -> usize
     half(bytes, at) + half(bytes, at + 4) * 4294967296
 }
 
-// Reads an entry from byte `start` of its 32 on; a header is an entry without the eight bytes of its kind.
-pub fn read_entry(start: usize) -> Entry
+// Reads an entry, until it is whole, the input ends or a read fails, from byte `start` of its 32 on; a header is an entry without the eight bytes of its kind.
+pub fn read_entry(input: &mut impl Read, start: usize) -> Entry
     requires { start ≤ 32 }
 {
     let mut bytes = [0u8; 32];
-    let n = io::read_full(STDIN_FILENO, &mut bytes[start..]);
+    let piece = history_input::read_piece(input, &mut bytes[start..]);
     Entry {
-        bytes: n,
+        bytes: piece.length,
         kind: word(&bytes, 0),
         x: word(&bytes, 8),
         y: word(&bytes, 16),

@@ -3,47 +3,53 @@ ghost use Rattle.calls_lent.specs.Within.{Within};
 
 use crate::reading;
 use calls_entries::Entry;
+use std::io::Read;
 use types::{MAX_BLOCKS, MAX_NUMBER, Ref, Reply};
 
 // More entries than any input has: together they are longer than 2^64 bytes.
 const MOST: usize = 1152921504606846976;
 
 // What is wrong with an entry.
-fn say_wrong(call: usize, text: &[u8]) -> bool {
-    calls_output::say(b"call ");
-    calls_output::say_number(call);
-    calls_output::say(b": ");
-    calls_output::say(text)
+fn say_wrong(rt: &(impl Print + Eprint), call: usize, text: &[u8]) -> bool {
+    calls_output::say(rt, b"call ");
+    calls_output::say_number(rt, call);
+    calls_output::say(rt, b": ");
+    calls_output::say(rt, text)
 }
 
 // Entry number k. A length is set here, and what is wrong with an entry is said here: then nothing is left to do, as of a length.
-fn next_entry(lengths: &mut [usize; calls_lent::BUFFERS], k: usize) -> Entry
+fn next_entry(
+    rt: &(impl Print + Eprint),
+    input: &mut impl Read,
+    lengths: &mut [usize; calls_lent::BUFFERS],
+    k: usize,
+) -> Entry
     requires { Within lengths.old }
     ensures { Within lengths.new }
 {
-    let mut e = reading::read_entry(0);
+    let mut e = reading::read_entry(input, 0);
     let kind = e.kind;
     if e.bytes < 32 {
         if e.bytes > 0 {
-            say_wrong(k, b"cut off\n");
+            say_wrong(rt, k, b"cut off\n");
         }
         e.kind = calls_entries::END;
     } else if kind == calls_entries::LENGTH {
         if !calls_lent::set_length(lengths, e.x, e.y) {
-            say_wrong(k, b"length out of range\n");
+            say_wrong(rt, k, b"length out of range\n");
         }
     } else if (kind == calls_entries::NEW || kind == calls_entries::COPY)
         && calls_lent::is_too_large(e.x, e.y, e.z)
     {
-        say_wrong(k, b"too large\n");
+        say_wrong(rt, k, b"too large\n");
         e.kind = calls_entries::LENGTH;
     } else if kind == calls_entries::WRITE_NUMBER && e.z > MAX_NUMBER {
-        say_wrong(k, b"number out of range\n");
+        say_wrong(rt, k, b"number out of range\n");
         e.kind = calls_entries::LENGTH;
     } else if kind == calls_entries::REASON && e.y > calls_entries::MAX_SENTENCE
         || kind == calls_entries::SHAPE && e.x > calls_entries::MAX_SHAPE
     {
-        say_wrong(k, b"length out of range\n");
+        say_wrong(rt, k, b"length out of range\n");
         e.kind = calls_entries::LENGTH;
     } else if kind > calls_entries::LAST_CALL
         && kind != calls_entries::REASON
@@ -52,27 +58,27 @@ fn next_entry(lengths: &mut [usize; calls_lent::BUFFERS], k: usize) -> Entry
         && kind != calls_entries::LOAD
         && kind != calls_entries::NEW
     {
-        say_wrong(k, b"unknown call ");
-        calls_output::say_number(kind);
-        calls_output::end_line();
+        say_wrong(rt, k, b"unknown call ");
+        calls_output::say_number(rt, kind);
+        calls_output::end_line(rt);
         e.kind = calls_entries::LENGTH;
     }
     e
 }
 
 // Says what came of entry number k; false where the last write failed.
-fn say_outcome(kind: usize, reply: Reply, k: usize) -> bool {
+fn say_outcome(rt: &(impl Print + Eprint), kind: usize, reply: Reply, k: usize) -> bool {
     if kind <= calls_entries::LAST_CALL {
-        return calls_output::say_reply(reply);
+        return calls_output::say_reply(rt, reply);
     }
     if kind == calls_entries::LOAD && reply.number != 0 {
-        return say_wrong(k, b"load out of range\n");
+        return say_wrong(rt, k, b"load out of range\n");
     }
     reply.number == 0
 }
 
 // The entries of all heaps, each of which starts with zeros.
-pub fn run(first: Entry) {
+pub fn run(rt: &(impl Print + Eprint), input: &mut impl Read, first: Entry) {
     let mut heap = first;
     let mut a = [0u8; calls_lent::MAX_BYTES];
     let mut b = [0u8; calls_lent::MAX_BYTES];
@@ -87,7 +93,7 @@ pub fn run(first: Entry) {
     let mut lengths = calls_lent::lengths(heap.x, heap.y, heap.z);
     let mut k = 0;
     while k < MOST {
-        let e = next_entry(&mut lengths, k);
+        let e = next_entry(rt, input, &mut lengths, k);
         let la = lengths[0];
         let lb = lengths[1];
         let lcounts = lengths[2];
@@ -99,6 +105,7 @@ pub fn run(first: Entry) {
         let lmarks = lengths[8];
         let llist = lengths[9];
         let reply = calls_entries::perform::perform(
+            rt,
             heap,
             &mut a[..la],
             &mut b[..lb],
@@ -112,7 +119,7 @@ pub fn run(first: Entry) {
             &mut list[..llist],
             e,
         );
-        if !say_outcome(e.kind, reply, k) || e.kind == calls_entries::END {
+        if !say_outcome(rt, e.kind, reply, k) || e.kind == calls_entries::END {
             return;
         }
         k += 1;

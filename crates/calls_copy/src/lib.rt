@@ -24,6 +24,7 @@ fn within(length: usize, largest: usize) -> usize
 
 // The lines of a heap's buffers. Whether the last write was made.
 pub fn say_heap(
+    rt: &(impl Print + Eprint),
     a: &[u8],
     b: &[u8],
     counts: &[u8],
@@ -35,20 +36,21 @@ pub fn say_heap(
     marks: &[u8],
     list: &[Ref],
 ) -> bool {
-    calls_output::say_bytes(a);
-    calls_output::say_bytes(b);
-    calls_output::say_bytes(counts);
-    calls_output::say_refs(cells);
-    calls_output::say_refs(roots);
-    calls_output::say_refs(waiting);
-    calls_output::say_refs(sections);
-    calls_output::say_bytes(d);
-    calls_output::say_bytes(marks);
-    calls_output::say_refs(list)
+    calls_output::say_bytes(rt, a);
+    calls_output::say_bytes(rt, b);
+    calls_output::say_bytes(rt, counts);
+    calls_output::say_refs(rt, cells);
+    calls_output::say_refs(rt, roots);
+    calls_output::say_refs(rt, waiting);
+    calls_output::say_refs(rt, sections);
+    calls_output::say_bytes(rt, d);
+    calls_output::say_bytes(rt, marks);
+    calls_output::say_refs(rt, list)
 }
 
 // Copies the first heap into the second. The reply is said, and then the second heap's buffers. Whether the last write was made.
 fn say_copy(
+    rt: &(impl Print + Eprint),
     n: usize,
     w: usize,
     a: &[u8],
@@ -78,14 +80,15 @@ fn say_copy(
         n, w, a, b, counts, cells, roots, waiting, sections, d, marks, list, n2, w2, a2, b2,
         counts2, cells2, roots2, waiting2, sections2, d2, marks2, list2,
     );
-    calls_output::say_reply(reply);
+    calls_output::say_reply(rt, reply);
     say_heap(
-        a2, b2, counts2, cells2, roots2, waiting2, sections2, d2, marks2, list2,
+        rt, a2, b2, counts2, cells2, roots2, waiting2, sections2, d2, marks2, list2,
     )
 }
 
 // The same, into a heap of n2 blocks, count width w2 and so many roots, which is lent at the lengths of these numbers.
 pub fn copy(
+    rt: &(impl Print + Eprint),
     n: usize,
     w: usize,
     a: &[u8],
@@ -121,6 +124,7 @@ pub fn copy(
     let mut marks2 = [FULL_BYTE; MAX_BYTES];
     let mut list2 = [FULL_NUMBER; MAX_LIST];
     say_copy(
+        rt,
         n,
         w,
         a,

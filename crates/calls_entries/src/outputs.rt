@@ -22,6 +22,7 @@ fn within(length: usize, largest: usize) -> usize
 // The reason why the object at block `at` is kept. The reply is said, and then the output, of the length that an entry names, on a line
 // of its own. Whether the last write was made.
 fn say_reason(
+    rt: &(impl Print + Eprint),
     n: usize,
     w: usize,
     a: &[u8],
@@ -55,12 +56,13 @@ fn say_reason(
         at,
         &mut out[..lent],
     );
-    calls_output::say_reply(reply);
-    calls_output::say_bytes(&out[..lent])
+    calls_output::say_reply(rt, reply);
+    calls_output::say_bytes(rt, &out[..lent])
 }
 
 // The same, with an output in which nothing is written yet.
 pub fn reason(
+    rt: &(impl Print + Eprint),
     n: usize,
     w: usize,
     a: &[u8],
@@ -78,13 +80,15 @@ pub fn reason(
 ) -> bool {
     let mut out = [UNWRITTEN_BYTE; crate::MAX_SENTENCE];
     say_reason(
-        n, w, a, b, counts, cells, roots, waiting, sections, d, marks, list, at, &mut out, length,
+        rt, n, w, a, b, counts, cells, roots, waiting, sections, d, marks, list, at, &mut out,
+        length,
     )
 }
 
 // The shape of what the roots reach. The reply is said, and then the output, of the length that an entry names, on a line
 // of its own. Whether the last write was made.
 fn say_shape(
+    rt: &(impl Print + Eprint),
     n: usize,
     w: usize,
     a: &[u8],
@@ -116,12 +120,13 @@ fn say_shape(
         list,
         &mut out[..lent],
     );
-    calls_output::say_reply(reply);
-    calls_output::say_words(&out[..lent])
+    calls_output::say_reply(rt, reply);
+    calls_output::say_words(rt, &out[..lent])
 }
 
 // The same, with an output in which nothing is written yet.
 pub fn shape(
+    rt: &(impl Print + Eprint),
     n: usize,
     w: usize,
     a: &[u8],
@@ -138,6 +143,6 @@ pub fn shape(
 ) -> bool {
     let mut out = [UNWRITTEN_NUMBER; crate::MAX_SHAPE];
     say_shape(
-        n, w, a, b, counts, cells, roots, waiting, sections, d, marks, list, &mut out, length,
+        rt, n, w, a, b, counts, cells, roots, waiting, sections, d, marks, list, &mut out, length,
     )
 }

@@ -13,6 +13,7 @@ fn outcome(done: bool) -> Reply {
 // What only reads the buffers: check, look, free blocks, the read of a number, what writes an output, and the copy into a second heap; of a
 // length nothing is left to do; at the end of a heap its buffers, a line each.
 fn read(
+    rt: &(impl Print + Eprint),
     n: usize,
     w: usize,
     a: &[u8],
@@ -42,17 +43,17 @@ fn read(
             n, w, a, b, counts, cells, roots, waiting, sections, d, marks, list, e.x, e.y,
         ),
         240 => outcome(outputs::reason(
-            n, w, a, b, counts, cells, roots, waiting, sections, d, marks, list, e.x, e.y,
+            rt, n, w, a, b, counts, cells, roots, waiting, sections, d, marks, list, e.x, e.y,
         )),
         241 => outcome(outputs::shape(
-            n, w, a, b, counts, cells, roots, waiting, sections, d, marks, list, e.x,
+            rt, n, w, a, b, counts, cells, roots, waiting, sections, d, marks, list, e.x,
         )),
         242 => outcome(calls_copy::copy(
-            n, w, a, b, counts, cells, roots, waiting, sections, d, marks, list, e.x, e.y, e.z,
+            rt, n, w, a, b, counts, cells, roots, waiting, sections, d, marks, list, e.x, e.y, e.z,
         )),
         254 => outcome(true),
         _ => outcome(calls_copy::say_heap(
-            a, b, counts, cells, roots, waiting, sections, d, marks, list,
+            rt, a, b, counts, cells, roots, waiting, sections, d, marks, list,
         )),
     }
 }
@@ -82,6 +83,7 @@ fn load_ref(list: &mut [Ref], i: usize, value: usize) -> Reply {
 
 // A load, a call that writes, or what only reads.
 pub fn perform(
+    rt: &(impl Print + Eprint),
     heap: Entry,
     a: &mut [u8],
     b: &mut [u8],
@@ -150,7 +152,7 @@ pub fn perform(
             n, w, a, b, counts, cells, roots, waiting, sections, d, marks, list, x,
         ),
         _ => read(
-            n, w, a, b, counts, cells, roots, waiting, sections, d, marks, list, e,
+            rt, n, w, a, b, counts, cells, roots, waiting, sections, d, marks, list, e,
         ),
     }
 }

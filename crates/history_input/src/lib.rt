@@ -1,10 +1,10 @@
-// Standard input in pieces. Every piece but the last is full, so that where a full one has whole records only the last may end inside a record.
+// An input, as standard input, in pieces. Every piece but the last is full, so that where a full one has whole records only the last may end inside a record.
 
 #![tactic(auto)]
 
 ghost use Rattle.io.specs.Counts.{IsPrefixLen};
 
-use libc::STDIN_FILENO;
+use std::io::Read;
 
 // The bytes of a piece, at the start of the buffer, and whether a read failed.
 #[derive(Clone, Copy)]
@@ -14,19 +14,17 @@ pub struct Piece {
 }
 
 // Reads until the buffer is full or the input ends. A read gives what has come so far, which may be less.
-pub fn read_piece(buffer: &mut [u8]) -> Piece
+pub fn read_piece(input: &mut impl Read, buffer: &mut [u8]) -> Piece
     ensures { IsPrefixLen result.length buffer.new }
 {
     let mut n = 0;
     while n < buffer.len() {
-        let got = libc::read(STDIN_FILENO, &mut buffer[n..]);
-        if got < 0 {
+        let Ok(more) = input.read(&mut buffer[n..]) else {
             return Piece {
                 length: n,
                 failed: true,
             };
-        }
-        let more = io::count(got, &buffer[n..]);
+        };
         if more == 0 {
             break;
         }

@@ -5,12 +5,20 @@
 mod output;
 mod run;
 
-fn main() {
-    // A history is not asked for by name: a line would be that of another one. The program's own name is the first.
-    if os::arg_count() > 1 {
-        output::refuse_arguments();
+use std::env::FillError;
+use std::rt::Env;
+
+// Whether the program was given an argument. Its own name is argument 0.
+fn has_argument(rt: &impl Env) -> bool {
+    !matches!(rt.arg(1, &mut [0u8; 1]), Err(FillError::NotPresent))
+}
+
+fn main(rt: HostRuntime) {
+    // A history is not asked for by name: a line would be that of another one.
+    if has_argument(&rt) {
+        output::refuse_arguments(&rt);
         return;
     }
-    let outcome = run::run_input();
-    output::tell(outcome);
+    let outcome = run::run_input(&mut rt.stdin());
+    output::tell(&rt, outcome);
 }

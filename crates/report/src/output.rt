@@ -4,42 +4,43 @@ ghost use Rattle.report.specs.Meaning.{Reported, ReportedRun, ReportLine};
 use crate::run::Outcome;
 use history_figures::tally::Run;
 use history_line::MAX_LINE;
-use libc::{STDERR_FILENO, STDOUT_FILENO};
 
-fn complain(text: &[u8]) {
-    io::write_all(STDERR_FILENO, text);
+// A complaint that can't be made either is let go.
+fn complain(rt: &impl Eprint, text: &str) {
+    let _ = rt.eprint(text);
 }
 
-pub fn refuse_arguments() {
+pub fn refuse_arguments(rt: &impl Eprint) {
     complain(
-        b"report: it takes no argument, and reads a history from standard input: report <FILE\n",
+        rt,
+        "report: it takes no argument, and reads a history from standard input: report <FILE\n",
     );
 }
 
 // Writes a text to standard output: nothing but the line of a history gets there.
-fn print(text: &[u8])
+fn print(rt: &(impl Print + Eprint), text: &[u8])
     requires { ReportLine text.now }
 {
-    if !io::write_all(STDOUT_FILENO, text) {
-        complain(b"report: a write to standard output failed\n");
+    if rt.write_all(text).is_err() {
+        complain(rt, "report: a write to standard output failed\n");
     }
 }
 
-fn print_line(run: Run)
+fn print_line(rt: &(impl Print + Eprint), run: Run)
     requires { ReportedRun run }
 {
     let mut out = [0u8; MAX_LINE];
     let n = history_line::write_line(run, &mut out);
-    print(&out[..n]);
+    print(rt, &out[..n]);
 }
 
 // What came of the input.
-pub(crate) fn tell(outcome: Outcome)
+pub(crate) fn tell(rt: &(impl Print + Eprint), outcome: Outcome)
     requires { Reported outcome }
 {
     match outcome {
-        Outcome::Ran(run) => print_line(run),
-        Outcome::ReadFailed => complain(b"report: a read of standard input failed\n"),
-        Outcome::HeapRefused => complain(b"report: the heap was refused\n"),
+        Outcome::Ran(run) => print_line(rt, run),
+        Outcome::ReadFailed => complain(rt, "report: a read of standard input failed\n"),
+        Outcome::HeapRefused => complain(rt, "report: the heap was refused\n"),
     }
 }

@@ -1,12 +1,13 @@
 // The run over the input, piece by piece.
 ghost use Rattle.bitmap.specs.Bit.{Bytes};
-ghost use Rattle.rules.specs.Heap.{lent_memory};
+ghost use Rattle.rules.specs.Lent.{before, after};
 ghost use Rattle.report.specs.Meaning.{Reported, piece_meaning};
 
 use history_figures::tally;
 use history_figures::tally::Run;
 use history_records::RECORD;
 use report_heap::{BLOCKS, CELLS, COUNT_BYTES, LIST, MAP_BYTES, ROOTS, SECTIONS, WIDTH};
+use std::io::Read;
 use types::Ref;
 
 // The bytes of a full piece, of whole records: the heap is checked once a piece.
@@ -42,9 +43,8 @@ pub fn run_piece(
     list: &mut [Ref; LIST],
     bytes: &[u8],
 ) -> PieceOutcome
-    ensures { piece_meaning bytes.now
-        (lent_memory a.old b.old counts.old cells.old roots.old waiting.old sections.old d.old marks.old list.old) run result
-        (lent_memory a.new b.new counts.new cells.new roots.new waiting.new sections.new d.new marks.new list.new)
+    ensures { piece_meaning bytes.now (before a.old b.old counts.old cells.old roots.old waiting.old sections.old d.old marks.old list.old) run result
+        (after a.new b.new counts.new cells.new roots.new waiting.new sections.new d.new marks.new list.new)
         × Bytes bytes.now }
 {
     let ran = history::run_records(
@@ -63,8 +63,8 @@ pub fn run_piece(
     PieceOutcome::GoesOn(next)
 }
 
-// Runs the pieces of standard input on a new heap, until it ends or the run is stopped, which the limit of its records makes sure of.
-pub fn run_input() -> Outcome
+// Runs the pieces of an input, as standard input, on a new heap, until it ends or the run is stopped, which the limit of its records makes sure of.
+pub fn run_input(input: &mut impl Read) -> Outcome
     ensures { Reported result }
 {
     let mut a = [0u8; MAP_BYTES];
@@ -92,7 +92,7 @@ pub fn run_input() -> Outcome
     let mut run = tally::new_run();
     let mut buffer = [0u8; PIECE];
     loop {
-        let piece = history_input::read_piece(&mut buffer);
+        let piece = history_input::read_piece(input, &mut buffer);
         if piece.failed {
             return Outcome::ReadFailed;
         }

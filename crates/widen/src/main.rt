@@ -5,13 +5,22 @@
 
 mod pieces;
 
-fn main() {
-    // A history is not asked for by name: what is written would be another one. The program's own name is the first.
-    if os::arg_count() > 1 {
+use std::env::FillError;
+use std::rt::Env;
+
+// Whether the program was given an argument. Its own name is argument 0.
+fn has_argument(rt: &impl Env) -> bool {
+    !matches!(rt.arg(1, &mut [0u8; 1]), Err(FillError::NotPresent))
+}
+
+fn main(rt: HostRuntime) {
+    // A history is not asked for by name: what is written would be another one.
+    if has_argument(&rt) {
         pieces::complain(
-            b"widen: it takes no argument, and widens an old history from standard input to standard output: widen <OLD >NEW\n",
+            &rt,
+            "widen: it takes no argument, and widens an old history from standard input to standard output: widen <OLD >NEW\n",
         );
         return;
     }
-    pieces::widen_input();
+    pieces::widen_input(&rt, &mut rt.stdin());
 }

@@ -1,10 +1,10 @@
-// Standard input, widened piece by piece.
+// An input, as standard input, widened piece by piece.
 ghost use Rattle.std.specs.Prelude.{◌≡◌, true, ◌≤◌, length};
 ghost use Rattle.widen.specs.Meaning.{full_piece, WidenedPiece};
 
 use history_records::RECORD;
 use history_widening::OLD_RECORD;
-use libc::{STDERR_FILENO, STDOUT_FILENO};
+use std::io::Read;
 
 // The records of a full piece, its bytes, and those that it is widened to.
 const RECORDS: usize = 8192;
@@ -16,46 +16,47 @@ const WIDE_PIECE: usize = RECORDS * RECORD;
 // More full pieces than any input has: together they are longer than 2^64 bytes.
 const MOST: usize = 562949953421312;
 
-pub fn complain(text: &[u8]) {
-    io::write_all(STDERR_FILENO, text);
+// A complaint that can't be made either is let go.
+pub fn complain(rt: &impl Eprint, text: &str) {
+    let _ = rt.eprint(text);
 }
 
 // Writes what a piece is widened to, and nothing else, to standard output; false where a write failed.
-fn hand_on(piece: &[u8], text: &[u8]) -> bool
+fn hand_on(rt: &(impl Print + Eprint), piece: &[u8], text: &[u8]) -> bool
     requires { WidenedPiece piece.now text.now }
 {
-    if io::write_all(STDOUT_FILENO, text) {
+    if rt.write_all(text).is_ok() {
         return true;
     }
-    complain(b"widen: a write to standard output failed\n");
+    complain(rt, "widen: a write to standard output failed\n");
     false
 }
 
 // Widens a piece. Whether there may be more: it was full, and was handed on.
-fn widen_piece(piece: &[u8]) -> bool
+fn widen_piece(rt: &(impl Print + Eprint), piece: &[u8]) -> bool
     requires { length piece.now ≤ full_piece }
     ensures { result ≡ true → length piece.now ≡ full_piece }
 {
     let mut out = [0u8; WIDE_PIECE];
     let n = history_widening::widen(piece, &mut out);
-    if !hand_on(piece, &out[..n]) {
+    if !hand_on(rt, piece, &out[..n]) {
         return false;
     }
     piece.len() == PIECE
 }
 
-// Widens the pieces of standard input, until it ends or a read or a write fails.
-pub fn widen_input() {
+// Widens the pieces of an input, until it ends or a read or a write fails.
+pub fn widen_input(rt: &(impl Print + Eprint), input: &mut impl Read) {
     let mut buffer = [0u8; PIECE];
     let mut k = 0;
     while k < MOST {
-        let piece = history_input::read_piece(&mut buffer);
+        let piece = history_input::read_piece(input, &mut buffer);
         if piece.failed {
-            complain(b"widen: a read of standard input failed\n");
+            complain(rt, "widen: a read of standard input failed\n");
             return;
         }
         let n = piece.length;
-        if !widen_piece(&buffer[..n]) {
+        if !widen_piece(rt, &buffer[..n]) {
             return;
         }
         k += 1;
