@@ -71,7 +71,7 @@ so_far-After-shared_slice_known-in-loop-i-1 c =
 
 pub put_numbered-to-requires-in-loop-i : goal.put_numbered-to-requires-in-loop-i
 put_numbered-to-requires-in-loop-i c =
-    room_for (sentence (reason_in c.args.links.now) c.args.at) c.args.out.now 0 (omega (arith, c.requires.1)) (cell_text ++ decimal (get_or c.args.links.now (c.loop-i.i - 1) 0)) (left c.args.links.now c.args.at (c.loop-i.i - 1)) _ _ (written_as (left_next c.args.links.now c.args.at c.loop-i.i c.loop-i-test.taken) (so_far-After-shared_slice_known-in-loop-i-1 c))
+    room_for (sentence (reason_in c.args.links.now) c.args.at) c.args.out.now 0 (omega (arith, c.requires.1)) (cell_text ++ decimal (get_or c.args.links.now (c.loop-i.i - 1) 0)) (left c.args.links.now c.args.at (c.loop-i.i - 1)) _ _ (written_as (left_next c.args.links.now c.args.at c.loop-i.i c.loop-i-test.true) (so_far-After-shared_slice_known-in-loop-i-1 c))
 
 -- "root " and the number are written
 rooted-After-slice_known-in-loop-i-1 : (c : goal.After-slice_known-in-loop-i-1) → Written (sentence (reason_in c.args.links.now) c.args.at) (left c.args.links.now c.args.at (length c.args.links.now - 1)) c.args.out.now 0 c.put_numbered-to-2.new.out c.put_numbered-to-2.result
@@ -83,7 +83,7 @@ loop-i-preserved c =
     (
       omega (arith, c.loop-i.invariant.0),
       written_more _ _ _ (rest_fits (sentence (reason_in c.args.links.now) c.args.at) c.args.out.now _ _ 0 _ (omega (arith, c.requires.1)) (rooted-After-slice_known-in-loop-i-1 c)) _ _ _ _ _ _
-          (written_as (left_next c.args.links.now c.args.at c.loop-i.i c.loop-i-test.taken) c.loop-i.invariant.1) c.put_numbered-to-in-loop-i.ensures,
+          (written_as (left_next c.args.links.now c.args.at c.loop-i.i c.loop-i-test.true) c.loop-i.invariant.1) c.put_numbered-to-in-loop-i.ensures,
     )
 
 -- "root " and the number are written
