@@ -88,7 +88,7 @@ whole-After-late_kind c =
 pub returns : goal.returns
 returns c =
     let N : ℕ = c.args.blocks in
-    let at = c.tally_roots.last.1.1.0 in
+    let at = c.tally_roots.new.at in
     let tallied =
     tallied_all N (whole-After-late_kind c) c.args.at.now _ at c.requires.1 (c.tally_cells.ensures.tallied c.if-tally_cells.false)
     (c.tally_roots.ensures.tallied c.if-tally_roots.false) in

@@ -20,7 +20,7 @@ overflow_sub-order c = omega (arith, c.requires.1 c.loop-k.k c.loop-k-test.true)
 
 pub copy_object-requires : goal.copy_object-requires
 copy_object-requires c =
-    (c.requires.2 c.loop-k.k c.loop-k-test.taken, c.loop-k.invariant.1, c.loop-k.invariant.2)
+    (c.requires.2 c.loop-k.k c.loop-k-test.true, c.loop-k.invariant.1, c.loop-k.invariant.2)
 
 pub loop-k-preserved : goal.loop-k-preserved
 loop-k-preserved c =

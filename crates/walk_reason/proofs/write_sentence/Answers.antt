@@ -98,7 +98,7 @@ so_far-After-put_numbered-arg-7-1 c =
 
 pub put_numbered-to-requires-3 : goal.put_numbered-to-requires-3
 put_numbered-to-requires-3 c =
-    room_for (sentence (reason_in c.args.links.now) c.args.at) c.args.out.now 0 (omega (arith, c.requires.1)) (block_text ++ decimal c.args.at) (10 ∷ []) _ _ (written_as (ap (left c.args.links.now c.args.at) c.loop-i-test.left ∙ left_last c.args.links.now c.args.at) (so_far-After-put_numbered-arg-7-1 c))
+    room_for (sentence (reason_in c.args.links.now) c.args.at) c.args.out.now 0 (omega (arith, c.requires.1)) (block_text ++ decimal c.args.at) (10 ∷ []) _ _ (written_as (ap (left c.args.links.now c.args.at) c.loop-i-test.false ∙ left_last c.args.links.now c.args.at) (so_far-After-put_numbered-arg-7-1 c))
 
 -- "root " and the number are written
 rooted-After-put_text-arg-4-1 : (c : goal.After-put_text-arg-4-1) → Written (sentence (reason_in c.args.links.now) c.args.at) (left c.args.links.now c.args.at (length c.args.links.now - 1)) c.args.out.now 0 c.put_numbered-to-2.new.out c.put_numbered-to-2.result
@@ -119,7 +119,7 @@ blocked-After-put_text-arg-4-1 c z put =
 
 pub put_text-requires-2 : goal.put_text-requires-2
 put_text-requires-2 c =
-    room_for (sentence (reason_in c.args.links.now) c.args.at) c.args.out.now 0 (omega (arith, c.requires.1)) (10 ∷ []) [] _ _ (blocked-After-put_text-arg-4-1 c c.loop-i-test.left c.put_numbered-to-3.ensures)
+    room_for (sentence (reason_in c.args.links.now) c.args.at) c.args.out.now 0 (omega (arith, c.requires.1)) (10 ∷ []) [] _ _ (blocked-After-put_text-arg-4-1 c c.loop-i-test.false c.put_numbered-to-3.ensures)
 
 -- "root " and the number are written
 rooted-After-slice_known-4-1 : (c : goal.After-slice_known-4-1) → Written (sentence (reason_in c.args.links.now) c.args.at) (left c.args.links.now c.args.at (length c.args.links.now - 1)) c.args.out.now 0 c.put_numbered-to-2.new.out c.put_numbered-to-2.result
@@ -140,4 +140,4 @@ blocked-After-slice_known-4-1 c z put =
 
 pub returns : goal.returns
 returns c =
-    all_written (sentence (reason_in c.args.links.now) c.args.at) c.args.out.now 0 (omega (arith, c.requires.1)) _ _ (written_more (sentence (reason_in c.args.links.now) c.args.at) c.args.out.now 0 (omega (arith, c.requires.1)) (10 ∷ []) [] _ _ _ _ (blocked-After-slice_known-4-1 c c.loop-i-test.left c.put_numbered-to-3.ensures) c.put_text-2.ensures)
+    all_written (sentence (reason_in c.args.links.now) c.args.at) c.args.out.now 0 (omega (arith, c.requires.1)) _ _ (written_more (sentence (reason_in c.args.links.now) c.args.at) c.args.out.now 0 (omega (arith, c.requires.1)) (10 ∷ []) [] _ _ _ _ (blocked-After-slice_known-4-1 c c.loop-i-test.false c.put_numbered-to-3.ensures) c.put_text-2.ensures)
