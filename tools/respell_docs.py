@@ -3,10 +3,10 @@
 
 usage: python3 tools/respell_docs.py FILE ..
 
-Run once, from the repository's root, after the toolchain's port.py and tools/respell.py. Both kept the order of declarations, so the table of names is read
-off: each file of specs/ and proofs/ as it stood before them beside itself as they left it, in the first and the last commit that docs/PORT.md's head names. Names are
-turned between backticks; in a page (.md) also in indented lines, and those in camel case, which no English word is, wherever they stand. What is cited of a file
-of code (`name.rt: ..`) keeps its names, and so do edits and the model's tests.
+Run once, from the repository's root, after the toolchain's port.py and tools/respell.py. Both kept the order of declarations, so the table of
+names is read off: each file of specs/ and proofs/ as it stood before them beside itself as they left it, in the first and the last commit that the
+head of docs/PORT.md names. Names are turned between backticks; in a page (.md) also in indented lines, and those in camel case, which no English
+word is, wherever they stand. What is cited of a file of code (`name.rt: ..`) keeps its names, and so do edits and the model's tests.
 """
 import re
 import subprocess
@@ -15,7 +15,11 @@ from pathlib import Path
 
 WORD = r"A-Za-z0-9_'′₀-₉"
 NAME = re.compile(rf"(?<![{WORD}/.-])(?:[A-Z][{WORD}]*\.)?[a-z][{WORD}]*(?:-[{WORD}]+)*(?![{WORD}/-])")
-DECLARED = re.compile(r"^ {0,8}(?:(?:abbrev|unfoldable|opaque|pub|data|record) +)*(?P<names>[^\s(){}:,=.;][^\s(){}:,;]*(?: +[^\s(){}:,=;]+)*?) *(?:\([^)]*\)|\{[^}]*\}| )*:(?=\s)", re.M)
+DECLARED = re.compile(
+    r"^ {0,8}(?:(?:abbrev|unfoldable|opaque|pub|data|record) +)*"
+    r"(?P<names>[^\s(){}:,=.;][^\s(){}:,;]*(?: +[^\s(){}:,=;]+)*?) *(?:\([^)]*\)|\{[^}]*\}| )*:(?=\s)",
+    re.M,
+)
 ANSWERS = ("Proof.antt", "Answers.antt", "Invariants.antt")
 KEPT = re.compile(r"[\w/]+\.(?:rt|rs|c|h|py)(?::|$)|\w+/must-fail/")
 SPAN = re.compile(r"(model tests? )?`([^`\n]+(?:\n[^`\n]+)?)`")
