@@ -12,9 +12,9 @@ use Rattle.history_turns.proofs.noting.noted.Goals as goal
 
 -- the figures with what came of the record, one part after the other
 figures :
-    (done : Done) {t first second third : Tally} → first ≡ with_collection done t → second ≡ with_allocation done first
+    (done : Done) (t : Tally) {first second third : Tally} → first ≡ with_collection done t → second ≡ with_allocation done first
     → third ≡ moment_in done.stuck second → third ≡ figures_of done t
-figures done first second third = third ∙ ap (moment_in done.stuck) (second ∙ ap (with_allocation done) first)
+figures done t first second third = third ∙ ap (moment_in done.stuck) (second ∙ ap (with_allocation done) first)
 
 pub with_allocation-t-requires : goal.with_allocation-t-requires
 with_allocation-t-requires c =
@@ -37,11 +37,11 @@ pub returns-then-number-ne0 : goal.returns-then-number-ne0
 unfolding noted_by
 returns-then-number-ne0 c =
     rw (ne_eqb _ 0 c.if-number-ne0.true, noted_by)
-    (ap (λ (t : Tally). running (run c.args.done.number c.args.state.run.records t) (c.args.state.used + c.args.done.allocated - c.args.done.freed)) (figures c.args.done c.with_collection-t.ensures c.with_allocation-t.ensures c.with_moment-t.ensures))
+    (ap (λ (t : Tally). running (run c.args.done.number c.args.state.run.records t) (c.args.state.used + c.args.done.allocated - c.args.done.freed)) (figures c.args.done c.args.state.run.tally c.with_collection-t.ensures c.with_allocation-t.ensures c.with_moment-t.ensures))
 
 pub returns : goal.returns
 unfolding noted_by
 returns c =
     let blocks : ℕ = c.args.state.used + c.args.done.allocated - c.args.done.freed in
     rw (eq-eqb _ 0 c.if-number-ne0.false, noted_by)
-    (ap (λ (t : Tally). running (run 0 (c.args.state.run.records + 1) t) blocks) (c.used-t.ensures ∙ ap (used blocks) (figures c.args.done c.with_collection-t.ensures c.with_allocation-t.ensures c.with_moment-t.ensures)))
+    (ap (λ (t : Tally). running (run 0 (c.args.state.run.records + 1) t) blocks) (c.used-t.ensures ∙ ap (used blocks) (figures c.args.done c.args.state.run.tally c.with_collection-t.ensures c.with_allocation-t.ensures c.with_moment-t.ensures)))
