@@ -81,8 +81,7 @@ off-here c i u =
 pub loop-k-preserved : goal.loop-k-preserved
 loop-k-preserved c =
     let k : ℕ = c.loop-k.k in
-    let other = off_in c.first_byte-first.result (c.args.blocks / 8) c.args.width c.args.counts.now c.args.at.now k in
-    (
+    let other = off_in c.first_byte-first.result (c.args.blocks / 8) c.args.width c.args.counts.now c.args.at.now k in (
       (
         omega (arith, c.loop-k-test.true),
         eight_past (strays-Joined-is_off c) (stray_in c.first_byte-first.result c.args.at.now k) k (stray-here-Joined-is_off c)

@@ -24,13 +24,12 @@ returns-then-at-blocks c =
     c.lowest_chunk-found.result.at c.lowest_chunk-found.result.looks c.lowest_chunk-found.ensures _ _ c.if-at-blocks.true
 
 pub fill_bits-requires : goal.fill_bits-requires
-fill_bits-requires c =
-    (
-      fill_inside _ _ _ _ c.requires (omega arith) c.exponent_of-k.result c.exponent_of-k.ensures.0
-          c.lowest_chunk-found.result.at c.lowest_chunk-found.result.looks c.lowest_chunk-found.ensures c.if-at-blocks.false,
-      omega arith,
-      omega (arith, c.requires.length_map, blocks_le c.args.blocks c.requires.blocks),
-    )
+fill_bits-requires c = (
+  fill_inside _ _ _ _ c.requires (omega arith) c.exponent_of-k.result c.exponent_of-k.ensures.0
+      c.lowest_chunk-found.result.at c.lowest_chunk-found.result.looks c.lowest_chunk-found.ensures c.if-at-blocks.false,
+  omega arith,
+  omega (arith, c.requires.length_map, blocks_le c.args.blocks c.requires.blocks),
+)
 
 pub returns : goal.returns
 returns c =

@@ -86,14 +86,13 @@ pub stretches-smaller : goal.stretches-smaller
 stretches-smaller c = omega (arith, (chunk-Then-chunk-ne0 c).within, positive-Then-chunk-ne0 c)
 
 pub stretches-preserved : goal.stretches-preserved
-stretches-preserved c =
-    (
-      (chunk-Then-chunk-ne0 c).within,
-      omega arith,
-      add-mod_right c.loop-i.i c.args.size ∙ c.loop-i.invariant.3,
-      used_chunk c.args.from c.args.to c.args.a.now c.args.size c.loop-i.looks c.loop-i.stretch (c.args.from + c.bytes.looks) c.loop-i.i c.loop-i.invariant.4 (chunk-Then-chunk-ne0 c)
-          c.if-chunk-ne0.true,
-    )
+stretches-preserved c = (
+  (chunk-Then-chunk-ne0 c).within,
+  omega arith,
+  add-mod_right c.loop-i.i c.args.size ∙ c.loop-i.invariant.3,
+  used_chunk c.args.from c.args.to c.args.a.now c.args.size c.loop-i.looks c.loop-i.stretch (c.args.from + c.bytes.looks) c.loop-i.i c.loop-i.invariant.4 (chunk-Then-chunk-ne0 c)
+      c.if-chunk-ne0.true,
+)
 
 chunk-Else-chunk-ne0 : (c : goal.Else-chunk-ne0) → ChunkAt c.args.from c.args.to c.args.size c.loop-i.looks (c.args.from + c.bytes.looks) c.loop-i.i
 chunk-Else-chunk-ne0 c =
@@ -159,14 +158,13 @@ longer-on c judged =
     judged_used c.args.from c.args.to c.args.a.now c.args.size (c.loop-i.looks + c.args.size) (c.loop-i.stretch + c.args.size) (longer-Else-is_judged_free c) judged
 
 pub loop-i-preserved : goal.loop-i-preserved
-loop-i-preserved c =
-    (
-      omega arith,
-      omega (arith, (chunk-Else-is_judged_free c).within),
-      omega arith,
-      add-mod_right c.loop-i.i c.args.size ∙ c.loop-i.invariant.3,
-      longer-on c (sym c.is_judged_free.ensures ∙ c.if-is_judged_free.false),
-    )
+loop-i-preserved c = (
+  omega arith,
+  omega (arith, (chunk-Else-is_judged_free c).within),
+  omega arith,
+  add-mod_right c.loop-i.i c.args.size ∙ c.loop-i.invariant.3,
+  longer-on c (sym c.is_judged_free.ensures ∙ c.if-is_judged_free.false),
+)
 
 -- the whole byte lies in the part
 inside-Joined-size-lt8 : (c : goal.Joined-size-lt8) → c.args.from + c.bytes.looks + 8 ≤ c.args.to
@@ -247,11 +245,10 @@ pub bytes-smaller : goal.bytes-smaller
 bytes-smaller c = omega (arith, (eight-free-Else-is_judged_free-2 c).inside)
 
 pub bytes-preserved : goal.bytes-preserved
-bytes-preserved c =
-    (
-      omega (arith, c.bytes.invariant.0),
-      judged_used c.args.from c.args.to c.args.a.now c.args.size (c.bytes.looks + 8) (c.bytes.stretch + 8) (eight-free-Else-is_judged_free-2 c) (sym c.is_judged_free-in-bytes.ensures ∙ c.if-is_judged_free-2.false),
-    )
+bytes-preserved c = (
+  omega (arith, c.bytes.invariant.0),
+  judged_used c.args.from c.args.to c.args.a.now c.args.size (c.bytes.looks + 8) (c.bytes.stretch + 8) (eight-free-Else-is_judged_free-2 c) (sym c.is_judged_free-in-bytes.ensures ∙ c.if-is_judged_free-2.false),
+)
 
 pub returns-then-from-looks : goal.returns-then-from-looks
 returns-then-from-looks c k e =

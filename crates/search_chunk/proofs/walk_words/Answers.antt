@@ -98,13 +98,12 @@ pub loop-free-smaller : goal.loop-free-smaller
 loop-free-smaller c = omega (arith, (less-After-twice-free c).0, (less-After-twice-free c).1)
 
 pub loop-free-preserved : goal.loop-free-preserved
-loop-free-preserved c =
-    (
-      c.loop-free.invariant.0,
-      c.loop-free.invariant.1,
-      chunks_next c.args.a.now c.args.size c.requires.part.exponent (c.args.from + c.loop-free.looks) c.loop-free.s c.loop-free.free c.twice-free.result c.requires.part.power
-          c.requires.to_bound.2 c.loop-free.invariant.2 c.if-s-size.false c.twice-free.ensures,
-    )
+loop-free-preserved c = (
+  c.loop-free.invariant.0,
+  c.loop-free.invariant.1,
+  chunks_next c.args.a.now c.args.size c.requires.part.exponent (c.args.from + c.loop-free.looks) c.loop-free.s c.loop-free.free c.twice-free.result c.requires.part.power
+      c.requires.to_bound.2 c.loop-free.invariant.2 c.if-s-size.false c.twice-free.ensures,
+)
 
 pub returns-then-from-looks : goal.returns-then-from-looks
 returns-then-from-looks c k e =

@@ -79,12 +79,11 @@ rooted-After-slice_known-in-loop-i-1 c =
     written_more (sentence (reason_in c.args.links.now) c.args.at) c.args.out.now 0 (omega (arith, c.requires.1)) _ _ _ _ _ _ (chain_start c.args.links.now c.args.at c.args.out.now c.if-links-eq0.false) c.put_numbered-to-2.ensures
 
 pub loop-i-preserved : goal.loop-i-preserved
-loop-i-preserved c =
-    (
-      omega (arith, c.loop-i.invariant.0),
-      written_more _ _ _ (rest_fits (sentence (reason_in c.args.links.now) c.args.at) c.args.out.now _ _ 0 _ (omega (arith, c.requires.1)) (rooted-After-slice_known-in-loop-i-1 c)) _ _ _ _ _ _
-          (written_as (left_next c.args.links.now c.args.at c.loop-i.i c.loop-i-test.true) c.loop-i.invariant.1) c.put_numbered-to-in-loop-i.ensures,
-    )
+loop-i-preserved c = (
+  omega (arith, c.loop-i.invariant.0),
+  written_more _ _ _ (rest_fits (sentence (reason_in c.args.links.now) c.args.at) c.args.out.now _ _ 0 _ (omega (arith, c.requires.1)) (rooted-After-slice_known-in-loop-i-1 c)) _ _ _ _ _ _
+      (written_as (left_next c.args.links.now c.args.at c.loop-i.i c.loop-i-test.true) c.loop-i.invariant.1) c.put_numbered-to-in-loop-i.ensures,
+)
 
 -- "root " and the number are written
 rooted-After-put_numbered-arg-7-1 : (c : goal.After-put_numbered-arg-7-1) → Written (sentence (reason_in c.args.links.now) c.args.at) (left c.args.links.now c.args.at (length c.args.links.now - 1)) c.args.out.now 0 c.put_numbered-to-2.new.out c.put_numbered-to-2.result

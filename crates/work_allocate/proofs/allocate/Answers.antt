@@ -55,8 +55,7 @@ bounds-roots-r-2 c =
 pub let_go-freed-requires : goal.let_go-freed-requires
 let_go-freed-requires c =
     let ready = usable_ready c.requires.0 in
-    let free = allocate_passed c.requires.1 in
-    (
+    let free = allocate_passed c.requires.1 in (
       record {
         planes = planes_same ready.planes c.place.auto.counts;
         extents = record {

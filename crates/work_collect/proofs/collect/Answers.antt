@@ -10,7 +10,9 @@ use Rattle.work_collect.proofs.CollectionAnswer.{collect_worked}
 use Rattle.work_collect.proofs.collect.Goals as goal
 
 pub mark-requires : goal.mark-requires
-mark-requires c = ?
+mark-requires c =
+    let ready = usable_ready c.requires.0 in
+    (ready.planes, ready.extents.b_length, ready.extents.cells_length, ready.idle, ready.extents.d_length)
 
 pub sweep-freed-requires : goal.sweep-freed-requires
 sweep-freed-requires c =
