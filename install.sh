@@ -1,7 +1,7 @@
 #!/bin/bash
 # Proves the library and puts it below PREFIX (target/install unless said): lib/libhuwekapo.a and lib/libhuwekapo.so,
 # include/huwekapo.h, huwekapo_heap.h and huwekapo_record.h, lib/pkgconfig/huwekapo.pc; and the programs `report` and `widen` with an exit
-# status, bin/huwekapo-report and bin/huwekapo-widen, with their manual pages. HUWEKAPO_LIB_DIR names a folder of libcapi.a, as `rt staticlib
+# status, bin/huwekapo-report and bin/huwekapo-widen, with their manual pages. HUWEKAPO_LIB_DIR names a folder of libcapi.a, as `bash build.sh
 # capi` writes it; where it is not set, the library and the programs are proved now, unless they stand as these sources make them. Where
 # nothing has changed nothing is written.
 set -eu
@@ -32,38 +32,17 @@ prefix=$(cd "$prefix" && pwd)
 work=$(mktemp -d)
 trap 'rm -r "$work"' EXIT
 
-# Proves and builds by `rt $2 $3` what is to stand at $1, unless it does: the stamp beside it has the digest of the sources and its own.
-prove() {
-    local sources
-    sources=$({
-        rt version
-        cd "$here" && find crates crates.txt -type f -print0 | LC_ALL=C sort -z | xargs -0 sha256sum
-    } | sha256sum)
-    if [ -f "$1" ] && [ "$(cat "$1.stamp" 2>/dev/null)" = "$sources$(sha256sum <"$1")" ]; then
-        return
-    fi
-    echo "proving $3: some minutes on a clean clone"
-    if ! (cd "$here" && rt "$2" "$3") >"$work/log" 2>&1; then
-        cat "$work/log"
-        echo "install.sh: $3 was not proved" >&2
-        exit 1
-    fi
-    echo "$sources$(sha256sum <"$1")" >"$1.stamp"
-}
-
 programs="report widen"
 if [ -n "${HUWEKAPO_LIB_DIR:-}" ]; then
     archive=$(cd "$HUWEKAPO_LIB_DIR" && pwd)/libcapi.a
     if [ ! -f "$archive" ]; then
-        echo "install.sh: $archive is missing: \`rt staticlib capi\` writes it to target/staticlib" >&2
+        echo "install.sh: $archive is missing: \`bash build.sh capi\` writes it to target/staticlib" >&2
         exit 1
     fi
 else
     archive=$here/target/staticlib/libcapi.a
-    prove "$archive" staticlib capi
-    for program in $programs; do
-        prove "$here/target/bin/$program" check "$program"
-    done
+    # shellcheck disable=SC2086
+    bash "$here/build.sh" capi $programs || exit 1
 fi
 
 version=$(sed -n 's/^#define HUWEKAPO_VERSION "\(.*\)"$/\1/p' "$here/include/huwekapo.h")
@@ -111,7 +90,7 @@ for program in $programs; do
         put 755 "$here/bin/huwekapo-$program" "bin/huwekapo-$program"
         put 644 "$here/docs/man/huwekapo-$program.1" "share/man/man1/huwekapo-$program.1"
     else
-        echo "install.sh: target/bin/$program is missing, and so bin/huwekapo-$program is not installed: \`rt check $program\` builds it" >&2
+        echo "install.sh: target/bin/$program is missing, and so bin/huwekapo-$program is not installed: \`bash build.sh $program\` builds it" >&2
     fi
 done
 [ "$written" -eq 0 ] || echo "installed libhuwekapo $version below $prefix"

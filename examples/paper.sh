@@ -7,10 +7,10 @@ cd "$(dirname "$0")/.."
 . examples/tools.sh
 need rt cargo cc
 
-echo "This proves the program calls and the libraries it rests on, and builds it: some minutes on a clean clone. target/calls.log"
-echo "keeps what the prover says."
+echo "This proves the program calls and the libraries it rests on, and builds it. On a clean clone that takes long."
+echo "target/calls.log keeps what the prover says."
 echo
-build calls
+bash build.sh calls
 build_model
 model=model/target/release/model
 "$model" paper >target/paper.calls

@@ -40,9 +40,9 @@ show_and_compare() {
 }
 
 echo "This proves the program report and the libraries it rests on, a line for each crate, and builds it. On a clean clone"
-echo "that takes a few minutes on two cores; once it is built, a second. target/report.log keeps what the prover says."
+echo "that takes long; once it is built, a second. target/report.log keeps what the prover says."
 echo
-build report
+bash build.sh report
 
 if [ "$#" -gt 0 ]; then
     for file in "$@"; do

@@ -1,10 +1,10 @@
 #!/bin/bash
 # Builds and runs the C examples against the proved library. HUWEKAPO_LIB_DIR names the folder of libcapi.a; where it is not
-# set, `rt staticlib capi` proves the library and writes it to target/staticlib.
+# set, `bash build.sh capi` proves the library and writes it to target/staticlib.
 set -eu
 cd "$(dirname "$0")/.."
 if [ -z "${HUWEKAPO_LIB_DIR:-}" ]; then
-    rt staticlib capi
+    bash build.sh capi
     HUWEKAPO_LIB_DIR=target/staticlib
 fi
 mkdir -p target

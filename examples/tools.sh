@@ -1,4 +1,4 @@
-# For the scripts beside it: tests for tools, and builds a program with a line for each crate.
+# For the scripts beside it: tests for tools, and builds the model.
 
 # Each tool that is not there is named, with what it is for.
 need() {
@@ -14,16 +14,6 @@ need() {
         fi
     done
     [ "$missing" -eq 0 ] || exit 1
-}
-
-# Proves a program and all that it rests on, and builds it: target/bin/NAME. All that the prover says is kept in a file.
-build() {
-    local log=target/$1.log
-    mkdir -p target
-    if ! rt check "$1" 2>&1 | tee "$log" | grep --line-buffered '^rt: '; then
-        echo "$1 was not built: $log has what the prover said" >&2
-        exit 1
-    fi
 }
 
 # Builds the model: model/target/release/model.

@@ -1,4 +1,4 @@
-//! Links libcapi.a, which `rt staticlib capi` writes. HUWEKAPO_LIB_DIR names its folder, from the repository's root where it
+//! Links libcapi.a, which `bash build.sh capi` writes. HUWEKAPO_LIB_DIR names its folder, from the repository's root where it
 //! is relative; else it is target/staticlib there.
 
 use std::path::PathBuf;
@@ -14,7 +14,7 @@ fn main() {
     println!("cargo:rerun-if-changed={}", library.display());
     if !library.is_file() {
         eprintln!(
-            "{} is missing. In the root of the repository run `rt staticlib capi`, which proves the library and writes it \
+            "{} is missing. In the root of the repository run `bash build.sh capi`, which proves the library and writes it \
              to target/staticlib; or name the folder of libcapi.a in HUWEKAPO_LIB_DIR.",
             library.display()
         );

@@ -676,7 +676,7 @@ def _verify(chosen: argparse.Namespace) -> int:
     print(f"{found.run:,} of {found.rows:,} rows were run again{sampled}", end="")
     print(f", {found.by_report:,} of them also by the program report" if report is not None else "")
     if report is None:
-        print("no row was held against the program report, which was not found (`rt check report` builds it)")
+        print("no row was held against the program report, which was not found (`bash build.sh report` builds it)")
     if found.other_library:
         print(f"{found.other_library:,} rows are of another library than this one")
     differences = len(found.differences)

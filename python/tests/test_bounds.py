@@ -46,7 +46,7 @@ PLACES = {
     "examples/paper.c": ['{"store 65537 in root 0", "store 65537 in cell 0 of 4", 65537},'],
 }
 
-#: Files that have such a number which is no bound, and what it is.
+#: Files that have such a number which is no bound, and what it is; of the proof of a function, its folder.
 NO_BOUNDS = {
     "crates/calls/src/reading.rt": "the weight of a word's third byte",
     "crates/history_widening/proofs/OldForm.antt": "the weight of a number's third byte",
@@ -59,7 +59,7 @@ NO_BOUNDS = {
     "crates/section_figures/proofs/Lists.antt": "",
     "crates/section_extents/specs/Forgotten.antt": "",
     "crates/section_extents/proofs/UnknownFigures.antt": "",
-    "crates/work_copy/proofs/find_figures/Proof.antt": "",
+    "crates/work_copy/proofs/find_figures": "",
     "model/src/history/driver.rs": "the bytes of a pipe's pieces",
     "crates/widen/src/pieces.rt": "the records of a piece",
     "crates/widen/specs/Meaning.antt": "the records of a piece",
@@ -91,7 +91,9 @@ def written_out() -> Iterator[Tuple[str, str]]:
         for path in paths:
             for line in code(path).splitlines():
                 if WRITTEN_OUT.search(line):
-                    yield path.relative_to(TOP).as_posix(), " ".join(line.split())
+                    of_proof = path.name in ("Answers.antt", "Invariants.antt", "Proof.antt")
+                    place = path.parent if of_proof else path
+                    yield place.relative_to(TOP).as_posix(), " ".join(line.split())
 
 
 class Bounds(unittest.TestCase):
@@ -122,7 +124,7 @@ class Bounds(unittest.TestCase):
         self.assertEqual(in_code["MAX_NUMBER"], library.MAX_NUMBER)
         in_rules = self.constants("crates/rules/specs/Heap.antt", r"^(\w+) = (\d+)$")
         self.assertEqual(library.MIN_BLOCKS * 2 ** in_rules["doublings"], library.MAX_BLOCKS)
-        self.assertIn("\nmaxNumber = 2 ^ 32 - 1\n", code(TOP / "crates/rules/specs/Heap.antt"))
+        self.assertIn("\nmax_number = 2 ^ 32 - 1\n", code(TOP / "crates/rules/specs/Heap.antt"))
         in_report = self.constants("crates/report_heap/src/lib.rt", r"^pub const (\w+): usize = (\d+);$")
         self.assertEqual([in_report[name] for name in ("BLOCKS", "WIDTH", "ROOTS")], [due[name] for name in names[3:]])
 

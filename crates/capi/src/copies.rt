@@ -1,6 +1,6 @@
 // The copy into a second heap (request U14).
+ghost use Rattle.rules.specs.Lent.{before, after};
 ghost use Rattle.rules_calls.specs.Promise.{CopyPromise};
-ghost use Rattle.rules.specs.Heap.{lent_memory};
 
 use types::{Ref, Reply};
 
@@ -32,10 +32,10 @@ pub extern "C" fn huwekapo_copy(
     list2: &mut [Ref],
 ) -> Reply
     ensures { CopyPromise blocks width
-        (lent_memory a.now b.now counts.now cells.now roots.now waiting.now sections.now d.now marks.now list.now) blocks2 width2
-        (lent_memory a2.old b2.old counts2.old cells2.old roots2.old waiting2.old sections2.old d2.old marks2.old list2.old) result
-        (lent_memory a.now b.now counts.now cells.now roots.now waiting.now sections.now d.now marks.now list.now)
-        (lent_memory a2.new b2.new counts2.new cells2.new roots2.new waiting2.new sections2.new d2.new marks2.new list2.new) }
+        (before a.now b.now counts.now cells.now roots.now waiting.now sections.now d.now marks.now list.now) blocks2 width2
+        (before a2.old b2.old counts2.old cells2.old roots2.old waiting2.old sections2.old d2.old marks2.old list2.old) result
+        (after a.now b.now counts.now cells.now roots.now waiting.now sections.now d.now marks.now list.now)
+        (after a2.new b2.new counts2.new cells2.new roots2.new waiting2.new sections2.new d2.new marks2.new list2.new) }
 {
     public_copy::copy(
         blocks, width, a, b, counts, cells, roots, waiting, sections, d, marks, list, blocks2,

@@ -3,8 +3,8 @@
 
 #![tactic(auto)]
 
+ghost use Rattle.rules.specs.Lent.{before, after};
 ghost use Rattle.rules_calls.specs.Calls.{Call};
-ghost use Rattle.rules.specs.Heap.{lent_memory};
 ghost use Rattle.rules_calls.specs.Promise.{Promise};
 ghost use Rattle.replay.specs.Replay.{Replayed};
 ghost use Rattle.replay_batch.specs.Batch.{Batch};
@@ -32,8 +32,8 @@ pub extern "C" fn huwekapo_format(
     list: &mut [Ref],
 ) -> Reply
     ensures { Promise blocks width Call.format
-        (lent_memory a.old b.old counts.old cells.old roots.old waiting.old sections.old d.old marks.old list.old) result
-        (lent_memory a.new b.new counts.new cells.new roots.new waiting.new sections.new d.new marks.new list.new) }
+        (before a.old b.old counts.old cells.old roots.old waiting.old sections.old d.old marks.old list.old) result
+        (after a.new b.new counts.new cells.new roots.new waiting.new sections.new d.new marks.new list.new) }
 {
     public_heap::format(
         blocks, width, a, b, counts, cells, roots, waiting, sections, d, marks, list,
@@ -58,8 +58,8 @@ pub extern "C" fn huwekapo_allocate(
     r: usize,
 ) -> Reply
     ensures { Promise blocks width (Call.allocate n r)
-        (lent_memory a.old b.old counts.old cells.old roots.old waiting.old sections.old d.old marks.old list.old) result
-        (lent_memory a.new b.new counts.new cells.new roots.new waiting.new sections.new d.new marks.new list.new) }
+        (before a.old b.old counts.old cells.old roots.old waiting.old sections.old d.old marks.old list.old) result
+        (after a.new b.new counts.new cells.new roots.new waiting.new sections.new d.new marks.new list.new) }
 {
     public_heap::allocate(
         blocks, width, a, b, counts, cells, roots, waiting, sections, d, marks, list, n, r,
@@ -84,8 +84,8 @@ pub extern "C" fn huwekapo_store_root(
     v: usize,
 ) -> Reply
     ensures { Promise blocks width (Call.store_root r v)
-        (lent_memory a.old b.old counts.old cells.old roots.old waiting.old sections.old d.old marks.old list.old) result
-        (lent_memory a.new b.new counts.new cells.new roots.new waiting.new sections.new d.new marks.new list.new) }
+        (before a.old b.old counts.old cells.old roots.old waiting.old sections.old d.old marks.old list.old) result
+        (after a.new b.new counts.new cells.new roots.new waiting.new sections.new d.new marks.new list.new) }
 {
     public_store::store_root(
         blocks, width, a, b, counts, cells, roots, waiting, sections, d, marks, list, r, v,
@@ -111,8 +111,8 @@ pub extern "C" fn huwekapo_store_cell(
     v: usize,
 ) -> Reply
     ensures { Promise blocks width (Call.store_cell at j v)
-        (lent_memory a.old b.old counts.old cells.old roots.now waiting.old sections.old d.old marks.old list.old) result
-        (lent_memory a.new b.new counts.new cells.new roots.now waiting.new sections.new d.new marks.new list.new) }
+        (before a.old b.old counts.old cells.old roots.now waiting.old sections.old d.old marks.old list.old) result
+        (after a.new b.new counts.new cells.new roots.now waiting.new sections.new d.new marks.new list.new) }
 {
     public_store::store_cell(
         blocks, width, a, b, counts, cells, roots, waiting, sections, d, marks, list, at, j, v,
@@ -136,8 +136,8 @@ pub extern "C" fn huwekapo_return_roots(
     chosen: u64,
 ) -> Reply
     ensures { Promise blocks width (Call.return_roots chosen)
-        (lent_memory a.old b.old counts.old cells.old roots.old waiting.old sections.old d.old marks.old list.old) result
-        (lent_memory a.new b.new counts.new cells.new roots.new waiting.new sections.new d.new marks.new list.new) }
+        (before a.old b.old counts.old cells.old roots.old waiting.old sections.old d.old marks.old list.old) result
+        (after a.new b.new counts.new cells.new roots.new waiting.new sections.new d.new marks.new list.new) }
 {
     public_store::return_roots(
         blocks, width, a, b, counts, cells, roots, waiting, sections, d, marks, list, chosen,
@@ -160,8 +160,8 @@ pub extern "C" fn huwekapo_collect(
     list: &[Ref],
 ) -> Reply
     ensures { Promise blocks width Call.collect
-        (lent_memory a.old b.old counts.old cells.old roots.now waiting.old sections.old d.old marks.now list.now) result
-        (lent_memory a.new b.new counts.new cells.new roots.now waiting.new sections.new d.new marks.now list.now) }
+        (before a.old b.old counts.old cells.old roots.now waiting.old sections.old d.old marks.now list.now) result
+        (after a.new b.new counts.new cells.new roots.now waiting.new sections.new d.new marks.now list.now) }
 {
     public_heap::collect(
         blocks, width, a, b, counts, cells, roots, waiting, sections, d, marks, list,
@@ -184,8 +184,8 @@ pub extern "C" fn huwekapo_check(
     list: &[Ref],
 ) -> Reply
     ensures { Promise blocks width Call.check
-        (lent_memory a.now b.now counts.now cells.now roots.now waiting.now sections.now d.now marks.now list.now) result
-        (lent_memory a.now b.now counts.now cells.now roots.now waiting.now sections.now d.now marks.now list.now) }
+        (before a.now b.now counts.now cells.now roots.now waiting.now sections.now d.now marks.now list.now) result
+        (after a.now b.now counts.now cells.now roots.now waiting.now sections.now d.now marks.now list.now) }
 {
     public_read::check(
         blocks, width, a, b, counts, cells, roots, waiting, sections, d, marks, list,
@@ -208,8 +208,8 @@ pub extern "C" fn huwekapo_free_blocks(
     list: &[Ref],
 ) -> Reply
     ensures { Promise blocks width Call.free_blocks
-        (lent_memory a.now b.now counts.now cells.now roots.now waiting.now sections.now d.now marks.now list.now) result
-        (lent_memory a.now b.now counts.now cells.now roots.now waiting.now sections.now d.now marks.now list.now) }
+        (before a.now b.now counts.now cells.now roots.now waiting.now sections.now d.now marks.now list.now) result
+        (after a.now b.now counts.now cells.now roots.now waiting.now sections.now d.now marks.now list.now) }
 {
     public_read::free_blocks(
         blocks, width, a, b, counts, cells, roots, waiting, sections, d, marks, list,
@@ -233,8 +233,8 @@ pub extern "C" fn huwekapo_look(
     at: usize,
 ) -> Reply
     ensures { Promise blocks width (Call.look at)
-        (lent_memory a.now b.now counts.now cells.now roots.now waiting.now sections.now d.now marks.now list.now) result
-        (lent_memory a.now b.now counts.now cells.now roots.now waiting.now sections.now d.now marks.now list.now) }
+        (before a.now b.now counts.now cells.now roots.now waiting.now sections.now d.now marks.now list.now) result
+        (after a.now b.now counts.now cells.now roots.now waiting.now sections.now d.now marks.now list.now) }
 {
     public_read::look(
         blocks, width, a, b, counts, cells, roots, waiting, sections, d, marks, list, at,
@@ -259,8 +259,8 @@ pub extern "C" fn huwekapo_allocate_data(
     r: usize,
 ) -> Reply
     ensures { Promise blocks width (Call.allocate_data n r)
-        (lent_memory a.old b.old counts.old cells.old roots.old waiting.old sections.old d.old marks.old list.old) result
-        (lent_memory a.new b.new counts.new cells.new roots.new waiting.new sections.new d.new marks.new list.new) }
+        (before a.old b.old counts.old cells.old roots.old waiting.old sections.old d.old marks.old list.old) result
+        (after a.new b.new counts.new cells.new roots.new waiting.new sections.new d.new marks.new list.new) }
 {
     public_heap::allocate_data(
         blocks, width, a, b, counts, cells, roots, waiting, sections, d, marks, list, n, r,
@@ -286,8 +286,8 @@ pub extern "C" fn huwekapo_write_number(
     v: Ref,
 ) -> Reply
     ensures { Promise blocks width (Call.write_number at j v)
-        (lent_memory a.now b.now counts.now cells.old roots.now waiting.now sections.now d.now marks.now list.now) result
-        (lent_memory a.now b.now counts.now cells.new roots.now waiting.now sections.now d.now marks.now list.now) }
+        (before a.now b.now counts.now cells.old roots.now waiting.now sections.now d.now marks.now list.now) result
+        (after a.now b.now counts.now cells.new roots.now waiting.now sections.now d.now marks.now list.now) }
 {
     public_store::write_number(
         blocks, width, a, b, counts, cells, roots, waiting, sections, d, marks, list, at, j, v,
@@ -312,8 +312,8 @@ pub extern "C" fn huwekapo_read_number(
     j: usize,
 ) -> Reply
     ensures { Promise blocks width (Call.read_number at j)
-        (lent_memory a.now b.now counts.now cells.now roots.now waiting.now sections.now d.now marks.now list.now) result
-        (lent_memory a.now b.now counts.now cells.now roots.now waiting.now sections.now d.now marks.now list.now) }
+        (before a.now b.now counts.now cells.now roots.now waiting.now sections.now d.now marks.now list.now) result
+        (after a.now b.now counts.now cells.now roots.now waiting.now sections.now d.now marks.now list.now) }
 {
     public_read::read_number(
         blocks, width, a, b, counts, cells, roots, waiting, sections, d, marks, list, at, j,
@@ -336,8 +336,8 @@ pub extern "C" fn huwekapo_open_collection(
     list: &mut [Ref],
 ) -> Reply
     ensures { Promise blocks width Call.open_collection
-        (lent_memory a.now b.now counts.now cells.now roots.now waiting.now sections.now d.now marks.old list.old) result
-        (lent_memory a.now b.now counts.now cells.now roots.now waiting.now sections.now d.now marks.new list.new) }
+        (before a.now b.now counts.now cells.now roots.now waiting.now sections.now d.now marks.old list.old) result
+        (after a.now b.now counts.now cells.now roots.now waiting.now sections.now d.now marks.new list.new) }
 {
     public_steps::open_collection(
         blocks, width, a, b, counts, cells, roots, waiting, sections, d, marks, list,
@@ -361,8 +361,8 @@ pub extern "C" fn huwekapo_step_collection(
     budget: usize,
 ) -> Reply
     ensures { Promise blocks width (Call.take_steps budget)
-        (lent_memory a.old b.old counts.old cells.old roots.now waiting.old sections.old d.old marks.old list.old) result
-        (lent_memory a.new b.new counts.new cells.new roots.now waiting.new sections.new d.new marks.new list.new) }
+        (before a.old b.old counts.old cells.old roots.now waiting.old sections.old d.old marks.old list.old) result
+        (after a.new b.new counts.new cells.new roots.now waiting.new sections.new d.new marks.new list.new) }
 {
     public_steps::step_collection(
         blocks, width, a, b, counts, cells, roots, waiting, sections, d, marks, list, budget,
@@ -387,9 +387,9 @@ pub extern "C" fn huwekapo_replay(
     replies: &mut [u64],
 ) -> Reply
     ensures { Replayed blocks width
-        (lent_memory a.old b.old counts.old cells.old roots.old waiting.old sections.old d.old marks.old list.old)
+        (before a.old b.old counts.old cells.old roots.old waiting.old sections.old d.old marks.old list.old)
         calls.now replies.old result
-        (lent_memory a.new b.new counts.new cells.new roots.new waiting.new sections.new d.new marks.new list.new)
+        (after a.new b.new counts.new cells.new roots.new waiting.new sections.new d.new marks.new list.new)
         replies.new }
 {
     replay::replay(
@@ -416,9 +416,9 @@ pub extern "C" fn huwekapo_make_calls(
     replies: &mut [u64],
 ) -> Reply
     ensures { Batch blocks width
-        (lent_memory a.old b.old counts.old cells.old roots.old waiting.old sections.old d.old marks.old list.old)
+        (before a.old b.old counts.old cells.old roots.old waiting.old sections.old d.old marks.old list.old)
         calls.now replies.old result
-        (lent_memory a.new b.new counts.new cells.new roots.new waiting.new sections.new d.new marks.new list.new)
+        (after a.new b.new counts.new cells.new roots.new waiting.new sections.new d.new marks.new list.new)
         replies.new }
 {
     replay_batch::make_calls(

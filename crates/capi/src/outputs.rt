@@ -1,6 +1,6 @@
 // The calls with an output for C, and the reader of a reason, under the names of include/huwekapo.h.
 ghost use Rattle.std.specs.Prelude.{◌≡◌, length};
-ghost use Rattle.rules.specs.Heap.{lent_memory};
+ghost use Rattle.rules.specs.Lent.{before, after};
 ghost use Rattle.rules_calls.specs.Promise.{ReasonPromise, ShapePromise};
 ghost use Rattle.walk_reader.specs.Reader.{small_back, reading_of, cells_after};
 
@@ -25,8 +25,8 @@ pub extern "C" fn huwekapo_reason(
     out: &mut [u8],
 ) -> Reply
     ensures { ReasonPromise blocks width at
-        (lent_memory a.now b.now counts.now cells.now roots.now waiting.now sections.now d.now marks.now list.now) out.old result
-        (lent_memory a.now b.now counts.now cells.now roots.now waiting.now sections.now d.now marks.now list.now) out.new }
+        (before a.now b.now counts.now cells.now roots.now waiting.now sections.now d.now marks.now list.now) out.old result
+        (after a.now b.now counts.now cells.now roots.now waiting.now sections.now d.now marks.now list.now) out.new }
 {
     public_output::reason(
         blocks, width, a, b, counts, cells, roots, waiting, sections, d, marks, list, at, out,
@@ -50,8 +50,8 @@ pub extern "C" fn huwekapo_shape(
     out: &mut [u32],
 ) -> Reply
     ensures { ShapePromise blocks width
-        (lent_memory a.now b.now counts.now cells.now roots.now waiting.now sections.now d.now marks.now list.now) out.old result
-        (lent_memory a.now b.now counts.now cells.now roots.now waiting.now sections.now d.now marks.now list.now) out.new }
+        (before a.now b.now counts.now cells.now roots.now waiting.now sections.now d.now marks.now list.now) out.old result
+        (after a.now b.now counts.now cells.now roots.now waiting.now sections.now d.now marks.now list.now) out.new }
 {
     public_output::shape(
         blocks, width, a, b, counts, cells, roots, waiting, sections, d, marks, list, out,

@@ -1,6 +1,6 @@
 // Runs of records for C, under the name of include/huwekapo.h. The run so far goes in and out by value.
+ghost use Rattle.rules.specs.Lent.{before, after};
 ghost use Rattle.history_runs.specs.Promised.{Promised};
-ghost use Rattle.rules.specs.Heap.{lent_memory};
 
 use history_figures::tally::Run;
 use history_runs::Ran;
@@ -24,8 +24,8 @@ pub extern "C" fn huwekapo_run_records(
     bytes: &[u8],
 ) -> Ran
     ensures { Promised blocks width bytes.now
-        (lent_memory a.old b.old counts.old cells.old roots.old waiting.old sections.old d.old marks.old list.old) run result
-        (lent_memory a.new b.new counts.new cells.new roots.new waiting.new sections.new d.new marks.new list.new) }
+        (before a.old b.old counts.old cells.old roots.old waiting.old sections.old d.old marks.old list.old) run result
+        (after a.new b.new counts.new cells.new roots.new waiting.new sections.new d.new marks.new list.new) }
 {
     history::run_records(
         blocks, width, a, b, counts, cells, roots, waiting, sections, d, marks, list, run, bytes,

@@ -4,7 +4,7 @@
 #![tactic(auto)]
 
 ghost use Rattle.std.specs.Prelude.{◌≡◌};
-ghost use Rattle.rules.specs.Heap.{lent_memory};
+ghost use Rattle.rules.specs.Lent.{before, after};
 ghost use Rattle.history_runs.specs.Promised.{run_reply, refusal, Promised};
 
 use history_figures::tally;
@@ -44,7 +44,7 @@ fn run_reply(
     run: Run,
 ) -> Reply
     ensures { result ≡ run_reply blocks width
-        (lent_memory a.now b.now counts.now cells.now roots.now waiting.now sections.now d.now marks.now list.now) run }
+        (before a.now b.now counts.now cells.now roots.now waiting.now sections.now d.now marks.now list.now) run }
 {
     let checked = public_read::check(
         blocks, width, a, b, counts, cells, roots, waiting, sections, d, marks, list,
@@ -78,8 +78,8 @@ pub fn run_records(
     bytes: &[u8],
 ) -> Ran
     ensures { Promised blocks width bytes.now
-        (lent_memory a.old b.old counts.old cells.old roots.old waiting.old sections.old d.old marks.old list.old) run result
-        (lent_memory a.new b.new counts.new cells.new roots.new waiting.new sections.new d.new marks.new list.new) }
+        (before a.old b.old counts.old cells.old roots.old waiting.old sections.old d.old marks.old list.old) run result
+        (after a.new b.new counts.new cells.new roots.new waiting.new sections.new d.new marks.new list.new) }
 {
     let reply = run_reply(
         blocks, width, a, b, counts, cells, roots, waiting, sections, d, marks, list, run,

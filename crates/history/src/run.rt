@@ -1,6 +1,6 @@
 // The run over the records of a piece, on an undamaged heap with a cleared waiting list.
 ghost use Rattle.std.specs.Prelude.{◌≡◌, true, ◌+◌, ◌*◌, ◌/◌, ◌-◌, ◌≤◌, min, length};
-ghost use Rattle.rules.specs.Heap.{lent_memory};
+ghost use Rattle.rules.specs.Lent.{before, after, lent};
 ghost use Rattle.theory_memories.specs.Heaps.{Usable};
 ghost use Rattle.history_records.specs.Records.{record_length, wide};
 ghost use Rattle.history_figures.specs.Figures.{most_records, in_range};
@@ -31,15 +31,13 @@ fn run_whole(
     n: usize,
     start: Running,
 ) -> Run
-    requires { Usable blocks width
-        (lent_memory a.old b.old counts.old cells.old roots.old waiting.old sections.old d.old marks.old list.old)
-        × Going blocks
-        (lent_memory a.old b.old counts.old cells.old roots.old waiting.old sections.old d.old marks.old list.old) n start
+    requires { Usable blocks width (lent a.old b.old counts.old cells.old roots.old waiting.old sections.old d.old marks.old list.old)
+        × Going blocks (lent a.old b.old counts.old cells.old roots.old waiting.old sections.old d.old marks.old list.old) n start
         × (record_length wide * n ≤ length bytes.now) }
     ensures { RunBy blocks width
         (ran_from wide n blocks width bytes.now 0
-        (lent_memory a.old b.old counts.old cells.old roots.old waiting.old sections.old d.old marks.old list.old) start.run) result
-        (lent_memory a.new b.new counts.new cells.new roots.new waiting.new sections.new d.new marks.new list.new) }
+        (before a.old b.old counts.old cells.old roots.old waiting.old sections.old d.old marks.old list.old) start.run) result
+        (after a.new b.new counts.new cells.new roots.new waiting.new sections.new d.new marks.new list.new) }
 {
     let mut state = start;
     let mut i = 0;
@@ -107,12 +105,11 @@ pub(crate) fn run_piece(
     bytes: &[u8],
     run: Run,
 ) -> Run
-    requires { Usable blocks width
-        (lent_memory a.old b.old counts.old cells.old roots.old waiting.old sections.old d.old marks.old list.old)
+    requires { Usable blocks width (lent a.old b.old counts.old cells.old roots.old waiting.old sections.old d.old marks.old list.old)
         × (in_range run ≡ true) }
     ensures { RunBy blocks width (ran wide blocks width bytes.now
-        (lent_memory a.old b.old counts.old cells.old roots.old waiting.old sections.old d.old marks.old list.old) run) result
-        (lent_memory a.new b.new counts.new cells.new roots.new waiting.new sections.new d.new marks.new list.new) }
+        (before a.old b.old counts.old cells.old roots.old waiting.old sections.old d.old marks.old list.old) run) result
+        (after a.new b.new counts.new cells.new roots.new waiting.new sections.new d.new marks.new list.new) }
 {
     let number = run.number;
     if number != 0 {

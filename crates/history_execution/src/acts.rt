@@ -1,6 +1,6 @@
 // The calls of one record, on an undamaged heap with a cleared waiting list.
+ghost use Rattle.rules.specs.Lent.{before, after, lent};
 ghost use Rattle.theory_memories.specs.Heaps.{Usable};
-ghost use Rattle.rules.specs.Heap.{lent_memory};
 ghost use Rattle.history_plans.specs.Meaning.{meaning};
 ghost use Rattle.history_turns.specs.Turns.{turn_of};
 ghost use Rattle.history_turns.specs.Steps.{Acted};
@@ -25,13 +25,11 @@ pub(crate) fn act(
     list: &mut [Ref],
     plan: Plan,
 ) -> Done
-    requires { Usable blocks width
-        (lent_memory a.old b.old counts.old cells.old roots.old waiting.old sections.old d.old marks.old list.old) }
-    ensures { Acted blocks
-        (lent_memory a.old b.old counts.old cells.old roots.old waiting.old sections.old d.old marks.old list.old)
+    requires { Usable blocks width (lent a.old b.old counts.old cells.old roots.old waiting.old sections.old d.old marks.old list.old) }
+    ensures { Acted blocks (before a.old b.old counts.old cells.old roots.old waiting.old sections.old d.old marks.old list.old)
         (turn_of blocks width
-        (lent_memory a.old b.old counts.old cells.old roots.old waiting.old sections.old d.old marks.old list.old) (meaning plan)) result
-        (lent_memory a.new b.new counts.new cells.new roots.new waiting.new sections.new d.new marks.new list.new) }
+        (before a.old b.old counts.old cells.old roots.old waiting.old sections.old d.old marks.old list.old) (meaning plan)) result
+        (after a.new b.new counts.new cells.new roots.new waiting.new sections.new d.new marks.new list.new) }
 {
     match plan {
         Plan::Stop(number) => Done {

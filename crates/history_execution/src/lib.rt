@@ -3,7 +3,8 @@
 #![tactic(auto)]
 
 ghost use Rattle.std.specs.Prelude.{◌≤◌};
-ghost use Rattle.rules.specs.Heap.{max_number, lent_memory};
+ghost use Rattle.rules.specs.Heap.{max_number};
+ghost use Rattle.rules.specs.Lent.{before, after, lent};
 ghost use Rattle.theory_memories.specs.Heaps.{Usable};
 ghost use Rattle.history_plans.specs.Asked.{asked};
 ghost use Rattle.history_turns.specs.Turns.{turn_of};
@@ -33,18 +34,13 @@ pub fn step(
     f: Fields,
     state: Running,
 ) -> Running
-    requires { Usable blocks width
-        (lent_memory a.old b.old counts.old cells.old roots.old waiting.old sections.old d.old marks.old list.old)
-        × Going blocks
-        (lent_memory a.old b.old counts.old cells.old roots.old waiting.old sections.old d.old marks.old list.old) 1 state
+    requires { Usable blocks width (lent a.old b.old counts.old cells.old roots.old waiting.old sections.old d.old marks.old list.old)
+        × Going blocks (lent a.old b.old counts.old cells.old roots.old waiting.old sections.old d.old marks.old list.old) 1 state
         × (f.size ≤ max_number) }
     ensures { Stepped blocks
-        (turn_of blocks width
-        (lent_memory a.old b.old counts.old cells.old roots.old waiting.old sections.old d.old marks.old list.old)
-        (asked blocks
-        (lent_memory a.old b.old counts.old cells.old roots.old waiting.old sections.old d.old marks.old list.old) f))
-        state result
-        (lent_memory a.new b.new counts.new cells.new roots.new waiting.new sections.new d.new marks.new list.new) }
+        (turn_of blocks width (before a.old b.old counts.old cells.old roots.old waiting.old sections.old d.old marks.old list.old)
+        (asked blocks (before a.old b.old counts.old cells.old roots.old waiting.old sections.old d.old marks.old list.old) f))
+        state result (after a.new b.new counts.new cells.new roots.new waiting.new sections.new d.new marks.new list.new) }
 {
     let plan = history_plans::plan_of(blocks, b, cells, roots, d, f);
     let done = acts::act(

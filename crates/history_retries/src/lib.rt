@@ -3,8 +3,8 @@
 
 #![tactic(auto)]
 
+ghost use Rattle.rules.specs.Lent.{before, after, lent};
 ghost use Rattle.rules_calls.specs.Calls.{allocate_as};
-ghost use Rattle.rules.specs.Heap.{lent_memory};
 ghost use Rattle.theory_memories.specs.Heaps.{Usable};
 ghost use Rattle.history_plans.specs.Asked.{makes};
 ghost use Rattle.history_turns.specs.Turns.{turn_of};
@@ -33,13 +33,11 @@ pub fn allocate(
     n: usize,
     r: usize,
 ) -> Done
-    requires { Usable blocks width
-        (lent_memory a.old b.old counts.old cells.old roots.old waiting.old sections.old d.old marks.old list.old) }
-    ensures { Acted blocks
-        (lent_memory a.old b.old counts.old cells.old roots.old waiting.old sections.old d.old marks.old list.old)
+    requires { Usable blocks width (lent a.old b.old counts.old cells.old roots.old waiting.old sections.old d.old marks.old list.old) }
+    ensures { Acted blocks (before a.old b.old counts.old cells.old roots.old waiting.old sections.old d.old marks.old list.old)
         (turn_of blocks width
-        (lent_memory a.old b.old counts.old cells.old roots.old waiting.old sections.old d.old marks.old list.old) (makes (allocate_as as_data n r))) result
-        (lent_memory a.new b.new counts.new cells.new roots.new waiting.new sections.new d.new marks.new list.new) }
+        (before a.old b.old counts.old cells.old roots.old waiting.old sections.old d.old marks.old list.old) (makes (allocate_as as_data n r))) result
+        (after a.new b.new counts.new cells.new roots.new waiting.new sections.new d.new marks.new list.new) }
 {
     let first = work_tested::allocate(
         blocks, width, a, b, counts, cells, roots, waiting, sections, d, marks, list, as_data, n, r,

@@ -4,7 +4,8 @@
 #![tactic(auto)]
 
 ghost use Rattle.std.specs.Prelude.{length};
-ghost use Rattle.rules.specs.Heap.{shape, lent_memory};
+ghost use Rattle.rules.specs.Heap.{shape};
+ghost use Rattle.rules.specs.Lent.{before, after};
 ghost use Rattle.rules_calls.specs.Promise.{CopyPromise};
 ghost use Rattle.public_copy.specs.Gated.{CopyGated};
 
@@ -38,7 +39,7 @@ fn test(
     list2: usize,
 ) -> Reply
     ensures { CopyGated blocks width
-        (lent_memory a.now b.now counts.now cells.now roots.now waiting.now sections.now d.now marks.now list.now) blocks2 width2
+        (before a.now b.now counts.now cells.now roots.now waiting.now sections.now d.now marks.now list.now) blocks2 width2
         (shape blocks2 width2 a2 b2 counts2 cells2 roots2 waiting2 sections2 d2 marks2 list2) roots2 result }
 {
     if !check_shape::is_shaped(
@@ -82,10 +83,10 @@ pub fn copy(
     list2: &mut [Ref],
 ) -> Reply
     ensures { CopyPromise blocks width
-        (lent_memory a.now b.now counts.now cells.now roots.now waiting.now sections.now d.now marks.now list.now) blocks2 width2
-        (lent_memory a2.old b2.old counts2.old cells2.old roots2.old waiting2.old sections2.old d2.old marks2.old list2.old) result
-        (lent_memory a.now b.now counts.now cells.now roots.now waiting.now sections.now d.now marks.now list.now)
-        (lent_memory a2.new b2.new counts2.new cells2.new roots2.new waiting2.new sections2.new d2.new marks2.new list2.new) }
+        (before a.now b.now counts.now cells.now roots.now waiting.now sections.now d.now marks.now list.now) blocks2 width2
+        (before a2.old b2.old counts2.old cells2.old roots2.old waiting2.old sections2.old d2.old marks2.old list2.old) result
+        (after a.now b.now counts.now cells.now roots.now waiting.now sections.now d.now marks.now list.now)
+        (after a2.new b2.new counts2.new cells2.new roots2.new waiting2.new sections2.new d2.new marks2.new list2.new) }
 {
     let tested = test(
         blocks,

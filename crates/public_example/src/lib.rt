@@ -3,8 +3,8 @@
 
 #![tactic(auto)]
 
+ghost use Rattle.rules.specs.Lent.{before, after};
 ghost use Rattle.public_example.specs.Session.{Lived};
-ghost use Rattle.rules.specs.Heap.{lent_memory};
 
 use types::{Ref, Reply};
 
@@ -26,9 +26,8 @@ pub fn one_life(
     marks: &mut [u8],
     list: &mut [Ref],
 ) -> Reply
-    ensures { Lived blocks width
-        (lent_memory a.old b.old counts.old cells.old roots.old waiting.old sections.old d.old marks.old list.old) result
-        (lent_memory a.new b.new counts.new cells.new roots.new waiting.new sections.new d.new marks.new list.new) }
+    ensures { Lived blocks width (before a.old b.old counts.old cells.old roots.old waiting.old sections.old d.old marks.old list.old) result
+        (after a.new b.new counts.new cells.new roots.new waiting.new sections.new d.new marks.new list.new) }
 {
     let formatting = public_heap::format(
         blocks, width, a, b, counts, cells, roots, waiting, sections, d, marks, list,

@@ -1,7 +1,7 @@
 // Public calls with a run of records and a replay between them, on the same buffers: all of them are one list of
 // calls, and demand 3's claim of it is the contract.
+ghost use Rattle.rules.specs.Lent.{before, after};
 ghost use Rattle.public_example.specs.Mixed.{MixedCalls};
-ghost use Rattle.rules.specs.Heap.{lent_memory};
 
 use history_figures::tally;
 use types::{Ref, Reply};
@@ -26,9 +26,9 @@ pub fn mixed_calls(
     replies: &mut [u64],
 ) -> Reply
     ensures { MixedCalls blocks width
-        (lent_memory a.old b.old counts.old cells.old roots.old waiting.old sections.old d.old marks.old list.old)
+        (before a.old b.old counts.old cells.old roots.old waiting.old sections.old d.old marks.old list.old)
         bytes.now calls.now replies.old result
-        (lent_memory a.new b.new counts.new cells.new roots.new waiting.new sections.new d.new marks.new list.new)
+        (after a.new b.new counts.new cells.new roots.new waiting.new sections.new d.new marks.new list.new)
         replies.new }
 {
     let formatting = public_heap::format(

@@ -3,8 +3,8 @@
 
 #![tactic(auto)]
 
+ghost use Rattle.rules.specs.Lent.{before, after};
 ghost use Rattle.rules_calls.specs.Calls.{Call};
-ghost use Rattle.rules.specs.Heap.{lent_memory};
 ghost use Rattle.rules_calls.specs.Promise.{Promise};
 
 use map_objects::lists;
@@ -26,8 +26,8 @@ pub fn format(
     list: &mut [Ref],
 ) -> Reply
     ensures { Promise blocks width Call.format
-        (lent_memory a.old b.old counts.old cells.old roots.old waiting.old sections.old d.old marks.old list.old) result
-        (lent_memory a.new b.new counts.new cells.new roots.new waiting.new sections.new d.new marks.new list.new) }
+        (before a.old b.old counts.old cells.old roots.old waiting.old sections.old d.old marks.old list.old) result
+        (after a.new b.new counts.new cells.new roots.new waiting.new sections.new d.new marks.new list.new) }
 {
     if !check_shape::is_shaped(
         blocks,
@@ -68,8 +68,8 @@ pub fn allocate(
     r: usize,
 ) -> Reply
     ensures { Promise blocks width (Call.allocate n r)
-        (lent_memory a.old b.old counts.old cells.old roots.old waiting.old sections.old d.old marks.old list.old) result
-        (lent_memory a.new b.new counts.new cells.new roots.new waiting.new sections.new d.new marks.new list.new) }
+        (before a.old b.old counts.old cells.old roots.old waiting.old sections.old d.old marks.old list.old) result
+        (after a.new b.new counts.new cells.new roots.new waiting.new sections.new d.new marks.new list.new) }
 {
     let found = test_calls::allocate(
         blocks, width, a, b, counts, cells, roots, waiting, sections, d, marks, list, n, r,
@@ -105,8 +105,8 @@ pub fn allocate_data(
     r: usize,
 ) -> Reply
     ensures { Promise blocks width (Call.allocate_data n r)
-        (lent_memory a.old b.old counts.old cells.old roots.old waiting.old sections.old d.old marks.old list.old) result
-        (lent_memory a.new b.new counts.new cells.new roots.new waiting.new sections.new d.new marks.new list.new) }
+        (before a.old b.old counts.old cells.old roots.old waiting.old sections.old d.old marks.old list.old) result
+        (after a.new b.new counts.new cells.new roots.new waiting.new sections.new d.new marks.new list.new) }
 {
     let tested = test_calls::allocate_data(
         blocks, width, a, b, counts, cells, roots, waiting, sections, d, marks, list, n, r,
@@ -141,8 +141,8 @@ pub fn collect(
     list: &[Ref],
 ) -> Reply
     ensures { Promise blocks width Call.collect
-        (lent_memory a.old b.old counts.old cells.old roots.now waiting.old sections.old d.old marks.now list.now) result
-        (lent_memory a.new b.new counts.new cells.new roots.now waiting.new sections.new d.new marks.now list.now) }
+        (before a.old b.old counts.old cells.old roots.now waiting.old sections.old d.old marks.now list.now) result
+        (after a.new b.new counts.new cells.new roots.now waiting.new sections.new d.new marks.now list.now) }
 {
     let checked = test_calls::none_open(
         blocks, width, a, b, counts, cells, roots, waiting, sections, d, marks, list,

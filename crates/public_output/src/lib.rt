@@ -3,8 +3,8 @@
 
 #![tactic(auto)]
 
+ghost use Rattle.rules.specs.Lent.{before, after};
 ghost use Rattle.rules_calls.specs.Promise.{ReasonPromise, ShapePromise};
-ghost use Rattle.rules.specs.Heap.{lent_memory};
 
 use types::{Ref, Reply};
 
@@ -26,8 +26,8 @@ pub fn reason(
     out: &mut [u8],
 ) -> Reply
     ensures { ReasonPromise blocks width at
-        (lent_memory a.now b.now counts.now cells.now roots.now waiting.now sections.now d.now marks.now list.now) out.old result
-        (lent_memory a.now b.now counts.now cells.now roots.now waiting.now sections.now d.now marks.now list.now) out.new }
+        (before a.now b.now counts.now cells.now roots.now waiting.now sections.now d.now marks.now list.now) out.old result
+        (after a.now b.now counts.now cells.now roots.now waiting.now sections.now d.now marks.now list.now) out.new }
 {
     let checked = public_read::check(
         blocks, width, a, b, counts, cells, roots, waiting, sections, d, marks, list,
@@ -58,8 +58,8 @@ pub fn shape(
     out: &mut [u32],
 ) -> Reply
     ensures { ShapePromise blocks width
-        (lent_memory a.now b.now counts.now cells.now roots.now waiting.now sections.now d.now marks.now list.now) out.old result
-        (lent_memory a.now b.now counts.now cells.now roots.now waiting.now sections.now d.now marks.now list.now) out.new }
+        (before a.now b.now counts.now cells.now roots.now waiting.now sections.now d.now marks.now list.now) out.old result
+        (after a.now b.now counts.now cells.now roots.now waiting.now sections.now d.now marks.now list.now) out.new }
 {
     let tested = public_read::check(
         blocks, width, a, b, counts, cells, roots, waiting, sections, d, marks, list,

@@ -2,8 +2,8 @@
 
 #![tactic(auto)]
 
+ghost use Rattle.rules.specs.Lent.{before, after};
 ghost use Rattle.rules_calls.specs.Calls.{Call};
-ghost use Rattle.rules.specs.Heap.{lent_memory};
 ghost use Rattle.rules_calls.specs.Promise.{Promise};
 
 use test_arguments::{looking, numbers};
@@ -26,8 +26,8 @@ pub fn check(
     list: &[Ref],
 ) -> Reply
     ensures { Promise blocks width Call.check
-        (lent_memory a.now b.now counts.now cells.now roots.now waiting.now sections.now d.now marks.now list.now) result
-        (lent_memory a.now b.now counts.now cells.now roots.now waiting.now sections.now d.now marks.now list.now) }
+        (before a.now b.now counts.now cells.now roots.now waiting.now sections.now d.now marks.now list.now) result
+        (after a.now b.now counts.now cells.now roots.now waiting.now sections.now d.now marks.now list.now) }
 {
     if !check_shape::is_shaped(
         blocks,
@@ -78,8 +78,8 @@ pub fn free_blocks(
     list: &[Ref],
 ) -> Reply
     ensures { Promise blocks width Call.free_blocks
-        (lent_memory a.now b.now counts.now cells.now roots.now waiting.now sections.now d.now marks.now list.now) result
-        (lent_memory a.now b.now counts.now cells.now roots.now waiting.now sections.now d.now marks.now list.now) }
+        (before a.now b.now counts.now cells.now roots.now waiting.now sections.now d.now marks.now list.now) result
+        (after a.now b.now counts.now cells.now roots.now waiting.now sections.now d.now marks.now list.now) }
 {
     let check_reply = check(
         blocks, width, a, b, counts, cells, roots, waiting, sections, d, marks, list,
@@ -108,8 +108,8 @@ pub fn look(
     at: usize,
 ) -> Reply
     ensures { Promise blocks width (Call.look at)
-        (lent_memory a.now b.now counts.now cells.now roots.now waiting.now sections.now d.now marks.now list.now) result
-        (lent_memory a.now b.now counts.now cells.now roots.now waiting.now sections.now d.now marks.now list.now) }
+        (before a.now b.now counts.now cells.now roots.now waiting.now sections.now d.now marks.now list.now) result
+        (after a.now b.now counts.now cells.now roots.now waiting.now sections.now d.now marks.now list.now) }
 {
     let checked = check(
         blocks, width, a, b, counts, cells, roots, waiting, sections, d, marks, list,
@@ -139,8 +139,8 @@ pub fn read_number(
     j: usize,
 ) -> Reply
     ensures { Promise blocks width (Call.read_number at j)
-        (lent_memory a.now b.now counts.now cells.now roots.now waiting.now sections.now d.now marks.now list.now) result
-        (lent_memory a.now b.now counts.now cells.now roots.now waiting.now sections.now d.now marks.now list.now) }
+        (before a.now b.now counts.now cells.now roots.now waiting.now sections.now d.now marks.now list.now) result
+        (after a.now b.now counts.now cells.now roots.now waiting.now sections.now d.now marks.now list.now) }
 {
     let tested = check(
         blocks, width, a, b, counts, cells, roots, waiting, sections, d, marks, list,

@@ -3,8 +3,8 @@
 
 #![tactic(auto)]
 
+ghost use Rattle.rules.specs.Lent.{before, after};
 ghost use Rattle.rules_calls.specs.Calls.{Call};
-ghost use Rattle.rules.specs.Heap.{lent_memory};
 ghost use Rattle.rules_calls.specs.Promise.{Promise};
 
 use map_objects::lists;
@@ -27,8 +27,8 @@ pub fn open_collection(
     list: &mut [Ref],
 ) -> Reply
     ensures { Promise blocks width Call.open_collection
-        (lent_memory a.now b.now counts.now cells.now roots.now waiting.now sections.now d.now marks.old list.old) result
-        (lent_memory a.now b.now counts.now cells.now roots.now waiting.now sections.now d.now marks.new list.new) }
+        (before a.now b.now counts.now cells.now roots.now waiting.now sections.now d.now marks.old list.old) result
+        (after a.now b.now counts.now cells.now roots.now waiting.now sections.now d.now marks.new list.new) }
 {
     let shut = test_calls::none_open(
         blocks, width, a, b, counts, cells, roots, waiting, sections, d, marks, list,
@@ -58,8 +58,8 @@ pub fn step_collection(
     budget: usize,
 ) -> Reply
     ensures { Promise blocks width (Call.take_steps budget)
-        (lent_memory a.old b.old counts.old cells.old roots.now waiting.old sections.old d.old marks.old list.old) result
-        (lent_memory a.new b.new counts.new cells.new roots.now waiting.new sections.new d.new marks.new list.new) }
+        (before a.old b.old counts.old cells.old roots.now waiting.old sections.old d.old marks.old list.old) result
+        (after a.new b.new counts.new cells.new roots.now waiting.new sections.new d.new marks.new list.new) }
 {
     let tested = test_calls::one_open(
         blocks, width, a, b, counts, cells, roots, waiting, sections, d, marks, list,

@@ -3,8 +3,8 @@
 
 #![tactic(auto)]
 
+ghost use Rattle.rules.specs.Lent.{before, after};
 ghost use Rattle.rules_calls.specs.Calls.{Call};
-ghost use Rattle.rules.specs.Heap.{lent_memory};
 ghost use Rattle.rules_calls.specs.Promise.{Promise};
 
 use map_objects::lists;
@@ -28,8 +28,8 @@ pub fn store_root(
     v: usize,
 ) -> Reply
     ensures { Promise blocks width (Call.store_root r v)
-        (lent_memory a.old b.old counts.old cells.old roots.old waiting.old sections.old d.old marks.old list.old) result
-        (lent_memory a.new b.new counts.new cells.new roots.new waiting.new sections.new d.new marks.new list.new) }
+        (before a.old b.old counts.old cells.old roots.old waiting.old sections.old d.old marks.old list.old) result
+        (after a.new b.new counts.new cells.new roots.new waiting.new sections.new d.new marks.new list.new) }
 {
     let tested = test_calls::store_root(
         blocks, width, a, b, counts, cells, roots, waiting, sections, d, marks, list, r, v,
@@ -64,8 +64,8 @@ pub fn store_cell(
     v: usize,
 ) -> Reply
     ensures { Promise blocks width (Call.store_cell at j v)
-        (lent_memory a.old b.old counts.old cells.old roots.now waiting.old sections.old d.old marks.old list.old) result
-        (lent_memory a.new b.new counts.new cells.new roots.now waiting.new sections.new d.new marks.new list.new) }
+        (before a.old b.old counts.old cells.old roots.now waiting.old sections.old d.old marks.old list.old) result
+        (after a.new b.new counts.new cells.new roots.now waiting.new sections.new d.new marks.new list.new) }
 {
     let tested = test_calls::store_cell(
         blocks, width, a, b, counts, cells, roots, waiting, sections, d, marks, list, at, j, v,
@@ -98,8 +98,8 @@ pub fn return_roots(
     chosen: u64,
 ) -> Reply
     ensures { Promise blocks width (Call.return_roots chosen)
-        (lent_memory a.old b.old counts.old cells.old roots.old waiting.old sections.old d.old marks.old list.old) result
-        (lent_memory a.new b.new counts.new cells.new roots.new waiting.new sections.new d.new marks.new list.new) }
+        (before a.old b.old counts.old cells.old roots.old waiting.old sections.old d.old marks.old list.old) result
+        (after a.new b.new counts.new cells.new roots.new waiting.new sections.new d.new marks.new list.new) }
 {
     let tested = test_calls::return_roots(
         blocks, width, a, b, counts, cells, roots, waiting, sections, d, marks, list, chosen,
@@ -135,8 +135,8 @@ pub fn write_number(
     x: Ref,
 ) -> Reply
     ensures { Promise blocks width (Call.write_number at j x)
-        (lent_memory a.now b.now counts.now cells.old roots.now waiting.now sections.now d.now marks.now list.now) result
-        (lent_memory a.now b.now counts.now cells.new roots.now waiting.now sections.now d.now marks.now list.now) }
+        (before a.now b.now counts.now cells.old roots.now waiting.now sections.now d.now marks.now list.now) result
+        (after a.now b.now counts.now cells.new roots.now waiting.now sections.now d.now marks.now list.now) }
 {
     let tested = test_calls::write_number(
         blocks, width, a, b, counts, cells, roots, waiting, sections, d, marks, list, at, j, x,

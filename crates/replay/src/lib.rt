@@ -3,8 +3,8 @@
 
 #![tactic(auto)]
 
+ghost use Rattle.rules.specs.Lent.{before, after};
 ghost use Rattle.replay.specs.Replay.{Replayed};
-ghost use Rattle.rules.specs.Heap.{lent_memory};
 
 use replay_words::tests;
 use types::{Ref, Reply};
@@ -28,9 +28,9 @@ pub fn replay(
     replies: &mut [u64],
 ) -> Reply
     ensures { Replayed blocks width
-        (lent_memory a.old b.old counts.old cells.old roots.old waiting.old sections.old d.old marks.old list.old)
+        (before a.old b.old counts.old cells.old roots.old waiting.old sections.old d.old marks.old list.old)
         calls.now replies.old result
-        (lent_memory a.new b.new counts.new cells.new roots.new waiting.new sections.new d.new marks.new list.new)
+        (after a.new b.new counts.new cells.new roots.new waiting.new sections.new d.new marks.new list.new)
         replies.new }
 {
     let test = tests::replay_reply(

@@ -3,7 +3,7 @@
 #![tactic(auto)]
 
 ghost use Rattle.std.specs.Prelude.{◌≡◌};
-ghost use Rattle.rules.specs.Heap.{lent_memory};
+ghost use Rattle.rules.specs.Lent.{before, after};
 ghost use Rattle.replay_batch.specs.Batch.{batch_reply, Batch};
 
 use map_objects::lists;
@@ -29,7 +29,7 @@ fn batch_reply(
     room: usize,
 ) -> Reply
     ensures { result ≡ batch_reply blocks width
-        (lent_memory a.now b.now counts.now cells.now roots.now waiting.now sections.now d.now marks.now list.now) calls.now room }
+        (before a.now b.now counts.now cells.now roots.now waiting.now sections.now d.now marks.now list.now) calls.now room }
 {
     let checked = public_read::check(
         blocks, width, a, b, counts, cells, roots, waiting, sections, d, marks, list,
@@ -75,9 +75,9 @@ pub fn make_calls(
     replies: &mut [u64],
 ) -> Reply
     ensures { Batch blocks width
-        (lent_memory a.old b.old counts.old cells.old roots.old waiting.old sections.old d.old marks.old list.old)
+        (before a.old b.old counts.old cells.old roots.old waiting.old sections.old d.old marks.old list.old)
         calls.now replies.old result
-        (lent_memory a.new b.new counts.new cells.new roots.new waiting.new sections.new d.new marks.new list.new)
+        (after a.new b.new counts.new cells.new roots.new waiting.new sections.new d.new marks.new list.new)
         replies.new }
 {
     let reply = batch_reply(

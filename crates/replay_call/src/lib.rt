@@ -2,8 +2,8 @@
 
 #![tactic(auto)]
 
+ghost use Rattle.rules.specs.Lent.{before, after, lent};
 ghost use Rattle.theory_memories.specs.Heaps.{Usable};
-ghost use Rattle.rules.specs.Heap.{lent_memory};
 ghost use Rattle.replay_call.specs.Dispatched.{Dispatched};
 
 use test_arguments::{collecting, looking, numbers};
@@ -28,11 +28,10 @@ pub fn step(
     y: u64,
     z: u64,
 ) -> Reply
-    requires { Usable blocks width
-        (lent_memory a.old b.old counts.old cells.old roots.old waiting.old sections.old d.old marks.old list.old) }
+    requires { Usable blocks width (lent a.old b.old counts.old cells.old roots.old waiting.old sections.old d.old marks.old list.old) }
     ensures { Dispatched blocks width code x y z
-        (lent_memory a.old b.old counts.old cells.old roots.old waiting.old sections.old d.old marks.old list.old) result
-        (lent_memory a.new b.new counts.new cells.new roots.new waiting.new sections.new d.new marks.new list.new) }
+        (before a.old b.old counts.old cells.old roots.old waiting.old sections.old d.old marks.old list.old) result
+        (after a.new b.new counts.new cells.new roots.new waiting.new sections.new d.new marks.new list.new) }
 {
     match code {
         0 => work_format::format(

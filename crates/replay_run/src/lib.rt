@@ -3,7 +3,7 @@
 #![tactic(auto)]
 
 ghost use Rattle.std.specs.Prelude.{◌≡◌, true, ◌*◌, ◌/◌, ◌≤◌, length};
-ghost use Rattle.rules.specs.Heap.{lent_memory};
+ghost use Rattle.rules.specs.Lent.{before, after, lent};
 ghost use Rattle.theory_memories.specs.Heaps.{Usable};
 ghost use Rattle.replay_words.specs.Encoding.{are_calls};
 ghost use Rattle.replay_run.specs.Run.{AsRun};
@@ -28,13 +28,12 @@ pub fn run_all(
     calls: &[u64],
     replies: &mut [u64],
 )
-    requires { Usable blocks width
-        (lent_memory a.old b.old counts.old cells.old roots.old waiting.old sections.old d.old marks.old list.old)
+    requires { Usable blocks width (lent a.old b.old counts.old cells.old roots.old waiting.old sections.old d.old marks.old list.old)
         × (are_calls calls.now (length calls.now / 4) ≡ true) × (3 * (length calls.now / 4) ≤ length replies.old) }
     ensures { AsRun blocks width
-        (lent_memory a.old b.old counts.old cells.old roots.old waiting.old sections.old d.old marks.old list.old)
+        (before a.old b.old counts.old cells.old roots.old waiting.old sections.old d.old marks.old list.old)
         calls.now replies.old
-        (lent_memory a.new b.new counts.new cells.new roots.new waiting.new sections.new d.new marks.new list.new)
+        (after a.new b.new counts.new cells.new roots.new waiting.new sections.new d.new marks.new list.new)
         replies.new }
 {
     let n = calls.len() / 4;

@@ -1,6 +1,6 @@
 // The run over the input, piece by piece.
 ghost use Rattle.bitmap.specs.Bit.{Bytes};
-ghost use Rattle.rules.specs.Heap.{lent_memory};
+ghost use Rattle.rules.specs.Lent.{before, after};
 ghost use Rattle.report.specs.Meaning.{Reported, piece_meaning};
 
 use history_figures::tally;
@@ -43,9 +43,8 @@ pub fn run_piece(
     list: &mut [Ref; LIST],
     bytes: &[u8],
 ) -> PieceOutcome
-    ensures { piece_meaning bytes.now
-        (lent_memory a.old b.old counts.old cells.old roots.old waiting.old sections.old d.old marks.old list.old) run result
-        (lent_memory a.new b.new counts.new cells.new roots.new waiting.new sections.new d.new marks.new list.new)
+    ensures { piece_meaning bytes.now (before a.old b.old counts.old cells.old roots.old waiting.old sections.old d.old marks.old list.old) run result
+        (after a.new b.new counts.new cells.new roots.new waiting.new sections.new d.new marks.new list.new)
         × Bytes bytes.now }
 {
     let ran = history::run_records(

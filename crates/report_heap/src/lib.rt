@@ -3,8 +3,8 @@
 #![tactic(auto)]
 
 ghost use Rattle.std.specs.Prelude.{◌≡◌};
+ghost use Rattle.rules.specs.Lent.{after};
 ghost use Rattle.report_heap.specs.Heap.{new_heap};
-ghost use Rattle.rules.specs.Heap.{lent_memory};
 
 use types::Ref;
 
@@ -38,7 +38,7 @@ pub fn format(
     marks: &mut [u8; MAP_BYTES],
     list: &mut [Ref; LIST],
 )
-    ensures { lent_memory a.new b.new counts.new cells.new roots.new waiting.new sections.new d.new marks.new list.new ≡ new_heap }
+    ensures { after a.new b.new counts.new cells.new roots.new waiting.new sections.new d.new marks.new list.new ≡ new_heap }
 {
     public_heap::format(
         BLOCKS, WIDTH, a, b, counts, cells, roots, waiting, sections, d, marks, list,

@@ -5,6 +5,7 @@
 
 ghost use Rattle.std.specs.Prelude.{[], ℕ, length};
 ghost use Rattle.rules.specs.Heap.{memory, lent_memory};
+ghost use Rattle.rules.specs.Lent.{before};
 ghost use Rattle.rules_calls.specs.Calls.{Call};
 ghost use Rattle.test_arguments.specs.Replies.{store_root_test, store_cell_test, number_test, return_test, shut_test, open_test};
 ghost use Rattle.test_allocation.specs.Replies.{allocate_reply};
@@ -31,7 +32,7 @@ pub fn allocate(
     r: usize,
 ) -> Reply
     ensures { Gated blocks width (Call.allocate n r)
-        (lent_memory a.now b.now counts.now cells.now roots.now waiting.now sections.now d.now marks.now list.now) result
+        (before a.now b.now counts.now cells.now roots.now waiting.now sections.now d.now marks.now list.now) result
         (allocate_reply blocks a.now (length roots.now) n r) }
 {
     let checked = public_read::check(
@@ -62,7 +63,7 @@ pub fn allocate_data(
     r: usize,
 ) -> Reply
     ensures { Gated blocks width (Call.allocate_data n r)
-        (lent_memory a.now b.now counts.now cells.now roots.now waiting.now sections.now d.now marks.now list.now) result
+        (before a.now b.now counts.now cells.now roots.now waiting.now sections.now d.now marks.now list.now) result
         (allocate_reply blocks a.now (length roots.now) n r) }
 {
     let checked = public_read::check(
@@ -94,7 +95,7 @@ pub fn store_root(
     v: usize,
 ) -> Reply
     ensures { Gated blocks width (Call.store_root r v)
-        (lent_memory a.now b.now counts.now cells.now roots.now waiting.now sections.now d.now marks.now list.now) result
+        (before a.now b.now counts.now cells.now roots.now waiting.now sections.now d.now marks.now list.now) result
         (store_root_test blocks (memory a.now b.now [] [] roots.now []) r v) }
 {
     let checked = public_read::check(
@@ -126,7 +127,7 @@ pub fn store_cell(
     v: usize,
 ) -> Reply
     ensures { Gated blocks width (Call.store_cell at j v)
-        (lent_memory a.now b.now counts.now cells.now roots.now waiting.now sections.now d.now marks.now list.now) result
+        (before a.now b.now counts.now cells.now roots.now waiting.now sections.now d.now marks.now list.now) result
         (store_cell_test blocks (lent_memory a.now b.now [] [] [] [] [] d.now [] []) at j v) }
 {
     let checked = public_read::check(
@@ -156,7 +157,7 @@ pub fn return_roots(
     chosen: u64,
 ) -> Reply
     ensures { Gated blocks width (Call.return_roots chosen)
-        (lent_memory a.now b.now counts.now cells.now roots.now waiting.now sections.now d.now marks.now list.now) result
+        (before a.now b.now counts.now cells.now roots.now waiting.now sections.now d.now marks.now list.now) result
         (return_test (length roots.now) chosen) }
 {
     let checked = public_read::check(
@@ -188,7 +189,7 @@ pub fn write_number(
     v: Ref,
 ) -> Reply
     ensures { Gated blocks width (Call.write_number at j v)
-        (lent_memory a.now b.now counts.now cells.now roots.now waiting.now sections.now d.now marks.now list.now) result
+        (before a.now b.now counts.now cells.now roots.now waiting.now sections.now d.now marks.now list.now) result
         (number_test blocks (lent_memory a.now b.now [] [] [] [] [] d.now [] []) at j) }
 {
     let checked = public_read::check(
@@ -217,10 +218,10 @@ pub fn none_open(
     list: &[Ref],
 ) -> Reply
     ensures { Gated blocks width Call.collect
-        (lent_memory a.now b.now counts.now cells.now roots.now waiting.now sections.now d.now marks.now list.now) result
+        (before a.now b.now counts.now cells.now roots.now waiting.now sections.now d.now marks.now list.now) result
         (shut_test blocks list.now)
         × Gated blocks width Call.open_collection
-        (lent_memory a.now b.now counts.now cells.now roots.now waiting.now sections.now d.now marks.now list.now) result
+        (before a.now b.now counts.now cells.now roots.now waiting.now sections.now d.now marks.now list.now) result
         (shut_test blocks list.now) }
 {
     let checked = public_read::check(
@@ -250,7 +251,7 @@ pub fn one_open(
 ) -> Reply
     ensures { (budget : ℕ)
         → Gated blocks width (Call.take_steps budget)
-        (lent_memory a.now b.now counts.now cells.now roots.now waiting.now sections.now d.now marks.now list.now) result
+        (before a.now b.now counts.now cells.now roots.now waiting.now sections.now d.now marks.now list.now) result
         (open_test blocks list.now) }
 {
     let tested = public_read::check(

@@ -4,7 +4,8 @@
 #![tactic(auto)]
 
 ghost use Rattle.std.specs.Prelude.{◌≡◌, ◌++◌, ◌+◌, ◌/◌, ◌≤◌, ◌<◌, length};
-ghost use Rattle.rules.specs.Heap.{max_blocks, lent_memory};
+ghost use Rattle.rules.specs.Heap.{max_blocks};
+ghost use Rattle.rules.specs.Lent.{before, after, lent};
 ghost use Rattle.rules_calls.specs.Promise.{ReasonPromise};
 ghost use Rattle.rules_output.specs.Sentence.{sentence};
 ghost use Rattle.text.specs.Text.{decimal, Put};
@@ -276,11 +277,10 @@ pub fn reason(
     at: usize,
     out: &mut [u8],
 ) -> Reply
-    requires { Undamaged blocks width
-        (lent_memory a.now b.now counts.now cells.now roots.now waiting.now sections.now d.now marks.now list.now) }
+    requires { Undamaged blocks width (lent a.now b.now counts.now cells.now roots.now waiting.now sections.now d.now marks.now list.now) }
     ensures { ReasonPromise blocks width at
-        (lent_memory a.now b.now counts.now cells.now roots.now waiting.now sections.now d.now marks.now list.now) out.old result
-        (lent_memory a.now b.now counts.now cells.now roots.now waiting.now sections.now d.now marks.now list.now) out.new }
+        (before a.now b.now counts.now cells.now roots.now waiting.now sections.now d.now marks.now list.now) out.old result
+        (after a.now b.now counts.now cells.now roots.now waiting.now sections.now d.now marks.now list.now) out.new }
 {
     if !map_objects::objects::is_first(blocks, a, b, at) {
         return replies::refusal(6);

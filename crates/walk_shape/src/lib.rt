@@ -4,7 +4,8 @@
 #![tactic(auto)]
 
 ghost use Rattle.std.specs.Prelude.{◌≡◌, false, map, ℕ, ◌+◌, ◌-◌, ◌*◌, ◌/◌, ◌≤◌, ◌<◌, length, get_or};
-ghost use Rattle.rules.specs.Heap.{max_blocks, size_from, is_data, lent_memory};
+ghost use Rattle.rules.specs.Heap.{max_blocks, size_from, is_data};
+ghost use Rattle.rules.specs.Lent.{before, after, lent};
 ghost use Rattle.rules_calls.specs.Promise.{ShapePromise};
 ghost use Rattle.text.specs.Text.{Put};
 ghost use Rattle.theory_memories.specs.Heaps.{Undamaged};
@@ -309,11 +310,10 @@ pub fn shape(
     list: &[Ref],
     out: &mut [u32],
 ) -> Reply
-    requires { Undamaged blocks width
-        (lent_memory a.now b.now counts.now cells.now roots.now waiting.now sections.now d.now marks.now list.now) }
+    requires { Undamaged blocks width (lent a.now b.now counts.now cells.now roots.now waiting.now sections.now d.now marks.now list.now) }
     ensures { ShapePromise blocks width
-        (lent_memory a.now b.now counts.now cells.now roots.now waiting.now sections.now d.now marks.now list.now) out.old result
-        (lent_memory a.now b.now counts.now cells.now roots.now waiting.now sections.now d.now marks.now list.now) out.new }
+        (before a.now b.now counts.now cells.now roots.now waiting.now sections.now d.now marks.now list.now) out.old result
+        (after a.now b.now counts.now cells.now roots.now waiting.now sections.now d.now marks.now list.now) out.new }
 {
     let length = shape_in_room(SMALL_ROOM, blocks, a, b, d, cells, roots, out);
     if out.len() < length {

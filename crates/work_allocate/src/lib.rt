@@ -4,7 +4,7 @@
 #![tactic(auto)]
 
 ghost use Rattle.std.specs.Prelude.{◌≡◌, length};
-ghost use Rattle.rules.specs.Heap.{lent_memory};
+ghost use Rattle.rules.specs.Lent.{before, after, lent};
 ghost use Rattle.rules_calls.specs.Calls.{allocate_as, reply};
 ghost use Rattle.theory_memories.specs.Heaps.{Usable};
 ghost use Rattle.theory.specs.Usable.{Worked};
@@ -32,12 +32,11 @@ pub fn allocate(
     r: usize,
     at: usize,
 ) -> Outcome
-    requires { Usable blocks width
-        (lent_memory a.old b.old counts.old cells.old roots.old waiting.old sections.old d.old marks.old list.old)
+    requires { Usable blocks width (lent a.old b.old counts.old cells.old roots.old waiting.old sections.old d.old marks.old list.old)
         × (allocate_reply blocks a.old (length roots.old) n r ≡ reply 0 at 0) }
     ensures { Worked blocks width (allocate_as as_data n r)
-        (lent_memory a.old b.old counts.old cells.old roots.old waiting.old sections.old d.old marks.old list.old) result
-        (lent_memory a.new b.new counts.new cells.new roots.new waiting.new sections.new d.new marks.new list.new) }
+        (before a.old b.old counts.old cells.old roots.old waiting.old sections.old d.old marks.old list.old) result
+        (after a.new b.new counts.new cells.new roots.new waiting.new sections.new d.new marks.new list.new) }
 {
     let stuck = types::capacity_of(width) == 1;
     let new = (at + 1) as Ref;

@@ -4,7 +4,7 @@
 #![tactic(auto)]
 
 ghost use Rattle.std.specs.Prelude.{◌≡◌, false};
-ghost use Rattle.rules.specs.Heap.{lent_memory};
+ghost use Rattle.rules.specs.Lent.{before, after, lent};
 ghost use Rattle.rules_steps.specs.Steps.{is_open};
 ghost use Rattle.rules_calls.specs.Calls.{Call};
 ghost use Rattle.theory_memories.specs.Heaps.{Usable};
@@ -27,13 +27,11 @@ pub fn collect(
     marks: &[u8],
     list: &[Ref],
 ) -> Outcome
-    requires { Usable blocks width
-        (lent_memory a.old b.old counts.old cells.old roots.now waiting.old sections.old d.old marks.now list.now)
-        × (is_open blocks
-        (lent_memory a.old b.old counts.old cells.old roots.now waiting.old sections.old d.old marks.now list.now) ≡ false) }
+    requires { Usable blocks width (lent a.old b.old counts.old cells.old roots.now waiting.old sections.old d.old marks.now list.now)
+        × (is_open blocks (lent a.old b.old counts.old cells.old roots.now waiting.old sections.old d.old marks.now list.now) ≡ false) }
     ensures { Worked blocks width Call.collect
-        (lent_memory a.old b.old counts.old cells.old roots.now waiting.old sections.old d.old marks.now list.now) result
-        (lent_memory a.new b.new counts.new cells.new roots.now waiting.new sections.new d.new marks.now list.now) }
+        (before a.old b.old counts.old cells.old roots.now waiting.old sections.old d.old marks.now list.now) result
+        (after a.new b.new counts.new cells.new roots.now waiting.new sections.new d.new marks.now list.now) }
 {
     collect_mark::mark(blocks, width, b, counts, cells, roots, waiting, d);
     let freed = collect_sweep::sweep(blocks, width, a, b, counts, cells, sections, d);

@@ -4,8 +4,9 @@
 #![tactic(auto)]
 
 ghost use Rattle.std.specs.Prelude.{◌≡◌, true, false, ◌*◌, ◌≤◌, length};
-ghost use Rattle.rules.specs.Heap.{is_blocks, section_count, shaped, lent_memory};
+ghost use Rattle.rules.specs.Heap.{is_blocks, section_count, shaped};
 ghost use Rattle.rules.specs.Sections.{figures};
+ghost use Rattle.rules.specs.Lent.{before, after, lent};
 ghost use Rattle.rules_steps.specs.Steps.{is_open};
 ghost use Rattle.rules_calls.specs.Calls.{Call};
 ghost use Rattle.rules_calls.specs.Promise.{Promise};
@@ -56,17 +57,14 @@ pub fn copy(
     marks2: &mut [u8],
     list2: &mut [Ref],
 ) -> Reply
-    requires { Undamaged blocks width
-        (lent_memory a.now b.now counts.now cells.now roots.now waiting.now sections.now d.now marks.now list.now)
-        × (is_open blocks
-        (lent_memory a.now b.now counts.now cells.now roots.now waiting.now sections.now d.now marks.now list.now) ≡ false)
-        × (shaped blocks2 width2
-        (lent_memory a2.old b2.old counts2.old cells2.old roots2.old waiting2.old sections2.old d2.old marks2.old list2.old) ≡ true)
+    requires { Undamaged blocks width (lent a.now b.now counts.now cells.now roots.now waiting.now sections.now d.now marks.now list.now)
+        × (is_open blocks (lent a.now b.now counts.now cells.now roots.now waiting.now sections.now d.now marks.now list.now) ≡ false)
+        × (shaped blocks2 width2 (lent a2.old b2.old counts2.old cells2.old roots2.old waiting2.old sections2.old d2.old marks2.old list2.old) ≡ true)
         × (length roots.now ≡ length roots2.old) }
     ensures { Promise blocks2 width2 (Call.copy_from blocks width
-        (lent_memory a.now b.now counts.now cells.now roots.now waiting.now sections.now d.now marks.now list.now))
-        (lent_memory a2.old b2.old counts2.old cells2.old roots2.old waiting2.old sections2.old d2.old marks2.old list2.old) result
-        (lent_memory a2.new b2.new counts2.new cells2.new roots2.new waiting2.new sections2.new d2.new marks2.new list2.new) }
+        (before a.now b.now counts.now cells.now roots.now waiting.now sections.now d.now marks.now list.now))
+        (before a2.old b2.old counts2.old cells2.old roots2.old waiting2.old sections2.old d2.old marks2.old list2.old) result
+        (after a2.new b2.new counts2.new cells2.new roots2.new waiting2.new sections2.new d2.new marks2.new list2.new) }
 {
     if !copy_lists::write_in_room(
         copy_lists::SMALL_ROOM,

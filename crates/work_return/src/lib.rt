@@ -4,7 +4,7 @@
 #![tactic(auto)]
 
 ghost use Rattle.std.specs.Prelude.{◌≡◌, ◌<◌, length};
-ghost use Rattle.rules.specs.Heap.{lent_memory};
+ghost use Rattle.rules.specs.Lent.{before, after, lent};
 ghost use Rattle.rules_calls.specs.Calls.{Call};
 ghost use Rattle.test_arguments.specs.Replies.{return_test};
 ghost use Rattle.theory_memories.specs.Heaps.{Usable};
@@ -31,13 +31,12 @@ fn clear_chosen(
     chosen: u64,
     r: usize,
 ) -> usize
-    requires { Usable blocks width
-        (lent_memory a.old b.old counts.old cells.old roots.old waiting.old sections.old d.old marks.old list.old)
+    requires { Usable blocks width (lent a.old b.old counts.old cells.old roots.old waiting.old sections.old d.old marks.old list.old)
         × (r < length roots.old) }
     ensures { ClearedIfChosen blocks width
-        (lent_memory a.old b.old counts.old cells.old roots.old waiting.old sections.old d.old marks.old list.old)
+        (before a.old b.old counts.old cells.old roots.old waiting.old sections.old d.old marks.old list.old)
         chosen r
-        (lent_memory a.new b.new counts.new cells.new roots.new waiting.new sections.new d.new marks.new list.new)
+        (after a.new b.new counts.new cells.new roots.new waiting.new sections.new d.new marks.new list.new)
         result }
 {
     if (chosen >> r) % 2 != 1 {
@@ -65,12 +64,11 @@ pub fn clear_roots(
     list: &mut [Ref],
     chosen: u64,
 ) -> Outcome
-    requires { Usable blocks width
-        (lent_memory a.old b.old counts.old cells.old roots.old waiting.old sections.old d.old marks.old list.old)
+    requires { Usable blocks width (lent a.old b.old counts.old cells.old roots.old waiting.old sections.old d.old marks.old list.old)
         × ((return_test (length roots.old) chosen).number ≡ 0) }
     ensures { Worked blocks width (Call.return_roots chosen)
-        (lent_memory a.old b.old counts.old cells.old roots.old waiting.old sections.old d.old marks.old list.old) result
-        (lent_memory a.new b.new counts.new cells.new roots.new waiting.new sections.new d.new marks.new list.new) }
+        (before a.old b.old counts.old cells.old roots.old waiting.old sections.old d.old marks.old list.old) result
+        (after a.new b.new counts.new cells.new roots.new waiting.new sections.new d.new marks.new list.new) }
 {
     let mut freed: usize = 0;
     let mut r = 0;
@@ -105,11 +103,10 @@ pub fn return_roots(
     list: &mut [Ref],
     chosen: u64,
 ) -> Outcome
-    requires { Usable blocks width
-        (lent_memory a.old b.old counts.old cells.old roots.old waiting.old sections.old d.old marks.old list.old) }
+    requires { Usable blocks width (lent a.old b.old counts.old cells.old roots.old waiting.old sections.old d.old marks.old list.old) }
     ensures { Worked blocks width (Call.return_roots chosen)
-        (lent_memory a.old b.old counts.old cells.old roots.old waiting.old sections.old d.old marks.old list.old) result
-        (lent_memory a.new b.new counts.new cells.new roots.new waiting.new sections.new d.new marks.new list.new) }
+        (before a.old b.old counts.old cells.old roots.old waiting.old sections.old d.old marks.old list.old) result
+        (after a.new b.new counts.new cells.new roots.new waiting.new sections.new d.new marks.new list.new) }
 {
     let test = returning::return_test(roots.len(), chosen);
     let number = test.number;

@@ -4,7 +4,7 @@
 #![tactic(auto)]
 
 ghost use Rattle.std.specs.Prelude.{◌≡◌, true};
-ghost use Rattle.rules.specs.Heap.{lent_memory};
+ghost use Rattle.rules.specs.Lent.{before, after, lent};
 ghost use Rattle.rules_calls.specs.Calls.{Call};
 ghost use Rattle.rules_calls.specs.Promise.{Promise};
 ghost use Rattle.rules_steps.specs.Steps.{is_open};
@@ -39,13 +39,11 @@ pub fn take_steps(
     list: &mut [Ref],
     budget: usize,
 ) -> Reply
-    requires { Usable blocks width
-        (lent_memory a.old b.old counts.old cells.old roots.now waiting.old sections.old d.old marks.old list.old)
-        × (is_open blocks
-        (lent_memory a.old b.old counts.old cells.old roots.now waiting.old sections.old d.old marks.old list.old) ≡ true) }
+    requires { Usable blocks width (lent a.old b.old counts.old cells.old roots.now waiting.old sections.old d.old marks.old list.old)
+        × (is_open blocks (lent a.old b.old counts.old cells.old roots.now waiting.old sections.old d.old marks.old list.old) ≡ true) }
     ensures { Promise blocks width (Call.take_steps budget)
-        (lent_memory a.old b.old counts.old cells.old roots.now waiting.old sections.old d.old marks.old list.old) result
-        (lent_memory a.new b.new counts.new cells.new roots.now waiting.new sections.new d.new marks.new list.new) }
+        (before a.old b.old counts.old cells.old roots.now waiting.old sections.old d.old marks.old list.old) result
+        (after a.new b.new counts.new cells.new roots.now waiting.new sections.new d.new marks.new list.new) }
 {
     let moves = step_advance::advance(blocks, b, d, cells, marks, list, budget);
     if !moves.done {

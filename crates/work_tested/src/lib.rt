@@ -2,8 +2,8 @@
 
 #![tactic(auto)]
 
+ghost use Rattle.rules.specs.Lent.{before, after, lent};
 ghost use Rattle.rules_calls.specs.Calls.{Call, allocate_as};
-ghost use Rattle.rules.specs.Heap.{lent_memory};
 ghost use Rattle.theory_memories.specs.Heaps.{Usable};
 ghost use Rattle.theory.specs.Usable.{Worked};
 
@@ -28,11 +28,10 @@ pub fn allocate(
     n: usize,
     r: usize,
 ) -> Outcome
-    requires { Usable blocks width
-        (lent_memory a.old b.old counts.old cells.old roots.old waiting.old sections.old d.old marks.old list.old) }
+    requires { Usable blocks width (lent a.old b.old counts.old cells.old roots.old waiting.old sections.old d.old marks.old list.old) }
     ensures { Worked blocks width (allocate_as as_data n r)
-        (lent_memory a.old b.old counts.old cells.old roots.old waiting.old sections.old d.old marks.old list.old) result
-        (lent_memory a.new b.new counts.new cells.new roots.new waiting.new sections.new d.new marks.new list.new) }
+        (before a.old b.old counts.old cells.old roots.old waiting.old sections.old d.old marks.old list.old) result
+        (after a.new b.new counts.new cells.new roots.new waiting.new sections.new d.new marks.new list.new) }
 {
     let test = test_allocation::allocate_reply(blocks, a, sections, roots.len(), n, r);
     let number = test.number;
@@ -68,11 +67,10 @@ pub fn store_root(
     r: usize,
     v: usize,
 ) -> Outcome
-    requires { Usable blocks width
-        (lent_memory a.old b.old counts.old cells.old roots.old waiting.old sections.old d.old marks.old list.old) }
+    requires { Usable blocks width (lent a.old b.old counts.old cells.old roots.old waiting.old sections.old d.old marks.old list.old) }
     ensures { Worked blocks width (Call.store_root r v)
-        (lent_memory a.old b.old counts.old cells.old roots.old waiting.old sections.old d.old marks.old list.old) result
-        (lent_memory a.new b.new counts.new cells.new roots.new waiting.new sections.new d.new marks.new list.new) }
+        (before a.old b.old counts.old cells.old roots.old waiting.old sections.old d.old marks.old list.old) result
+        (after a.new b.new counts.new cells.new roots.new waiting.new sections.new d.new marks.new list.new) }
 {
     let test = storing::store_root_test(blocks, a, b, roots, r, v);
     let number = test.number;
@@ -107,11 +105,10 @@ pub fn store_cell(
     j: usize,
     v: usize,
 ) -> Outcome
-    requires { Usable blocks width
-        (lent_memory a.old b.old counts.old cells.old roots.now waiting.old sections.old d.old marks.old list.old) }
+    requires { Usable blocks width (lent a.old b.old counts.old cells.old roots.now waiting.old sections.old d.old marks.old list.old) }
     ensures { Worked blocks width (Call.store_cell at j v)
-        (lent_memory a.old b.old counts.old cells.old roots.now waiting.old sections.old d.old marks.old list.old) result
-        (lent_memory a.new b.new counts.new cells.new roots.now waiting.new sections.new d.new marks.new list.new) }
+        (before a.old b.old counts.old cells.old roots.now waiting.old sections.old d.old marks.old list.old) result
+        (after a.new b.new counts.new cells.new roots.now waiting.new sections.new d.new marks.new list.new) }
 {
     let test = storing::store_cell_test(blocks, a, b, d, at, j, v);
     let number = test.number;
@@ -146,11 +143,10 @@ pub fn write_number(
     j: usize,
     x: Ref,
 ) -> Outcome
-    requires { Usable blocks width
-        (lent_memory a.now b.now counts.now cells.old roots.now waiting.now sections.now d.now marks.now list.now) }
+    requires { Usable blocks width (lent a.now b.now counts.now cells.old roots.now waiting.now sections.now d.now marks.now list.now) }
     ensures { Worked blocks width (Call.write_number at j x)
-        (lent_memory a.now b.now counts.now cells.old roots.now waiting.now sections.now d.now marks.now list.now) result
-        (lent_memory a.now b.now counts.now cells.new roots.now waiting.now sections.now d.now marks.now list.now) }
+        (before a.now b.now counts.now cells.old roots.now waiting.now sections.now d.now marks.now list.now) result
+        (after a.now b.now counts.now cells.new roots.now waiting.now sections.now d.now marks.now list.now) }
 {
     let test = numbers::number_test(blocks, a, b, d, at, j);
     let number = test.number;
@@ -180,11 +176,10 @@ pub fn collect(
     marks: &[u8],
     list: &[Ref],
 ) -> Outcome
-    requires { Usable blocks width
-        (lent_memory a.old b.old counts.old cells.old roots.now waiting.old sections.old d.old marks.now list.now) }
+    requires { Usable blocks width (lent a.old b.old counts.old cells.old roots.now waiting.old sections.old d.old marks.now list.now) }
     ensures { Worked blocks width Call.collect
-        (lent_memory a.old b.old counts.old cells.old roots.now waiting.old sections.old d.old marks.now list.now) result
-        (lent_memory a.new b.new counts.new cells.new roots.now waiting.new sections.new d.new marks.now list.now) }
+        (before a.old b.old counts.old cells.old roots.now waiting.old sections.old d.old marks.now list.now) result
+        (after a.new b.new counts.new cells.new roots.now waiting.new sections.new d.new marks.now list.now) }
 {
     let test = collecting::shut_test(blocks, list);
     let number = test.number;

@@ -15,12 +15,11 @@ pub loop-i-init : goal.loop-i-init
 loop-i-init c = (omega arith, fill_none c.args.map.now c.args.v, refl)
 
 pub loop-i-preserved : goal.loop-i-preserved
-loop-i-preserved c =
-    (
-      omega arith,
-      rw c.loop-i.invariant.1 (fill_more c.loop-i.i c.args.v c.args.map.now (omega arith)),
-      length-set c.loop-i.map c.loop-i.i c.args.v ∙ c.loop-i.invariant.2,
-    )
+loop-i-preserved c = (
+  omega arith,
+  rw c.loop-i.invariant.1 (fill_more c.loop-i.i c.args.v c.args.map.now (omega arith)),
+  length-set c.loop-i.map c.loop-i.i c.args.v ∙ c.loop-i.invariant.2,
+)
 
 pub returns : goal.returns
 returns c =

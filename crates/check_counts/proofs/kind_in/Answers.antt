@@ -15,17 +15,16 @@ use Rattle.check_counts.proofs.Late.{wild_cells, wild_roots, tallied_all, late_f
 use Rattle.check_counts.proofs.kind_in.Goals as goal
 
 pub tally_cells-requires : goal.tally_cells-requires
-tally_cells-requires c =
-    (
-      c.requires.0.a_covers,
-      c.requires.0.b_covers,
-      c.requires.0.length_cells,
-      c.requires.0.d_covers,
-      c.requires.0.blocks_max,
-      c.requires.0.whole_bytes,
-      c.requires.1.long,
-      λ b l. omega (arith, c.requires.1.zero b l),
-    )
+tally_cells-requires c = (
+  c.requires.0.a_covers,
+  c.requires.0.b_covers,
+  c.requires.0.length_cells,
+  c.requires.0.d_covers,
+  c.requires.0.blocks_max,
+  c.requires.0.whole_bytes,
+  c.requires.1.long,
+  λ b l. omega (arith, c.requires.1.zero b l),
+)
 
 -- what is lent, with no waiting list, sections, marks and second list
 abbrev whole-Then-tally_cells : (c : goal.Then-tally_cells) → Memory
@@ -88,7 +87,7 @@ whole-After-late_kind c =
 pub returns : goal.returns
 returns c =
     let N : ℕ = c.args.blocks in
-    let at = c.tally_roots.last.1.1.0 in
+    let at = c.tally_roots.new.at in
     let tallied =
     tallied_all N (whole-After-late_kind c) c.args.at.now _ at c.requires.1 (c.tally_cells.ensures.tallied c.if-tally_cells.false)
     (c.tally_roots.ensures.tallied c.if-tally_roots.false) in

@@ -10,8 +10,7 @@ overflow_add-result c =
     omega (arith, and_le_r (c.args.x * 72340172838076673) 9241421688590303745)
 
 pub returns : goal.returns
-returns c =
-    (
-      spread_is c.args.x (omega arith),
-      and_le_r ((bit_and (c.args.x * 72340172838076673) 9241421688590303745 + 9187201950435737471) / 2 ^ 7) 72340172838076673,
-    )
+returns c = (
+  spread_is c.args.x (omega arith),
+  and_le_r ((bit_and (c.args.x * 72340172838076673) 9241421688590303745 + 9187201950435737471) / 2 ^ 7) 72340172838076673,
+)

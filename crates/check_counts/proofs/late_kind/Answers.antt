@@ -12,6 +12,7 @@ use Rattle.rules.proofs.Stretches.{some_further, eight_hit, eight_past}
 use Rattle.rules.proofs.Tests.{test_cases_lem, done, also, first_found, first_past, first_none}
 use Rattle.check_counts.specs.Late.{count_off, stray_tally, off_tally, stray_in, off_in}
 use Rattle.check_counts.proofs.late_kind.Goals as goal
+use Rattle.check_counts.proofs.late_kind.Goals.{then-is_off, else-is_off}
 
 -- the two tests
 abbrev strays-After-shared_slice_known-4-1 : (c : goal.After-shared_slice_known-4-1) → ℕ → Bool
@@ -45,7 +46,7 @@ returns-then-is_stray c =
     let k : ℕ = c.loop-k.k in
     sym
     (first_found 4 _ _
-    (some_further (strays-Then-is_stray c) (8 * (k + 1)) c.args.blocks (omega (arith, c.loop-k-test.taken))
+    (some_further (strays-Then-is_stray c) (8 * (k + 1)) c.args.blocks (omega (arith, c.loop-k-test.true))
     (eight_hit (strays-Then-is_stray c) (stray_in c.first_byte-first.result c.args.at.now k) k (stray-here-Then-is_stray c)
     (sym c.is_stray.ensures ∙ c.if-is_stray.true))))
 
@@ -80,21 +81,20 @@ off-here c i u =
 pub loop-k-preserved : goal.loop-k-preserved
 loop-k-preserved c =
     let k : ℕ = c.loop-k.k in
-    let other = off_in c.first_byte-first.result (c.args.blocks / 8) c.args.width c.args.counts.now c.args.at.now k in
-    (
+    let other = off_in c.first_byte-first.result (c.args.blocks / 8) c.args.width c.args.counts.now c.args.at.now k in (
       (
-        omega (arith, c.loop-k-test.taken),
+        omega (arith, c.loop-k-test.true),
         eight_past (strays-Joined-is_off c) (stray_in c.first_byte-first.result c.args.at.now k) k (stray-here-Joined-is_off c)
             (sym c.is_stray.ensures ∙ c.if-is_stray.false) c.loop-k.invariant.0.1,
       ),
       elim c.if-is_off.branch [
-        | inl w ↦ w.1 ∙ sym (eight_hit (offs-Joined-is_off c) other k (off-here c) (sym c.is_off.ensures ∙ w.0.taken))
-        | inr w ↦
-            w.1
+        | then-is_off w ↦ w.off-is ∙ sym (eight_hit (offs-Joined-is_off c) other k (off-here c) (sym c.is_off.ensures ∙ w.if-is_off.true))
+        | else-is_off w ↦
+            w.off-is
             ∙ c.loop-k.invariant.1
             ∙ elim (test_cases_lem (some_below (offs-Joined-is_off c) (8 * k))) [
               | inl e ↦ e ∙ sym (some_further (offs-Joined-is_off c) (8 * k) (8 * (k + 1)) (omega arith) e)
-              | inr e ↦ e ∙ sym (eight_past (offs-Joined-is_off c) other k (off-here c) (sym c.is_off.ensures ∙ w.0.left) e)
+              | inr e ↦ e ∙ sym (eight_past (offs-Joined-is_off c) other k (off-here c) (sym c.is_off.ensures ∙ w.if-is_off.false) e)
             ]
       ],
     )

@@ -44,11 +44,10 @@ alike-Else-has_unaligned_byte c d u =
     (c.first_byte-first.ensures c.args.blocks (omega arith) d u)
 
 pub loop-k-preserved : goal.loop-k-preserved
-loop-k-preserved c =
-    (
-      omega arith,
-      eight_past (test-Else-has_unaligned_byte c) _ c.loop-k.k (alike-Else-has_unaligned_byte c) (sym c.has_unaligned_byte.ensures ∙ c.if-has_unaligned_byte.false) c.loop-k.invariant.1,
-    )
+loop-k-preserved c = (
+  omega arith,
+  eight_past (test-Else-has_unaligned_byte c) _ c.loop-k.k (alike-Else-has_unaligned_byte c) (sym c.has_unaligned_byte.ensures ∙ c.if-has_unaligned_byte.false) c.loop-k.invariant.1,
+)
 
 -- the rule's test, on what is lent
 abbrev test-After-loop-k : (c : goal.After-loop-k) → ℕ → Bool

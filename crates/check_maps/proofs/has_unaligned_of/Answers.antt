@@ -19,11 +19,10 @@ abbrev test-After-shared_slice_known-1 : (c : goal.After-shared_slice_known-1) �
 test-After-shared_slice_known-1 c = off_chunk c.args.these c.args.k c.args.blocks c.args.b.now
 
 pub loop-left-init : goal.loop-left-init
-loop-left-init c =
-    (
-      omega arith,
-      visit_start (test-After-shared_slice_known-1 c) c.args.these (λ d l. off_is c.args.these c.args.k c.args.blocks c.args.b.now d),
-    )
+loop-left-init c = (
+  omega arith,
+  visit_start (test-After-shared_slice_known-1 c) c.args.these (λ d l. off_is c.args.these c.args.k c.args.blocks c.args.b.now d),
+)
 
 -- the lowest bit that is left
 inside : (c : goal.In-loop-left) → count_trailing_zeros 8 c.loop-left.left < 8

@@ -47,11 +47,10 @@ alike-Else-misses_of c t u =
     (c.type_inv.map c.loop-k.k).fits t u
 
 pub loop-k-preserved : goal.loop-k-preserved
-loop-k-preserved c =
-    (
-      omega arith,
-      eight_past (test-Else-misses_of c) _ c.loop-k.k (alike-Else-misses_of c) (sym c.misses_of.ensures ∙ c.if-misses_of.false) c.loop-k.invariant.1,
-    )
+loop-k-preserved c = (
+  omega arith,
+  eight_past (test-Else-misses_of c) _ c.loop-k.k (alike-Else-misses_of c) (sym c.misses_of.ensures ∙ c.if-misses_of.false) c.loop-k.invariant.1,
+)
 
 -- the test, on what is lent
 abbrev test-After-loop-k : (c : goal.After-loop-k) → ℕ → Bool

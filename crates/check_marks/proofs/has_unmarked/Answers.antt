@@ -20,8 +20,7 @@ test-After-shared_slice_known-in-loop-k-1 c i = is_set c.args.map.now i && not (
 
 pub loop-k-preserved : goal.loop-k-preserved
 loop-k-preserved c =
-    let k : ℕ = c.loop-k.k in
-    (
+    let k : ℕ = c.loop-k.k in (
       omega arith,
       gathered_more (test-After-shared_slice_known-in-loop-k-1 c) k c.loop-k.found (bit_and (get_or c.args.map.now k 0) (255 - get_or c.args.marks.now k 0))
           (omega (arith, and_le_r (get_or c.args.map.now k 0) (255 - get_or c.args.marks.now k 0)))

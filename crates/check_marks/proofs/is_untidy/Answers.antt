@@ -117,12 +117,11 @@ right-After-map-1 : (c : goal.After-map-1) → Shaped c.args.blocks c.requires.0
 right-After-map-1 c = shape_facts c.args.blocks c.requires.0 (heap-After-map-1 c) c.requires.4.right_shape
 
 pub read_list-requires : goal.read_list-requires
-read_list-requires c =
-    (
-      (right-After-map-1 c).length_list,
-      omega (arith, (right-After-map-1 c).blocks_max, length-replicate {A = ℕ} (max_blocks / 8) 0),
-      shows_none c.args.list.now (max_blocks / 8) refl,
-    )
+read_list-requires c = (
+  (right-After-map-1 c).length_list,
+  omega (arith, (right-After-map-1 c).blocks_max, length-replicate {A = ℕ} (max_blocks / 8) 0),
+  shows_none c.args.list.now (max_blocks / 8) refl,
+)
 
 -- the heap that 1 and 2 did not refuse
 abbrev heap-Then-not-read_list : (c : goal.Then-not-read_list) → Memory
@@ -192,8 +191,7 @@ right-After-map-3-1 c = shape_facts c.args.blocks c.requires.0 (heap-After-map-3
 
 pub has_unmarked-requires : goal.has_unmarked-requires
 has_unmarked-requires c =
-    let shape = right-After-map-3-1 c in
-    (
+    let shape = right-After-map-3-1 c in (
       sym shape.whole_bytes,
       omega (arith, shape.length_marks, shape.whole_bytes),
       omega (arith, shape.blocks_max, c.read_list.auto.map, length-replicate {A = ℕ} (max_blocks / 8) 0),
@@ -264,8 +262,7 @@ right-After-map-4-1 c = shape_facts c.args.blocks c.requires.0 (heap-After-map-4
 
 pub has_missed_cell-requires : goal.has_missed_cell-requires
 has_missed_cell-requires c =
-    let shape = right-After-map-4-1 c in
-    (
+    let shape = right-After-map-4-1 c in (
       sym shape.whole_bytes,
       shape.blocks_max,
       omega (arith, shape.length_b, shape.whole_bytes),

@@ -16,12 +16,11 @@ abbrev test-After-shared_slice_known-4-1 : (c : goal.After-shared_slice_known-4-
 test-After-shared_slice_known-4-1 c = missed_of c.args.these c.args.k c.args.blocks c.args.b.now c.args.d.now c.args.cells.now c.args.marks.now
 
 pub loop-left-init : goal.loop-left-init
-loop-left-init c =
-    (
-      omega arith,
-      visit_start (test-After-shared_slice_known-4-1 c) c.args.these
-          (λ t l. of_is c.args.blocks c.args.b.now c.args.d.now c.args.cells.now c.args.marks.now c.args.these c.args.k t),
-    )
+loop-left-init c = (
+  omega arith,
+  visit_start (test-After-shared_slice_known-4-1 c) c.args.these
+      (λ t l. of_is c.args.blocks c.args.b.now c.args.d.now c.args.cells.now c.args.marks.now c.args.these c.args.k t),
+)
 
 -- the lowest bit that is left
 inside-In-loop-left : (c : goal.In-loop-left) → count_trailing_zeros 8 c.loop-left.left < 8
@@ -93,12 +92,11 @@ read-Else-misses_any c =
     c.object_size-n.ensures.0 c.naming_cells-named.ensures.0)
 
 pub loop-left-preserved : goal.loop-left-preserved
-loop-left-preserved c =
-    (
-      omega (arith, and_le_r c.loop-left.left (c.loop-left.left - 1), c.loop-left.invariant.0),
-      visit_next (test-Else-misses_any c) c.args.these c.loop-left.left c.loop-left.invariant.0 c.loop-left-test.true
-          (read-Else-misses_any c ∙ c.if-misses_any.false) c.loop-left.invariant.1,
-    )
+loop-left-preserved c = (
+  omega (arith, and_le_r c.loop-left.left (c.loop-left.left - 1), c.loop-left.invariant.0),
+  visit_next (test-Else-misses_any c) c.args.these c.loop-left.left c.loop-left.invariant.0 c.loop-left-test.true
+      (read-Else-misses_any c ∙ c.if-misses_any.false) c.loop-left.invariant.1,
+)
 
 -- the test at the bits of the byte
 abbrev test-After-loop-left : (c : goal.After-loop-left) → ℕ → Bool

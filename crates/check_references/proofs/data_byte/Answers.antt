@@ -1,5 +1,4 @@
 use mathlib.Core.Path.{◌≡◌, sym, ap, ◌∙◌, subst}
-use mathlib.Core.Logic.{inl, inr}
 use mathlib.Core.Bool.{Bool, true, false, not}
 use Prim.Native.Nat.{ℕ, ◌≤◌, ◌<◌, ◌+◌, ◌-◌, ◌*◌, ◌%◌, ◌^◌}
 use native.Mathlib.Decide.{ℕ_discrete}
@@ -17,6 +16,7 @@ use Rattle.map_objects.specs.Walk.{data_before}
 use Rattle.map_objects.proofs.Walk.{walk_next}
 use Rattle.check_references.proofs.Eights.{eight_outside, eight_within}
 use Rattle.check_references.proofs.data_byte.Goals as goal
+use Rattle.check_references.proofs.data_byte.Goals.{then-in_data, else-in_data}
 use Rattle.check_references.proofs.data_byte.Invariants.{MadeBelow}
 
 double : (n : ℕ) → 2 ^ (n + 1) ≡ 2 ^ n * 2
@@ -75,7 +75,7 @@ pub overflow_add-made : goal.overflow_add-made
 overflow_add-made c =
     let n : ℕ = c.loop-s.s in
     let most : 2 ^ (n + 1) ≤ 2 ^ 8 = pow_mono {j = 8} (omega arith) in
-    omega (arith, c.loop-s.invariant.2.0, shift_exact 1 n (omega arith) c.loop-s-test.taken, double n)
+    omega (arith, c.loop-s.invariant.2.0, shift_exact 1 n (omega arith) c.loop-s-test.true, double n)
 
 pub loop-s-preserved : goal.loop-s-preserved
 loop-s-preserved c =
@@ -86,12 +86,12 @@ loop-s-preserved c =
       walk_next c.args.blocks c.args.a.now c.args.b.now c.args.d.now (8 * c.args.k + at) _ c.is_in_data-in_data.ensures
           ∙ ap (data_before c.args.blocks c.args.a.now c.args.b.now c.args.d.now) place,
       elim c.if-in_data.branch [
-        | inl w ↦
-            subst (λ (x : ℕ). MadeBelow test (8 * c.args.k) x (at + 1)) (sym w.1)
-            (raised test (8 * c.args.k) c.loop-s.made at (omega arith) (sym c.is_in_data-in_data.ensures ∙ w.0.taken) c.loop-s.invariant.2)
-        | inr w ↦
-            subst (λ (x : ℕ). MadeBelow test (8 * c.args.k) x (at + 1)) (sym w.1)
-            (left test (8 * c.args.k) c.loop-s.made at (sym c.is_in_data-in_data.ensures ∙ w.0.left) c.loop-s.invariant.2)
+        | then-in_data w ↦
+            subst (λ (x : ℕ). MadeBelow test (8 * c.args.k) x (at + 1)) (sym w.made-is)
+            (raised test (8 * c.args.k) c.loop-s.made at (omega arith) (sym c.is_in_data-in_data.ensures ∙ w.if-in_data.true) c.loop-s.invariant.2)
+        | else-in_data w ↦
+            subst (λ (x : ℕ). MadeBelow test (8 * c.args.k) x (at + 1)) (sym w.made-is)
+            (left test (8 * c.args.k) c.loop-s.made at (sym c.is_in_data-in_data.ensures ∙ w.if-in_data.false) c.loop-s.invariant.2)
       ],
     )
 

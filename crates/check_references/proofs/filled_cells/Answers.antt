@@ -1,5 +1,4 @@
 use mathlib.Core.Path.{◌≡◌, sym, ap, ◌∙◌, subst}
-use mathlib.Core.Logic.{inl, inr}
 use mathlib.Core.List.{List}
 use Prim.Native.Nat.{ℕ, ◌<◌, ◌+◌, ◌-◌, ◌*◌, ◌%◌, ◌^◌}
 use native.Mathlib.Decide.{ℕ_discrete}
@@ -9,6 +8,7 @@ use lib.ListN.{get_or}
 use Rattle.bitmap.specs.Bit.{bit_of}
 use Rattle.bitmap.proofs.Digits.{digit_or, digit_mod, digit_shl}
 use Rattle.check_references.proofs.filled_cells.Goals as goal
+use Rattle.check_references.proofs.filled_cells.Goals.{then-cells-k-ne0, else-cells-k-ne0}
 use Rattle.check_references.proofs.filled_cells.Invariants.{FilledBelow}
 
 -- bit n raised
@@ -49,9 +49,9 @@ loop-j-preserved c =
     let at : ℕ = c.loop-j.j in (
       omega arith,
       elim c.if-cells-k-ne0.branch [
-        | inl w ↦
-            subst (λ (x : ℕ). FilledBelow c.args.cells.now k x (at + 1)) (sym w.1) (raised c.args.cells.now k filled at (omega arith) c.loop-j.invariant.1)
-        | inr w ↦ subst (λ (x : ℕ). FilledBelow c.args.cells.now k x (at + 1)) (sym w.1) (left c.args.cells.now k filled at w.0.left c.loop-j.invariant.1)
+        | then-cells-k-ne0 w ↦
+            subst (λ (x : ℕ). FilledBelow c.args.cells.now k x (at + 1)) (sym w.filled-is) (raised c.args.cells.now k filled at (omega arith) c.loop-j.invariant.1)
+        | else-cells-k-ne0 w ↦ subst (λ (x : ℕ). FilledBelow c.args.cells.now k x (at + 1)) (sym w.filled-is) (left c.args.cells.now k filled at w.if-cells-k-ne0.false c.loop-j.invariant.1)
       ],
     )
 

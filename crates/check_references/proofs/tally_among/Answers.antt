@@ -1,5 +1,4 @@
 use mathlib.Core.Path.{◌≡◌, sym, ap, ◌∙◌}
-use mathlib.Core.Logic.{◌≢◌, inl, inr}
 use mathlib.Core.Bool.{true, false, true≢false}
 use Prim.Native.Nat.{ℕ, ◌≤◌, ◌<◌, ◌-◌, ◌+◌, ◌/◌}
 use native.Mathlib.Omega.{arith}
@@ -15,6 +14,7 @@ use Rattle.check_references.proofs.Tallies.{tallied_none, tallied_one}
 use Rattle.check_references.proofs.Wilds.{wild_zero, wild_other, wild_within}
 use Rattle.check_references.proofs.Visited.{read, wild_at, visited_start, visited_come, visited_next, visited_all}
 use Rattle.check_references.proofs.tally_among.Goals as goal
+use Rattle.check_references.proofs.tally_among.Goals.{then-v-ne0+else-is_wild, else-v-ne0}
 
 pub loop-left-init : goal.loop-left-init
 loop-left-init c = (
@@ -90,17 +90,6 @@ pub loop-left-smaller : goal.loop-left-smaller
 loop-left-smaller c =
     omega (arith, and_le_r c.loop-left.left (c.loop-left.left - 1))
 
--- what is tallied is a block
-named-Joined-v-ne0 : (c : goal.Joined-v-ne0) → c.read_cell-v.result - 1 < length c.loop-left.at
-named-Joined-v-ne0 c =
-    omega (
-      arith,
-      wild_within c.args.blocks (eqb (bit_of c.args.used (count_trailing_zeros 32 c.loop-left.left / 4)) 0) c.read_cell-v.result (sym c.is_wild.ensures ∙ c.if-is_wild.false),
-      c.if-v-ne0.true,
-      c.requires.2,
-      c.loop-left.invariant.1.tallied.same_length,
-    )
-
 pub loop-left-preserved : goal.loop-left-preserved
 loop-left-preserved c =
     let N : ℕ = c.args.blocks in
@@ -119,16 +108,16 @@ loop-left-preserved c =
     let next = visited_next N used made c.args.cells.now k these c.args.at.now c.requires.3 left c.loop-left.at c.loop-left.invariant.0 some c.loop-left.invariant.1 in (
       omega (arith, and_le_r left (left - 1)),
       elim c.if-v-ne0.branch [
-        | inl w ↦
-            let passed = sym w.1.ensures ∙ w.2.left in
+        | then-v-ne0+else-is_wild w ↦
+            let passed = sym w.is_wild.ensures ∙ w.if-is_wild.false in
             let within : v ≤ N = wild_within N free v passed in
-            let named-Joined-v-ne0 : reads bit ≡ v - 1 + 1 = omega (arith, is, w.0.taken) in
-            rw w.5
-            (next _ (ap (wildTest N free) is ∙ wild_other N free v w.0.taken ∙ passed)
-            (tallied_one reads c.args.at.now bit c.loop-left.at (v - 1) w.4.result named-Joined-v-ne0 (omega (arith, within, w.0.taken, c.requires.2)) w.4.ensures ready.0))
-        | inr w ↦
-            let none : reads bit ≡ 0 = is ∙ w.0.left in
-            rw w.1 (next _ (wild_zero N free (reads bit) none) (tallied_none reads c.args.at.now bit c.loop-left.at none ready.0))
+            let one_up : reads bit ≡ v - 1 + 1 = omega (arith, is, w.if-v-ne0.true) in
+            rw w.at-is
+            (next _ (ap (wildTest N free) is ∙ wild_other N free v w.if-v-ne0.true ∙ passed)
+            (tallied_one reads c.args.at.now bit c.loop-left.at (v - 1) w.one_more.result one_up (omega (arith, within, w.if-v-ne0.true, c.requires.2)) w.one_more.ensures ready.0))
+        | else-v-ne0 w ↦
+            let none : reads bit ≡ 0 = is ∙ w.if-v-ne0.false in
+            rw w.at-is (next _ (wild_zero N free (reads bit) none) (tallied_none reads c.args.at.now bit c.loop-left.at none ready.0))
       ],
     )
 

@@ -46,7 +46,7 @@ reads-After-tally_byte-arg-1 c = ref_at c.args.blocks c.args.a.now c.args.b.now 
 
 pub tally_byte-requires : goal.tally_byte-requires
 tally_byte-requires c = (
-  omega (arith, c.loop-k-test.taken),
+  omega (arith, c.loop-k-test.true),
   omega arith,
   omega (arith, c.requires.6, c.loop-k.invariant.3.same_length),
   tallied_room (reads-After-tally_byte-arg-1 c) c.args.at.now (32 * c.loop-k.k) c.loop-k.at c.loop-k.invariant.3,
@@ -63,8 +63,8 @@ returns-then-tally_byte c =
     (sym c.tally_byte.ensures.told ∙ c.if-tally_byte.true) in
     record {
       told = sym
-          (true_some (wilds-Then-tally_byte c) (4 * c.args.blocks) (32 * k + found.0) (omega (arith, found.1, c.loop-k-test.taken))
-          (eight_wild c.args.blocks c.args.a.now c.args.b.now c.args.d.now k (omega (arith, c.loop-k-test.taken))
+          (true_some (wilds-Then-tally_byte c) (4 * c.args.blocks) (32 * k + found.0) (omega (arith, found.1, c.loop-k-test.true))
+          (eight_wild c.args.blocks c.args.a.now c.args.b.now c.args.d.now k (omega (arith, c.loop-k-test.true))
           c.args.cells.now c.data_byte-made.result c.data_byte-made.ensures found.0 found.1 ∙ found.2));
       tallied = λ e. absurd (true≢false e);
     }
@@ -81,9 +81,9 @@ loop-k-preserved c =
     let N : ℕ = c.args.blocks in
     let k : ℕ = c.loop-k.k in
     let made : ℕ = c.data_byte-made.result in
-    let inside : 8 * (k + 1) ≤ N = omega (arith, c.loop-k-test.taken) in
+    let inside : 8 * (k + 1) ≤ N = omega (arith, c.loop-k-test.true) in
     let none = sym c.tally_byte.ensures.told ∙ c.if-tally_byte.false in (
-      omega (arith, c.loop-k-test.taken),
+      omega (arith, c.loop-k-test.true),
       last_before N c.args.a.now c.args.b.now c.args.d.now k inside made (omega arith) c.data_byte-made.ensures,
       (
         omega (arith, inside),

@@ -1,5 +1,4 @@
 use mathlib.Core.Path.{◌≡◌, ◌∙◌, subst}
-use mathlib.Core.Logic.{◌≢◌, inl, inr}
 use mathlib.Core.Bool.{true, false, true≢false}
 use Prim.Native.Nat.{ℕ, ◌<◌, ◌-◌, ◌+◌}
 use native.Mathlib.Omega.{arith}
@@ -11,6 +10,7 @@ use Rattle.check_references.specs.Tally.{Tallied}
 use Rattle.check_references.proofs.Tallies.{tallied_start, tallied_none, tallied_one}
 use Rattle.check_references.proofs.Wilds.{wild_zero, wild_other}
 use Rattle.check_references.proofs.tally_roots.Goals as goal
+use Rattle.check_references.proofs.tally_roots.Goals.{then-v-ne0+else-blocks-v, else-v-ne0}
 
 pub loop-r-init : goal.loop-r-init
 loop-r-init c = (
@@ -25,7 +25,7 @@ pub returns-then-blocks-v : goal.returns-then-blocks-v
 returns-then-blocks-v c =
     let v : ℕ = get_or c.args.roots.now c.loop-r.r 0 in
     record {
-      told = searched_hit (wild_root c.args.blocks c.args.roots.now) (length c.args.roots.now) c.loop-r.r c.loop-r-test.taken
+      told = searched_hit (wild_root c.args.blocks c.args.roots.now) (length c.args.roots.now) c.loop-r.r c.loop-r-test.true
           (wild_other c.args.blocks false v c.if-v-ne0.true ∙ lt-ltb c.args.blocks v c.if-blocks-v.true);
       tallied = λ e. absurd (true≢false e);
     }
@@ -46,29 +46,24 @@ named-After-one_more c =
 pub bounds-at-v-then-v-ne0 : goal.bounds-at-v-then-v-ne0
 bounds-at-v-then-v-ne0 c = named-After-one_more c
 
--- what is tallied is a block
-named-Joined-v-ne0 : (c : goal.Joined-v-ne0) → get_or c.args.roots.now c.loop-r.r 0 - 1 < length c.loop-r.at
-named-Joined-v-ne0 c =
-    omega (arith, c.if-v-ne0.true, c.if-blocks-v.false, c.requires.1, c.loop-r.invariant.1.same_length)
-
 pub loop-r-preserved : goal.loop-r-preserved
 loop-r-preserved c =
     let N : ℕ = c.args.blocks in
     let reads : ℕ → ℕ = λ i. get_or c.args.roots.now i 0 in
     let r : ℕ = c.loop-r.r in
     let v : ℕ = get_or c.args.roots.now r 0 in
-    let further = searched_next (wild_root N c.args.roots.now) (length c.args.roots.now) r c.loop-r.invariant.0 c.loop-r-test.taken in
+    let further = searched_next (wild_root N c.args.roots.now) (length c.args.roots.now) r c.loop-r.invariant.0 c.loop-r-test.true in
     elim c.if-v-ne0.branch [
-      | inl w ↦
-          let named-Joined-v-ne0 : v ≡ v - 1 + 1 = omega (arith, w.0.taken) in (
-            further (wild_other N false v w.0.taken ∙ le-ltb N v (omega (arith, w.1.left))),
-            rw w.4
-                (tallied_one reads c.args.at.now r c.loop-r.at (v - 1) w.3.result named-Joined-v-ne0
-                (omega (arith, w.0.taken, w.1.left, c.requires.1)) w.3.ensures c.loop-r.invariant.1),
+      | then-v-ne0+else-blocks-v w ↦
+          let one_up : v ≡ v - 1 + 1 = omega (arith, w.if-v-ne0.true) in (
+            further (wild_other N false v w.if-v-ne0.true ∙ le-ltb N v (omega (arith, w.if-blocks-v.false))),
+            rw w.at-is
+                (tallied_one reads c.args.at.now r c.loop-r.at (v - 1) w.one_more.result one_up
+                (omega (arith, w.if-v-ne0.true, w.if-blocks-v.false, c.requires.1)) w.one_more.ensures c.loop-r.invariant.1),
           )
-      | inr w ↦ (
-        further (wild_zero N false v w.0.left),
-        rw w.1 (tallied_none reads c.args.at.now r c.loop-r.at w.0.left c.loop-r.invariant.1),
+      | else-v-ne0 w ↦ (
+        further (wild_zero N false v w.if-v-ne0.false),
+        rw w.at-is (tallied_none reads c.args.at.now r c.loop-r.at w.if-v-ne0.false c.loop-r.invariant.1),
       )
     ]
 

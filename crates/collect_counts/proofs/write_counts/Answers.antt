@@ -20,14 +20,13 @@ overflow_add-from c =
     omega (arith, plane_inside (c.args.blocks / 8) c.loop-p.p c.args.width (omega arith), c.requires.0.length_is)
 
 pub loop-p-preserved : goal.loop-p-preserved
-loop-p-preserved c =
-    (
-      omega arith,
-      omega (arith, c.loop-p.invariant.1, plane_next (c.args.blocks / 8) c.loop-p.p),
-      c.write_map.ensures.same_length ∙ c.loop-p.invariant.2,
-      maps_more c.loop-p.invariant.1 c.loop-p.invariant.3 c.write_map.ensures,
-      bytes_given _ c.type_inv.counts,
-    )
+loop-p-preserved c = (
+  omega arith,
+  omega (arith, c.loop-p.invariant.1, plane_next (c.args.blocks / 8) c.loop-p.p),
+  c.write_map.ensures.same_length ∙ c.loop-p.invariant.2,
+  maps_more c.loop-p.invariant.1 c.loop-p.invariant.3 c.write_map.ensures,
+  bytes_given _ c.type_inv.counts,
+)
 
 pub returns : goal.returns
 returns c =

@@ -13,12 +13,11 @@ bounds-counts-from c =
     omega (arith, c.loop-k.invariant.1.same_length)
 
 pub loop-k-preserved : goal.loop-k-preserved
-loop-k-preserved c =
-    (
-      omega arith,
-      map_more c.gather.result c.loop-k.invariant.1 (omega (arith, c.loop-k.invariant.1.same_length))
-          (λ d u. c.gather.ensures d u ∙ word_bit c.args.at.now c.loop-k.k c.args.p c.eight_bytes-eight.result c.eight_bytes-eight.ensures (omega arith) d u),
-    )
+loop-k-preserved c = (
+  omega arith,
+  map_more c.gather.result c.loop-k.invariant.1 (omega (arith, c.loop-k.invariant.1.same_length))
+      (λ d u. c.gather.ensures d u ∙ word_bit c.args.at.now c.loop-k.k c.args.p c.eight_bytes-eight.result c.eight_bytes-eight.ensures (omega arith) d u),
+)
 
 pub returns : goal.returns
 returns c =

@@ -10,9 +10,6 @@ pub loop-t-init : goal.loop-t-init
 loop-t-init c =
     (refl, c.requires.0, leading_start c.requires.0.stack)
 
-pub overflow_cast-i : goal.overflow_cast-i
-overflow_cast-i c = omega (arith, c.type_inv.waiting (c.loop-t.t - 1))
-
 pub object_size-n-requires : goal.object_size-n-requires
 object_size-n-requires c =
     (omega arith, c.loop-t.invariant.1.stack.blocks (c.loop-t.t - 1) (omega arith))

@@ -65,13 +65,12 @@ passed-Else-rest-ne0 : (c : goal.Else-rest-ne0) → (to : ℕ)
 passed-Else-rest-ne0 c to now j l u = elim (dec_lt j c.loop-at.at) [ yes s ↦ c.loop-at.invariant.2 j l s | no s ↦ now j (omega arith) u ]
 
 pub loop-at-preserved : goal.loop-at-preserved
-loop-at-preserved c =
-    (
-      omega arith,
-      omega (arith, c.requires.0.eighths),
-      passed-Else-rest-ne0 c (c.loop-at.at + (8 - c.loop-at.at % 8))
-          (rest_none (test-Else-rest-ne0 c) c.loop-at.at c.unmarked_byte.result (omega arith) c.unmarked_byte.ensures c.if-rest-ne0.false),
-    )
+loop-at-preserved c = (
+  omega arith,
+  omega (arith, c.requires.0.eighths),
+  passed-Else-rest-ne0 c (c.loop-at.at + (8 - c.loop-at.at % 8))
+      (rest_none (test-Else-rest-ne0 c) c.loop-at.at c.unmarked_byte.result (omega arith) c.unmarked_byte.ensures c.if-rest-ne0.false),
+)
 
 pub returns : goal.returns
 returns c =

@@ -22,12 +22,11 @@ met-After-plan-arg-1 c =
     _ _ _ _ _ c.trace_all-met.ensures
 
 pub plan-requires : goal.plan-requires
-plan-requires c =
-    (
-      numbering _ _ _ _ _ _ c.requires.0 (met-After-plan-arg-1 c),
-      c.requires.0.long_b,
-      c.requires.1.blocks,
-    )
+plan-requires c = (
+  numbering _ _ _ _ _ _ c.requires.0 (met-After-plan-arg-1 c),
+  c.requires.0.long_b,
+  c.requires.1.blocks,
+)
 
 -- what is met
 met-Then-not-plan : (c : goal.Then-not-plan) → Walked c.args.blocks
@@ -56,12 +55,11 @@ met-After-fill_lists-arg-6-1 c =
     _ _ _ _ _ c.trace_all-met.ensures
 
 pub fill_lists-requires : goal.fill_lists-requires
-fill_lists-requires c =
-    (
-      c.requires.0,
-      routed _ _ _ _ _ _ c.requires.0 (met-After-fill_lists-arg-6-1 c) c.plan.ensures (not-false _ c.if-not-plan.false-raw) c.plan.auto.numbers,
-      c.requires.1,
-    )
+fill_lists-requires c = (
+  c.requires.0,
+  routed _ _ _ _ _ _ c.requires.0 (met-After-fill_lists-arg-6-1 c) c.plan.ensures (not-false _ c.if-not-plan.false-raw) c.plan.auto.numbers,
+  c.requires.1,
+)
 
 -- what is met
 met-After-slice_known-21-1 : (c : goal.After-slice_known-21-1) → Walked c.args.blocks

@@ -11,12 +11,11 @@ unfolding fill_cells
 loop-i-init c = (omega arith, refl, refl)
 
 pub loop-i-preserved : goal.loop-i-preserved
-loop-i-preserved c =
-    (
-      omega arith,
-      fill_more (λ k. get_or c.args.cells.now (c.args.j + k) 0) c.args.cells2.now c.args.j2 c.loop-i.invariant.1 refl,
-      length-set c.loop-i.cells2 (c.args.j2 + c.loop-i.i) (get_or c.args.cells.now (c.args.j + c.loop-i.i) 0) ∙ c.loop-i.invariant.2,
-    )
+loop-i-preserved c = (
+  omega arith,
+  fill_more (λ k. get_or c.args.cells.now (c.args.j + k) 0) c.args.cells2.now c.args.j2 c.loop-i.invariant.1 refl,
+  length-set c.loop-i.cells2 (c.args.j2 + c.loop-i.i) (get_or c.args.cells.now (c.args.j + c.loop-i.i) 0) ∙ c.loop-i.invariant.2,
+)
 
 pub returns : goal.returns
 returns c =

@@ -20,21 +20,20 @@ overflow_sub-order c = omega (arith, c.requires.1 c.loop-k.k c.loop-k-test.true)
 
 pub copy_object-requires : goal.copy_object-requires
 copy_object-requires c =
-    (c.requires.2 c.loop-k.k c.loop-k-test.taken, c.loop-k.invariant.1, c.loop-k.invariant.2)
+    (c.requires.2 c.loop-k.k c.loop-k-test.true, c.loop-k.invariant.1, c.loop-k.invariant.2)
 
 pub loop-k-preserved : goal.loop-k-preserved
-loop-k-preserved c =
-    (
-      omega arith,
-      planes_same c.loop-k.invariant.1 c.copy_object.auto.counts2,
-      record {
-        a_length = c.copy_object.auto.a2 ∙ c.loop-k.invariant.2.a_length;
-        b_length = c.copy_object.auto.b2 ∙ c.loop-k.invariant.2.b_length;
-        cells_length = c.copy_object.auto.cells2 ∙ c.loop-k.invariant.2.cells_length;
-        d_length = c.copy_object.auto.d2 ∙ c.loop-k.invariant.2.d_length;
-      },
-      objects_more _ _ _ _ _ _ _ _ _ c.loop-k.k c.loop-k.invariant.3 c.copy_object.ensures,
-    )
+loop-k-preserved c = (
+  omega arith,
+  planes_same c.loop-k.invariant.1 c.copy_object.auto.counts2,
+  record {
+    a_length = c.copy_object.auto.a2 ∙ c.loop-k.invariant.2.a_length;
+    b_length = c.copy_object.auto.b2 ∙ c.loop-k.invariant.2.b_length;
+    cells_length = c.copy_object.auto.cells2 ∙ c.loop-k.invariant.2.cells_length;
+    d_length = c.copy_object.auto.d2 ∙ c.loop-k.invariant.2.d_length;
+  },
+  objects_more _ _ _ _ _ _ _ _ _ c.loop-k.k c.loop-k.invariant.3 c.copy_object.ensures,
+)
 
 pub returns : goal.returns
 returns c =

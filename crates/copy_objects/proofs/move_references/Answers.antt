@@ -16,12 +16,11 @@ moved_to-requires c =
     c.requires.2 c.loop-i.i (omega arith)
 
 pub loop-i-preserved : goal.loop-i-preserved
-loop-i-preserved c =
-    (
-      omega arith,
-      fill_more (λ k. moved_to c.args.moved.now (get_or c.args.refs.now (c.args.j + k) 0)) c.args.refs2.now c.args.j2 c.loop-i.invariant.1 c.moved_to.ensures,
-      length-set c.loop-i.refs2 (c.args.j2 + c.loop-i.i) c.moved_to.result ∙ c.loop-i.invariant.2,
-    )
+loop-i-preserved c = (
+  omega arith,
+  fill_more (λ k. moved_to c.args.moved.now (get_or c.args.refs.now (c.args.j + k) 0)) c.args.refs2.now c.args.j2 c.loop-i.invariant.1 c.moved_to.ensures,
+  length-set c.loop-i.refs2 (c.args.j2 + c.loop-i.i) c.moved_to.result ∙ c.loop-i.invariant.2,
+)
 
 pub returns : goal.returns
 returns c =

@@ -13,12 +13,11 @@ use Rattle.copy_plan.proofs.lay_each.Lts as lts
 use Rattle.copy_plan.proofs.lay_each.Goals as goal
 
 pub loop-k-init : goal.loop-k-init
-loop-k-init c =
-    (
-      omega arith,
-      plan_start _ _ _ _ _ _ c.requires.0 _ c.requires.3,
-      subst (λ (map : List ℕ). Sought c.args.blocks2 map (replicate 17 0)) (sym c.requires.3) (sought_start c.args.blocks2 c.requires.2),
-    )
+loop-k-init c = (
+  omega arith,
+  plan_start _ _ _ _ _ _ c.requires.0 _ c.requires.3,
+  subst (λ (map : List ℕ). Sought c.args.blocks2 map (replicate 17 0)) (sym c.requires.3) (sought_start c.args.blocks2 c.requires.2),
+)
 
 pub bounds-order-k : goal.bounds-order-k
 bounds-order-k c = omega (arith, c.requires.0.long_order)
@@ -48,7 +47,7 @@ laid-here-Then-place-blocks2 c {map} {map'} {from'} {at} laid =
 
 pub returns-then-place-blocks2 : goal.returns-then-place-blocks2
 returns-then-place-blocks2 c =
-    plan_missed _ _ _ _ _ _ c.requires.0 c.loop-k.k _ _ c.loop-k.invariant.1 c.loop-k-test.taken _ _ _
+    plan_missed _ _ _ _ _ _ c.requires.0 c.loop-k.k _ _ c.loop-k.invariant.1 c.loop-k-test.true _ _ _
     (laid-here-Then-place-blocks2 c c.lay_one-place.ensures) c.if-place-blocks2.true _
 
 pub overflow_add-numbers : goal.overflow_add-numbers
@@ -61,7 +60,7 @@ overflow_cast-numbers c =
 
 pub bounds-numbers-at : goal.bounds-numbers-at
 bounds-numbers-at c =
-    let l = c.loop-k-test.taken in
+    let l = c.loop-k-test.true in
     omega (arith, c.loop-k.invariant.1.kept, c.requires.0.long_numbers, c.requires.0.some c.loop-k.k l, c.requires.0.below c.loop-k.k l)
 
 -- the object's size is that of the rule
@@ -74,13 +73,12 @@ laid-here-Else-place-blocks2 c {map} {map'} {from'} {at} laid =
     subst (λ (n : ℕ). LaidOne c.args.blocks2 n map map' from' at) c.object_size-n.ensures.0 laid
 
 pub loop-k-preserved : goal.loop-k-preserved
-loop-k-preserved c =
-    (
-      omega arith,
-      plan_next _ _ _ _ _ _ c.requires.0 c.loop-k.k _ _ c.loop-k.invariant.1 c.loop-k-test.taken _ _ _
-          (laid-here-Else-place-blocks2 c c.lay_one-place.ensures) c.if-place-blocks2.false,
-      c.lay_one-place.ensures.sought c.if-place-blocks2.false,
-    )
+loop-k-preserved c = (
+  omega arith,
+  plan_next _ _ _ _ _ _ c.requires.0 c.loop-k.k _ _ c.loop-k.invariant.1 c.loop-k-test.true _ _ _
+      (laid-here-Else-place-blocks2 c c.lay_one-place.ensures) c.if-place-blocks2.false,
+  c.lay_one-place.ensures.sought c.if-place-blocks2.false,
+)
 
 pub returns : goal.returns
 returns c =

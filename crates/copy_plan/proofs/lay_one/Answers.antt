@@ -13,11 +13,10 @@ exponent_of-k-requires c =
     omega (arith, blocks_le c.args.blocks c.requires.blocks, c.if-blocks-n.false)
 
 pub lowest_chunk-found-requires : goal.lowest_chunk-found-requires
-lowest_chunk-found-requires c =
-    (
-      part_there _ _ _ _ c.requires (omega arith) c.exponent_of-k.result c.exponent_of-k.ensures.0,
-      (omega (arith, c.requires.length_map, (blocks_facts c.args.blocks c.requires.blocks).2), omega (arith, blocks_le c.args.blocks c.requires.blocks)),
-    )
+lowest_chunk-found-requires c = record {
+  part = part_there _ _ _ _ c.requires (omega arith) c.exponent_of-k.result c.exponent_of-k.ensures.0;
+  to_bound = (omega (arith, c.requires.length_map, (blocks_facts c.args.blocks c.requires.blocks).2), omega (arith, blocks_le c.args.blocks c.requires.blocks));
+}
 
 pub returns-then-at-blocks : goal.returns-then-at-blocks
 returns-then-at-blocks c =
@@ -25,13 +24,12 @@ returns-then-at-blocks c =
     c.lowest_chunk-found.result.at c.lowest_chunk-found.result.looks c.lowest_chunk-found.ensures _ _ c.if-at-blocks.true
 
 pub fill_bits-requires : goal.fill_bits-requires
-fill_bits-requires c =
-    (
-      fill_inside _ _ _ _ c.requires (omega arith) c.exponent_of-k.result c.exponent_of-k.ensures.0
-          c.lowest_chunk-found.result.at c.lowest_chunk-found.result.looks c.lowest_chunk-found.ensures c.if-at-blocks.false,
-      omega arith,
-      omega (arith, c.requires.length_map, blocks_le c.args.blocks c.requires.blocks),
-    )
+fill_bits-requires c = (
+  fill_inside _ _ _ _ c.requires (omega arith) c.exponent_of-k.result c.exponent_of-k.ensures.0
+      c.lowest_chunk-found.result.at c.lowest_chunk-found.result.looks c.lowest_chunk-found.ensures c.if-at-blocks.false,
+  omega arith,
+  omega (arith, c.requires.length_map, blocks_le c.args.blocks c.requires.blocks),
+)
 
 pub returns : goal.returns
 returns c =

@@ -29,13 +29,12 @@ pub loop-i-smaller : goal.loop-i-smaller
 loop-i-smaller c = omega (arith, c.loop-i.invariant.1, c.requires.3)
 
 pub loop-i-preserved : goal.loop-i-preserved
-loop-i-preserved c =
-    (
-      omega (arith, c.loop-i.invariant.1, c.requires.3),
-      omega (arith, c.loop-i.invariant.1),
-      c.drop_four-t.ensures.1 ∙ ap (λ (x : List ℕ). clear_cells x (c.args.j + c.loop-i.i) 4) c.loop-i.invariant.2 ∙ clear_join c.args.cells.now c.args.j c.loop-i.i 4,
-      each_several _ _ _ c.loop-i.i 4 c.loop-i.invariant.2 c.loop-i.invariant.3 c.drop_four-t.ensures.0,
-    )
+loop-i-preserved c = (
+  omega (arith, c.loop-i.invariant.1, c.requires.3),
+  omega (arith, c.loop-i.invariant.1),
+  c.drop_four-t.ensures.1 ∙ ap (λ (x : List ℕ). clear_cells x (c.args.j + c.loop-i.i) 4) c.loop-i.invariant.2 ∙ clear_join c.args.cells.now c.args.j c.loop-i.i 4,
+  each_several _ _ _ c.loop-i.i 4 c.loop-i.invariant.2 c.loop-i.invariant.3 c.drop_four-t.ensures.0,
+)
 
 pub returns : goal.returns
 returns c =

@@ -34,12 +34,11 @@ count_down-t-requires c =
     (c.loop-i.invariant.2.planes, c.loop-i.invariant.2.stack)
 
 pub loop-i-preserved : goal.loop-i-preserved
-loop-i-preserved c =
-    (
-      omega arith,
-      ap (λ (x : List ℕ). set x (c.args.j + c.loop-i.i) 0) c.loop-i.invariant.1 ∙ clear_more c.args.cells.now c.args.j c.loop-i.i,
-      each_more _ _ _ c.loop-i.i c.loop-i.invariant.1 c.loop-i.invariant.2 c.count_down-t.ensures,
-    )
+loop-i-preserved c = (
+  omega arith,
+  ap (λ (x : List ℕ). set x (c.args.j + c.loop-i.i) 0) c.loop-i.invariant.1 ∙ clear_more c.args.cells.now c.args.j c.loop-i.i,
+  each_more _ _ _ c.loop-i.i c.loop-i.invariant.1 c.loop-i.invariant.2 c.count_down-t.ensures,
+)
 
 pub returns : goal.returns
 returns c =

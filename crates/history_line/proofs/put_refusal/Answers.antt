@@ -6,8 +6,7 @@ use Rattle.history_line.proofs.put_refusal.Goals as goal
 
 pub returns : goal.returns
 unfolding refusal_line
-returns c =
-    (
-      put_next (put_next c.put_text-to.ensures (omega (arith, c.put_text-to.ensures.end_is)) c.put_item-to.ensures.0) (omega (arith, c.put_text-to.ensures.end_is)) c.put_item.ensures.0,
-      omega (arith, c.put_text-to.ensures.end_is, c.put_item-to.ensures.1, c.put_item.ensures.1),
-    )
+returns c = (
+  put_next (put_next c.put_text-to.ensures (omega (arith, c.put_text-to.ensures.end_is)) c.put_item-to.ensures.0) (omega (arith, c.put_text-to.ensures.end_is)) c.put_item.ensures.0,
+  omega (arith, c.put_text-to.ensures.end_is, c.put_item-to.ensures.1, c.put_item.ensures.1),
+)

@@ -1,37 +1,17 @@
 -- `history_plans::plan_copy` meets its contract.
-use mathlib.Core.Path.{◌≡◌, sym, ◌∙◌}
-use mathlib.Core.Bool.{true}
-use Prim.Native.Nat.{◌<◌}
+use mathlib.Core.Path.{sym, ◌∙◌}
 use native.Mathlib.Omega.{arith}
-use lib.ListN.{length}
-use borrow.Author.Tests.{not-true, not-false}
-use Rattle.history_plans.specs.Readable.{are_roots}
 use Rattle.history_plans.proofs.Plans.{roots_in, copy_out, copy_asked}
 use Rattle.history_plans.proofs.plan_copy.Goals as goal
 
 pub returns-then-not-both_roots : goal.returns-then-not-both_roots
-returns-then-not-both_roots c = sym (copy_out _ _ (sym c.both_roots.ensures ∙ not-true _ c.if-not-both_roots.true-raw))
-
-inside-Else-not-both_roots : (c : goal.Else-not-both_roots) → are_roots c.args.roots.now c.args.f ≡ true
-inside-Else-not-both_roots c = sym c.both_roots.ensures ∙ not-false _ c.if-not-both_roots.false-raw
-
-in-range-Else-not-both_roots : (c : goal.Else-not-both_roots) → (c.args.f.d < length c.args.roots.now) × (c.args.f.s < length c.args.roots.now)
-in-range-Else-not-both_roots c = roots_in _ _ (inside-Else-not-both_roots c)
+returns-then-not-both_roots c = sym (copy_out _ _ (sym c.both_roots.ensures ∙ c.if-not-both_roots.true))
 
 pub offset_bounds-roots-s : goal.offset_bounds-roots-s
-offset_bounds-roots-s c = omega (arith, (in-range-Else-not-both_roots c).1)
-
-inside-After-shared_slice_known-2-1-unread : (c : goal.After-shared_slice_known-2-1-unread) → are_roots c.args.roots.now c.args.f ≡ true
-inside-After-shared_slice_known-2-1-unread c = sym c.both_roots.ensures ∙ not-false _ c.if-not-both_roots.false-raw
-
-in-range-After-shared_slice_known-2-1-unread : (c : goal.After-shared_slice_known-2-1-unread) → (c.args.f.d < length c.args.roots.now) × (c.args.f.s < length c.args.roots.now)
-in-range-After-shared_slice_known-2-1-unread c = roots_in _ _ (inside-After-shared_slice_known-2-1-unread c)
+offset_bounds-roots-s c = omega (arith, (roots_in _ _ (sym c.both_roots.ensures ∙ c.if-not-both_roots.false)).1)
 
 pub bounds-roots-s : goal.bounds-roots-s
-bounds-roots-s c = (in-range-After-shared_slice_known-2-1-unread c).1
-
-inside-After-word : (c : goal.After-word) → are_roots c.args.roots.now c.args.f ≡ true
-inside-After-word c = sym c.both_roots.ensures ∙ not-false _ c.if-not-both_roots.false-raw
+bounds-roots-s c = (roots_in _ _ (sym c.both_roots.ensures ∙ c.if-not-both_roots.false)).1
 
 pub returns : goal.returns
-returns c = rw c.word.ensures (sym (copy_asked _ _ (inside-After-word c)))
+returns c = rw c.word.ensures (sym (copy_asked _ _ (sym c.both_roots.ensures ∙ c.if-not-both_roots.false)))

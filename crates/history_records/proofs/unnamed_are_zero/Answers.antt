@@ -1,5 +1,6 @@
 -- `history_records::unnamed_are_zero` meets its contract.
 use mathlib.Core.Path.{sym, ◌∙◌}
+use native.Mathlib.Omega.{arith}
 use Rattle.rules.specs.Tools.{all}
 use Rattle.history_records.proofs.Unnamed.{unused_set, unnamed_zero, unknown_zero}
 use Rattle.history_records.proofs.unnamed_are_zero.Goals as goal
@@ -41,8 +42,6 @@ returns-in-8 c = c.are_zero-in-8.ensures ∙ sym (unnamed_zero _ 8 c.if-unused-n
 
 pub returns-in_default : goal.returns-in_default
 returns-in_default c =
-    let known = c.in_default.in_default-own.rest in
-    let rest = known.0.0 in
     sym
-    (unknown_zero _ rest.0.0.0.0.0.1 rest.0.0.0.0.1 rest.0.0.0.1 rest.0.0.1 rest.0.1 rest.1
-    known.0.1 known.1 c.if-unused-ne0.false)
+    (unknown_zero _ (omega arith) (omega arith) (omega arith) (omega arith) (omega arith) (omega arith) (omega arith) (omega arith)
+    c.if-unused-ne0.false)

@@ -11,12 +11,11 @@ unfolding clear_cells
 loop-i-init c = (omega arith, refl, refl)
 
 pub loop-i-preserved : goal.loop-i-preserved
-loop-i-preserved c =
-    (
-      omega arith,
-      cc (clear_more c.args.cells.now c.args.j c.loop-i.i),
-      length-set c.loop-i.cells (c.args.j + c.loop-i.i) 0 ∙ c.loop-i.invariant.2,
-    )
+loop-i-preserved c = (
+  omega arith,
+  cc (clear_more c.args.cells.now c.args.j c.loop-i.i),
+  length-set c.loop-i.cells (c.args.j + c.loop-i.i) 0 ∙ c.loop-i.invariant.2,
+)
 
 pub returns : goal.returns
 returns c =

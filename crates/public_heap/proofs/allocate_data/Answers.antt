@@ -9,11 +9,10 @@ pub returns-then-number-ne0 : goal.returns-then-number-ne0
 returns-then-number-ne0 c = c.allocate_data-tested.ensures.refused c.if-number-ne0.true
 
 pub allocate-done-requires : goal.allocate-done-requires
-allocate-done-requires c =
-    (
-      cleared_usable (c.allocate_data-tested.ensures.fit c.if-number-ne0.false) c.clear_all.ensures,
-      allocate_accepts (replied (c.allocate_data-tested.ensures.tested c.if-number-ne0.false)) c.if-number-ne0.false,
-    )
+allocate-done-requires c = (
+  cleared_usable (c.allocate_data-tested.ensures.fit c.if-number-ne0.false) c.clear_all.ensures,
+  allocate_accepts (replied (c.allocate_data-tested.ensures.tested c.if-number-ne0.false)) c.if-number-ne0.false,
+)
 
 pub returns : goal.returns
 unfolding outcome

@@ -10,11 +10,10 @@ pub returns-then-number-ne0 : goal.returns-then-number-ne0
 returns-then-number-ne0 c = c.none_open-checked.ensures.0.refused c.if-number-ne0.true
 
 pub collect-done-requires : goal.collect-done-requires
-collect-done-requires c =
-    (
-      cleared_usable (c.none_open-checked.ensures.0.fit c.if-number-ne0.false) c.clear_all.ensures,
-      gate_none_open _ _ (c.none_open-checked.ensures.0.tested c.if-number-ne0.false) c.if-number-ne0.false,
-    )
+collect-done-requires c = (
+  cleared_usable (c.none_open-checked.ensures.0.fit c.if-number-ne0.false) c.clear_all.ensures,
+  gate_none_open _ _ (c.none_open-checked.ensures.0.tested c.if-number-ne0.false) c.if-number-ne0.false,
+)
 
 pub returns : goal.returns
 unfolding freeing outcome

@@ -186,7 +186,7 @@ pub returns : goal.returns
 returns c =
     check_passed {h = lent-After-acceptance c}
     (record {
-      intact-After-acceptance = intact-After-acceptance c;
+      intact = intact-After-acceptance c;
       true_list = fresh-After-acceptance c;
       tidy = sym (untidy-is-After-acceptance c) ∙ c.if-is_untidy.false;
     })

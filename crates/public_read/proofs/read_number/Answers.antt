@@ -4,7 +4,7 @@ use native.Mathlib.Omega.{arith}
 use Rattle.rules.specs.Heap.{Memory, lent_memory}
 use Rattle.rules.proofs.Shape.{Shaped, shape_facts}
 use Rattle.public_read.proofs.CheckReply.{refused_alike, checked_fit, read_passed}
-use Rattle.public_read.proofs.read_number_lem.Goals as goal
+use Rattle.public_read.proofs.read_number.Goals as goal
 
 -- the lent heap
 abbrev lent-Then-number-ne0 : (c : goal.Then-number-ne0) → Memory

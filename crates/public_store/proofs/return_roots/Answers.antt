@@ -10,11 +10,10 @@ pub returns-then-number-ne0 : goal.returns-then-number-ne0
 returns-then-number-ne0 c = c.return_roots-tested.ensures.refused c.if-number-ne0.true
 
 pub clear_roots-done-requires : goal.clear_roots-done-requires
-clear_roots-done-requires c =
-    (
-      cleared_usable (c.return_roots-tested.ensures.fit c.if-number-ne0.false) c.clear_all.ensures,
-      ap (λ (y : Reply). y.number) (sym (c.return_roots-tested.ensures.tested c.if-number-ne0.false)) ∙ c.if-number-ne0.false,
-    )
+clear_roots-done-requires c = (
+  cleared_usable (c.return_roots-tested.ensures.fit c.if-number-ne0.false) c.clear_all.ensures,
+  ap (λ (y : Reply). y.number) (sym (c.return_roots-tested.ensures.tested c.if-number-ne0.false)) ∙ c.if-number-ne0.false,
+)
 
 pub returns : goal.returns
 unfolding freeing outcome

@@ -9,11 +9,10 @@ pub returns-then-number-ne0 : goal.returns-then-number-ne0
 returns-then-number-ne0 c = c.store_root-tested.ensures.refused c.if-number-ne0.true
 
 pub store_root-done-requires : goal.store_root-done-requires
-store_root-done-requires c =
-    (
-      cleared_usable (c.store_root-tested.ensures.fit c.if-number-ne0.false) c.clear_all.ensures,
-      goes_on (root_tested (c.store_root-tested.ensures.tested c.if-number-ne0.false)) c.if-number-ne0.false,
-    )
+store_root-done-requires c = (
+  cleared_usable (c.store_root-tested.ensures.fit c.if-number-ne0.false) c.clear_all.ensures,
+  goes_on (root_tested (c.store_root-tested.ensures.tested c.if-number-ne0.false)) c.if-number-ne0.false,
+)
 
 pub returns : goal.returns
 unfolding freeing outcome

@@ -8,10 +8,9 @@ count_down-top-requires c =
     (c.requires.0, stack_empty c.requires.2)
 
 pub returns : goal.returns
-returns c =
-    (
-      let_go_done _ _ _ _ c.count_down-top.ensures.result c.release_all.ensures.0 c.requires.2 c.release_all.ensures.2,
-      let_go_blocks_done _ _ _ _ c.count_down-top.ensures.result c.release_all.ensures.1,
-      c.release_all.ensures.3,
-      let_go_marks_done _ _ _ _ c.count_down-top.ensures.result _ _ c.release_all.ensures.4,
-    )
+returns c = (
+  let_go_done _ _ _ _ c.count_down-top.ensures.result c.release_all.ensures.0 c.requires.2 c.release_all.ensures.2,
+  let_go_blocks_done _ _ _ _ c.count_down-top.ensures.result c.release_all.ensures.1,
+  c.release_all.ensures.3,
+  let_go_marks_done _ _ _ _ c.count_down-top.ensures.result _ _ c.release_all.ensures.4,
+)

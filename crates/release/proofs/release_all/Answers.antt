@@ -18,26 +18,24 @@ object_size-n-requires c =
     (omega (arith, c.loop-t.invariant.0.extents.b_length, c.loop-t.invariant.0.planes.eighths), c.loop-t.invariant.0.stack.blocks (c.loop-t.t - 1) (omega arith))
 
 pub clear_extent-requires : goal.clear_extent-requires
-clear_extent-requires c =
-    (
-      c.loop-t.invariant.1.coherent,
-      c.loop-t.invariant.0.extents.a_length,
-      c.loop-t.invariant.0.extents.b_length,
-      omega (arith, c.object_size-n.ensures.1, c.loop-t.invariant.0.stack.blocks (c.loop-t.t - 1) (omega arith)),
-      c.object_size-n.ensures.2,
-    )
+clear_extent-requires c = (
+  c.loop-t.invariant.1.coherent,
+  c.loop-t.invariant.0.extents.a_length,
+  c.loop-t.invariant.0.extents.b_length,
+  omega (arith, c.object_size-n.ensures.1, c.loop-t.invariant.0.stack.blocks (c.loop-t.t - 1) (omega arith)),
+  c.object_size-n.ensures.2,
+)
 
 pub drop_object-t-requires : goal.drop_object-t-requires
-drop_object-t-requires c =
-    (
-      c.loop-t.invariant.0.planes,
-      stack_pop c.loop-t-test.taken c.loop-t.invariant.0.stack,
-      c.object_size-n.ensures.2,
-      c.loop-t.invariant.0.stack.blocks (c.loop-t.t - 1) (omega arith),
-      c.loop-t.invariant.0.extents.cells_length,
-      omega (arith, c.loop-t.invariant.0.extents.d_length, c.loop-t.invariant.0.planes.eighths),
-      omega (arith, c.loop-t.invariant.0.marks_length, c.loop-t.invariant.0.planes.eighths),
-    )
+drop_object-t-requires c = (
+  c.loop-t.invariant.0.planes,
+  stack_pop c.loop-t-test.true c.loop-t.invariant.0.stack,
+  c.object_size-n.ensures.2,
+  c.loop-t.invariant.0.stack.blocks (c.loop-t.t - 1) (omega arith),
+  c.loop-t.invariant.0.extents.cells_length,
+  omega (arith, c.loop-t.invariant.0.extents.d_length, c.loop-t.invariant.0.planes.eighths),
+  omega (arith, c.loop-t.invariant.0.marks_length, c.loop-t.invariant.0.planes.eighths),
+)
 
 pub overflow_add-freed : goal.overflow_add-freed
 overflow_add-freed c =
@@ -45,16 +43,15 @@ overflow_add-freed c =
 
 pub loop-t-smaller : goal.loop-t-smaller
 loop-t-smaller c =
-    let taken = c.loop-t-test.taken in
+    let taken = c.loop-t-test.true in
     omega arith
 
 pub loop-t-preserved : goal.loop-t-preserved
-loop-t-preserved c =
-    (
-      releasing_step c.loop-t-test.taken refl c.object_size-n.ensures.0 c.object_size-n.ensures.2
-          c.clear_extent.ensures.0 c.clear_extent.ensures.1 c.drop_object-t.ensures.1 c.drop_object-t.ensures.0 c.drop_object-t.ensures.2 c.drop_object-t.ensures.3 c.loop-t.invariant.0,
-      record { coherent = c.clear_extent.ensures.2; untouched = λ none. absurd (omega (arith, none, c.object_size-n.ensures.1)) },
-    )
+loop-t-preserved c = (
+  releasing_step c.loop-t-test.true refl c.object_size-n.ensures.0 c.object_size-n.ensures.2
+      c.clear_extent.ensures.0 c.clear_extent.ensures.1 c.drop_object-t.ensures.1 c.drop_object-t.ensures.0 c.drop_object-t.ensures.2 c.drop_object-t.ensures.3 c.loop-t.invariant.0,
+  record { coherent = c.clear_extent.ensures.2; untouched = λ none. absurd (omega (arith, none, c.object_size-n.ensures.1)) },
+)
 
 pub returns : goal.returns
 returns c =

@@ -10,14 +10,14 @@ use Rattle.search_chunk.proofs.walk_words.Goals as goal
 
 pub words-init : goal.words-init
 words-init c =
-    passed_start c.args.from c.args.to c.args.a.now c.args.size c.requires.0 c.requires.1.3
+    passed_start c.args.from c.args.to c.args.a.now c.args.size c.requires.part c.requires.to_bound.3
 
 pub overflow_add-from : goal.overflow_add-from
 overflow_add-from c = omega (arith, c.words.invariant.inside)
 
 -- the whole word lies in the part
 inside-Else-from-looks : (c : goal.Else-from-looks) → c.args.from + c.words.looks + 64 ≤ c.args.to
-inside-Else-from-looks c = omega (arith, c.words.invariant.inside, c.words.invariant.starts, c.requires.1.4, c.if-from-looks.false)
+inside-Else-from-looks c = omega (arith, c.words.invariant.inside, c.words.invariant.starts, c.requires.to_bound.4, c.if-from-looks.false)
 
 pub overflow_add-from-in-words : goal.overflow_add-from-in-words
 overflow_add-from-in-words c = omega (arith, inside-Else-from-looks c)
@@ -31,13 +31,13 @@ loop-free-init c =
     let first : 8 * (p / 8) ≡ p = omega (arith, c.words.invariant.starts) in (
       refl,
       c.words.invariant,
-      chunks_start c.args.a.now c.args.size p c.eight_bytes-free.result (size_positive c.args.from c.args.to c.args.size c.requires.0)
+      chunks_start c.args.a.now c.args.size p c.eight_bytes-free.result (size_positive c.args.from c.args.to c.args.size c.requires.part)
           (subst (λ (x : ℕ). Digits 64 c.args.a.now x c.eight_bytes-free.result) first c.eight_bytes-free.ensures),
     )
 
 -- the whole word lies in the part
 inside-Then-free-eq0 : (c : goal.Then-free-eq0) → c.args.from + c.words.looks + 64 ≤ c.args.to
-inside-Then-free-eq0 c = omega (arith, c.words.invariant.inside, c.words.invariant.starts, c.requires.1.4, c.if-from-looks.false)
+inside-Then-free-eq0 c = omega (arith, c.words.invariant.inside, c.words.invariant.starts, c.requires.to_bound.4, c.if-from-looks.false)
 
 pub overflow_add-looks : goal.overflow_add-looks
 overflow_add-looks c = omega (arith, inside-Then-free-eq0 c)
@@ -47,7 +47,7 @@ words-smaller c = omega (arith, c.loop-free.invariant.0, inside-Then-free-eq0 c)
 
 pub words-preserved : goal.words-preserved
 words-preserved c =
-    word_passed c.args.from c.args.to c.args.a.now c.args.size c.loop-free.looks c.loop-free.s c.loop-free.free c.requires.0 c.requires.1.2
+    word_passed c.args.from c.args.to c.args.a.now c.args.size c.loop-free.looks c.loop-free.s c.loop-free.free c.requires.part c.requires.to_bound.2
     c.loop-free.invariant.1 c.loop-free.invariant.2 c.if-free-eq0.true (omega (arith, c.loop-free.invariant.0, inside-Then-free-eq0 c))
 
 pub overflow_cast-looks : goal.overflow_cast-looks
@@ -55,7 +55,7 @@ overflow_cast-looks c = omega (arith, trailing_le 64 c.loop-free.free)
 
 -- the whole word lies in the part
 inside-Then-s-size : (c : goal.Then-s-size) → c.args.from + c.words.looks + 64 ≤ c.args.to
-inside-Then-s-size c = omega (arith, c.words.invariant.inside, c.words.invariant.starts, c.requires.1.4, c.if-from-looks.false)
+inside-Then-s-size c = omega (arith, c.words.invariant.inside, c.words.invariant.starts, c.requires.to_bound.4, c.if-from-looks.false)
 
 found : (c : goal.Then-s-size) → (count_trailing_zeros 64 c.loop-free.free + c.args.size ≤ 64)
     × ((k : ℕ) → c.args.size ≡ 2 ^ k
@@ -65,9 +65,9 @@ found : (c : goal.Then-s-size) → (count_trailing_zeros 64 c.loop-free.free + c
 found c =
     let chunks : Chunks c.args.a.now c.args.size (c.args.from + c.loop-free.looks) c.args.size c.loop-free.free =
     subst (λ (x : ℕ). Chunks c.args.a.now c.args.size (c.args.from + c.loop-free.looks) x c.loop-free.free) c.if-s-size.true c.loop-free.invariant.2 in (
-      lowest_inside c.args.from c.args.to c.args.a.now c.args.size c.loop-free.looks c.loop-free.free c.requires.0 c.requires.1.2 c.loop-free.invariant.1 chunks
+      lowest_inside c.args.from c.args.to c.args.a.now c.args.size c.loop-free.looks c.loop-free.free c.requires.part c.requires.to_bound.2 c.loop-free.invariant.1 chunks
           c.if-free-eq0.false (omega (arith, c.loop-free.invariant.0, inside-Then-s-size c)),
-      lowest_found c.args.from c.args.to c.args.a.now c.args.size c.loop-free.looks c.loop-free.free c.requires.0 c.requires.1.2 c.loop-free.invariant.1 chunks
+      lowest_found c.args.from c.args.to c.args.a.now c.args.size c.loop-free.looks c.loop-free.free c.requires.part c.requires.to_bound.2 c.loop-free.invariant.1 chunks
           c.if-free-eq0.false (omega (arith, c.loop-free.invariant.0, inside-Then-s-size c)),
     )
 
@@ -85,30 +85,29 @@ less-Else-s-size c =
     chunks_less c.args.a.now c.args.size (c.args.from + c.loop-free.looks) c.loop-free.s c.loop-free.free c.loop-free.invariant.2 c.if-s-size.false
 
 pub twice-free-requires : goal.twice-free-requires
-twice-free-requires c = omega (arith, (less-Else-s-size c).1, c.requires.1.2)
+twice-free-requires c = omega (arith, (less-Else-s-size c).1, c.requires.to_bound.2)
 
 less-After-twice-free : (c : goal.After-twice-free) → (0 < c.loop-free.s) × (c.loop-free.s < c.args.size)
 less-After-twice-free c =
     chunks_less c.args.a.now c.args.size (c.args.from + c.loop-free.looks) c.loop-free.s c.loop-free.free c.loop-free.invariant.2 c.if-s-size.false
 
 pub overflow_add-s : goal.overflow_add-s
-overflow_add-s c = omega (arith, (less-After-twice-free c).1, c.requires.1.2)
+overflow_add-s c = omega (arith, (less-After-twice-free c).1, c.requires.to_bound.2)
 
 pub loop-free-smaller : goal.loop-free-smaller
 loop-free-smaller c = omega (arith, (less-After-twice-free c).0, (less-After-twice-free c).1)
 
 pub loop-free-preserved : goal.loop-free-preserved
-loop-free-preserved c =
-    (
-      c.loop-free.invariant.0,
-      c.loop-free.invariant.1,
-      chunks_next c.args.a.now c.args.size c.requires.0.exponent (c.args.from + c.loop-free.looks) c.loop-free.s c.loop-free.free c.twice-free.result c.requires.0.power
-          c.requires.1.2 c.loop-free.invariant.2 c.if-s-size.false c.twice-free.ensures,
-    )
+loop-free-preserved c = (
+  c.loop-free.invariant.0,
+  c.loop-free.invariant.1,
+  chunks_next c.args.a.now c.args.size c.requires.part.exponent (c.args.from + c.loop-free.looks) c.loop-free.s c.loop-free.free c.twice-free.result c.requires.part.power
+      c.requires.to_bound.2 c.loop-free.invariant.2 c.if-s-size.false c.twice-free.ensures,
+)
 
 pub returns-then-from-looks : goal.returns-then-from-looks
 returns-then-from-looks c k e =
-    passed_none c.args.from c.args.to c.args.a.now c.args.size c.words.looks c.words.invariant c.requires.0 c.if-from-looks.true k e
+    passed_none c.args.from c.args.to c.args.a.now c.args.size c.words.looks c.words.invariant c.requires.part c.if-from-looks.true k e
 
 pub returns-then-s-size : goal.returns-then-s-size
 returns-then-s-size c = (found c).1

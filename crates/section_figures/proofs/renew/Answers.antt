@@ -1,5 +1,4 @@
 use mathlib.Core.Path.{refl, sym, ap, subst, ◌∙◌}
-use mathlib.Core.Logic.{inl, inr}
 use mathlib.Core.List.{List}
 use Prim.Native.Nat.{ℕ, ◌+◌, ◌-◌}
 use native.Mathlib.Omega.{arith}
@@ -7,6 +6,7 @@ use lib.ListN.{length}
 use Rattle.section_figures.specs.Figures.{Renewed}
 use Rattle.section_figures.proofs.Lists.{renewed_start, renewed_kept, renewed_all}
 use Rattle.section_figures.proofs.renew.Goals as goal
+use Rattle.section_figures.proofs.renew.Goals.{then-group_bound-ge-UNKNOWN, else-group_bound-ge-UNKNOWN}
 
 pub loop-s-init : goal.loop-s-init
 loop-s-init c =
@@ -20,16 +20,16 @@ pub loop-s-preserved : goal.loop-s-preserved
 loop-s-preserved c =
     let N : ℕ = c.args.blocks in
     elim c.if-group_bound-ge-UNKNOWN.branch [
-      | inl w ↦ (
-        subst (λ (x : List ℕ). Renewed N c.args.a.now x (c.loop-s.s + 16)) (sym w.5) w.2.ensures,
-        ap length w.5 ∙ w.2.kept.1.1.0 ∙ c.loop-s.invariant.1,
+      | then-group_bound-ge-UNKNOWN w ↦ (
+        subst (λ (x : List ℕ). Renewed N c.args.a.now x (c.loop-s.s + 16)) (sym w.sections-is) w.renew_part.ensures,
+        c.if-group_bound-ge-UNKNOWN.auto.sections ∙ c.loop-s.invariant.1,
         omega arith,
       )
-      | inr w ↦ (
-        subst (λ (x : List ℕ). Renewed N c.args.a.now x (c.loop-s.s + 16)) (sym w.1)
+      | else-group_bound-ge-UNKNOWN w ↦ (
+        subst (λ (x : List ℕ). Renewed N c.args.a.now x (c.loop-s.s + 16)) (sym w.sections-is)
             (renewed_kept N c.args.a.now c.loop-s.sections c.loop-s.s (c.loop-s.s + 16) c.loop-s.invariant.0 (omega (arith, c.requires.0.length_is))
-            (λ j p q e. absurd (omega (arith, c.group_bound.ensures j p q, w.0.left)))),
-        ap length w.1 ∙ c.loop-s.invariant.1,
+            (λ j p q e. absurd (omega (arith, c.group_bound.ensures j p q, w.if-group_bound-ge-UNKNOWN.false)))),
+        c.if-group_bound-ge-UNKNOWN.auto.sections ∙ c.loop-s.invariant.1,
         omega arith,
       )
     ]

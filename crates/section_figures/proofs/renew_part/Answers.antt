@@ -1,5 +1,4 @@
 use mathlib.Core.Path.{◌≡◌, refl, sym, ap, subst, ◌∙◌}
-use mathlib.Core.Logic.{inl, inr}
 use mathlib.Core.List.{List}
 use Prim.Native.Nat.{ℕ, ◌+◌, ◌-◌}
 use native.Mathlib.Omega.{arith}
@@ -7,6 +6,7 @@ use lib.ListN.{length, length-set}
 use Rattle.section_figures.specs.Figures.{Renewed}
 use Rattle.section_figures.proofs.Lists.{renewed_next, renewed_found}
 use Rattle.section_figures.proofs.renew_part.Goals as goal
+use Rattle.section_figures.proofs.renew_part.Goals.{then-sections-s-eq-UNKNOWN, else-sections-s-eq-UNKNOWN}
 
 pub loop-s-init : goal.loop-s-init
 loop-s-init c =
@@ -23,16 +23,16 @@ pub loop-s-preserved : goal.loop-s-preserved
 loop-s-preserved c =
     let N : ℕ = c.args.blocks in
     elim c.if-sections-s-eq-UNKNOWN.branch [
-      | inl w ↦ (
-        subst (λ (x : List ℕ). Renewed N c.args.a.now x (c.loop-s.s + 1)) (sym w.2)
-            (renewed_found N c.args.a.now c.loop-s.sections c.loop-s.s w.1.result c.loop-s.invariant.0 (omega (arith, c.requires.0.rest.length_is)) w.1.ensures.0),
-        ap length w.2 ∙ length-set c.loop-s.sections c.loop-s.s w.1.result ∙ c.loop-s.invariant.1,
+      | then-sections-s-eq-UNKNOWN w ↦ (
+        subst (λ (x : List ℕ). Renewed N c.args.a.now x (c.loop-s.s + 1)) (sym w.sections-is)
+            (renewed_found N c.args.a.now c.loop-s.sections c.loop-s.s w.section_figure.result c.loop-s.invariant.0 (omega (arith, c.requires.0.rest.length_is)) w.section_figure.ensures.0),
+        c.if-sections-s-eq-UNKNOWN.auto.sections ∙ c.loop-s.invariant.1,
         omega arith,
       )
-      | inr w ↦ (
-        subst (λ (x : List ℕ). Renewed N c.args.a.now x (c.loop-s.s + 1)) (sym w.1)
-            (renewed_next N c.args.a.now c.loop-s.sections c.loop-s.s c.loop-s.invariant.0 (omega (arith, c.requires.0.rest.length_is)) w.0.left),
-        ap length w.1 ∙ c.loop-s.invariant.1,
+      | else-sections-s-eq-UNKNOWN w ↦ (
+        subst (λ (x : List ℕ). Renewed N c.args.a.now x (c.loop-s.s + 1)) (sym w.sections-is)
+            (renewed_next N c.args.a.now c.loop-s.sections c.loop-s.s c.loop-s.invariant.0 (omega (arith, c.requires.0.rest.length_is)) w.if-sections-s-eq-UNKNOWN.false),
+        c.if-sections-s-eq-UNKNOWN.auto.sections ∙ c.loop-s.invariant.1,
         omega arith,
       )
     ]

@@ -11,7 +11,7 @@ overflow_mul-s c =
 pub largest_free-requires : goal.largest_free-requires
 largest_free-requires c =
     let at = place c.args.blocks c.args.s c.section_length-size.result c.requires.0 c.requires.2 c.section_length-size.ensures in
-    (at.power, (λ l. at.from_byte, omega (arith, at.inside), omega (arith, at.inside, at.few)))
+    record { by_index = at.power; at_value = ((λ l. at.from_byte), omega (arith, at.inside), omega (arith, at.inside, at.few)) }
 
 pub returns : goal.returns
 returns c =

@@ -20,15 +20,24 @@ returns-then-size-eq1 t c = of_size 0 c.args.a.now c.args.at c.args.size c.of_bl
 pub largest_free-lower-requires : goal.largest_free-lower-requires
 largest_free-lower-requires t c =
     let power = c.requires.by_index in
-    let half = half_size c.args.size power.0 power.1 c.if-size-eq1.false in
-    (omega (arith, c.measure, half.twice, half.some), record { by_index = (half.exponent, half.power); at_value = ((λ l. c.requires.at_value.0 (omega arith)), omega (arith, half.twice), omega (arith, half.twice)) })
+    let half = half_size c.args.size power.0 power.1 c.if-size-eq1.false in (
+      omega (arith, c.decreases, half.twice, half.some),
+      ((half.exponent, half.power), ((λ l. c.requires.at_value.0 (omega arith)), omega (arith, half.twice), omega (arith, half.twice))),
+    )
 
 pub largest_free-upper-requires : goal.largest_free-upper-requires
 largest_free-upper-requires t c =
     let power = c.requires.by_index in
     let half = half_size c.args.size power.0 power.1 c.if-size-eq1.false in (
-      omega (arith, c.measure, half.twice, half.some),
-      record { by_index = (half.exponent, half.power); at_value = ((λ l. omega (arith, c.requires.at_value.0 (omega arith), half.bytes (omega arith))), omega (arith, half.twice), omega (arith, half.twice)) },
+      omega (arith, c.decreases, half.twice, half.some),
+      (
+        (half.exponent, half.power),
+        (
+          (λ l. omega (arith, c.requires.at_value.0 (omega arith), half.bytes (omega arith))),
+          omega (arith, half.twice),
+          omega (arith, half.twice),
+        ),
+      ),
     )
 
 pub returns : goal.returns

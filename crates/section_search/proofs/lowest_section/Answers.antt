@@ -8,7 +8,6 @@ use Rattle.search_walk.specs.Search.{or_else}
 use Rattle.section_search.proofs.BySections.{suffices_start, suffices_here, suffices_next, suffices_past, suffices_none}
 use Rattle.section_search.proofs.lowest_section.Goals as goal
 
-
 pub loop-s-init : goal.loop-s-init
 loop-s-init c =
     (omega arith, suffices_start c.args.sections.now c.args.size (length c.args.sections.now))

@@ -10,13 +10,13 @@ use Rattle.section_words.proofs.of_whole.Goals as goal
 
 -- what is known of each pair
 lower-figure-Then-upper : (c : goal.Then-upper) → (a : List ℕ) (i : ℕ)
-    → 
+    →
     FourChunks 6 a i c.args.free.first c.args.free.second c.args.free.third c.args.free.fourth
     → (c.are_whole-lower.result ≡ true → largest_free 7 a i ≡ 128) × (c.are_whole-lower.result ≡ false → largest_free 7 a i ≤ 64)
 lower-figure-Then-upper c a i f = c.are_whole-lower.ensures a i f.first f.second
 
 upper-figure-Then-upper : (c : goal.Then-upper) → (a : List ℕ) (i : ℕ)
-    → 
+    →
     FourChunks 6 a i c.args.free.first c.args.free.second c.args.free.third c.args.free.fourth
     → (c.are_whole-upper.result ≡ true → largest_free 7 a (i + 128) ≡ 128) × (c.are_whole-upper.result ≡ false → largest_free 7 a (i + 128) ≤ 64)
 upper-figure-Then-upper c a i f = c.are_whole-upper.ensures a (i + 128) f.third (upper_pair f)
@@ -27,13 +27,13 @@ returns-then-upper c = λ a i f some.
 
 -- what is known of each pair
 lower-figure-Else-upper : (c : goal.Else-upper) → (a : List ℕ) (i : ℕ)
-    → 
+    →
     FourChunks 6 a i c.args.free.first c.args.free.second c.args.free.third c.args.free.fourth
     → (c.are_whole-lower.result ≡ true → largest_free 7 a i ≡ 128) × (c.are_whole-lower.result ≡ false → largest_free 7 a i ≤ 64)
 lower-figure-Else-upper c a i f = c.are_whole-lower.ensures a i f.first f.second
 
 upper-figure-Else-upper : (c : goal.Else-upper) → (a : List ℕ) (i : ℕ)
-    → 
+    →
     FourChunks 6 a i c.args.free.first c.args.free.second c.args.free.third c.args.free.fourth
     → (c.are_whole-upper.result ≡ true → largest_free 7 a (i + 128) ≡ 128) × (c.are_whole-upper.result ≡ false → largest_free 7 a (i + 128) ≤ 64)
 upper-figure-Else-upper c a i f = c.are_whole-upper.ensures a (i + 128) f.third (upper_pair f)
@@ -44,13 +44,13 @@ returns-then-lower c = λ a i f some.
 
 -- what is known of each pair
 lower-figure-Then-upper-2 : (c : goal.Then-upper-2) → (a : List ℕ) (i : ℕ)
-    → 
+    →
     FourChunks 6 a i c.args.free.first c.args.free.second c.args.free.third c.args.free.fourth
     → (c.are_whole-lower.result ≡ true → largest_free 7 a i ≡ 128) × (c.are_whole-lower.result ≡ false → largest_free 7 a i ≤ 64)
 lower-figure-Then-upper-2 c a i f = c.are_whole-lower.ensures a i f.first f.second
 
 upper-figure-Then-upper-2 : (c : goal.Then-upper-2) → (a : List ℕ) (i : ℕ)
-    → 
+    →
     FourChunks 6 a i c.args.free.first c.args.free.second c.args.free.third c.args.free.fourth
     → (c.are_whole-upper.result ≡ true → largest_free 7 a (i + 128) ≡ 128) × (c.are_whole-upper.result ≡ false → largest_free 7 a (i + 128) ≤ 64)
 upper-figure-Then-upper-2 c a i f = c.are_whole-upper.ensures a (i + 128) f.third (upper_pair f)
@@ -61,13 +61,13 @@ returns-then-upper-2 c = λ a i f some.
 
 -- what is known of each pair
 lower-figure-Else-upper-2 : (c : goal.Else-upper-2) → (a : List ℕ) (i : ℕ)
-    → 
+    →
     FourChunks 6 a i c.args.free.first c.args.free.second c.args.free.third c.args.free.fourth
     → (c.are_whole-lower.result ≡ true → largest_free 7 a i ≡ 128) × (c.are_whole-lower.result ≡ false → largest_free 7 a i ≤ 64)
 lower-figure-Else-upper-2 c a i f = c.are_whole-lower.ensures a i f.first f.second
 
 upper-figure-Else-upper-2 : (c : goal.Else-upper-2) → (a : List ℕ) (i : ℕ)
-    → 
+    →
     FourChunks 6 a i c.args.free.first c.args.free.second c.args.free.third c.args.free.fourth
     → (c.are_whole-upper.result ≡ true → largest_free 7 a (i + 128) ≡ 128) × (c.are_whole-upper.result ≡ false → largest_free 7 a (i + 128) ≤ 64)
 upper-figure-Else-upper-2 c a i f = c.are_whole-upper.ensures a (i + 128) f.third (upper_pair f)

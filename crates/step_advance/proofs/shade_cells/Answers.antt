@@ -8,14 +8,13 @@ pub loop-k-init : goal.loop-k-init
 loop-k-init c = (omega arith, flying_start c.args.cells.now c.args.j, refl, refl, refl)
 
 pub loop-k-preserved : goal.loop-k-preserved
-loop-k-preserved c =
-    (
-      omega arith,
-      flying_more _ _ c.loop-k.k c.loop-k.invariant.1 c.shade_one-bound.ensures,
-      c.shade_one-bound.auto.marks ∙ c.loop-k.invariant.2,
-      c.shade_one-bound.auto.listed ∙ c.loop-k.invariant.3,
-      c.shade_one-bound.auto.flags ∙ c.loop-k.invariant.4,
-    )
+loop-k-preserved c = (
+  omega arith,
+  flying_more _ _ c.loop-k.k c.loop-k.invariant.1 c.shade_one-bound.ensures,
+  c.shade_one-bound.auto.marks ∙ c.loop-k.invariant.2,
+  c.shade_one-bound.auto.listed ∙ c.loop-k.invariant.3,
+  c.shade_one-bound.auto.flags ∙ c.loop-k.invariant.4,
+)
 
 pub returns : goal.returns
 returns c =

@@ -20,9 +20,9 @@ loop-taken-preserved c =
     let found = c.lowest_listed-x in
     let step = c.take_one-low in (
       going_next c.loop-taken.invariant.0 c.loop-taken-test.true found.ensures.next c.if-blocks-x.false step.ensures.stepped,
-      step.auto.1.1.1.1.0 ∙ c.loop-taken.invariant.1,
-      step.auto.1.1.1.1.1.0 ∙ c.loop-taken.invariant.2,
-      step.auto.1.1.1.1.1.1.0 ∙ found.auto.1.1.0 ∙ c.loop-taken.invariant.3,
+      step.auto.marks ∙ c.loop-taken.invariant.1,
+      step.auto.listed ∙ c.loop-taken.invariant.2,
+      step.auto.flags ∙ found.auto.flags ∙ c.loop-taken.invariant.3,
       step.ensures.flagged found.ensures.flagged,
       step.ensures.cleared (λ i u. found.ensures.next.clear i (omega arith) u),
       omega (arith, step.ensures.lowered, found.ensures.next.end_le),

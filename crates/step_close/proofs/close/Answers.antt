@@ -19,10 +19,9 @@ overflow_add-result c =
 
 pub returns : goal.returns
 unfolding released released_after
-returns c =
-    (
-      c.release_all-more.ensures.0 ∙ ap (released c.args.blocks c.args.width) c.close_pass-pass.ensures.0,
-      ap₂ ◌+◌ c.close_pass-pass.ensures.1 (c.release_all-more.ensures.1 ∙ ap (released_after c.args.blocks c.args.width) c.close_pass-pass.ensures.0),
-      c.release_all-more.ensures.2,
-      c.release_all-more.ensures.3.coherent,
-    )
+returns c = (
+  c.release_all-more.ensures.0 ∙ ap (released c.args.blocks c.args.width) c.close_pass-pass.ensures.0,
+  ap₂ ◌+◌ c.close_pass-pass.ensures.1 (c.release_all-more.ensures.1 ∙ ap (released_after c.args.blocks c.args.width) c.close_pass-pass.ensures.0),
+  c.release_all-more.ensures.2,
+  c.release_all-more.ensures.3.coherent,
+)

@@ -34,16 +34,15 @@ set_count-requires c =
     (c.requires.0.planes.length_is, omega (arith, c.requires.0.planes.width), omega (arith, c.requires.0.planes.eighths, c.requires.2))
 
 pub drop_doomed-t-requires : goal.drop_doomed-t-requires
-drop_doomed-t-requires c =
-    (
-      planes_same c.requires.0.planes c.set_count.auto.counts,
-      stack_zeroed c.requires.0.planes c.requires.0.stack c.args.i c.requires.2 c.set_count.ensures,
-      c.object_size-n.ensures.2,
-      c.requires.2,
-      c.requires.0.extents.cells_length,
-      omega (arith, c.requires.0.extents.d_length, c.requires.0.planes.eighths),
-      c.requires.1,
-    )
+drop_doomed-t-requires c = (
+  planes_same c.requires.0.planes c.set_count.auto.counts,
+  stack_zeroed c.requires.0.planes c.requires.0.stack c.args.i c.requires.2 c.set_count.ensures,
+  c.object_size-n.ensures.2,
+  c.requires.2,
+  c.requires.0.extents.cells_length,
+  omega (arith, c.requires.0.extents.d_length, c.requires.0.planes.eighths),
+  c.requires.1,
+)
 
 pub returns : goal.returns
 returns c =

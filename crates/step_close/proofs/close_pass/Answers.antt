@@ -23,15 +23,14 @@ overflow_add-freed c =
     omega (arith, c.loop-i.invariant.3, c.close_one-one.ensures.2, c.loop-i.invariant.4.planes.most, c.loop-i-test.true)
 
 pub loop-i-preserved : goal.loop-i-preserved
-loop-i-preserved c =
-    (
-      omega (arith, c.loop-i-test.true),
-      close_next c.args.blocks c.args.width c.args.marks.now (closing (part_memory c.args.a.now c.args.b.now c.args.counts.now c.args.cells.now [] c.args.d.now) []) c.loop-i.i c.loop-i.invariant.1 c.close_one-one.ensures.0,
-      close_blocks_next c.args.blocks c.args.width c.args.marks.now (closing (part_memory c.args.a.now c.args.b.now c.args.counts.now c.args.cells.now [] c.args.d.now) []) c.loop-i.i c.loop-i.invariant.1
-          c.loop-i.invariant.2 c.close_one-one.ensures.1,
-      omega (arith, c.loop-i.invariant.3, c.close_one-one.ensures.2, c.loop-i.invariant.4.planes.most),
-      c.close_one-one.ensures.3,
-    )
+loop-i-preserved c = (
+  omega (arith, c.loop-i-test.true),
+  close_next c.args.blocks c.args.width c.args.marks.now (closing (part_memory c.args.a.now c.args.b.now c.args.counts.now c.args.cells.now [] c.args.d.now) []) c.loop-i.i c.loop-i.invariant.1 c.close_one-one.ensures.0,
+  close_blocks_next c.args.blocks c.args.width c.args.marks.now (closing (part_memory c.args.a.now c.args.b.now c.args.counts.now c.args.cells.now [] c.args.d.now) []) c.loop-i.i c.loop-i.invariant.1
+      c.loop-i.invariant.2 c.close_one-one.ensures.1,
+  omega (arith, c.loop-i.invariant.3, c.close_one-one.ensures.2, c.loop-i.invariant.4.planes.most),
+  c.close_one-one.ensures.3,
+)
 
 pub returns : goal.returns
 returns c =

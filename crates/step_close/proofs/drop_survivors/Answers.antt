@@ -20,14 +20,13 @@ count_down-t-requires c =
     (c.loop-i.invariant.3.planes, c.loop-i.invariant.3.stack)
 
 pub loop-i-preserved : goal.loop-i-preserved
-loop-i-preserved c =
-    (
-      omega arith,
-      ap (λ (x : List ℕ). set x (c.args.j + c.loop-i.i) 0) c.loop-i.invariant.1 ∙ clear_more c.args.cells.now c.args.j c.loop-i.i,
-      length-set c.loop-i.cells (c.args.j + c.loop-i.i) 0 ∙ c.loop-i.invariant.2,
-      survivors_more c.args.marks.now (work c.args.counts.now (top_first c.args.waiting.now c.args.top)) c.args.cells.now c.args.j c.loop-i.i c.loop-i.invariant.1
-          c.survivor-v.ensures c.loop-i.invariant.3 c.count_down-t.ensures,
-    )
+loop-i-preserved c = (
+  omega arith,
+  ap (λ (x : List ℕ). set x (c.args.j + c.loop-i.i) 0) c.loop-i.invariant.1 ∙ clear_more c.args.cells.now c.args.j c.loop-i.i,
+  length-set c.loop-i.cells (c.args.j + c.loop-i.i) 0 ∙ c.loop-i.invariant.2,
+  survivors_more c.args.marks.now (work c.args.counts.now (top_first c.args.waiting.now c.args.top)) c.args.cells.now c.args.j c.loop-i.i c.loop-i.invariant.1
+      c.survivor-v.ensures c.loop-i.invariant.3 c.count_down-t.ensures,
+)
 
 pub returns : goal.returns
 returns c =

@@ -41,11 +41,11 @@ overflow_add-place c = omega (arith, room c)
 
 pub loop-left-smaller : goal.loop-left-smaller
 loop-left-smaller c =
-    omega (arith, and_le_r c.loop-left.left (c.loop-left.left - 1), c.loop-left-test.taken)
+    omega (arith, and_le_r c.loop-left.left (c.loop-left.left - 1), c.loop-left-test.true)
 
 pub loop-left-preserved : goal.loop-left-preserved
 loop-left-preserved c =
-    let w = writing_next c.loop-left.invariant.0 c.requires.0 c.loop-left-test.taken in
+    let w = writing_next c.loop-left.invariant.0 c.requires.0 c.loop-left-test.true in
     (w, written_length w.written)
 
 pub returns : goal.returns

@@ -32,16 +32,15 @@ let_go-freed-requires c =
     (c.requires.0.planes, c.requires.0.extents, c.requires.0.idle, c.requires.0.coherent, omega (arith, c.requires.0.marks_length, c.mark_touched.auto.marks))
 
 pub relist-requires : goal.relist-requires
-relist-requires c =
-    (
-      c.requires.0.planes.eighths,
-      c.requires.0.planes.most,
-      omega arith,
-      omega (arith, c.let_go-freed.auto.marks, c.mark_touched.auto.marks, c.requires.0.marks_length),
-      c.requires.0.list_length,
-      copied_listing _ _ c.requires.0.planes.eighths c.requires.0.marks_length c.copy_map.ensures
-          (c.requires.1 (eq-eqb _ 1 c.if-list-blocks-ne1.false)),
-    )
+relist-requires c = (
+  c.requires.0.planes.eighths,
+  c.requires.0.planes.most,
+  omega arith,
+  omega (arith, c.let_go-freed.auto.marks, c.mark_touched.auto.marks, c.requires.0.marks_length),
+  c.requires.0.list_length,
+  copied_listing _ _ c.requires.0.planes.eighths c.requires.0.marks_length c.copy_map.ensures
+      (c.requires.1 (eq-eqb _ 1 c.if-list-blocks-ne1.false)),
+)
 
 pub returns : goal.returns
 returns c =

@@ -14,7 +14,10 @@ find_chunk-requires c =
     let k = exponent c.args.n in
     let power = blocks_power c.args.blocks c.requires.0 in
     let least = pow_mono {i = k} {j = power.0} (exponent_least c.args.n power.0 (omega (arith, power.1))) in
-    ((k, c.chunk_size-size.ensures.0), (c.requires.0, c.requires.1, omega (arith, c.chunk_size-size.ensures.0, power.1), c.requires.2))
+    record {
+      by_index = (k, c.chunk_size-size.ensures.0);
+      blocks_value = (c.requires.0, c.requires.1, omega (arith, c.chunk_size-size.ensures.0, power.1), c.requires.2);
+    }
 
 pub returns : goal.returns
 returns c = c.find_chunk.ensures (exponent c.args.n) c.chunk_size-size.ensures.0

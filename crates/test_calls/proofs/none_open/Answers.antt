@@ -13,8 +13,7 @@ pub shut_test-requires : goal.shut_test-requires
 shut_test-requires c = omega (arith, (checked_passed c.check-checked.ensures c.if-number-ne0.false).healthy.shape.length_list)
 
 pub returns : goal.returns
-returns c =
-    (
-      gate_open c.check-checked.ensures c.if-number-ne0.false c.shut_test.ensures (own_refused (collect_tested c.shut_test.ensures)),
-      gate_open c.check-checked.ensures c.if-number-ne0.false c.shut_test.ensures (own_refused (open_tested c.shut_test.ensures)),
-    )
+returns c = (
+  gate_open c.check-checked.ensures c.if-number-ne0.false c.shut_test.ensures (own_refused (collect_tested c.shut_test.ensures)),
+  gate_open c.check-checked.ensures c.if-number-ne0.false c.shut_test.ensures (own_refused (open_tested c.shut_test.ensures)),
+)

@@ -1,5 +1,5 @@
 -- No place for all objects exactly where one finds no chunk at its turn.
-use mathlib.Core.Path.{◌≡◌, refl, sym, ap, ◌∙◌}
+use mathlib.Core.Path.{subst, ◌≡◌, refl, sym, ap, ◌∙◌}
 use mathlib.Core.List.{List, [], ◌∷◌, ◌++◌}
 use mathlib.Core.Option.{Option, none, some, none-ne-some}
 use Prim.Native.Nat.{ℕ, zero, suc, ◌/◌, ◌<◌}
@@ -44,7 +44,9 @@ module _ (M : ℕ) (sizes : ℕ → ℕ) where
   stops_none zero (k, l, s, is, free) = absurd (omega arith)
   stops_none (suc K) (k, l, s, is, free) =
       elim (ℕ_discrete k K) [
-        | yes e ↦ rw (← e, is, lay_next) (none_one (sizes k) s free)
+        | yes e ↦
+            rw (sym (ap (lay_first M sizes) e) ∙ is, lay_next)
+            (subst (λ (x : ℕ). lay_one M (sizes x) s ≡ none) e (none_one (sizes k) s free))
         | no d ↦ rw (stops_none K (k, omega arith, s, is, free), lay_next) refl
       ]
 

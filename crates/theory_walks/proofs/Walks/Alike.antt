@@ -6,7 +6,7 @@ use Prim.Native.Nat.{ℕ, zero, suc, ◌≤◌}
 use native.Mathlib.Decide.{ℕ_discrete, dec_lt}
 use native.Mathlib.Omega.{arith}
 use lib.ListN.{length}
-use Rattle.rules_output.specs.Walk.{number_in, object_at, meet_each, walk}
+use Rattle.rules_output.specs.Walk.{number_in, object_at, meet, meet_each, walk}
 use Rattle.theory_walks.proofs.Walks.Numbers.{Distinct, number_same, number_other, number_nil, number_zero, object_past, object_same, object_other}
 use Rattle.theory_walks.proofs.Walks.Numbers.{Met, nothing, again, new, meet_cases}
 
@@ -54,7 +54,7 @@ module _ {R : ℕ → ℕ → Type 0} (one : OneToOne R) where
   each_same : {l l' vs vs' : List ℕ} → Both R l l' → Both (Same R) vs vs' → Both R (meet_each l vs) (meet_each l' vs')
   unfolding meet_each
   each_same both nil = both
-  each_same {l} {l'} both (cons {x} {x'} r rest) = each_same (met_same both r (meet_cases l x) (meet_cases l' x')) rest
+  each_same {l} {l'} both (cons {x} {x'} r rest) = each_same {l = meet l x} {l' = meet l' x'} (met_same both r (meet_cases l x) (meet_cases l' x')) rest
 
   pub both_object : {l l' : List ℕ} → Both R l l' → (n : ℕ) → 1 ≤ n → n ≤ length l → R (object_at l n) (object_at l' n)
   both_object nil n low high = absurd (omega arith)

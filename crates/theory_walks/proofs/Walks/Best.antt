@@ -19,11 +19,26 @@ use Rattle.theory_walks.proofs.Walks.Rule.{reason_chain, reason_length, reason_l
 use Rattle.theory_walks.proofs.Walks.Reached.{inside_list, references_at, followed_zero, followed_block, follows, led_first, Named, intact_named}
 use Rattle.theory_walks.proofs.Walks.Reached.{root_led, cell_led, roots_below, cells_below, led_met}
 
+lower_against : {c d d' c' : List ℕ} → Lower c d → Lower d' c' → c ≡ c' → d ≡ d' → ⊥
+lower_against (differ {i} {j} l q) (differ {i = k} {j = m} n r) e f =
+    let first : i ≡ m = cc in
+    let second : j ≡ k = cc in
+    absurd (omega arith)
+lower_against (differ {i} {j} l q) (agree {i = k} n) e f =
+    let first : i ≡ k = cc in
+    let second : j ≡ k = cc in
+    absurd (omega arith)
+lower_against (agree {i} l) (differ {i = k} {j = m} n r) e f =
+    let first : i ≡ m = cc in
+    let second : i ≡ k = cc in
+    absurd (omega arith)
+lower_against (agree {c} {d} l) (agree {c = d'} {d = c'} n) e f =
+    let first : c ≡ c' = cc in
+    let second : d ≡ d' = cc in
+    lower_against l n first second
+
 lower_asymmetric : {c d : List ℕ} → Lower c d → Lower d c → ⊥
-lower_asymmetric (differ l q) (differ m r) = absurd (omega arith)
-lower_asymmetric (differ l q) (agree m) = absurd (omega arith)
-lower_asymmetric (agree l) (differ m r) = absurd (omega arith)
-lower_asymmetric (agree l) (agree m) = lower_asymmetric l m
+lower_asymmetric l m = lower_against l m refl refl
 
 lower_length : {c d : List ℕ} → Lower c d → length c ≡ length d
 lower_length (differ l q) = ap suc q

@@ -38,7 +38,7 @@ met_all (new d e) p all = cons (p d) all
 pub each_all : {P : ℕ → Type 0} {met : List ℕ} (vs : List ℕ) → ((j : ℕ) → get_or vs j 0 ≢ 0 → P (get_or vs j 0)) → All P met → All P (meet_each met vs)
 unfolding meet_each
 each_all [] p all = all
-each_all {P} {met} (v ∷ vs) p all = each_all {P} {meet met v} vs (λ j. p (suc j)) (met_all (meet_cases met v) (p 0) all)
+each_all {P} {met} (v ∷ vs) p all = each_all {P = P} {met = meet met v} vs (λ j. p (suc j)) (met_all (meet_cases met v) (p 0) all)
 
 pub all_at : {P : ℕ → Type 0} {l : List ℕ} → All P l → (n : ℕ) → 1 ≤ n → n ≤ length l → P (object_at l n)
 unfolding object_at
@@ -95,7 +95,7 @@ each_known {met} (v ∷ vs) d zero s =
     let d' = met_distinct (meet_cases met v) d in
     let known = met_known (meet_cases met v) s in
     (known.0, grows_number (each_grows (meet met v) vs) (each_distinct (meet met v) vs d') v known.0 known.1)
-each_known {met} (v ∷ vs) d (suc j) s = each_known {meet met v} vs (met_distinct (meet_cases met v) d) j s
+each_known {met} (v ∷ vs) d (suc j) s = each_known {met = meet met v} vs (met_distinct (meet_cases met v) d) j s
 
 -- nothing is met in no cells
 pub each_none : (met vs : List ℕ) → vs ≡ [] → meet_each met vs ≡ met

@@ -21,6 +21,8 @@ before_trans (lower l) (earlier q) = earlier q
 before_trans (lower {i} {j} l) (lower {j = k} m) = lower {i = i} {j = k} (omega arith)
 
 never : (u w : List ℕ) → u ≡ w → Before u w → ⊥
+never [] [] e x4 = elim x4 [ ]
+never (i ∷ u) [] e x5 = elim x5 [ ]
 never [] (j ∷ w) e empty = let z : ◌≡◌ {A = ℕ} 0 1 = cc in absurd (omega arith)
 never (i ∷ u) (j ∷ w) e (earlier p) = never u w (cc) p
 never (i ∷ u) (j ∷ w) e (lower l) = let z : i ≡ j = cc in absurd (omega arith)

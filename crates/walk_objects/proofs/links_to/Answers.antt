@@ -14,16 +14,15 @@ loop-m-init c =
 turn-In-loop-m : (c : goal.In-loop-m) → (1 ≤ c.loop-m.m) × (c.loop-m.t + c.loop-m.m ≤ c.args.n) × (c.args.n ≤ max_blocks) × (c.args.n ≤ length c.args.owners.now)
     × (c.args.n ≤ length c.args.vias.now) × (c.args.n ≤ length c.loop-m.links)
     × (get_or c.args.owners.now (c.loop-m.m - 1) 0 ≤ c.loop-m.m - 1)
-turn-In-loop-m c =
-    (
-      omega arith,
-      omega (arith, c.loop-m.invariant.0.1),
-      c.requires.0,
-      c.requires.1,
-      c.requires.2,
-      omega (arith, c.requires.3, c.loop-m.invariant.1),
-      c.requires.4 (c.loop-m.m - 1) (omega (arith, c.loop-m.invariant.0.1)),
-    )
+turn-In-loop-m c = (
+  omega arith,
+  omega (arith, c.loop-m.invariant.0.1),
+  c.requires.0,
+  c.requires.1,
+  c.requires.2,
+  omega (arith, c.requires.3, c.loop-m.invariant.1),
+  c.requires.4 (c.loop-m.m - 1) (omega (arith, c.loop-m.invariant.0.1)),
+)
 
 pub overflow_sub-links : goal.overflow_sub-links
 overflow_sub-links c = omega (arith, turn-In-loop-m c)
@@ -35,16 +34,15 @@ offset_bounds-vias-m c = omega (arith, turn-In-loop-m c)
 turn-After-shared_slice_known-1-unread : (c : goal.After-shared_slice_known-1-unread) → (1 ≤ c.loop-m.m) × (c.loop-m.t + c.loop-m.m ≤ c.args.n) × (c.args.n ≤ max_blocks) × (c.args.n ≤ length c.args.owners.now)
     × (c.args.n ≤ length c.args.vias.now) × (c.args.n ≤ length c.loop-m.links)
     × (get_or c.args.owners.now (c.loop-m.m - 1) 0 ≤ c.loop-m.m - 1)
-turn-After-shared_slice_known-1-unread c =
-    (
-      omega arith,
-      omega (arith, c.loop-m.invariant.0.1),
-      c.requires.0,
-      c.requires.1,
-      c.requires.2,
-      omega (arith, c.requires.3, c.loop-m.invariant.1),
-      c.requires.4 (c.loop-m.m - 1) (omega (arith, c.loop-m.invariant.0.1)),
-    )
+turn-After-shared_slice_known-1-unread c = (
+  omega arith,
+  omega (arith, c.loop-m.invariant.0.1),
+  c.requires.0,
+  c.requires.1,
+  c.requires.2,
+  omega (arith, c.requires.3, c.loop-m.invariant.1),
+  c.requires.4 (c.loop-m.m - 1) (omega (arith, c.loop-m.invariant.0.1)),
+)
 
 pub bounds-vias-m : goal.bounds-vias-m
 bounds-vias-m c = omega (arith, turn-After-shared_slice_known-1-unread c)
@@ -53,16 +51,15 @@ bounds-vias-m c = omega (arith, turn-After-shared_slice_known-1-unread c)
 turn-After-shared_slice_known-1 : (c : goal.After-shared_slice_known-1) → (1 ≤ c.loop-m.m) × (c.loop-m.t + c.loop-m.m ≤ c.args.n) × (c.args.n ≤ max_blocks) × (c.args.n ≤ length c.args.owners.now)
     × (c.args.n ≤ length c.args.vias.now) × (c.args.n ≤ length c.loop-m.links)
     × (get_or c.args.owners.now (c.loop-m.m - 1) 0 ≤ c.loop-m.m - 1)
-turn-After-shared_slice_known-1 c =
-    (
-      omega arith,
-      omega (arith, c.loop-m.invariant.0.1),
-      c.requires.0,
-      c.requires.1,
-      c.requires.2,
-      omega (arith, c.requires.3, c.loop-m.invariant.1),
-      c.requires.4 (c.loop-m.m - 1) (omega (arith, c.loop-m.invariant.0.1)),
-    )
+turn-After-shared_slice_known-1 c = (
+  omega arith,
+  omega (arith, c.loop-m.invariant.0.1),
+  c.requires.0,
+  c.requires.1,
+  c.requires.2,
+  omega (arith, c.requires.3, c.loop-m.invariant.1),
+  c.requires.4 (c.loop-m.m - 1) (omega (arith, c.loop-m.invariant.0.1)),
+)
 
 pub offset_bounds-links-t : goal.offset_bounds-links-t
 offset_bounds-links-t c = omega (arith, turn-After-shared_slice_known-1 c)
@@ -83,16 +80,15 @@ offset_bounds-owners-m c = omega (arith, turn-After-shared_slice_known-1 c)
 turn-After-shared_slice_known-in-loop-m-1-unread : (c : goal.After-shared_slice_known-in-loop-m-1-unread) → (1 ≤ c.loop-m.m) × (c.loop-m.t + c.loop-m.m ≤ c.args.n) × (c.args.n ≤ max_blocks) × (c.args.n ≤ length c.args.owners.now)
     × (c.args.n ≤ length c.args.vias.now) × (c.args.n ≤ length c.loop-m.links)
     × (get_or c.args.owners.now (c.loop-m.m - 1) 0 ≤ c.loop-m.m - 1)
-turn-After-shared_slice_known-in-loop-m-1-unread c =
-    (
-      omega arith,
-      omega (arith, c.loop-m.invariant.0.1),
-      c.requires.0,
-      c.requires.1,
-      c.requires.2,
-      omega (arith, c.requires.3, c.loop-m.invariant.1),
-      c.requires.4 (c.loop-m.m - 1) (omega (arith, c.loop-m.invariant.0.1)),
-    )
+turn-After-shared_slice_known-in-loop-m-1-unread c = (
+  omega arith,
+  omega (arith, c.loop-m.invariant.0.1),
+  c.requires.0,
+  c.requires.1,
+  c.requires.2,
+  omega (arith, c.requires.3, c.loop-m.invariant.1),
+  c.requires.4 (c.loop-m.m - 1) (omega (arith, c.loop-m.invariant.0.1)),
+)
 
 pub bounds-owners-m : goal.bounds-owners-m
 bounds-owners-m c = omega (arith, turn-After-shared_slice_known-in-loop-m-1-unread c)
@@ -101,16 +97,15 @@ bounds-owners-m c = omega (arith, turn-After-shared_slice_known-in-loop-m-1-unre
 turn-After-shared_slice_known-in-loop-m-1 : (c : goal.After-shared_slice_known-in-loop-m-1) → (1 ≤ c.loop-m.m) × (c.loop-m.t + c.loop-m.m ≤ c.args.n) × (c.args.n ≤ max_blocks) × (c.args.n ≤ length c.args.owners.now)
     × (c.args.n ≤ length c.args.vias.now) × (c.args.n ≤ length c.loop-m.links)
     × (get_or c.args.owners.now (c.loop-m.m - 1) 0 ≤ c.loop-m.m - 1)
-turn-After-shared_slice_known-in-loop-m-1 c =
-    (
-      omega arith,
-      omega (arith, c.loop-m.invariant.0.1),
-      c.requires.0,
-      c.requires.1,
-      c.requires.2,
-      omega (arith, c.requires.3, c.loop-m.invariant.1),
-      c.requires.4 (c.loop-m.m - 1) (omega (arith, c.loop-m.invariant.0.1)),
-    )
+turn-After-shared_slice_known-in-loop-m-1 c = (
+  omega arith,
+  omega (arith, c.loop-m.invariant.0.1),
+  c.requires.0,
+  c.requires.1,
+  c.requires.2,
+  omega (arith, c.requires.3, c.loop-m.invariant.1),
+  c.requires.4 (c.loop-m.m - 1) (omega (arith, c.loop-m.invariant.0.1)),
+)
 
 pub overflow_cast-m : goal.overflow_cast-m
 overflow_cast-m c = omega (arith, turn-After-shared_slice_known-in-loop-m-1 c)
@@ -119,12 +114,11 @@ pub loop-m-smaller : goal.loop-m-smaller
 loop-m-smaller c = omega (arith, turn-After-shared_slice_known-in-loop-m-1 c)
 
 pub loop-m-preserved : goal.loop-m-preserved
-loop-m-preserved c =
-    (
-      link_more c.args.owners.now c.args.vias.now c.args.n c.loop-m.links c.loop-m.t c.loop-m.m (omega (arith, turn-After-shared_slice_known-in-loop-m-1 c))
-          (omega (arith, turn-After-shared_slice_known-in-loop-m-1 c)) c.requires.4 c.loop-m.invariant.0,
-      length-set c.loop-m.links c.loop-m.t _ ∙ c.loop-m.invariant.1,
-    )
+loop-m-preserved c = (
+  link_more c.args.owners.now c.args.vias.now c.args.n c.loop-m.links c.loop-m.t c.loop-m.m (omega (arith, turn-After-shared_slice_known-in-loop-m-1 c))
+      (omega (arith, turn-After-shared_slice_known-in-loop-m-1 c)) c.requires.4 c.loop-m.invariant.0,
+  length-set c.loop-m.links c.loop-m.t _ ∙ c.loop-m.invariant.1,
+)
 
 pub returns : goal.returns
 returns c =

@@ -13,17 +13,16 @@ meet_at-m-requires c =
     (c.loop-i.invariant.1.tracing, c.requires.4 c.loop-i.i (omega arith), c.requires.3, omega (arith, c.requires.2))
 
 pub loop-i-preserved : goal.loop-i-preserved
-loop-i-preserved c =
-    (
-      omega arith,
-      search trace_more,
-      record {
-        of_order = c.meet_at-m.auto.order ∙ c.loop-i.invariant.2.of_order;
-        of_numbers = c.meet_at-m.auto.numbers ∙ c.loop-i.invariant.2.of_numbers;
-        of_owners = c.meet_at-m.auto.owners ∙ c.loop-i.invariant.2.of_owners;
-        of_vias = c.meet_at-m.auto.vias ∙ c.loop-i.invariant.2.of_vias;
-      },
-    )
+loop-i-preserved c = (
+  omega arith,
+  search trace_more,
+  record {
+    of_order = c.meet_at-m.auto.order ∙ c.loop-i.invariant.2.of_order;
+    of_numbers = c.meet_at-m.auto.numbers ∙ c.loop-i.invariant.2.of_numbers;
+    of_owners = c.meet_at-m.auto.owners ∙ c.loop-i.invariant.2.of_owners;
+    of_vias = c.meet_at-m.auto.vias ∙ c.loop-i.invariant.2.of_vias;
+  },
+)
 
 pub returns : goal.returns
 returns c =

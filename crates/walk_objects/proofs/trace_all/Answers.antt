@@ -10,23 +10,21 @@ use Rattle.walk_objects.proofs.TracedHeap.{object_of, start_at, next_at, finish_
 use Rattle.walk_objects.proofs.trace_all.Goals as goal
 
 pub meet_each_at-met-requires : goal.meet_each_at-met-requires
-meet_each_at-met-requires c =
-    (
-      c.requires.1,
-      omega arith,
-      omega (arith, c.requires.0.few_roots),
-      omega arith,
-      roots_fit c.args.blocks c.args.a.now c.args.b.now c.args.d.now c.args.cells.now c.args.roots.now c.requires.0.named,
-    )
+meet_each_at-met-requires c = (
+  c.requires.1,
+  omega arith,
+  omega (arith, c.requires.0.few_roots),
+  omega arith,
+  roots_fit c.args.blocks c.args.a.now c.args.b.now c.args.d.now c.args.cells.now c.args.roots.now c.requires.0.named,
+)
 
 pub loop-k-init : goal.loop-k-init
-loop-k-init c =
-    (
-      omega arith,
-      start_at c.args.blocks c.args.a.now c.args.b.now c.args.d.now c.args.cells.now c.args.roots.now c.requires.0.named
-          _ _ _ _ _ _ _ _ c.meet_each_at-met.ensures,
-      record { of_order = refl; of_numbers = refl; of_owners = refl; of_vias = refl },
-    )
+loop-k-init c = (
+  omega arith,
+  start_at c.args.blocks c.args.a.now c.args.b.now c.args.d.now c.args.cells.now c.args.roots.now c.requires.0.named
+      _ _ _ _ _ _ _ _ c.meet_each_at-met.ensures,
+  record { of_order = refl; of_numbers = refl; of_owners = refl; of_vias = refl },
+)
 
 -- the object that is taken
 object-In-loop-k : (c : goal.In-loop-k) → Taken c.args.blocks c.args.a.now c.args.b.now c.args.d.now c.args.cells.now c.args.roots.now c.requires.0.named
@@ -142,18 +140,17 @@ count-After-slice_known-in-loop-k-5-1 c =
     ∙ ap (naming_cells c.args.d.now (get_or c.loop-k.order c.loop-k.k 0 - 1)) c.object_size-size.ensures.0
 
 pub loop-k-preserved : goal.loop-k-preserved
-loop-k-preserved c =
-    (
-      omega (arith, (object-After-slice_known-in-loop-k-5-1 c).turn),
-      next_at c.args.blocks c.args.a.now c.args.b.now c.args.d.now c.args.cells.now c.args.roots.now c.requires.0.named
-          _ _ _ _ _ _ _ _ _ _ _ _ c.loop-k.invariant.1 (turn c) (count-After-slice_known-in-loop-k-5-1 c) c.meet_each_at-met-in-loop-k.ensures,
-      record {
-        of_order = c.meet_each_at-met-in-loop-k.auto.order ∙ c.loop-k.invariant.2.of_order;
-        of_numbers = c.meet_each_at-met-in-loop-k.auto.numbers ∙ c.loop-k.invariant.2.of_numbers;
-        of_owners = c.meet_each_at-met-in-loop-k.auto.owners ∙ c.loop-k.invariant.2.of_owners;
-        of_vias = c.meet_each_at-met-in-loop-k.auto.vias ∙ c.loop-k.invariant.2.of_vias;
-      },
-    )
+loop-k-preserved c = (
+  omega (arith, (object-After-slice_known-in-loop-k-5-1 c).turn),
+  next_at c.args.blocks c.args.a.now c.args.b.now c.args.d.now c.args.cells.now c.args.roots.now c.requires.0.named
+      _ _ _ _ _ _ _ _ _ _ _ _ c.loop-k.invariant.1 (turn c) (count-After-slice_known-in-loop-k-5-1 c) c.meet_each_at-met-in-loop-k.ensures,
+  record {
+    of_order = c.meet_each_at-met-in-loop-k.auto.order ∙ c.loop-k.invariant.2.of_order;
+    of_numbers = c.meet_each_at-met-in-loop-k.auto.numbers ∙ c.loop-k.invariant.2.of_numbers;
+    of_owners = c.meet_each_at-met-in-loop-k.auto.owners ∙ c.loop-k.invariant.2.of_owners;
+    of_vias = c.meet_each_at-met-in-loop-k.auto.vias ∙ c.loop-k.invariant.2.of_vias;
+  },
+)
 
 pub returns : goal.returns
 returns c =

@@ -47,13 +47,12 @@ loop-cell-smaller c =
     omega (arith, inside-Else-not-cell c, c.number_at-cell.ensures.1)
 
 pub loop-cell-preserved : goal.loop-cell-preserved
-loop-cell-preserved c =
-    (
-      c.number_at-cell.ensures.2,
-      omega (arith, c.loop-cell.invariant.1, c.number_at-cell.ensures.1),
-      count_link _ _ _ _ _ _ (omega (arith, inside-Else-not-cell c)) c.number_at-cell.ensures.1 (c.stands_at.ensures.there c.loop-cell-test.true)
-          (c.number_at-cell.ensures.0.there (not-false _ c.if-not-cell.false)) c.loop-cell.invariant.2,
-    )
+loop-cell-preserved c = (
+  c.number_at-cell.ensures.2,
+  omega (arith, c.loop-cell.invariant.1, c.number_at-cell.ensures.1),
+  count_link _ _ _ _ _ _ (omega (arith, inside-Else-not-cell c)) c.number_at-cell.ensures.1 (c.stands_at.ensures.there c.loop-cell-test.true)
+      (c.number_at-cell.ensures.0.there (not-false _ c.if-not-cell.false)) c.loop-cell.invariant.2,
+)
 
 pub stands_at-requires-2 : goal.stands_at-requires-2
 stands_at-requires-2 c =

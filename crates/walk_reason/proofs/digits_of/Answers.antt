@@ -4,4 +4,4 @@ use borrow.Author.Rules.{rules}
 use Rattle.walk_reason.proofs.digits_of.Goals as goal
 
 pub returns : goal.returns
-returns c = decimal_long _ _ c.decimal.ensures.1.0 (search rules)
+returns c = decimal_long _ _ c.decimal.ensures.len (search rules)

@@ -20,8 +20,7 @@ overflow_cast-numbers c =
 
 pub links_to-requires : goal.links_to-requires
 links_to-requires c =
-    let few = number_few c.args.blocks c.args.a.now c.args.b.now c.args.d.now c.args.cells.now c.args.roots.now c.requires.0.named _ _ _ _ _ c.args.at c.trace_all-met.ensures c.requires.2 in
-    (
+    let few = number_few c.args.blocks c.args.a.now c.args.b.now c.args.d.now c.args.cells.now c.args.roots.now c.requires.0.named _ _ _ _ _ c.args.at c.trace_all-met.ensures c.requires.2 in (
       omega (arith, few),
       omega (arith, few, c.trace_all-met.ensures.tracing.long_owners),
       omega (arith, few, c.trace_all-met.ensures.tracing.long_vias),

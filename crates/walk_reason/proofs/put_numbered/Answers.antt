@@ -9,9 +9,9 @@ pub put_text-to-requires : goal.put_text-to-requires
 put_text-to-requires c = omega (arith, c.requires, length-append c.args.words.now (decimal c.args.n))
 
 pub put_decimal-requires : goal.put_decimal-requires
-put_decimal-requires c = 
+put_decimal-requires c =
     omega (arith, c.requires, length-append c.args.words.now (decimal c.args.n), c.put_text-to.ensures.end_is, c.put_text-to.auto.out)
 
 pub returns : goal.returns
-returns c = 
+returns c =
     put_both (omega (arith, c.requires, length-append c.args.words.now (decimal c.args.n))) c.put_text-to.ensures c.put_decimal.ensures

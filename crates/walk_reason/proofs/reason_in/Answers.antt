@@ -41,7 +41,7 @@ write_sentence-requires c =
 
 pub returns : goal.returns
 returns c =
-    let made = ap (λ (c : Reason). sentence c c.args.at) c.links_for-t.ensures.is in
+    let made = ap (λ (x : Reason). sentence x c.args.at) c.links_for-t.ensures.is in
     record {
       number = omega (arith, c.write_sentence.ensures.end_is, ap length made);
       short = λ short. absurd (omega (arith, c.if-out-n.false, c.write_sentence.ensures.end_is, c.sentence_length-n.ensures));

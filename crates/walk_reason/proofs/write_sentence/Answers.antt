@@ -71,7 +71,7 @@ so_far-After-shared_slice_known-in-loop-i-1 c =
 
 pub put_numbered-to-requires-in-loop-i : goal.put_numbered-to-requires-in-loop-i
 put_numbered-to-requires-in-loop-i c =
-    room_for (sentence (reason_in c.args.links.now) c.args.at) c.args.out.now 0 (omega (arith, c.requires.1)) (cell_text ++ decimal (get_or c.args.links.now (c.loop-i.i - 1) 0)) (left c.args.links.now c.args.at (c.loop-i.i - 1)) _ _ (written_as (left_next c.args.links.now c.args.at c.loop-i.i c.loop-i-test.taken) (so_far-After-shared_slice_known-in-loop-i-1 c))
+    room_for (sentence (reason_in c.args.links.now) c.args.at) c.args.out.now 0 (omega (arith, c.requires.1)) (cell_text ++ decimal (get_or c.args.links.now (c.loop-i.i - 1) 0)) (left c.args.links.now c.args.at (c.loop-i.i - 1)) _ _ (written_as (left_next c.args.links.now c.args.at c.loop-i.i c.loop-i-test.true) (so_far-After-shared_slice_known-in-loop-i-1 c))
 
 -- "root " and the number are written
 rooted-After-slice_known-in-loop-i-1 : (c : goal.After-slice_known-in-loop-i-1) → Written (sentence (reason_in c.args.links.now) c.args.at) (left c.args.links.now c.args.at (length c.args.links.now - 1)) c.args.out.now 0 c.put_numbered-to-2.new.out c.put_numbered-to-2.result
@@ -79,12 +79,11 @@ rooted-After-slice_known-in-loop-i-1 c =
     written_more (sentence (reason_in c.args.links.now) c.args.at) c.args.out.now 0 (omega (arith, c.requires.1)) _ _ _ _ _ _ (chain_start c.args.links.now c.args.at c.args.out.now c.if-links-eq0.false) c.put_numbered-to-2.ensures
 
 pub loop-i-preserved : goal.loop-i-preserved
-loop-i-preserved c =
-    (
-      omega (arith, c.loop-i.invariant.0),
-      written_more _ _ _ (rest_fits (sentence (reason_in c.args.links.now) c.args.at) c.args.out.now _ _ 0 _ (omega (arith, c.requires.1)) (rooted-After-slice_known-in-loop-i-1 c)) _ _ _ _ _ _
-          (written_as (left_next c.args.links.now c.args.at c.loop-i.i c.loop-i-test.taken) c.loop-i.invariant.1) c.put_numbered-to-in-loop-i.ensures,
-    )
+loop-i-preserved c = (
+  omega (arith, c.loop-i.invariant.0),
+  written_more _ _ _ (rest_fits (sentence (reason_in c.args.links.now) c.args.at) c.args.out.now _ _ 0 _ (omega (arith, c.requires.1)) (rooted-After-slice_known-in-loop-i-1 c)) _ _ _ _ _ _
+      (written_as (left_next c.args.links.now c.args.at c.loop-i.i c.loop-i-test.true) c.loop-i.invariant.1) c.put_numbered-to-in-loop-i.ensures,
+)
 
 -- "root " and the number are written
 rooted-After-put_numbered-arg-7-1 : (c : goal.After-put_numbered-arg-7-1) → Written (sentence (reason_in c.args.links.now) c.args.at) (left c.args.links.now c.args.at (length c.args.links.now - 1)) c.args.out.now 0 c.put_numbered-to-2.new.out c.put_numbered-to-2.result
@@ -98,7 +97,7 @@ so_far-After-put_numbered-arg-7-1 c =
 
 pub put_numbered-to-requires-3 : goal.put_numbered-to-requires-3
 put_numbered-to-requires-3 c =
-    room_for (sentence (reason_in c.args.links.now) c.args.at) c.args.out.now 0 (omega (arith, c.requires.1)) (block_text ++ decimal c.args.at) (10 ∷ []) _ _ (written_as (ap (left c.args.links.now c.args.at) c.loop-i-test.left ∙ left_last c.args.links.now c.args.at) (so_far-After-put_numbered-arg-7-1 c))
+    room_for (sentence (reason_in c.args.links.now) c.args.at) c.args.out.now 0 (omega (arith, c.requires.1)) (block_text ++ decimal c.args.at) (10 ∷ []) _ _ (written_as (ap (left c.args.links.now c.args.at) c.loop-i-test.false ∙ left_last c.args.links.now c.args.at) (so_far-After-put_numbered-arg-7-1 c))
 
 -- "root " and the number are written
 rooted-After-put_text-arg-4-1 : (c : goal.After-put_text-arg-4-1) → Written (sentence (reason_in c.args.links.now) c.args.at) (left c.args.links.now c.args.at (length c.args.links.now - 1)) c.args.out.now 0 c.put_numbered-to-2.new.out c.put_numbered-to-2.result
@@ -119,7 +118,7 @@ blocked-After-put_text-arg-4-1 c z put =
 
 pub put_text-requires-2 : goal.put_text-requires-2
 put_text-requires-2 c =
-    room_for (sentence (reason_in c.args.links.now) c.args.at) c.args.out.now 0 (omega (arith, c.requires.1)) (10 ∷ []) [] _ _ (blocked-After-put_text-arg-4-1 c c.loop-i-test.left c.put_numbered-to-3.ensures)
+    room_for (sentence (reason_in c.args.links.now) c.args.at) c.args.out.now 0 (omega (arith, c.requires.1)) (10 ∷ []) [] _ _ (blocked-After-put_text-arg-4-1 c c.loop-i-test.false c.put_numbered-to-3.ensures)
 
 -- "root " and the number are written
 rooted-After-slice_known-4-1 : (c : goal.After-slice_known-4-1) → Written (sentence (reason_in c.args.links.now) c.args.at) (left c.args.links.now c.args.at (length c.args.links.now - 1)) c.args.out.now 0 c.put_numbered-to-2.new.out c.put_numbered-to-2.result
@@ -140,4 +139,4 @@ blocked-After-slice_known-4-1 c z put =
 
 pub returns : goal.returns
 returns c =
-    all_written (sentence (reason_in c.args.links.now) c.args.at) c.args.out.now 0 (omega (arith, c.requires.1)) _ _ (written_more (sentence (reason_in c.args.links.now) c.args.at) c.args.out.now 0 (omega (arith, c.requires.1)) (10 ∷ []) [] _ _ _ _ (blocked-After-slice_known-4-1 c c.loop-i-test.left c.put_numbered-to-3.ensures) c.put_text-2.ensures)
+    all_written (sentence (reason_in c.args.links.now) c.args.at) c.args.out.now 0 (omega (arith, c.requires.1)) _ _ (written_more (sentence (reason_in c.args.links.now) c.args.at) c.args.out.now 0 (omega (arith, c.requires.1)) (10 ∷ []) [] _ _ _ _ (blocked-After-slice_known-4-1 c c.loop-i-test.false c.put_numbered-to-3.ensures) c.put_text-2.ensures)

@@ -37,12 +37,11 @@ long-After-put_numbers-arg-1 c =
     omega (arith, c.requires.0, described_length c.args.blocks c.args.b.now c.args.d.now c.args.cells.now c.args.numbers.now c.args.at)
 
 pub put_numbers-requires : goal.put_numbers-requires
-put_numbers-requires c =
-    (
-      omega (arith, long-After-put_numbers-arg-1 c, c.object_size-size.ensures.0, length-set c.args.out.now c.args.to c.object_size-size.result, length-set (set c.args.out.now c.args.to c.object_size-size.result) (c.args.to + 1) c.get_bit-bit.result),
-      omega (arith, c.object_size-size.ensures.2),
-      λ i l. c.requires.6 (ne_eqb (bit_at c.args.d.now c.args.at) 1 (λ q. c.if-bit-eq1.false (c.get_bit-bit.ensures.0 ∙ q))) i (omega (arith, c.object_size-size.ensures.0)),
-    )
+put_numbers-requires c = (
+  omega (arith, long-After-put_numbers-arg-1 c, c.object_size-size.ensures.0, length-set c.args.out.now c.args.to c.object_size-size.result, length-set (set c.args.out.now c.args.to c.object_size-size.result) (c.args.to + 1) c.get_bit-bit.result),
+  omega (arith, c.object_size-size.ensures.2),
+  λ i l. c.requires.6 (ne_eqb (bit_at c.args.d.now c.args.at) 1 (λ q. c.if-bit-eq1.false (c.get_bit-bit.ensures.0 ∙ q))) i (omega (arith, c.object_size-size.ensures.0)),
+)
 
 pub returns : goal.returns
 returns c = search object_other

@@ -86,16 +86,15 @@ block-After-write_object-arg-1 c =
     (omega arith, c.requires.0.below _ (inside-After-write_object-arg-1 c), c.requires.0.small, omega (arith, inside-After-write_object-arg-1 c, c.requires.0.few, c.requires.0.small))
 
 pub write_object-to-requires : goal.write_object-to-requires
-write_object-to-requires c =
-    (
-      object_room c.args.blocks c.args.b.now c.args.d.now c.args.cells.now c.args.roots.now c.args.order.now c.args.numbers.now _ _ _ _ c.requires.1 (started-After-write_object-arg-1 c) _ _ _ (inside-After-write_object-arg-1 c) c.loop-k.invariant.1,
-      omega (arith, block-After-write_object-arg-1 c),
-      c.requires.0.small,
-      c.requires.0.long_b,
-      c.requires.0.long_d,
-      c.requires.0.long_cells,
-      c.requires.0.of_cells _ (inside-After-write_object-arg-1 c),
-    )
+write_object-to-requires c = (
+  object_room c.args.blocks c.args.b.now c.args.d.now c.args.cells.now c.args.roots.now c.args.order.now c.args.numbers.now _ _ _ _ c.requires.1 (started-After-write_object-arg-1 c) _ _ _ (inside-After-write_object-arg-1 c) c.loop-k.invariant.1,
+  omega (arith, block-After-write_object-arg-1 c),
+  c.requires.0.small,
+  c.requires.0.long_b,
+  c.requires.0.long_d,
+  c.requires.0.long_cells,
+  c.requires.0.of_cells _ (inside-After-write_object-arg-1 c),
+)
 
 -- the object that is written
 inside-After-slice_known-in-loop-k-1 : (c : goal.After-slice_known-in-loop-k-1) → c.loop-k.k < c.args.met

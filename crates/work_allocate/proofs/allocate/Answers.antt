@@ -55,8 +55,7 @@ bounds-roots-r-2 c =
 pub let_go-freed-requires : goal.let_go-freed-requires
 let_go-freed-requires c =
     let ready = usable_ready c.requires.0 in
-    let free = allocate_passed c.requires.1 in
-    (
+    let free = allocate_passed c.requires.1 in (
       record {
         planes = planes_same ready.planes c.place.auto.counts;
         extents = record {
@@ -86,8 +85,8 @@ returns c =
     let free = allocate_passed c.requires.1 in
     let fit = usable_fit c.requires.0 in
     let h = memory_of (usable_ready c.requires.0) in
-    allocate_worked free c.requires.0 c.args.as-data
-    (allocate_changed _ _ h c.args.as-data _ _ _ _ c.place.ensures.0 c.place.ensures.2 fit free.some_blocks free.place free.lowest c.let_go-freed.ensures)
+    allocate_worked free c.requires.0 c.args.as_data
+    (allocate_changed _ _ h c.args.as_data _ _ _ _ c.place.ensures.0 c.place.ensures.2 fit free.some_blocks free.place free.lowest c.let_go-freed.ensures)
     c.renew.ensures
     (ap (λ (most : ℕ). eqb most 1) c.capacity_of-stuck.ensures.0)
-    (allocate_freed _ _ h c.args.as-data _ _ _ _ c.place.ensures.0 c.place.ensures.2 fit free.some_blocks free.place free.lowest c.let_go-freed.ensures)
+    (allocate_freed _ _ h c.args.as_data _ _ _ _ c.place.ensures.0 c.place.ensures.2 fit free.some_blocks free.place free.lowest c.let_go-freed.ensures)

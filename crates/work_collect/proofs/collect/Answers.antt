@@ -32,10 +32,10 @@ returns c =
     let ready = usable_ready c.requires.0 in
     collect_worked c.requires.0 c.requires.1
     (record {
-      a = bytes_given _ c.type_inv.a;
-      b = bytes_given _ c.type_inv.b;
-      counts = bytes_given _ c.type_inv.counts;
-      d = bytes_given _ c.type_inv.d;
+      a = bytes_given _ c.slice_known-1.given;
+      b = bytes_given _ c.slice_known-2-1.given;
+      counts = bytes_given _ c.slice_known-3-1.given;
+      d = bytes_given _ c.slice_known-7-1.given;
     })
     (collected_memory _ _ (memory_of ready) ready.idle c.mark.ensures.0 c.mark.ensures.1 c.sweep-freed.ensures.0)
     c.renew.ensures

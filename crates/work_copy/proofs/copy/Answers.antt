@@ -4,7 +4,6 @@ use mathlib.Core.Path.{◌≡◌, ap, ◌∙◌}
 use Prim.Native.Nat.{ℕ, ◌+◌, ◌-◌, ◌/◌}
 use native.Mathlib.Omega.{arith}
 use lib.ListN.{length, replicate}
-use borrow.Author.Tests.{not-true, not-false}
 use Rattle.rules.specs.Heap.{Memory, lent_memory}
 use Rattle.rules_calls.specs.Calls.{reply}
 use Rattle.rules.proofs.Shape.{Shaped, shaped_blocks}
@@ -29,7 +28,7 @@ second-After-refusal c =
 pub returns-then-not-write_in_room : goal.returns-then-not-write_in_room
 returns-then-not-write_in_room c =
     copy_unplaced c.requires.0 c.args.blocks2 c.args.width2 (second-After-refusal c) c.requires.2 c.requires.3 c.requires.1
-    c.write_in_room.ensures (not-true _ c.if-not-write_in_room.true-raw) c.refusal.ensures
+    c.write_in_room.ensures (c.if-not-write_in_room.true) c.refusal.ensures
 
 abbrev second-After-find_figures-arg-1 : (c : goal.After-find_figures-arg-1) → Memory
 second-After-find_figures-arg-1 c =
@@ -64,7 +63,7 @@ none-listed-After-collect-arg-7-1 c = c.clear_all-2.ensures ∙ ap (λ (u : ℕ)
 
 pub collect-requires : goal.collect-requires
 collect-requires c =
-    let all = not-false _ c.if-not-write_in_room.false-raw in (
+    let all = c.if-not-write_in_room.false in (
       full_usable c.requires.0 c.args.blocks2 c.args.width2 (second-After-collect-arg-7-1 c) c.requires.2 c.requires.3
           c.write_in_room.ensures all (idle-After-collect-arg-7-1 c) (none-marked-After-collect-arg-7-1 c) (none-listed-After-collect-arg-7-1 c) c.find_figures.ensures,
       full_shut c.requires.0 c.args.blocks2 c.args.width2 (second-After-collect-arg-7-1 c) c.requires.2 c.requires.3
@@ -124,6 +123,6 @@ none-listed-After-acceptance c = c.clear_all-2.ensures ∙ ap (λ (u : ℕ). rep
 pub returns : goal.returns
 returns c =
     copy_collected c.requires.0 c.args.blocks2 c.args.width2 (second-After-acceptance c) c.requires.2 c.requires.3
-    c.write_in_room.ensures (not-false _ c.if-not-write_in_room.false-raw) (idle-After-acceptance c) (none-marked-After-acceptance c) (none-listed-After-acceptance c)
+    c.write_in_room.ensures (c.if-not-write_in_room.false) (idle-After-acceptance c) (none-marked-After-acceptance c) (none-listed-After-acceptance c)
     c.find_figures.ensures c.requires.1 c.collect.ensures
     (c.acceptance.ensures ∙ ap (λ (u : ℕ). reply 0 (c.args.blocks2 - u) 0) c.count_zeros.ensures.0)

@@ -14,15 +14,14 @@ loop-s-preserved c =
     (omega arith, filled_next _ _ _ (omega arith) c.loop-s.invariant.1, length-set c.loop-s.sections c.loop-s.s 65535 ∙ c.loop-s.invariant.2)
 
 pub renew-requires : goal.renew-requires
-renew-requires c =
-    (
-      record {
-        blocks = c.requires.0;
-        length_is = c.loop-s.invariant.2 ∙ c.requires.2;
-        each = λ j l. inr (c.loop-s.invariant.1.full j (omega (arith, c.loop-s.invariant.2, c.requires.2)));
-      },
-      c.requires.1,
-    )
+renew-requires c = (
+  record {
+    blocks = c.requires.0;
+    length_is = c.loop-s.invariant.2 ∙ c.requires.2;
+    each = λ j l. inr (c.loop-s.invariant.1.full j (omega (arith, c.loop-s.invariant.2, c.requires.2)));
+  },
+  c.requires.1,
+)
 
 pub returns : goal.returns
 returns c =

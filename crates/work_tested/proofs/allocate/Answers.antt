@@ -32,8 +32,8 @@ allocate_reply-test-requires c =
 
 pub returns-then-number-ne0 : goal.returns-then-number-ne0
 returns-then-number-ne0 c =
-    worked_refused c.requires (allocation_alone c.args.as-data c.args.n c.args.r)
-    (refused-so c.args.as-data c.args.n c.args.r c.allocate_reply-test.ensures (usable_fit c.requires) c.if-number-ne0.true)
+    worked_refused c.requires (allocation_alone c.args.as_data c.args.n c.args.r)
+    (refused-so c.args.as_data c.args.n c.args.r c.allocate_reply-test.ensures (usable_fit c.requires) c.if-number-ne0.true)
     c.if-number-ne0.true
 
 pub allocate-requires : goal.allocate-requires

@@ -5,9 +5,16 @@ use native.Mathlib.Omega.{arith}
 use borrow.Author.Tests.{eq-eqb, ne_eqb}
 use Rattle.history_figures.specs.declared.tally.Tally.{Tally}
 use Rattle.history_figures.specs.Figures.{run, used, moment_in}
-use Rattle.history_turns.specs.Outcomes.{running, with_allocation, figures_of, noted_by}
+use Rattle.history_turns.specs.declared.outcome.Done.{Done}
+use Rattle.history_turns.specs.Outcomes.{running, with_collection, with_allocation, figures_of, noted_by}
 use Rattle.history_turns.proofs.Notes.{collection_grows, allocation_grows}
 use Rattle.history_turns.proofs.noting.noted.Goals as goal
+
+-- the figures with what came of the record, one part after the other
+figures :
+    (done : Done) (t : Tally) {first second third : Tally} → first ≡ with_collection done t → second ≡ with_allocation done first
+    → third ≡ moment_in done.stuck second → third ≡ figures_of done t
+figures done t first second third = third ∙ ap (moment_in done.stuck) (second ∙ ap (with_allocation done) first)
 
 pub with_allocation-t-requires : goal.with_allocation-t-requires
 with_allocation-t-requires c =
@@ -26,27 +33,15 @@ with_moment-t-requires c =
       first.3,
     )
 
--- the figures with what came of the record
-figures-Then-number-ne0 : (c : goal.Then-number-ne0) → c.with_moment-t.result ≡ figures_of c.args.done c.args.state.run.tally
-figures-Then-number-ne0 c =
-    c.with_moment-t.ensures
-    ∙ ap (moment_in c.args.done.stuck) (c.with_allocation-t.ensures ∙ ap (with_allocation c.args.done) c.with_collection-t.ensures)
-
 pub returns-then-number-ne0 : goal.returns-then-number-ne0
 unfolding noted_by
 returns-then-number-ne0 c =
     rw (ne_eqb _ 0 c.if-number-ne0.true, noted_by)
-    (ap (λ (t : Tally). running (run c.args.done.number c.args.state.run.records t) (c.args.state.used + c.args.done.allocated - c.args.done.freed)) (figures-Then-number-ne0 c))
-
--- the figures with what came of the record
-figures-After-struct_known-4-1 : (c : goal.After-struct_known-4-1) → c.with_moment-t.result ≡ figures_of c.args.done c.args.state.run.tally
-figures-After-struct_known-4-1 c =
-    c.with_moment-t.ensures
-    ∙ ap (moment_in c.args.done.stuck) (c.with_allocation-t.ensures ∙ ap (with_allocation c.args.done) c.with_collection-t.ensures)
+    (ap (λ (t : Tally). running (run c.args.done.number c.args.state.run.records t) (c.args.state.used + c.args.done.allocated - c.args.done.freed)) (figures c.args.done c.args.state.run.tally c.with_collection-t.ensures c.with_allocation-t.ensures c.with_moment-t.ensures))
 
 pub returns : goal.returns
 unfolding noted_by
 returns c =
     let blocks : ℕ = c.args.state.used + c.args.done.allocated - c.args.done.freed in
     rw (eq-eqb _ 0 c.if-number-ne0.false, noted_by)
-    (ap (λ (t : Tally). running (run 0 (c.args.state.run.records + 1) t) blocks) (c.used-t.ensures ∙ ap (used blocks) (figures-After-struct_known-4-1 c)))
+    (ap (λ (t : Tally). running (run 0 (c.args.state.run.records + 1) t) blocks) (c.used-t.ensures ∙ ap (used blocks) (figures c.args.done c.args.state.run.tally c.with_collection-t.ensures c.with_allocation-t.ensures c.with_moment-t.ensures)))

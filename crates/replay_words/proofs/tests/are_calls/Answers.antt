@@ -3,7 +3,6 @@ use mathlib.Core.Path.{◌≡◌, sym, ◌∙◌}
 use mathlib.Core.Bool.{true}
 use native.Mathlib.Omega.{arith}
 use borrow.Author.Count.{below_more}
-use borrow.Author.Tests.{not-true, not-false}
 use Rattle.replay_words.specs.Encoding.{is_call_at}
 use Rattle.replay_words.proofs.Calls.{calls_pass, calls_fail}
 use Rattle.replay_words.proofs.tests.are_calls.Goals as goal
@@ -13,12 +12,12 @@ loop-i-init c = (omega arith, λ j l. absurd (omega arith))
 
 pub returns-then-not-is_call : goal.returns-then-not-is_call
 returns-then-not-is_call c =
-    let failed = sym c.is_call.ensures ∙ not-true c.is_call.result c.if-not-is_call.true-raw in
+    let failed = sym c.is_call.ensures ∙ c.if-not-is_call.true in
     sym (calls_fail c.args.calls.now c.args.n c.loop-i.i (omega arith) failed)
 
 pub loop-i-preserved : goal.loop-i-preserved
 loop-i-preserved c =
-    let passed = sym c.is_call.ensures ∙ not-false c.is_call.result c.if-not-is_call.false-raw in
+    let passed = sym c.is_call.ensures ∙ c.if-not-is_call.false in
     (omega arith, below_more (λ j. is_call_at c.args.calls.now j ≡ true) c.loop-i.i c.loop-i.invariant.1 passed)
 
 pub returns : goal.returns

@@ -16,30 +16,27 @@ unfolding Bytes
 of-bytes-Then-next-ne0 c i = (c.type_inv.bytes i).fits
 
 pub returns-then-next-ne0 : goal.returns-then-next-ne0
-returns-then-next-ne0 c =
-    (
-      (as_accepting c.run_records-ran.ensures c.if-ran-ne0.false, λ e. absurd (c.if-next-ne0.true e)),
-      of-bytes-Then-next-ne0 c,
-    )
+returns-then-next-ne0 c = (
+  (as_accepting c.run_records-ran.ensures c.if-ran-ne0.false, λ e. absurd (c.if-next-ne0.true e)),
+  of-bytes-Then-next-ne0 c,
+)
 
 of-bytes-Then-bytes-lt-PIECE : (c : goal.Then-bytes-lt-PIECE) → Bytes c.args.bytes.now
 unfolding Bytes
 of-bytes-Then-bytes-lt-PIECE c i = (c.type_inv.bytes i).fits
 
 pub returns-then-bytes-lt-PIECE : goal.returns-then-bytes-lt-PIECE
-returns-then-bytes-lt-PIECE c =
-    (
-      (as_accepting c.run_records-ran.ensures c.if-ran-ne0.false, λ _. c.if-bytes-lt-PIECE.true),
-      of-bytes-Then-bytes-lt-PIECE c,
-    )
+returns-then-bytes-lt-PIECE c = (
+  (as_accepting c.run_records-ran.ensures c.if-ran-ne0.false, λ _. c.if-bytes-lt-PIECE.true),
+  of-bytes-Then-bytes-lt-PIECE c,
+)
 
 of-bytes-Else-bytes-lt-PIECE : (c : goal.Else-bytes-lt-PIECE) → Bytes c.args.bytes.now
 unfolding Bytes
 of-bytes-Else-bytes-lt-PIECE c i = (c.type_inv.bytes i).fits
 
 pub returns : goal.returns
-returns c =
-    (
-      (as_accepting c.run_records-ran.ensures c.if-ran-ne0.false, c.if-next-ne0.false, omega (arith, c.if-bytes-lt-PIECE.false)),
-      of-bytes-Else-bytes-lt-PIECE c,
-    )
+returns c = (
+  (as_accepting c.run_records-ran.ensures c.if-ran-ne0.false, c.if-next-ne0.false, omega (arith, c.if-bytes-lt-PIECE.false)),
+  of-bytes-Else-bytes-lt-PIECE c,
+)
