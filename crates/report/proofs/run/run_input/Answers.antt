@@ -19,12 +19,11 @@ loop-a-smaller g c =
     omega (arith, next.1, kept_few next.0)
 
 pub loop-a-preserved : goal.loop-a-preserved
-loop-a-preserved g c =
-    (
-      c.read_piece-piece.auto.buffer ∙ c.loop-a.invariant.0,
-      _,
-      (kept_next c.loop-a.invariant.2 _ _ _ _ c.in-GoesOn.is c.run_piece-came.ensures.0 c.run_piece-came.ensures.1).0,
-    )
+loop-a-preserved g c = (
+  c.read_piece-piece.auto.buffer ∙ c.loop-a.invariant.0,
+  _,
+  (kept_next c.loop-a.invariant.2 _ _ _ _ c.in-GoesOn.is c.run_piece-came.ensures.0 c.run_piece-came.ensures.1).0,
+)
 
 pub returns-in-Ends : goal.returns-in-Ends
 returns-in-Ends g c =
