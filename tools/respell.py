@@ -53,7 +53,8 @@ def snake(name):
     turned = []
     for part in parts:
         if re.match(r"[a-z]", part):
-            part = re.sub(r"([a-z0-9])([A-Z])", lambda m: m.group(1) + "_" + m.group(2).lower(), part)
+            while re.search(r"[a-z0-9][A-Z]", part):
+                part = re.sub(r"([a-z0-9])([A-Z])", lambda m: m.group(1) + "_" + m.group(2).lower(), part)
             part = re.sub(r"_([A-Z])", lambda m: "_" + m.group(1).lower(), part)
         turned.append(part)
     said = turned[0]

@@ -13,9 +13,9 @@ abbrev pub WidenedPiece : (piece text : List ℕ) → Type 0
 WidenedPiece piece text = text ≡ widened piece
 
 -- pieces one behind the other; whether all are full
-unfoldable pub in_aRow : List (List ℕ) → List ℕ
-in_aRow [] = []
-in_aRow (piece ∷ pieces) = piece ++ in_aRow pieces
+unfoldable pub in_a_row : List (List ℕ) → List ℕ
+in_a_row [] = []
+in_a_row (piece ∷ pieces) = piece ++ in_a_row pieces
 
 unfoldable pub AreFull : List (List ℕ) → Type 0
 AreFull [] = Unit {0}
@@ -25,7 +25,7 @@ AreFull (piece ∷ pieces) = (length piece ≡ full_piece) × AreFull pieces
 abbrev pub WholeIsWidened : Type 0
 WholeIsWidened =
     (pieces : List (List ℕ)) (last : List ℕ) → AreFull pieces
-    → in_aRow (map widened pieces) ++ widened last ≡ widened (in_aRow pieces ++ last)
+    → in_a_row (map widened pieces) ++ widened last ≡ widened (in_a_row pieces ++ last)
 
 -- a record, so that the statement can't be dropped unnoticed: `widen_theory`, proofs/Whole.antt, proves it
 pub record WidenTheory : Type 0 where

@@ -7,7 +7,7 @@ use lib.Dec.{eqb}
 use lib.Pow.{pow_mono}
 use native.Mathlib.Nat.{pow-suc}
 use native.Mathlib.Numerals.{add-one}
-use borrow.Author.Tests.{eq-eqb, ne_eqb, not-true, not-false}
+use borrow.Author.Tests.{eq-eqb, ne_eqb}
 use Rattle.bitmap.specs.Bit.{bit_of}
 use Rattle.bitmap.proofs.Bits.{bit_below, bit_top, shift_exact}
 use Rattle.bitmap.proofs.Digits.{digit_past}
@@ -52,12 +52,12 @@ left test from made n e h = (
 pub returns-then-not-before : goal.returns-then-not-before
 returns-then-not-before c =
     eight_outside c.args.blocks c.args.a.now c.args.b.now c.args.d.now c.args.k c.requires.4
-    (sym (not-true c.args.before c.if-not-before.true-raw) ∙ c.requires.5) c.if-d-k-eq0.true
+    (sym c.if-not-before.true ∙ c.requires.5) c.if-d-k-eq0.true
 
 pub returns-then-first_byte-eq0 : goal.returns-then-first_byte-eq0
 returns-then-first_byte-eq0 c =
     eight_within c.args.blocks c.args.a.now c.args.b.now c.args.d.now c.args.k c.requires.4
-    (sym (not-false c.args.before c.if-not-before.false-raw) ∙ c.requires.5) c.if-a-k.true c.first_byte.result
+    (sym c.if-not-before.false ∙ c.requires.5) c.if-a-k.true c.first_byte.result
     (c.first_byte.ensures c.args.blocks c.requires.4) c.if-first_byte-eq0.true
 
 pub loop-s-init : goal.loop-s-init

@@ -4,6 +4,7 @@ use native.Mathlib.Omega.{arith}
 use Rattle.count_up.specs.Ready.{Extents}
 use Rattle.collect_sweep.specs.Sweep.{sweep, sweep_blocks}
 use Rattle.collect_sweep.proofs.Sweeps.{sweep_to_next, sweep_next, sweep_blocks_next}
+use Rattle.collect_sweep.proofs.sweep.Goals.{After-sweep_one-freed}
 use Rattle.collect_sweep.proofs.sweep.Goals as goal
 
 pub next_unmarked-i-requires : goal.next_unmarked-i-requires
@@ -21,12 +22,12 @@ sweep_one-freed-requires c =
     (c.requires.0, c.loop-i.invariant.1, omega arith, c.loop-i.invariant.5, c.loop-i.invariant.6 (omega arith))
 
 -- maps and cells are as long as they were
-abbrev Still-After-slice_known-in-loop-i-5-1 : (c : goal.After-slice_known-in-loop-i-5-1) → Type 0
-Still-After-slice_known-in-loop-i-5-1 c =
+abbrev Still : (c : After-sweep_one-freed) → Type 0
+Still c =
     Extents c.args.blocks c.sweep_one-freed.new.a c.sweep_one-freed.new.b c.sweep_one-freed.new.cells c.sweep_one-freed.new.d
 
-still-After-slice_known-in-loop-i-5-1 : (c : goal.After-slice_known-in-loop-i-5-1) → Still-After-slice_known-in-loop-i-5-1 c
-still-After-slice_known-in-loop-i-5-1 c =
+still : (c : After-sweep_one-freed) → Still c
+still c =
     record {
       a_length = c.sweep_one-freed.auto.a ∙ c.loop-i.invariant.1.a_length;
       b_length = c.sweep_one-freed.auto.b ∙ c.loop-i.invariant.1.b_length;
@@ -36,31 +37,17 @@ still-After-slice_known-in-loop-i-5-1 c =
 
 pub next_unmarked-i-requires-in-loop-i : goal.next_unmarked-i-requires-in-loop-i
 next_unmarked-i-requires-in-loop-i c =
-    let lengths = still-After-slice_known-in-loop-i-5-1 c in
+    let lengths = still (goal.at.next_unmarked-i-requires-in-loop-i c).After-sweep_one-freed in
     (c.requires.0, lengths.a_length, lengths.b_length, omega arith)
 
 pub loop-i-smaller : goal.loop-i-smaller
 loop-i-smaller c = omega (arith, c.next_unmarked-i-in-loop-i.ensures.from)
 
--- maps and cells are as long as they were
-abbrev Still-After-next_unmarked-i-in-loop-i : (c : goal.After-next_unmarked-i-in-loop-i) → Type 0
-Still-After-next_unmarked-i-in-loop-i c =
-    Extents c.args.blocks c.sweep_one-freed.new.a c.sweep_one-freed.new.b c.sweep_one-freed.new.cells c.sweep_one-freed.new.d
-
-still-After-next_unmarked-i-in-loop-i : (c : goal.After-next_unmarked-i-in-loop-i) → Still-After-next_unmarked-i-in-loop-i c
-still-After-next_unmarked-i-in-loop-i c =
-    record {
-      a_length = c.sweep_one-freed.auto.a ∙ c.loop-i.invariant.1.a_length;
-      b_length = c.sweep_one-freed.auto.b ∙ c.loop-i.invariant.1.b_length;
-      cells_length = c.sweep_one-freed.auto.cells ∙ c.loop-i.invariant.1.cells_length;
-      d_length = c.sweep_one-freed.auto.d ∙ c.loop-i.invariant.1.d_length;
-    }
-
 pub loop-i-preserved : goal.loop-i-preserved
 loop-i-preserved c =
     let to = sweep_to_next _ _ _ c.next_unmarked-i-in-loop-i.ensures (sweep_next _ _ _ _ c.loop-i.invariant.2 c.sweep_one-freed.ensures.0) in (
       c.next_unmarked-i-in-loop-i.ensures.most,
-      still-After-next_unmarked-i-in-loop-i c,
+      still (goal.at.loop-i-preserved c).After-sweep_one-freed,
       to.0,
       sweep_blocks_next _ _ _ _ c.loop-i.invariant.2 c.loop-i.invariant.3 c.sweep_one-freed.ensures.1 ∙ to.1,
       omega (arith, c.loop-i.invariant.4, c.next_unmarked-i-in-loop-i.ensures.from, c.sweep_one-freed.ensures.2, c.requires.0.most),

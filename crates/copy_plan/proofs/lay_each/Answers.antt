@@ -10,6 +10,7 @@ use Rattle.copy_plan.proofs.Chunks.{sought_start}
 use Rattle.copy_plan.proofs.Plans.{plan_start, plan_next, plan_missed, plan_done}
 use Rattle.copy_plan.proofs.lay_each.Reads as reads
 use Rattle.copy_plan.proofs.lay_each.Lts as lts
+use Rattle.copy_plan.proofs.lay_each.Goals.{After-object_size-n}
 use Rattle.copy_plan.proofs.lay_each.Goals as goal
 
 pub loop-k-init : goal.loop-k-init
@@ -37,18 +38,18 @@ pub lay_one-place-requires : goal.lay_one-place-requires
 lay_one-place-requires c = c.loop-k.invariant.2
 
 -- the object's size is that of the rule
-laid-here-Then-place-blocks2 : (c : goal.Then-place-blocks2) → {map map' from' : List ℕ} {at : ℕ}
+laid-here : (c : After-object_size-n) → {map map' from' : List ℕ} {at : ℕ}
     → LaidOne c.args.blocks2 c.object_size-n.result map map' from' at
     → LaidOne c.args.blocks2
     (sizes_in c.args.blocks c.args.b.now c.args.order.now c.loop-k.k)
     map map' from' at
-laid-here-Then-place-blocks2 c {map} {map'} {from'} {at} laid =
+laid-here c {map} {map'} {from'} {at} laid =
     subst (λ (n : ℕ). LaidOne c.args.blocks2 n map map' from' at) c.object_size-n.ensures.0 laid
 
 pub returns-then-place-blocks2 : goal.returns-then-place-blocks2
 returns-then-place-blocks2 c =
     plan_missed _ _ _ _ _ _ c.requires.0 c.loop-k.k _ _ c.loop-k.invariant.1 c.loop-k-test.true _ _ _
-    (laid-here-Then-place-blocks2 c c.lay_one-place.ensures) c.if-place-blocks2.true _
+    (laid-here (goal.at.returns-then-place-blocks2 c).After-object_size-n c.lay_one-place.ensures) c.if-place-blocks2.true _
 
 pub overflow_add-numbers : goal.overflow_add-numbers
 overflow_add-numbers c =
@@ -63,20 +64,11 @@ bounds-numbers-at c =
     let l = c.loop-k-test.true in
     omega (arith, c.loop-k.invariant.1.kept, c.requires.0.long_numbers, c.requires.0.some c.loop-k.k l, c.requires.0.below c.loop-k.k l)
 
--- the object's size is that of the rule
-laid-here-Else-place-blocks2 : (c : goal.Else-place-blocks2) → {map map' from' : List ℕ} {at : ℕ}
-    → LaidOne c.args.blocks2 c.object_size-n.result map map' from' at
-    → LaidOne c.args.blocks2
-    (sizes_in c.args.blocks c.args.b.now c.args.order.now c.loop-k.k)
-    map map' from' at
-laid-here-Else-place-blocks2 c {map} {map'} {from'} {at} laid =
-    subst (λ (n : ℕ). LaidOne c.args.blocks2 n map map' from' at) c.object_size-n.ensures.0 laid
-
 pub loop-k-preserved : goal.loop-k-preserved
 loop-k-preserved c = (
   omega arith,
   plan_next _ _ _ _ _ _ c.requires.0 c.loop-k.k _ _ c.loop-k.invariant.1 c.loop-k-test.true _ _ _
-      (laid-here-Else-place-blocks2 c c.lay_one-place.ensures) c.if-place-blocks2.false,
+      (laid-here (goal.at.loop-k-preserved c).After-object_size-n c.lay_one-place.ensures) c.if-place-blocks2.false,
   c.lay_one-place.ensures.sought c.if-place-blocks2.false,
 )
 

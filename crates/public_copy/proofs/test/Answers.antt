@@ -1,12 +1,11 @@
 -- `test` meets its contract.
-use borrow.Author.Tests.{not-true, not-false}
 use mathlib.Core.Path.{◌∙◌, sym}
 use Rattle.public_copy.proofs.CopyGates.{gate_misshapen, gate_other_roots, gate_tested}
 use Rattle.public_copy.proofs.test.Goals as goal
 
 pub returns-then-not-is_shaped : goal.returns-then-not-is_shaped
 returns-then-not-is_shaped c =
-    gate_misshapen (sym c.is_shaped.ensures ∙ not-true _ c.if-not-is_shaped.true-raw) c.refusal.ensures
+    gate_misshapen (sym c.is_shaped.ensures ∙ c.if-not-is_shaped.true) c.refusal.ensures
 
 pub returns-then-roots-roots2 : goal.returns-then-roots-roots2
 returns-then-roots-roots2 c =
@@ -14,4 +13,4 @@ returns-then-roots-roots2 c =
 
 pub returns : goal.returns
 returns c =
-    gate_tested (sym c.is_shaped.ensures ∙ not-false _ c.if-not-is_shaped.false-raw) c.if-roots-roots2.false c.none_open.ensures.0
+    gate_tested (sym c.is_shaped.ensures ∙ c.if-not-is_shaped.false) c.if-roots-roots2.false c.none_open.ensures.0

@@ -1,42 +1,18 @@
 -- `look` meets its contract: it is refused as the check refuses, or reads size and count.
 use mathlib.Core.Path.{refl, sym}
 use native.Mathlib.Omega.{arith}
-use Rattle.rules.specs.Heap.{Memory, lent_memory}
-use Rattle.rules.proofs.Shape.{Shaped, shape_facts}
+use Rattle.rules.proofs.Shape.{shape_facts}
 use Rattle.public_read.proofs.CheckReply.{refused_alike, checked_fit, look_passed}
 use Rattle.public_read.proofs.look.Goals as goal
 
--- the lent heap
-abbrev lent-Then-number-ne0 : (c : goal.Then-number-ne0) → Memory
-lent-Then-number-ne0 c =
-    lent_memory c.args.a.now c.args.b.now c.args.counts.now c.args.cells.now c.args.roots.now c.args.waiting.now
-    c.args.sections.now c.args.d.now c.args.marks.now c.args.list.now
-
 pub returns-then-number-ne0 : goal.returns-then-number-ne0
-returns-then-number-ne0 c = refused_alike {h = lent-Then-number-ne0 c} refl c.check-checked.ensures c.if-number-ne0.true
-
--- the lent heap
-abbrev lent-Else-number-ne0 : (c : goal.Else-number-ne0) → Memory
-lent-Else-number-ne0 c =
-    lent_memory c.args.a.now c.args.b.now c.args.counts.now c.args.cells.now c.args.roots.now c.args.waiting.now
-    c.args.sections.now c.args.d.now c.args.marks.now c.args.list.now
-
--- past the check its lengths are right
-right : (c : goal.Else-number-ne0) → Shaped c.args.blocks c.args.width (lent-Else-number-ne0 c)
-right c =
-    shape_facts _ _ (lent-Else-number-ne0 c) (checked_fit {h = lent-Else-number-ne0 c} c.check-checked.ensures c.if-number-ne0.false).intact.right_shape
+returns-then-number-ne0 c = refused_alike refl c.check-checked.ensures c.if-number-ne0.true
 
 pub look_reply-requires : goal.look_reply-requires
 look_reply-requires c =
-    let lengths = right c in
+    let lengths = shape_facts _ _ _ (checked_fit c.check-checked.ensures c.if-number-ne0.false).intact.right_shape in
     (sym lengths.whole_bytes, omega arith, omega arith, lengths.width_max, lengths.length_counts)
-
--- the lent heap
-abbrev lent-After-look_reply : (c : goal.After-look_reply) → Memory
-lent-After-look_reply c =
-    lent_memory c.args.a.now c.args.b.now c.args.counts.now c.args.cells.now c.args.roots.now c.args.waiting.now
-    c.args.sections.now c.args.d.now c.args.marks.now c.args.list.now
 
 pub returns : goal.returns
 returns c =
-    look_passed {h = lent-After-look_reply c} c.check-checked.ensures c.if-number-ne0.false c.look_reply.ensures
+    look_passed c.check-checked.ensures c.if-number-ne0.false c.look_reply.ensures

@@ -149,11 +149,7 @@ returns-else-number-ne0-2 c =
 
 pub returns-in_default : goal.returns-in_default
 returns-in_default c =
-    let known = c.in_default.in_default-own.rest in
-    let eleven = known.0.0 in
-    let rest = eleven.0.0.0 in
     let past =
-    past_codes _ rest.0.0.0.0.0.0.0.0.1 rest.0.0.0.0.0.0.0.1 rest.0.0.0.0.0.0.1 rest.0.0.0.0.0.1
-    rest.0.0.0.0.1 rest.0.0.0.1 rest.0.0.1 rest.0.1 rest.1 eleven.0.0.1 eleven.0.1 eleven.1
-    known.0.1 known.1 in
+    past_codes _ (omega arith) (omega arith) (omega arith) (omega arith) (omega arith) (omega arith) (omega arith) (omega arith)
+    (omega arith) (omega arith) (omega arith) (omega arith) (omega arith) (omega arith) in
     stepped_none (past_call _ _ past) c.refusal-in_default.ensures

@@ -5,6 +5,7 @@ use Rattle.step_list.specs.Naming.{cell_names}
 use Rattle.step_advance.proofs.Progresses.{advanced}
 use Rattle.bitmap.proofs.Maps.{bytes_given}
 use native.Mathlib.Omega.{arith}
+use borrow.Author.Rules.{rules}
 use Rattle.step_advance.proofs.advance.Goals as goal
 
 pub name_all-requires : goal.name_all-requires
@@ -15,4 +16,4 @@ pub returns : goal.returns
 returns c =
     advanced c.args.blocks c.args.budget (cell_names c.args.blocks c.args.b.now c.args.d.now c.args.cells.now) c.args.marks.now c.args.list.now
     c.requires.0 c.listed_numbers-n.ensures c.name_all.ensures c.take_steps-steps.ensures
-    (bytes_given _ c.slice_known-1.given) c.requires.5 (bytes_given _ c.type_inv.marks) (c.take_steps-steps.auto.marks ∙ c.requires.5) c.write_list.ensures c.next_bit-first.ensures c.is_done.ensures
+    (bytes_given c.args.marks.now (search rules)) c.requires.5 (bytes_given _ c.type_inv.marks) (c.take_steps-steps.auto.marks ∙ c.requires.5) c.write_list.ensures c.next_bit-first.ensures c.is_done.ensures

@@ -1,7 +1,6 @@
 -- `step_close::close_one` meets its contract.
 use mathlib.Core.Path.{sym, ◌∙◌}
 use Prim.Native.Nat.{◌-◌}
-use borrow.Author.Tests.{not-true, not-false}
 use Rattle.count_up.proofs.Shapes.{planes_same}
 use Rattle.step_close.proofs.Survivors.{stack_zeroed}
 use Rattle.step_close.proofs.Closes.{close_not_first, close_marked, close_doomed}
@@ -14,11 +13,11 @@ is_first-requires c =
 
 pub returns-then-not-is_first : goal.returns-then-not-is_first
 returns-then-not-is_first c =
-    close_not_first c.args.marks.now c.args.i c.requires.0 (sym c.is_first.ensures ∙ not-true _ c.if-not-is_first.true-raw)
+    close_not_first c.args.marks.now c.args.i c.requires.0 (sym c.is_first.ensures ∙ c.if-not-is_first.true)
 
 pub returns-then-get_bit-eq1 : goal.returns-then-get_bit-eq1
 returns-then-get_bit-eq1 c =
-    close_marked c.args.marks.now c.args.i c.requires.0 (sym c.is_first.ensures ∙ not-false _ c.if-not-is_first.false-raw)
+    close_marked c.args.marks.now c.args.i c.requires.0 (sym c.is_first.ensures ∙ c.if-not-is_first.false)
     (sym c.get_bit.ensures.0 ∙ c.if-get_bit-eq1.true)
 
 pub object_size-n-requires : goal.object_size-n-requires
@@ -47,5 +46,5 @@ drop_doomed-t-requires c = (
 pub returns : goal.returns
 returns c =
     close_doomed c.args.marks.now c.args.i c.requires.0
-    (sym c.is_first.ensures ∙ not-false _ c.if-not-is_first.false-raw) (λ e. c.if-get_bit-eq1.false (c.get_bit.ensures.0 ∙ e))
+    (sym c.is_first.ensures ∙ c.if-not-is_first.false) (λ e. c.if-get_bit-eq1.false (c.get_bit.ensures.0 ∙ e))
     c.object_size-n.ensures.0 c.object_size-n.ensures.2 c.clear_extent.ensures.0 c.clear_extent.ensures.1 c.set_count.ensures c.drop_doomed-t.ensures.0 c.drop_doomed-t.ensures.1 c.drop_doomed-t.ensures.2 c.clear_extent.ensures.2

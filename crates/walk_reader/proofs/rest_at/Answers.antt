@@ -5,6 +5,7 @@ use borrow.Author.Tests.{not-true, not-false}
 use Rattle.rules_output.specs.Sentence.{cell_text, block_text}
 use Rattle.walk_reader.proofs.Laws.{not_found}
 use Rattle.walk_reader.proofs.Links.{behind_inside, count_start, count_link, count_no_number, count_no_block, count_end}
+use Rattle.walk_reader.proofs.rest_at.Goals.{Else-not-stands_at, In-loop-cell}
 use Rattle.walk_reader.proofs.rest_at.Goals as goal
 
 pub loop-cell-init : goal.loop-cell-init
@@ -16,16 +17,16 @@ stands_at-requires c =
     c.loop-cell.invariant.0
 
 -- " cell " stands there, and ends in the text
-inside-In-loop-cell : (c : goal.In-loop-cell) → c.loop-cell.p + 6 ≤ length c.args.text.now
-inside-In-loop-cell c =
+inside : (c : In-loop-cell) → c.loop-cell.p + 6 ≤ length c.args.text.now
+inside c =
     behind_inside _ cell_text _ _ c.loop-cell.invariant.0 (c.stands_at.ensures.there c.loop-cell-test.true)
 
 pub overflow_add-p : goal.overflow_add-p
-overflow_add-p c = omega (arith, inside-In-loop-cell c)
+overflow_add-p c = omega (arith, inside (goal.at.overflow_add-p c).In-loop-cell)
 
 pub number_at-cell-requires : goal.number_at-cell-requires
 number_at-cell-requires c =
-    inside-In-loop-cell c
+    inside (goal.at.number_at-cell-requires c).In-loop-cell
 
 pub returns-then-not-cell : goal.returns-then-not-cell
 returns-then-not-cell c =
@@ -33,24 +34,19 @@ returns-then-not-cell c =
     (count_no_number _ _ _ _ c.loop-cell.invariant.2 (c.stands_at.ensures.there c.loop-cell-test.true)
     (c.number_at-cell.ensures.0.missing (not-true _ c.if-not-cell.true)))
 
--- " cell " stands there, and ends in the text
-inside-Else-not-cell : (c : goal.Else-not-cell) → c.loop-cell.p + 6 ≤ length c.args.text.now
-inside-Else-not-cell c =
-    behind_inside _ cell_text _ _ c.loop-cell.invariant.0 (c.stands_at.ensures.there c.loop-cell-test.true)
-
 pub overflow_add-links : goal.overflow_add-links
 overflow_add-links c =
-    omega (arith, inside-Else-not-cell c, c.loop-cell.invariant.1)
+    omega (arith, inside (goal.at.overflow_add-links c).In-loop-cell, c.loop-cell.invariant.1)
 
 pub loop-cell-smaller : goal.loop-cell-smaller
 loop-cell-smaller c =
-    omega (arith, inside-Else-not-cell c, c.number_at-cell.ensures.1)
+    omega (arith, inside (goal.at.loop-cell-smaller c).In-loop-cell, c.number_at-cell.ensures.1)
 
 pub loop-cell-preserved : goal.loop-cell-preserved
 loop-cell-preserved c = (
   c.number_at-cell.ensures.2,
   omega (arith, c.loop-cell.invariant.1, c.number_at-cell.ensures.1),
-  count_link _ _ _ _ _ _ (omega (arith, inside-Else-not-cell c)) c.number_at-cell.ensures.1 (c.stands_at.ensures.there c.loop-cell-test.true)
+  count_link _ _ _ _ _ _ (omega (arith, inside (goal.at.loop-cell-preserved c).In-loop-cell)) c.number_at-cell.ensures.1 (c.stands_at.ensures.there c.loop-cell-test.true)
       (c.number_at-cell.ensures.0.there (not-false _ c.if-not-cell.false)) c.loop-cell.invariant.2,
 )
 
@@ -61,26 +57,21 @@ stands_at-requires-2 c =
 pub returns-then-not-stands_at : goal.returns-then-not-stands_at
 returns-then-not-stands_at c =
     not_found
-    (count_no_block _ _ _ _ c.loop-cell.invariant.2 (c.stands_at.ensures.missing c.loop-cell-test.false) (c.stands_at-2.ensures.missing (not-true _ c.if-not-stands_at.true-raw)))
+    (count_no_block _ _ _ _ c.loop-cell.invariant.2 (c.stands_at.ensures.missing c.loop-cell-test.false) (c.stands_at-2.ensures.missing c.if-not-stands_at.true))
 
 -- " block " stands there, and ends in the text
-block-Else-not-stands_at : (c : goal.Else-not-stands_at) → c.loop-cell.p + 7 ≤ length c.args.text.now
-block-Else-not-stands_at c =
-    behind_inside _ block_text _ _ c.loop-cell.invariant.0 (c.stands_at-2.ensures.there (not-false _ c.if-not-stands_at.false-raw))
+block : (c : Else-not-stands_at) → c.loop-cell.p + 7 ≤ length c.args.text.now
+block c =
+    behind_inside _ block_text _ _ c.loop-cell.invariant.0 (c.stands_at-2.ensures.there c.if-not-stands_at.false)
 
 pub overflow_add-p-2 : goal.overflow_add-p-2
-overflow_add-p-2 c = omega (arith, block-Else-not-stands_at c)
+overflow_add-p-2 c = omega (arith, block (goal.at.overflow_add-p-2 c).Else-not-stands_at)
 
 pub ending_at-end-requires : goal.ending_at-end-requires
 ending_at-end-requires c =
-    block-Else-not-stands_at c
-
--- " block " stands there, and ends in the text
-block-After-ending_at-end : (c : goal.After-ending_at-end) → c.loop-cell.p + 7 ≤ length c.args.text.now
-block-After-ending_at-end c =
-    behind_inside _ block_text _ _ c.loop-cell.invariant.0 (c.stands_at-2.ensures.there (not-false _ c.if-not-stands_at.false-raw))
+    block (goal.at.ending_at-end-requires c).Else-not-stands_at
 
 pub returns : goal.returns
 returns c =
-    count_end _ _ _ _ c.loop-cell.invariant.2 _ (omega (arith, block-After-ending_at-end c)) (c.stands_at.ensures.missing c.loop-cell-test.false)
-    (c.stands_at-2.ensures.there (not-false _ c.if-not-stands_at.false-raw)) _ _ c.ending_at-end.ensures
+    count_end _ _ _ _ c.loop-cell.invariant.2 _ (omega (arith, block (goal.at.returns c).Else-not-stands_at)) (c.stands_at.ensures.missing c.loop-cell-test.false)
+    (c.stands_at-2.ensures.there c.if-not-stands_at.false) _ _ c.ending_at-end.ensures

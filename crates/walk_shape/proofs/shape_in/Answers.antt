@@ -7,58 +7,38 @@ use Rattle.text.proofs.Writing.{put_as}
 use Rattle.walk_objects.specs.Walking.{Walked, walked_heap}
 use Rattle.walk_objects.proofs.TracedHeap.{all_walked}
 use Rattle.walk_shape.proofs.Bridge.{list_ready, shape_written}
+use Rattle.walk_shape.proofs.shape_in.Goals.{After-trace_all-met}
 use Rattle.walk_shape.proofs.shape_in.Goals as goal
 
 pub trace_all-met-requires : goal.trace_all-met-requires
 trace_all-met-requires c = (c.requires.0, c.requires.1)
 
 -- what is met
-met-After-slice_known-9-1 : (c : goal.After-slice_known-9-1) → Walked c.args.blocks (numbered c.args.blocks (walked_heap c.args.a.now c.args.b.now c.args.d.now c.args.cells.now c.args.roots.now))
+met : (c : After-trace_all-met) → Walked c.args.blocks (numbered c.args.blocks (walked_heap c.args.a.now c.args.b.now c.args.d.now c.args.cells.now c.args.roots.now))
     c.trace_all-met.new.order c.trace_all-met.new.numbers c.trace_all-met.result
-met-After-slice_known-9-1 c =
+met c =
     all_walked c.args.blocks c.args.a.now c.args.b.now c.args.d.now c.args.cells.now c.args.roots.now c.requires.0.named
     _ _ _ _ _ c.trace_all-met.ensures
 
 pub shape_length-n-requires : goal.shape_length-n-requires
 shape_length-n-requires c =
-    list_ready c.requires.0 (met-After-slice_known-9-1 c)
-
--- what is met
-met-Then-out-n : (c : goal.Then-out-n) → Walked c.args.blocks (numbered c.args.blocks (walked_heap c.args.a.now c.args.b.now c.args.d.now c.args.cells.now c.args.roots.now))
-    c.trace_all-met.new.order c.trace_all-met.new.numbers c.trace_all-met.result
-met-Then-out-n c =
-    all_walked c.args.blocks c.args.a.now c.args.b.now c.args.d.now c.args.cells.now c.args.roots.now c.requires.0.named
-    _ _ _ _ _ c.trace_all-met.ensures
+    list_ready c.requires.0 (met (goal.at.shape_length-n-requires c).After-trace_all-met)
 
 pub returns-then-out-n : goal.returns-then-out-n
 returns-then-out-n c =
     record {
-      number = c.shape_length-n.ensures ∙ ap length (shape_written c.requires.0 (met-Then-out-n c));
+      number = c.shape_length-n.ensures ∙ ap length (shape_written c.requires.0 (met (goal.at.returns-then-out-n c).After-trace_all-met));
       short = λ _. refl;
       long = λ fits. absurd (omega arith);
     }
 
--- what is met
-met-After-write_shape-arg-1 : (c : goal.After-write_shape-arg-1) → Walked c.args.blocks (numbered c.args.blocks (walked_heap c.args.a.now c.args.b.now c.args.d.now c.args.cells.now c.args.roots.now))
-    c.trace_all-met.new.order c.trace_all-met.new.numbers c.trace_all-met.result
-met-After-write_shape-arg-1 c =
-    all_walked c.args.blocks c.args.a.now c.args.b.now c.args.d.now c.args.cells.now c.args.roots.now c.requires.0.named
-    _ _ _ _ _ c.trace_all-met.ensures
-
 pub write_shape-requires : goal.write_shape-requires
 write_shape-requires c =
-    (list_ready c.requires.0 (met-After-write_shape-arg-1 c), omega (arith, c.shape_length-n.ensures))
-
--- what is met
-met-After-slice_known-10-1 : (c : goal.After-slice_known-10-1) → Walked c.args.blocks (numbered c.args.blocks (walked_heap c.args.a.now c.args.b.now c.args.d.now c.args.cells.now c.args.roots.now))
-    c.trace_all-met.new.order c.trace_all-met.new.numbers c.trace_all-met.result
-met-After-slice_known-10-1 c =
-    all_walked c.args.blocks c.args.a.now c.args.b.now c.args.d.now c.args.cells.now c.args.roots.now c.requires.0.named
-    _ _ _ _ _ c.trace_all-met.ensures
+    (list_ready c.requires.0 (met (goal.at.write_shape-requires c).After-trace_all-met), omega (arith, c.shape_length-n.ensures))
 
 pub returns : goal.returns
 returns c =
-    let made = shape_written c.requires.0 (met-After-slice_known-10-1 c) in
+    let made = shape_written c.requires.0 (met (goal.at.returns c).After-trace_all-met) in
     record {
       number = omega (arith, c.write_shape.ensures.end_is, ap length made);
       short = λ short. absurd (omega (arith, c.if-out-n.false, c.write_shape.ensures.end_is, c.shape_length-n.ensures));

@@ -14,30 +14,20 @@ clear_chosen-more-requires c = (c.loop-r.invariant.usable, omega arith)
 -- what was freed so far are blocks of the heap
 pub overflow_add-freed : goal.overflow_add-freed
 overflow_add-freed c =
-    let made = c.clear_chosen-more in
-    let shape = (usable_healthy made.ensures.usable).shape in
+    let shape = (usable_healthy c.clear_chosen-more.ensures.usable).shape in
     omega (
       arith,
-      made.ensures.blocks,
+      c.clear_chosen-more.ensures.blocks,
       c.loop-r.invariant.blocks,
-      zeros_le made.last.1.1.0,
+      zeros_le c.clear_chosen-more.new.a,
       shape.length_a,
       shape.whole_bytes,
       shape.blocks_max,
     )
 
-pub overflow_add-r : goal.overflow_add-r
-overflow_add-r c =
-    omega (arith, c.loop-r-test.taken, (usable_healthy c.loop-r.invariant.usable).shape.roots_max)
-
-pub loop-r-smaller : goal.loop-r-smaller
-loop-r-smaller c =
-    omega (arith, c.loop-r-test.taken, c.loop-r.invariant.roots_length)
-
 pub loop-r-preserved : goal.loop-r-preserved
 loop-r-preserved c =
-    let made = c.clear_chosen-more in
-    progress_next c.loop-r-test.taken made.kept.1.1.1.1.1.1.0 made.ensures c.loop-r.invariant
+    progress_next (omega arith) c.clear_chosen-more.auto.roots c.clear_chosen-more.ensures c.loop-r.invariant
 
 pub returns : goal.returns
 returns c =

@@ -3,6 +3,7 @@ use mathlib.Core.Path.{refl, sym, ap, ◌∙◌}
 use Prim.Native.Nat.{ℕ}
 use lib.ListN.{replicate}
 use native.Mathlib.Omega.{arith}
+use borrow.Author.Tests.{not-true, not-false}
 use Rattle.theory.proofs.Usable.UsableHeap.{usable_fit, usable_healthy}
 use Rattle.refinement.proofs.ReadyHeap.{usable_ready}
 use Rattle.refinement_steps.proofs.EndedList.{listed_ended}
@@ -24,7 +25,7 @@ advance-moves-requires c =
 
 pub returns-then-not-moves : goal.returns-then-not-moves
 returns-then-not-moves c =
-    steps_promised c.args.budget c.requires.0 c.requires.1 c.advance-moves.ensures.0 c.advance-moves.ensures.1 c.advance-moves.ensures.2 (c.if-not-moves.true) c.stepped.ensures
+    steps_promised c.args.budget c.requires.0 c.requires.1 c.advance-moves.ensures.0 c.advance-moves.ensures.1 c.advance-moves.ensures.2 (not-true _ c.if-not-moves.true) c.stepped.ensures
 
 pub close-freed-requires : goal.close-freed-requires
 close-freed-requires c =
@@ -40,7 +41,7 @@ pub returns : goal.returns
 returns c =
     let shape = (usable_healthy c.requires.0).shape in
     close_promised c.args.budget c.requires.0 c.requires.1 c.advance-moves.ensures.0 c.advance-moves.ensures.1 c.advance-moves.ensures.2
-    (c.if-not-moves.false) _ c.close-freed.ensures.0 c.close-freed.ensures.1 refl c.close-freed.ensures.2 c.renew.ensures
+    (not-false _ c.if-not-moves.false) _ c.close-freed.ensures.0 c.close-freed.ensures.1 refl c.close-freed.ensures.2 c.renew.ensures
     (c.fill_bytes.ensures ∙ ap (λ (n : ℕ). replicate n 0) (c.close-freed.auto.marks ∙ c.advance-moves.auto.marks ∙ shape.length_marks))
     (c.clear_all.ensures ∙ ap (λ (n : ℕ). replicate n 0) (c.advance-moves.auto.list ∙ shape.length_list))
     c.stepped-2.ensures

@@ -17,19 +17,12 @@ step-state-requires c =
 
 pub returns-then-number-ne0 : goal.returns-then-number-ne0
 returns-then-number-ne0 c =
-    progress_stop c.loop-i-test.taken c.loop-i.invariant c.fields_at-f.ensures.0
+    progress_stop c.loop-i-test.true c.loop-i.invariant c.fields_at-f.ensures.0
     c.step-state.ensures c.if-number-ne0.true
-
-pub overflow_add-i : goal.overflow_add-i
-overflow_add-i c =
-    omega (arith, c.loop-i-test.taken, c.good)
-
-pub loop-i-smaller : goal.loop-i-smaller
-loop-i-smaller c = omega (arith, c.loop-i-test.taken)
 
 pub loop-i-preserved : goal.loop-i-preserved
 loop-i-preserved c =
-    progress_next c.loop-i-test.taken c.loop-i.invariant c.fields_at-f.ensures.0
+    progress_next c.loop-i-test.true c.loop-i.invariant c.fields_at-f.ensures.0
     c.step-state.ensures c.step-state.auto.roots c.if-number-ne0.false
 
 pub returns : goal.returns

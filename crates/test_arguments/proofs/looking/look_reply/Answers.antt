@@ -2,7 +2,6 @@
 use mathlib.Core.Path.{◌≡◌, sym, ◌∙◌}
 use mathlib.Core.Bool.{true}
 use native.Mathlib.Omega.{arith}
-use borrow.Author.Tests.{not-true, not-false}
 use Rattle.rules.specs.Heap.{first_in}
 use Rattle.rules.proofs.Objects.{first_facts}
 use Rattle.test_arguments.specs.Replies.{look_reply}
@@ -11,19 +10,19 @@ use Rattle.test_arguments.proofs.looking.look_reply.Goals as goal
 pub returns-then-not-is_first : goal.returns-then-not-is_first
 unfolding look_reply
 returns-then-not-is_first c =
-    let fails = sym c.is_first.ensures ∙ not-true _ c.if-not-is_first.true-raw in
+    let fails = sym c.is_first.ensures ∙ c.if-not-is_first.true in
     rw (fails, look_reply) c.refusal.ensures
 
 -- past the test block `at` is a first block
 first-Else-not-is_first : (c : goal.Else-not-is_first) → first_in c.args.blocks c.args.a.now c.args.b.now c.args.at ≡ true
-first-Else-not-is_first c = sym c.is_first.ensures ∙ not-false _ c.if-not-is_first.false-raw
+first-Else-not-is_first c = sym c.is_first.ensures ∙ c.if-not-is_first.false
 
 pub object_size-size-requires : goal.object_size-size-requires
 object_size-size-requires c = omega (arith, (first_facts _ _ _ _ (first-Else-not-is_first c)).inside)
 
 -- past the test block `at` is a first block
 first-After-get_count-count : (c : goal.After-get_count-count) → first_in c.args.blocks c.args.a.now c.args.b.now c.args.at ≡ true
-first-After-get_count-count c = sym c.is_first.ensures ∙ not-false _ c.if-not-is_first.false-raw
+first-After-get_count-count c = sym c.is_first.ensures ∙ c.if-not-is_first.false
 
 pub returns : goal.returns
 unfolding look_reply

@@ -3,7 +3,7 @@ use mathlib.Core.Path.{◌≡◌, sym, ap, ◌∙◌}
 use mathlib.Core.Bool.{not}
 use mathlib.Core.List.{[], ◌∷◌}
 use native.Mathlib.Omega.{arith}
-use borrow.Author.Tests.{eq-eqb, ne_eqb, not-true, not-false}
+use borrow.Author.Tests.{eq-eqb, ne_eqb}
 use Rattle.bitmap.specs.Bit.{bit_at}
 use Rattle.types.specs.declared.Reply.{Reply}
 use Rattle.rules.specs.Tools.{first_number}
@@ -86,7 +86,7 @@ then-After-refusal-then-not-is_reference c =
 pub returns-then-not-is_reference : goal.returns-then-not-is_reference
 unfolding first_number
 returns-then-not-is_reference c =
-    let fails = sym c.is_reference.ensures ∙ not-true _ c.if-not-is_reference.true-raw in
+    let fails = sym c.is_reference.ensures ∙ c.if-not-is_reference.true in
     rw (then-After-refusal-then-not-is_reference c, fails, first_number) c.refusal-then-not-is_reference.ensures
 
 -- the maps
@@ -112,5 +112,5 @@ then-After-acceptance c =
 pub returns : goal.returns
 unfolding first_number
 returns c =
-    let passes = sym c.is_reference.ensures ∙ not-false _ c.if-not-is_reference.false-raw in
+    let passes = sym c.is_reference.ensures ∙ c.if-not-is_reference.false in
     rw (then-After-acceptance c, passes, first_number) c.acceptance.ensures

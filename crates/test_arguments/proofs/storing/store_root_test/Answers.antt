@@ -4,7 +4,7 @@ use mathlib.Core.Bool.{true}
 use native.Mathlib.Omega.{arith}
 use lib.Dec.{ltb}
 use lib.ListN.{length}
-use borrow.Author.Tests.{le-ltb, lt-ltb, not-true, not-false}
+use borrow.Author.Tests.{le-ltb, lt-ltb}
 use Rattle.rules.specs.Tools.{first_number}
 use Rattle.rules_calls.specs.Calls.{own_refusals}
 use Rattle.test_arguments.specs.Replies.{own_test}
@@ -23,7 +23,7 @@ inside-After-refusal-then-not-is_reference c =
 pub returns-then-not-is_reference : goal.returns-then-not-is_reference
 unfolding own_test own_refusals first_number
 returns-then-not-is_reference c =
-    let fails = sym c.is_reference.ensures ∙ not-true _ c.if-not-is_reference.true-raw in
+    let fails = sym c.is_reference.ensures ∙ c.if-not-is_reference.true in
     rw (inside-After-refusal-then-not-is_reference c, fails, own_test, own_refusals, first_number) c.refusal-then-not-is_reference.ensures
 
 -- past the first test there is a root r
@@ -34,5 +34,5 @@ inside-After-acceptance c =
 pub returns : goal.returns
 unfolding own_test own_refusals first_number
 returns c =
-    let passes = sym c.is_reference.ensures ∙ not-false _ c.if-not-is_reference.false-raw in
+    let passes = sym c.is_reference.ensures ∙ c.if-not-is_reference.false in
     rw (inside-After-acceptance c, passes, own_test, own_refusals, first_number) c.acceptance.ensures
