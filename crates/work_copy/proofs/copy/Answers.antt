@@ -83,7 +83,8 @@ map-length-After-slice_known-27-1 : (c : goal.After-slice_known-27-1) → length
 map-length-After-slice_known-27-1 c = c.collect.auto.a ∙ c.write_in_room.auto.a2
 
 pub count_zeros-requires : goal.count_zeros-requires
-count_zeros-requires c = let h = goal.at.count_zeros-requires c in let k = c.args in ?
+count_zeros-requires c =
+    omega (arith, map-length-After-slice_known-27-1 c, (shape-After-slice_known-27-1 c).length_a, (shape-After-slice_known-27-1 c).blocks_max)
 
 abbrev second-After-count_zeros : (c : goal.After-count_zeros) → Memory
 second-After-count_zeros c =
