@@ -174,6 +174,8 @@ fn kind_in(
 }
 
 // .. in the short array.
+// Not inlined, like the two after it: its array is on the stack only while it runs.
+#[inline(never)]
 fn kind_in_small(
     blocks: usize,
     width: usize,
@@ -193,6 +195,7 @@ fn kind_in_small(
 }
 
 // .. in the middle array.
+#[inline(never)]
 fn kind_in_middle(
     blocks: usize,
     width: usize,
@@ -212,6 +215,7 @@ fn kind_in_middle(
 }
 
 // .. in the longest array.
+#[inline(never)]
 fn kind_in_largest(
     blocks: usize,
     width: usize,

@@ -177,6 +177,8 @@ fn has_missed_cell(
 
 // Number 13, on a heap that 1 and 2 don't refuse. No test reads counts, waiting list or sections: the answer
 // is the same whatever they hold. Where none is open the mark map and the list are looked over once.
+// Not inlined: its map is on the stack only while it runs.
+#[inline(never)]
 pub fn is_untidy(
     blocks: usize,
     a: &[u8],

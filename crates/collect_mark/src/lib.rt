@@ -73,6 +73,8 @@ fn mark_in(
 }
 
 // .. in the short array.
+// Not inlined, like the two after it: its array is on the stack only while it runs.
+#[inline(never)]
 fn mark_in_small(
     blocks: usize,
     width: usize,
@@ -92,6 +94,7 @@ fn mark_in_small(
 }
 
 // .. in the middle array.
+#[inline(never)]
 fn mark_in_middle(
     blocks: usize,
     width: usize,
@@ -111,6 +114,7 @@ fn mark_in_middle(
 }
 
 // .. in the longest array.
+#[inline(never)]
 fn mark_in_largest(
     blocks: usize,
     width: usize,

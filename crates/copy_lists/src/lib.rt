@@ -95,6 +95,8 @@ fn write_in(
 }
 
 // .. in short arrays.
+// Not inlined, like the two after it: its arrays are on the stack only while it runs.
+#[inline(never)]
 fn write_in_small(
     blocks: usize,
     a: &[u8],
@@ -145,6 +147,7 @@ fn write_in_small(
 }
 
 // .. in longer arrays.
+#[inline(never)]
 fn write_in_middle(
     blocks: usize,
     a: &[u8],
@@ -195,6 +198,7 @@ fn write_in_middle(
 }
 
 // .. in the longest arrays.
+#[inline(never)]
 fn write_in_largest(
     blocks: usize,
     a: &[u8],

@@ -80,6 +80,8 @@ fn lay_each(
 }
 
 // The same, in a heap with nothing in it.
+// Not inlined: its map is on the stack only while it runs.
+#[inline(never)]
 pub fn plan(
     blocks: usize,
     b: &[u8],

@@ -235,6 +235,8 @@ fn listed_numbers(blocks: usize, list: &[Ref]) -> usize
 }
 
 // At most `budget` steps on the lent mark map and second list.
+// Not inlined: its map is on the stack only while it runs.
+#[inline(never)]
 pub fn advance(
     blocks: usize,
     b: &[u8],

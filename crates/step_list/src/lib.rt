@@ -141,6 +141,8 @@ fn mix(blocks: usize, old: &[u8], marks: &[u8], map: &mut [u8])
 
 // The second list after a call that made the marks of the old ones, a copy of which was kept. Where no mark
 // changed it is as it was.
+// Not inlined: its map is on the stack only while it runs.
+#[inline(never)]
 pub fn relist(blocks: usize, old: &[u8], marks: &[u8], list: &mut [Ref])
     requires { (blocks ≡ 8 * (blocks / 8)) × (blocks ≤ max_blocks) × (blocks ≤ 8 * length old.now) × (blocks ≤ 8 * length marks.now)
         × (length list.old ≡ blocks + 1) × Listing blocks old.now list.old }

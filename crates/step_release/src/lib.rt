@@ -12,6 +12,8 @@ use types::{MAX_BLOCKS, Ref};
 
 // Lets go of the reference `old`, if it is one, with all that this frees, in a store of `new` in a cell of the object that `owner`
 // names (0: in a root). The number of blocks freed.
+// Not inlined: its map is on the stack only while it runs.
+#[inline(never)]
 pub fn let_go(
     blocks: usize,
     width: usize,

@@ -127,6 +127,8 @@ fn reason_in(
 }
 
 // .. in short arrays.
+// Not inlined, like the two after it: its arrays are on the stack only while it runs.
+#[inline(never)]
 fn reason_in_small(
     blocks: usize,
     a: &[u8],
@@ -162,6 +164,7 @@ fn reason_in_small(
 }
 
 // .. in longer arrays.
+#[inline(never)]
 fn reason_in_middle(
     blocks: usize,
     a: &[u8],
@@ -197,6 +200,7 @@ fn reason_in_middle(
 }
 
 // .. in the longest arrays.
+#[inline(never)]
 fn reason_in_largest(
     blocks: usize,
     a: &[u8],

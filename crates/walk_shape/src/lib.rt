@@ -168,6 +168,8 @@ fn shape_in(
 }
 
 // .. in short arrays.
+// Not inlined, like the two after it: its arrays are on the stack only while it runs.
+#[inline(never)]
 fn shape_in_small(
     blocks: usize,
     a: &[u8],
@@ -201,6 +203,7 @@ fn shape_in_small(
 }
 
 // .. in longer arrays.
+#[inline(never)]
 fn shape_in_middle(
     blocks: usize,
     a: &[u8],
@@ -234,6 +237,7 @@ fn shape_in_middle(
 }
 
 // .. in the longest arrays.
+#[inline(never)]
 fn shape_in_largest(
     blocks: usize,
     a: &[u8],
