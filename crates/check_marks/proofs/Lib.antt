@@ -1,4 +1,5 @@
 pub mod Misses
 pub mod Tests
 pub mod TidySame
+pub mod TidyOpen
 pub mod Reading

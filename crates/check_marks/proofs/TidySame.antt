@@ -1,24 +1,21 @@
 -- Number 13 as code tests it is the rules' where the maps stand for objects: on a heap that 1 and 2 don't
 -- refuse.
 use mathlib.Core.Path.{◌≡◌, refl, sym, ap, ◌∙◌}
-use mathlib.Core.Logic.{◌≢◌, inl, inr}
-use mathlib.Core.Bool.{Bool, true, false, not, ◌&&◌, ◌||◌}
-use mathlib.Core.List.{List, []}
+use mathlib.Core.Logic.{◌≢◌}
+use mathlib.Core.Bool.{Bool, true, not, ◌||◌}
+use mathlib.Core.List.{List}
 use Prim.Native.Nat.{ℕ, ◌+◌, ◌-◌, ◌≤◌, ◌<◌}
 use native.Mathlib.Nat.{zero-add}
 use native.Mathlib.Omega.{arith}
 use lib.Dec.{eqb}
-use lib.ListN.{length, get_or}
-use borrow.Author.Tests.{eq-eqb, ne_eqb, not-true, not-false}
+use lib.ListN.{get_or}
+use borrow.Author.Tests.{ne_eqb}
 use Rattle.rules.specs.Tools.{some_below}
 use Rattle.rules.specs.Heap.{Memory, lent_memory, is_first}
-use Rattle.rules.specs.Damage.{stray_data}
 use Rattle.rules_steps.specs.Steps.{names, is_marked, is_listed, bad_next, bad_place, stray_mark, root_missed, cell_missed, is_untidy}
-use Rattle.rules.proofs.Tests.{test_cases_lem, and_true, and_false, some_true, some_false, false_some, true_some}
-use Rattle.step_list.specs.Lists.{is_set, listed_in, NextBit}
+use Rattle.rules.proofs.Tests.{false_some, true_some}
+use Rattle.step_list.specs.Lists.{NextBit}
 use Rattle.step_list.specs.Naming.{named_from, cell_names}
-use Rattle.check_marks.specs.Tidy.{bad_next_in, bad_place_in, stray_mark_in, root_missed_in, missed_at, cell_missed_in, missed_apart, Read}
-use Rattle.check_marks.proofs.Tests.{place_past, place_unmarked, places_good, apart_same}
 use Rattle.theory_memories.specs.Heaps.{Intact}
 use Rattle.theory_memories.proofs.Memories.Healthy.{Healthy, healthy_facts}
 use Rattle.theory_memories.proofs.Memories.Naming.{names_cells}
@@ -60,131 +57,3 @@ module _ (N : ℕ) (h : Memory) (shut : get_or h.list N 0 ≢ 1) where
       (e ∙ (λ m. some_below (λ k. not (eqb (get_or h.list (zero-add k m) 0) 0)) (N + 1))
       ∙ ap (λ (t : Bool). t || some_below (λ k. not (eqb (get_or h.list k 0) 0)) (N + 1))
       (sym (false_some (is_marked h) N (λ i u. next.clear i (omega arith) (omega arith)))))
-
-some_same : (test other : ℕ → Bool) (n : ℕ) → ((i : ℕ) → i < n → test i ≡ other i) → some_below test n ≡ some_below other n
-some_same test other n same = elim (test_cases_lem (some_below test n)) [
-  | inl e ↦
-      let found = some_true test n e in
-      e ∙ sym (true_some other n found.0 found.1 (sym (same found.0 found.1) ∙ found.2))
-  | inr e ↦ e ∙ sym (false_some other n (λ i l. sym (same i l) ∙ some_false test n e i l))
-]
-
--- ---- one is open: five tests, one after the other
-
-module _ {N w : ℕ} (h : Memory) (intact : Intact N w h) (opened : get_or h.list N 0 ≡ 1) where
-  abbrev test_1 : Bool
-  test_1 = some_below (bad_next_in h.list) (N - 1)
-
-  abbrev test_2 : Bool
-  test_2 = some_below (bad_place_in N h.a h.b h.marks h.list) N
-
-  abbrev test_3 : Bool
-  test_3 = some_below (stray_mark_in N h.a h.b h.marks) N
-
-  abbrev test_4 : Bool
-  test_4 = some_below (root_missed_in h.roots h.marks) (length h.roots)
-
-  abbrev test_5 : Bool
-  test_5 = some_below (cell_missed_in N h.a h.b h.d h.cells h.marks h.list) N
-
-  -- the tests of block x, for any test of what it names
-  missed_by : (ℕ → Bool) → (x : ℕ) → Bool
-  missed_by named x = is_first N h x && is_marked h x && not (is_listed N h x) && some_below (λ i. named i && not (is_marked h i)) N
-
-  cell_same : (x : ℕ) → cell_missed_in N h.a h.b h.d h.cells h.marks h.list x ≡ cell_missed N h x
-  unfolding cell_missed_in missed_at cell_missed listed_in is_listed missed_by
-  cell_same x =
-      elim (test_cases_lem (is_first N h x)) [
-        | inl first ↦ λ k. missed_by (λ i. names_same N w h (intact_healthy intact) x first i k) x
-        | inr other ↦ rw other
-      ]
-
-  untidy_open : is_untidy N h ≡ (test_1 || test_2 || test_3 || test_4 || test_5)
-  unfolding is_untidy bad_next bad_place stray_mark root_missed
-  untidy_open =
-      rw (eq-eqb (get_or h.list N 0) 1 opened, is_untidy)
-      (λ k. test_1 || test_2 || test_3 || test_4 || sym (λ m. some_below (λ x. cell_same x m) N) k)
-
-  untidy_1 : true ≡ test_1 → true ≡ is_untidy N h
-  untidy_1 e₁ = sym (untidy_open ∙ rw (← e₁))
-
-  untidy_2 : false ≡ test_1 → true ≡ test_2 → true ≡ is_untidy N h
-  untidy_2 e₁ e₂ = sym (untidy_open ∙ rw (← e₁, ← e₂))
-
-  untidy_3 : false ≡ test_1 → false ≡ test_2 → true ≡ test_3 → true ≡ is_untidy N h
-  untidy_3 e₁ e₂ e₃ = sym (untidy_open ∙ rw (← e₁, ← e₂, ← e₃))
-
-  untidy_4 : false ≡ test_1 → false ≡ test_2 → false ≡ test_3 → true ≡ test_4 → true ≡ is_untidy N h
-  untidy_4 e₁ e₂ e₃ e₄ = sym (untidy_open ∙ rw (← e₁, ← e₂, ← e₃, ← e₄))
-
-  untidy_5 :
-      false ≡ test_1 → false ≡ test_2 → false ≡ test_3 → false ≡ test_4 → {t : Bool} → t ≡ test_5 → t ≡ is_untidy N h
-  untidy_5 e₁ e₂ e₃ e₄ e₅ = sym (untidy_open ∙ rw (← e₁, ← e₂, ← e₃, ← e₄) (sym e₅))
-
-  -- a number of the list may not stand where it does
-  untidy_place : true ≡ test_2 → true ≡ is_untidy N h
-  untidy_place e = elim (test_cases_lem test_1) [ inl t ↦ untidy_1 (sym t) | inr f ↦ untidy_2 (sym f) e ]
-
-  -- ---- the same as code goes: the list read into a map, then the maps by bytes, then roots and cells
-
-  pub unread_list : {map : List ℕ} → Read N h.list map false → true ≡ is_untidy N h
-  unread_list r = elim (r.refused refl) [
-    | inl e ↦ untidy_1 (sym e)
-    | inr past ↦
-        untidy_place
-        (sym
-        (true_some (bad_place_in N h.a h.b h.marks h.list) N past.0 past.1
-        (place_past N h.a h.b h.marks h.list past.0 past.2)))
-  ]
-
-  -- a mark is to the mark map what a D bit is to the D-map
-  stray_same : some_below (stray_data N (lent_memory h.a h.b [] [] [] [] [] h.marks [] [])) N ≡ test_3
-  unfolding stray_data stray_mark
-  stray_same = refl
-
-  module _ {map : List ℕ} (r : Read N h.list map true) where
-    risen : false ≡ test_1
-    risen = sym (false_some (bad_next_in h.list) (N - 1) (r.rises refl))
-
-    pub stray_mark_lem : true ≡ some_below (stray_data N (lent_memory h.a h.b [] [] [] [] [] h.marks [] [])) N → true ≡ is_untidy N h
-    stray_mark_lem e =
-        elim (test_cases_lem test_2) [ inl t ↦ untidy_2 risen (sym t) | inr f ↦ untidy_3 risen (sym f) (e ∙ stray_same) ]
-
-    pub unmarked_listed : true ≡ some_below (λ i. is_set map i && not (is_set h.marks i)) N → true ≡ is_untidy N h
-    unmarked_listed e =
-        let found = some_true (λ i. is_set map i && not (is_set h.marks i)) N (sym e) in
-        let parts = and_true (is_set map found.0) (not (is_set h.marks found.0)) found.2 in
-        untidy_place
-        (sym
-        (place_unmarked N h.a h.b h.marks h.list found.0 (sym ((r.shown refl).bits found.0 found.1) ∙ parts.0)
-        (not-true (is_set h.marks found.0) parts.1)))
-
-    module _ (none : false ≡ some_below (stray_data N (lent_memory h.a h.b [] [] [] [] [] h.marks [] [])) N) where
-      on_first : (i : ℕ) → i < N → is_set h.marks i ≡ true → is_first N h i ≡ true
-      unfolding stray_mark
-      on_first i l e =
-          not-false (is_first N h i)
-          (and_false (is_set h.marks i) (not (is_first N h i))
-          (some_false (stray_mark_in N h.a h.b h.marks) N (sym (none ∙ stray_same)) i l) e)
-
-      module _ (all : false ≡ some_below (λ i. is_set map i && not (is_set h.marks i)) N) where
-        placed : false ≡ test_2
-        placed =
-            sym
-            (places_good N h.a h.b h.marks h.list (r.low refl)
-            (λ i l on.
-            let marked : is_set h.marks i ≡ true =
-            not-false (is_set h.marks i)
-            (and_false (is_set map i) (not (is_set h.marks i))
-            (some_false (λ i. is_set map i && not (is_set h.marks i)) N (sym all) i l) ((r.shown refl).bits i l ∙ on)) in
-            (on_first i l marked, marked)))
-
-        pub missed_root : true ≡ test_4 → true ≡ is_untidy N h
-        missed_root e = untidy_4 risen placed (none ∙ stray_same) e
-
-        pub missed_cell : false ≡ test_4 → {t : Bool} → t ≡ some_below (missed_apart N h.b h.d h.cells h.marks map) N → t ≡ is_untidy N h
-        missed_cell e {t} f =
-            untidy_5 risen placed (none ∙ stray_same) e
-            (f ∙ some_same (missed_apart N h.b h.d h.cells h.marks map)
-            (cell_missed_in N h.a h.b h.d h.cells h.marks h.list) N
-            (λ x l. apart_same N h.b h.d h.cells h.marks h.a h.list map x ((r.shown refl).bits x l) (on_first x l)))

@@ -11,7 +11,8 @@ use Rattle.rules.proofs.Shape.{Shaped, shape_facts}
 use Rattle.theory_memories.specs.Heaps.{Intact}
 use Rattle.step_list.proofs.Bits.{shows_none}
 use Rattle.check_marks.specs.Tidy.{Read}
-use Rattle.check_marks.proofs.TidySame.{unread, remains_marked, remains_listed, unread_list, stray_mark_lem, unmarked_listed, missed_root, missed_cell}
+use Rattle.check_marks.proofs.TidySame.{unread, remains_marked, remains_listed}
+use Rattle.check_marks.proofs.TidyOpen.{unread_list, stray_mark_lem, unmarked_listed, missed_root, missed_cell}
 use Rattle.check_marks.proofs.is_untidy.Goals as goal
 
 -- the lengths of a heap that 1 and 2 did not refuse
