@@ -1,5 +1,6 @@
 -- `count_down::count_down` meets its contract: each way out is one of the laws of counting down.
 use mathlib.Core.Path.{sym, ◌∙◌}
+use mathlib.Core.Logic.{◌≢◌}
 use native.Mathlib.Omega.{arith}
 use Rattle.count_down.proofs.CountDown.{down_none, down_past, down_zero, down_stuck, Lowered, lowered}
 use Rattle.count_down.proofs.count_down.Goals as goal
@@ -22,27 +23,27 @@ returns-then-count-capacity_of c =
     down_stuck c.requires.0 c.requires.1 (omega arith)
     c.if-v-eq0.false c.get_count-count.ensures.0 c.capacity_of.ensures.0 c.if-count-capacity_of.true
 
--- past the fourth test the count is written one lower
-lowered-here-Then-count-eq1 : (c : goal.Then-count-eq1) → Lowered c.args.blocks c.args.width c.args.counts.now c.args.waiting.now c.args.top c.args.v
-    c.get_count-count.result c.set_count.new.counts
-lowered-here-Then-count-eq1 c =
+-- past the fourth test, where the count is no capacity, it is written one lower
+lowered-here-Then-count-eq1 : (c : goal.Then-count-eq1) → c.get_count-count.result ≢ c.capacity_of.result
+    → Lowered c.args.blocks c.args.width c.args.counts.now c.args.waiting.now c.args.top c.args.v c.get_count-count.result c.set_count.new.counts
+lowered-here-Then-count-eq1 c other =
     lowered c.requires.0 c.requires.1 (omega arith) c.if-v-eq0.false
     c.get_count-count.ensures.0 c.capacity_of.ensures.0 c.set_count.ensures
-    c.if-count-eq0.false c.if-count-capacity_of.false
+    c.if-count-eq0.false other
 
 pub bounds-waiting-top : goal.bounds-waiting-top
-bounds-waiting-top c = (lowered-here-Then-count-eq1 c).place c.if-count-eq1.true
+bounds-waiting-top c = (lowered-here-Then-count-eq1 c c.if-count-capacity_of.false).place c.if-count-eq1.true
 
 pub returns-then-count-eq1 : goal.returns-then-count-eq1
-returns-then-count-eq1 c = (lowered-here-Then-count-eq1 c).last c.if-count-eq1.true
+returns-then-count-eq1 c = (lowered-here-Then-count-eq1 c c.if-count-capacity_of.false).last c.if-count-eq1.true
 
--- past the fourth test the count is written one lower
-lowered-here-Else-count-eq1 : (c : goal.Else-count-eq1) → Lowered c.args.blocks c.args.width c.args.counts.now c.args.waiting.now c.args.top c.args.v
-    c.get_count-count.result c.set_count.new.counts
-lowered-here-Else-count-eq1 c =
+-- past the fourth test, where the count is no capacity, it is written one lower
+lowered-here-Else-count-eq1 : (c : goal.Else-count-eq1) → c.get_count-count.result ≢ c.capacity_of.result
+    → Lowered c.args.blocks c.args.width c.args.counts.now c.args.waiting.now c.args.top c.args.v c.get_count-count.result c.set_count.new.counts
+lowered-here-Else-count-eq1 c other =
     lowered c.requires.0 c.requires.1 (omega arith) c.if-v-eq0.false
     c.get_count-count.ensures.0 c.capacity_of.ensures.0 c.set_count.ensures
-    c.if-count-eq0.false c.if-count-capacity_of.false
+    c.if-count-eq0.false other
 
 pub returns : goal.returns
-returns c = (lowered-here-Else-count-eq1 c).more c.if-count-eq1.false
+returns c = (lowered-here-Else-count-eq1 c c.if-count-capacity_of.false).more c.if-count-eq1.false

@@ -23,7 +23,7 @@ clear_extent-requires c = (
   c.loop-t.invariant.0.extents.a_length,
   c.loop-t.invariant.0.extents.b_length,
   omega (arith, c.object_size-n.ensures.1, c.loop-t.invariant.0.stack.blocks (c.loop-t.t - 1) (omega arith)),
-  c.object_size-n.ensures.2,
+  omega (arith, c.object_size-n.ensures.2),
 )
 
 pub drop_object-t-requires : goal.drop_object-t-requires

@@ -200,16 +200,17 @@ bytes-preserved-then-byte-ne0 c =
 whole-Else-byte-ne0 : (c : goal.Else-byte-ne0) → (8 ≤ c.args.size) ⊎ (get_or c.args.a.now ((c.args.from + c.bytes.looks) / 8) 0 ≡ 255)
 whole-Else-byte-ne0 c = elim c.if-size-lt8.branch [ then-size-lt8+else-byte w ↦ inr w.if-byte.false | else-size-lt8 w ↦ inl w.if-size-lt8.false ]
 
-eight-free-Else-byte-ne0 : (c : goal.Else-byte-ne0) → Walked c.args.from c.args.to c.args.a.now c.args.size (c.bytes.looks + 8) (c.bytes.stretch + 8) (c.args.from + (c.bytes.looks + 8))
-eight-free-Else-byte-ne0 c =
-    let large : 8 ≤ c.args.size = elim (whole-Else-byte-ne0 c) [ inl l ↦ l | inr full ↦ absurd (omega (arith, c.if-byte-ne0.false)) ] in
-    free_byte c.args.from c.args.to c.args.a.now c.args.size c.bytes.looks c.bytes.stretch c.requires.part c.bytes.invariant.1 c.bytes.invariant.0 c.if-from-looks.false large c.if-byte-ne0.false
+eight-free-Else-byte-ne0 : (c : goal.Else-byte-ne0) → get_or c.args.a.now ((c.args.from + c.bytes.looks) / 8) 0 ≡ 0
+    → Walked c.args.from c.args.to c.args.a.now c.args.size (c.bytes.looks + 8) (c.bytes.stretch + 8) (c.args.from + (c.bytes.looks + 8))
+eight-free-Else-byte-ne0 c zero =
+    let large : 8 ≤ c.args.size = elim (whole-Else-byte-ne0 c) [ inl l ↦ l | inr full ↦ absurd (omega (arith, zero)) ] in
+    free_byte c.args.from c.args.to c.args.a.now c.args.size c.bytes.looks c.bytes.stretch c.requires.part c.bytes.invariant.1 c.bytes.invariant.0 c.if-from-looks.false large zero
 
 pub overflow_add-stretch-in-bytes : goal.overflow_add-stretch-in-bytes
-overflow_add-stretch-in-bytes c = omega (arith, (eight-free-Else-byte-ne0 c).inside, (eight-free-Else-byte-ne0 c).within)
+overflow_add-stretch-in-bytes c = omega (arith, (eight-free-Else-byte-ne0 c c.if-byte-ne0.false).inside, (eight-free-Else-byte-ne0 c c.if-byte-ne0.false).within)
 
 pub overflow_add-from-in-bytes : goal.overflow_add-from-in-bytes
-overflow_add-from-in-bytes c = omega (arith, (eight-free-Else-byte-ne0 c).inside)
+overflow_add-from-in-bytes c = omega (arith, (eight-free-Else-byte-ne0 c c.if-byte-ne0.false).inside)
 
 power-Else-byte-ne0 : (c : goal.Else-byte-ne0) → (k : ℕ) × (c.args.size ≡ 2 ^ k)
 power-Else-byte-ne0 c = (c.requires.part.exponent, c.requires.part.power)
@@ -220,34 +221,36 @@ is_judged_free-requires-in-bytes c = power-Else-byte-ne0 c
 whole-Then-is_judged_free-2 : (c : goal.Then-is_judged_free-2) → (8 ≤ c.args.size) ⊎ (get_or c.args.a.now ((c.args.from + c.bytes.looks) / 8) 0 ≡ 255)
 whole-Then-is_judged_free-2 c = elim c.if-size-lt8.branch [ then-size-lt8+else-byte w ↦ inr w.if-byte.false | else-size-lt8 w ↦ inl w.if-size-lt8.false ]
 
-eight-free-Then-is_judged_free-2 : (c : goal.Then-is_judged_free-2) → Walked c.args.from c.args.to c.args.a.now c.args.size (c.bytes.looks + 8) (c.bytes.stretch + 8) (c.args.from + (c.bytes.looks + 8))
-eight-free-Then-is_judged_free-2 c =
-    let large : 8 ≤ c.args.size = elim (whole-Then-is_judged_free-2 c) [ inl l ↦ l | inr full ↦ absurd (omega (arith, c.if-byte-ne0.false)) ] in
-    free_byte c.args.from c.args.to c.args.a.now c.args.size c.bytes.looks c.bytes.stretch c.requires.part c.bytes.invariant.1 c.bytes.invariant.0 c.if-from-looks.false large c.if-byte-ne0.false
+eight-free-Then-is_judged_free-2 : (c : goal.Then-is_judged_free-2) → get_or c.args.a.now ((c.args.from + c.bytes.looks) / 8) 0 ≡ 0
+    → Walked c.args.from c.args.to c.args.a.now c.args.size (c.bytes.looks + 8) (c.bytes.stretch + 8) (c.args.from + (c.bytes.looks + 8))
+eight-free-Then-is_judged_free-2 c zero =
+    let large : 8 ≤ c.args.size = elim (whole-Then-is_judged_free-2 c) [ inl l ↦ l | inr full ↦ absurd (omega (arith, zero)) ] in
+    free_byte c.args.from c.args.to c.args.a.now c.args.size c.bytes.looks c.bytes.stretch c.requires.part c.bytes.invariant.1 c.bytes.invariant.0 c.if-from-looks.false large zero
 
 pub overflow_add-at-then-is_judged_free-2 : goal.overflow_add-at-then-is_judged_free-2
-overflow_add-at-then-is_judged_free-2 c = omega (arith, (eight-free-Then-is_judged_free-2 c).inside)
+overflow_add-at-then-is_judged_free-2 c = omega (arith, (eight-free-Then-is_judged_free-2 c c.if-byte-ne0.false).inside)
 
 pub overflow_sub-at-then-is_judged_free-2 : goal.overflow_sub-at-then-is_judged_free-2
 overflow_sub-at-then-is_judged_free-2 c =
     let judged = judged_true (c.args.from + (c.bytes.looks + 8)) c.args.size (c.bytes.stretch + 8) in
-    omega (arith, (eight-free-Then-is_judged_free-2 c).within, (judged (sym c.is_judged_free-in-bytes.ensures ∙ c.if-is_judged_free-2.true)).0)
+    omega (arith, (eight-free-Then-is_judged_free-2 c c.if-byte-ne0.false).within, (judged (sym c.is_judged_free-in-bytes.ensures ∙ c.if-is_judged_free-2.true)).0)
 
 whole-Else-is_judged_free-2 : (c : goal.Else-is_judged_free-2) → (8 ≤ c.args.size) ⊎ (get_or c.args.a.now ((c.args.from + c.bytes.looks) / 8) 0 ≡ 255)
 whole-Else-is_judged_free-2 c = elim c.if-size-lt8.branch [ then-size-lt8+else-byte w ↦ inr w.if-byte.false | else-size-lt8 w ↦ inl w.if-size-lt8.false ]
 
-eight-free-Else-is_judged_free-2 : (c : goal.Else-is_judged_free-2) → Walked c.args.from c.args.to c.args.a.now c.args.size (c.bytes.looks + 8) (c.bytes.stretch + 8) (c.args.from + (c.bytes.looks + 8))
-eight-free-Else-is_judged_free-2 c =
-    let large : 8 ≤ c.args.size = elim (whole-Else-is_judged_free-2 c) [ inl l ↦ l | inr full ↦ absurd (omega (arith, c.if-byte-ne0.false)) ] in
-    free_byte c.args.from c.args.to c.args.a.now c.args.size c.bytes.looks c.bytes.stretch c.requires.part c.bytes.invariant.1 c.bytes.invariant.0 c.if-from-looks.false large c.if-byte-ne0.false
+eight-free-Else-is_judged_free-2 : (c : goal.Else-is_judged_free-2) → get_or c.args.a.now ((c.args.from + c.bytes.looks) / 8) 0 ≡ 0
+    → Walked c.args.from c.args.to c.args.a.now c.args.size (c.bytes.looks + 8) (c.bytes.stretch + 8) (c.args.from + (c.bytes.looks + 8))
+eight-free-Else-is_judged_free-2 c zero =
+    let large : 8 ≤ c.args.size = elim (whole-Else-is_judged_free-2 c) [ inl l ↦ l | inr full ↦ absurd (omega (arith, zero)) ] in
+    free_byte c.args.from c.args.to c.args.a.now c.args.size c.bytes.looks c.bytes.stretch c.requires.part c.bytes.invariant.1 c.bytes.invariant.0 c.if-from-looks.false large zero
 
 pub bytes-smaller : goal.bytes-smaller
-bytes-smaller c = omega (arith, (eight-free-Else-is_judged_free-2 c).inside)
+bytes-smaller c = omega (arith, (eight-free-Else-is_judged_free-2 c c.if-byte-ne0.false).inside)
 
 pub bytes-preserved : goal.bytes-preserved
 bytes-preserved c = (
   omega (arith, c.bytes.invariant.0),
-  judged_used c.args.from c.args.to c.args.a.now c.args.size (c.bytes.looks + 8) (c.bytes.stretch + 8) (eight-free-Else-is_judged_free-2 c) (sym c.is_judged_free-in-bytes.ensures ∙ c.if-is_judged_free-2.false),
+  judged_used c.args.from c.args.to c.args.a.now c.args.size (c.bytes.looks + 8) (c.bytes.stretch + 8) (eight-free-Else-is_judged_free-2 c c.if-byte-ne0.false) (sym c.is_judged_free-in-bytes.ensures ∙ c.if-is_judged_free-2.false),
 )
 
 pub returns-then-from-looks : goal.returns-then-from-looks
@@ -261,5 +264,5 @@ returns-then-is_judged_free c k e =
 
 pub returns-then-is_judged_free-2 : goal.returns-then-is_judged_free-2
 returns-then-is_judged_free-2 c k e =
-    judged_free_lem c.args.from c.args.to c.args.a.now c.args.size (c.bytes.looks + 8) (c.bytes.stretch + 8) (eight-free-Then-is_judged_free-2 c) c.requires.part
+    judged_free_lem c.args.from c.args.to c.args.a.now c.args.size (c.bytes.looks + 8) (c.bytes.stretch + 8) (eight-free-Then-is_judged_free-2 c c.if-byte-ne0.false) c.requires.part
     (sym c.is_judged_free-in-bytes.ensures ∙ c.if-is_judged_free-2.true) k e
