@@ -14,6 +14,12 @@ pub type Ref = u32;
 // The largest heap, in blocks.
 pub const MAX_BLOCKS: usize = 65536;
 
+// The places of the short and of the middle working arrays: enough for heaps of 1,024 and of 8,192 blocks. Work that needs a place for each
+// block takes the shortest of three arrays that has them, since it is cleared in every call.
+pub const SMALL_ROOM: usize = MAX_BLOCKS / 64;
+
+pub const MIDDLE_ROOM: usize = MAX_BLOCKS / 8;
+
 // The largest number that a cell holds: all bits of a `Ref`.
 pub const MAX_NUMBER: usize = 4294967295;
 
