@@ -17,6 +17,9 @@ use Rattle.rules_steps.specs.Steps.{is_open}
 use Rattle.rules_calls.specs.Calls.{reply, Alone, cell_refusals, own_refusals, outcome, answer}
 use Rattle.rules_calls.specs.Promise.{Promise}
 use Rattle.types.specs.declared.Reply.{Reply}
+use Rattle.types.specs.declared.refusals.Refusal.{Refusal}
+use Rattle.types.specs.Told.{accepted, refused}
+use Rattle.types.proofs.Refused.{refused_ne0}
 use Rattle.rules_calls.proofs.Replies.{Passed, own_passed, alone_shaped}
 use Rattle.rules.proofs.Tests.{test_cases_lem, first_found, first_not}
 use Rattle.rules.proofs.Objects.{first_facts, size_le, ref_facts}
@@ -102,6 +105,9 @@ module _ (N : ℕ) (h : Memory) (a j : ℕ) where
   unfolding own_test own_refusals
   store_early v fails = sym (cell_first N h a j _ fails)
 
+  pub store_refused : (v : ℕ) (refusal : Refusal) → refused refusal ≡ cell_test N h a j → refused refusal ≡ store_cell_test N h a j v
+  store_refused v refusal tested = tested ∙ store_early v (refused_ne0 refusal tested)
+
   pub store_then : (v : ℕ) → (cell_test N h a j).number ≡ 0
       → store_cell_test N h a j v ≡ reply (first_number ((12, is_data h.d a) ∷ (8, not (is_ref N h v)) ∷ [])) 0 0
   unfolding own_test own_refusals
@@ -111,9 +117,30 @@ module _ (N : ℕ) (h : Memory) (a j : ℕ) where
   unfolding own_test own_refusals
   number_early fails = sym (cell_first N h a j _ fails)
 
+  pub number_refused : (refusal : Refusal) → refused refusal ≡ cell_test N h a j → refused refusal ≡ number_test N h a j
+  number_refused refusal tested = tested ∙ number_early (refused_ne0 refusal tested)
+
   pub number_then : (cell_test N h a j).number ≡ 0 → number_test N h a j ≡ reply (first_number ((12, not (is_data h.d a)) ∷ [])) 0 0
   unfolding own_test own_refusals
   number_then e = ap (λ (k : ℕ). reply k 0 0) (cell_then N h a j _ e)
+
+-- what the tests of a cell read
+abbrev pub maps : (a b d : List ℕ) → Memory
+maps a b d = lent_memory a b [] [] [] [] [] d [] []
+
+-- the first two read the A-map and the B-map alone
+pub first_tested : (N : ℕ) (a b d : List ℕ) (at j : ℕ) {x : Reply} → x ≡ cell_test N (memory a b [] [] [] []) at j
+    → x ≡ cell_test N (maps a b d) at j
+unfolding cell_test
+first_tested N a b d at j tested = tested
+
+pub test_accepted : {x : Reply} → accepted 0 ≡ x → x.number ≡ 0
+test_accepted tested = sym (ap (λ (y : Reply). y.number) tested)
+
+-- where they pass
+pub first_passed : (N : ℕ) (a b d : List ℕ) (at j : ℕ) → accepted 0 ≡ cell_test N (memory a b [] [] [] []) at j
+    → (cell_test N (maps a b d) at j).number ≡ 0
+first_passed N a b d at j tested = test_accepted (first_tested N a b d at j tested)
 
 -- past them there is such a cell
 pub cell_there : (N : ℕ) (h : Memory) (a j : ℕ) → (cell_test N h a j).number ≡ 0 → (is_first N h a ≡ true) × (j < 4 * size_at N h a)

@@ -1,27 +1,28 @@
 // The tests of the calls that collect: whether a collection is open (request U8). The last place of the second list says it.
 ghost use Rattle.std.specs.Prelude.{◌≡◌, ◌<◌, length};
+ghost use Rattle.types.specs.Told.{tested};
 ghost use Rattle.test_arguments.specs.Replies.{shut_test, open_test};
 
-use types::{Ref, Reply, replies};
+use types::{Ref, Refusal};
 
 // The test of a full collection, and of an opening: none may be open.
-pub fn shut_test(blocks: usize, list: &[Ref]) -> Reply
+pub fn shut_test(blocks: usize, list: &[Ref]) -> Result<(), Refusal>
     requires { blocks < length list.now }
-    ensures { result ≡ shut_test blocks list.now }
+    ensures { tested result ≡ shut_test blocks list.now }
 {
     if list[blocks] == 1 {
-        return replies::refusal(14);
+        return Err(Refusal::OutOfTurn);
     }
-    replies::acceptance(0)
+    Ok(())
 }
 
 // The test of steps: one has to be open.
-pub fn open_test(blocks: usize, list: &[Ref]) -> Reply
+pub fn open_test(blocks: usize, list: &[Ref]) -> Result<(), Refusal>
     requires { blocks < length list.now }
-    ensures { result ≡ open_test blocks list.now }
+    ensures { tested result ≡ open_test blocks list.now }
 {
     if list[blocks] != 1 {
-        return replies::refusal(14);
+        return Err(Refusal::OutOfTurn);
     }
-    replies::acceptance(0)
+    Ok(())
 }

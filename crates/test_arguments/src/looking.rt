@@ -4,7 +4,7 @@ ghost use Rattle.rules.specs.Heap.{memory};
 ghost use Rattle.test_arguments.specs.Replies.{look_reply};
 
 use map_objects::objects;
-use types::{Reply, replies};
+use types::{Refusal, Reply};
 
 // The reply of a look at block `at`.
 pub fn look_reply(
@@ -20,7 +20,7 @@ pub fn look_reply(
     ensures { result ≡ look_reply blocks width (memory a.now b.now counts.now [] [] []) at }
 {
     if !objects::is_first(blocks, a, b, at) {
-        return replies::refusal(6);
+        return Refusal::NoObject.into();
     }
     let size = objects::object_size(blocks, b, at);
     let count = planes::get_count(counts, blocks / 8, width, at);

@@ -5,7 +5,10 @@
 ghost use Rattle.std.specs.Prelude.{◌≡◌, ◌-◌, ◌^◌, ◌≤◌, ◌<◌};
 ghost use Rattle.bitmap.specs.Bit.{one};
 
+pub mod refusals;
 pub mod replies;
+
+pub use refusals::{Damage, Refusal};
 
 // A cell or root: 0, or 1 + the first block of an object. Its width and the two bounds below are written here, and in the rules
 // as `doublings` and `max_number`.

@@ -1,7 +1,43 @@
 // The replies as they are built: a refusal, and acceptance with one value.
 ghost use Rattle.std.specs.Prelude.{◌≡◌};
+ghost use Rattle.types.specs.Told.{refused, replied, tested};
 
 use crate::Reply;
+use crate::refusals::Refusal;
+
+impl From<Refusal> for Reply {
+    ghost from_gives = { λ refusal reply. reply ≡ refused refusal };
+
+    fn from(refusal: Refusal) -> Reply {
+        Reply {
+            number: refusal.number(),
+            value: refusal.value(),
+            second: 0,
+        }
+    }
+}
+
+impl From<Result<usize, Refusal>> for Reply {
+    ghost from_gives = { λ answer reply. reply ≡ replied answer };
+
+    fn from(answer: Result<usize, Refusal>) -> Reply {
+        match answer {
+            Ok(value) => acceptance(value),
+            Err(refusal) => refusal.into(),
+        }
+    }
+}
+
+impl From<Result<(), Refusal>> for Reply {
+    ghost from_gives = { λ answer reply. reply ≡ tested answer };
+
+    fn from(answer: Result<(), Refusal>) -> Reply {
+        match answer {
+            Ok(()) => acceptance(0),
+            Err(refusal) => refusal.into(),
+        }
+    }
+}
 
 // A refusal.
 pub fn refusal(number: usize) -> Reply

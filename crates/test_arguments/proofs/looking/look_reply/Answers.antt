@@ -11,7 +11,7 @@ pub returns-then-not-is_first : goal.returns-then-not-is_first
 unfolding look_reply
 returns-then-not-is_first c =
     let fails = sym c.is_first.ensures ∙ c.if-not-is_first.true in
-    rw (fails, look_reply) c.refusal.ensures
+    rw (fails, look_reply) c.into.ensures
 
 -- past the test block `at` is a first block
 first-Else-not-is_first : (c : goal.Else-not-is_first) → first_in c.args.blocks c.args.a.now c.args.b.now c.args.at ≡ true

@@ -1,79 +1,39 @@
 -- `numbers::number_test` meets its contract: the tests in order.
-use mathlib.Core.Path.{◌≡◌, sym, ap, ◌∙◌}
-use mathlib.Core.List.{[]}
-use native.Mathlib.Omega.{arith}
+use Rattle.std.proofs.Common.{◌≡◌, arith}
 use borrow.Author.Tests.{eq-eqb, ne_eqb}
+use Rattle.std.proofs.lemmas.Result.{err_from_is_err_and}
 use Rattle.bitmap.specs.Bit.{bit_at}
-use Rattle.types.specs.declared.Reply.{Reply}
 use Rattle.rules.specs.Tools.{first_number}
-use Rattle.rules.specs.Heap.{Memory, lent_memory}
 use Rattle.rules.proofs.Objects.{first_facts}
-use Rattle.test_arguments.specs.Replies.{cell_test}
-use Rattle.test_arguments.proofs.ArgumentTests.{cell_there, number_early, number_then}
+use Rattle.test_arguments.proofs.ArgumentTests.{maps, first_tested, first_passed, cell_there, number_refused, number_then}
 use Rattle.test_arguments.proofs.numbers.number_test.Goals as goal
 
--- the maps
-abbrev maps-Then-number-ne0 : (c : goal.Then-number-ne0) → Memory
-maps-Then-number-ne0 c = lent_memory c.args.a.now c.args.b.now [] [] [] [] [] c.args.d.now [] []
-
-tested-Then-number-ne0 : (c : goal.Then-number-ne0) → c.cell_test-tested.result ≡ cell_test c.args.blocks (maps-Then-number-ne0 c) c.args.at c.args.j
-unfolding cell_test
-tested-Then-number-ne0 c = c.cell_test-tested.ensures
-
-pub returns-then-number-ne0 : goal.returns-then-number-ne0
-returns-then-number-ne0 c =
-    tested-Then-number-ne0 c
-    ∙ number_early c.args.blocks (maps-Then-number-ne0 c) c.args.at c.args.j
-    (λ e. c.if-number-ne0.true (ap (λ (y : Reply). y.number) (tested-Then-number-ne0 c) ∙ e))
-
--- the maps
-abbrev maps-Else-number-ne0 : (c : goal.Else-number-ne0) → Memory
-maps-Else-number-ne0 c = lent_memory c.args.a.now c.args.b.now [] [] [] [] [] c.args.d.now [] []
-
-tested-Else-number-ne0 : (c : goal.Else-number-ne0) → c.cell_test-tested.result ≡ cell_test c.args.blocks (maps-Else-number-ne0 c) c.args.at c.args.j
-unfolding cell_test
-tested-Else-number-ne0 c = c.cell_test-tested.ensures
-
--- past the first tests
-there-Else-number-ne0 : (c : goal.Else-number-ne0) → (cell_test c.args.blocks (maps-Else-number-ne0 c) c.args.at c.args.j).number ≡ 0
-there-Else-number-ne0 c = ap (λ (y : Reply). y.number) (sym (tested-Else-number-ne0 c)) ∙ c.if-number-ne0.false
+pub returns-in_err-cell_test : goal.returns-in_err-cell_test
+returns-in_err-cell_test c =
+    let x = c.args in
+    let exit = err_from_is_err_and c.from_residual.result c.from_residual.ensures.1 in
+    rw (exit.1, exit.2)
+    (number_refused x.blocks (maps x.a.now x.b.now x.d.now) x.at x.j _
+    (first_tested x.blocks x.a.now x.b.now x.d.now x.at x.j c.in_err-cell_test.ensures))
 
 pub get_bit-requires : goal.get_bit-requires
 get_bit-requires c =
-    omega (arith, (first_facts _ _ _ _ (cell_there c.args.blocks (maps-Else-number-ne0 c) c.args.at c.args.j (there-Else-number-ne0 c)).0).inside)
-
--- the maps
-abbrev maps-After-refusal : (c : goal.After-refusal) → Memory
-maps-After-refusal c = lent_memory c.args.a.now c.args.b.now [] [] [] [] [] c.args.d.now [] []
-
-tested-After-refusal : (c : goal.After-refusal) → c.cell_test-tested.result ≡ cell_test c.args.blocks (maps-After-refusal c) c.args.at c.args.j
-unfolding cell_test
-tested-After-refusal c = c.cell_test-tested.ensures
-
--- past the first tests
-there-After-refusal : (c : goal.After-refusal) → (cell_test c.args.blocks (maps-After-refusal c) c.args.at c.args.j).number ≡ 0
-there-After-refusal c = ap (λ (y : Reply). y.number) (sym (tested-After-refusal c)) ∙ c.if-number-ne0.false
+    let x = c.args in
+    let passed = first_passed x.blocks x.a.now x.b.now x.d.now x.at x.j c.in_ok-cell_test.ensures in
+    omega (arith, (first_facts _ _ _ _ (cell_there x.blocks (maps x.a.now x.b.now x.d.now) x.at x.j passed).0).inside)
 
 pub returns-then-get_bit-eq0 : goal.returns-then-get_bit-eq0
 unfolding first_number
 returns-then-get_bit-eq0 c =
-    let other = ne_eqb (bit_at c.args.d.now c.args.at) 1 (λ e. omega (arith, c.get_bit.ensures.0, c.if-get_bit-eq0.true, e)) in
-    rw (number_then c.args.blocks (maps-After-refusal c) c.args.at c.args.j (there-After-refusal c), other, first_number) c.refusal.ensures
-
--- the maps
-abbrev maps-After-acceptance : (c : goal.After-acceptance) → Memory
-maps-After-acceptance c = lent_memory c.args.a.now c.args.b.now [] [] [] [] [] c.args.d.now [] []
-
-tested-After-acceptance : (c : goal.After-acceptance) → c.cell_test-tested.result ≡ cell_test c.args.blocks (maps-After-acceptance c) c.args.at c.args.j
-unfolding cell_test
-tested-After-acceptance c = c.cell_test-tested.ensures
-
--- past the first tests
-there-After-acceptance : (c : goal.After-acceptance) → (cell_test c.args.blocks (maps-After-acceptance c) c.args.at c.args.j).number ≡ 0
-there-After-acceptance c = ap (λ (y : Reply). y.number) (sym (tested-After-acceptance c)) ∙ c.if-number-ne0.false
+    let x = c.args in
+    let passed = first_passed x.blocks x.a.now x.b.now x.d.now x.at x.j c.in_ok-cell_test.ensures in
+    let other = ne_eqb (bit_at x.d.now x.at) 1 (λ e. omega (arith, c.get_bit.ensures.0, c.if-get_bit-eq0.true, e)) in
+    rw (number_then x.blocks (maps x.a.now x.b.now x.d.now) x.at x.j passed, other, first_number)
 
 pub returns : goal.returns
 unfolding first_number
 returns c =
-    let made = eq-eqb (bit_at c.args.d.now c.args.at) 1 (omega (arith, c.get_bit.ensures.0, c.get_bit.ensures.1, c.if-get_bit-eq0.false)) in
-    rw (number_then c.args.blocks (maps-After-acceptance c) c.args.at c.args.j (there-After-acceptance c), made, first_number) c.acceptance.ensures
+    let x = c.args in
+    let passed = first_passed x.blocks x.a.now x.b.now x.d.now x.at x.j c.in_ok-cell_test.ensures in
+    let made = eq-eqb (bit_at x.d.now x.at) 1 (omega (arith, c.get_bit.ensures.0, c.get_bit.ensures.1, c.if-get_bit-eq0.false)) in
+    rw (number_then x.blocks (maps x.a.now x.b.now x.d.now) x.at x.j passed, made, first_number)
