@@ -9,11 +9,12 @@ use Rattle.rules.specs.Heap.{Memory}
 use Rattle.rules_calls.specs.Calls.{collect, own_refusals, answer}
 use Rattle.rules.proofs.Tests.{also, done as no_more}
 use Rattle.types.specs.declared.Reply.{Reply}
-use Rattle.types.specs.declared.Outcome.{Outcome}
+use Rattle.types.specs.Told.{Came}
 use Rattle.theory_memories.specs.Words.{in_use}
 use Rattle.theory.specs.Balance.{allocates, allocated_by}
 use Rattle.theory_memories.specs.Heaps.{Usable}
-use Rattle.theory.specs.Usable.{reply_of, Worked}
+use Rattle.types.specs.Told.{reply_of}
+use Rattle.theory.specs.Usable.{Worked}
 use Rattle.theory.proofs.EachCall.Five.{not_five}
 use Rattle.theory.proofs.Usable.WorkDone.{accepted_allocates, refused_allocates, call_balance}
 use Rattle.history_plans.specs.Asked.{makes}
@@ -25,10 +26,10 @@ use Rattle.history_turns.specs.Steps.{Acted}
 use Rattle.history_turns.proofs.Turns.{acted_as, turn_once}
 
 -- figures with a collection more, where it was accepted
-abbrev pub with_accepted : Outcome → Tally → Tally
+abbrev pub with_accepted : Came → Tally → Tally
 with_accepted y t = elim (eqb y.number 0) [ true ↦ collected t | false ↦ t ]
 
-module _ {N w : ℕ} {h : Memory} (usable : Usable N w h) {y : Outcome} {k : Memory} (worked : Worked N w collect h y k) where
+module _ {N w : ℕ} {h : Memory} (usable : Usable N w h) {y : Came} {k : Memory} (worked : Worked N w collect h y k) where
   number_is : y.number ≡ (answer N w h collect).0.number
   number_is = ap (λ (v : Reply). v.number) worked.promise.reply_is
 

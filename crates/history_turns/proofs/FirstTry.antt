@@ -9,12 +9,13 @@ use borrow.Author.Tests.{eq-eqb, ne_eqb}
 use Rattle.rules.specs.Heap.{Memory}
 use Rattle.rules_calls.specs.Calls.{Call, allocate, allocate_data, allocate_as, Alone, answer}
 use Rattle.types.specs.declared.Reply.{Reply}
-use Rattle.types.specs.declared.Outcome.{Outcome}
+use Rattle.types.specs.Told.{Came}
 use Rattle.rules_calls.proofs.Replies.{accepted_none, Passed, passed}
 use Rattle.theory_memories.specs.Words.{in_use}
 use Rattle.theory.specs.Balance.{allocates, allocated_by}
 use Rattle.theory_memories.specs.Heaps.{Usable}
-use Rattle.theory.specs.Usable.{reply_of, Worked}
+use Rattle.types.specs.Told.{reply_of}
+use Rattle.theory.specs.Usable.{Worked}
 use Rattle.theory.proofs.Usable.WorkDone.{accepted_allocates, refused_allocates, call_balance, refused_keeps}
 use Rattle.history_plans.specs.Asked.{makes}
 use Rattle.history_figures.specs.declared.tally.Tally.{Tally}
@@ -55,7 +56,7 @@ allocation true n r =
 allocation false n r =
     record { alone = refl; counted = λ x t. refl; told = λ x. refl; new = λ x. refl; sized = λ N w h. accepted_size N w h n r }
 
-module _ {N w : ℕ} {h : Memory} (usable : Usable N w h) {c : Call} {n : ℕ} (new : Allocation c n) {done' : Outcome} {g : Memory}
+module _ {N w : ℕ} {h : Memory} (usable : Usable N w h) {c : Call} {n : ℕ} (new : Allocation c n) {done' : Came} {g : Memory}
     (tried : Worked N w c h done' g) where
   pub reply_number : (answer N w h c).0.number ≡ done'.number
   reply_number = ap (λ (y : Reply). y.number) (sym tried.promise.reply_is)

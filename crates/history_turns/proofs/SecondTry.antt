@@ -9,7 +9,7 @@ use lib.Dec.{eqb}
 use borrow.Author.Tests.{eq-eqb, ne_eqb}
 use Rattle.rules.specs.Heap.{Memory}
 use Rattle.rules_calls.specs.Calls.{Call, collect, answer}
-use Rattle.types.specs.declared.Outcome.{Outcome}
+use Rattle.types.specs.Told.{Came}
 use Rattle.theory_memories.specs.Heaps.{Usable}
 use Rattle.theory.specs.Usable.{Worked}
 use Rattle.theory.proofs.Usable.UsableHeap.{usable_healthy}
@@ -25,8 +25,8 @@ use Rattle.history_turns.proofs.Turns.{acted_as}
 use Rattle.history_turns.proofs.Collections.{with_accepted, collect_noted, collect_balance}
 use Rattle.history_turns.proofs.FirstTry.{Allocation, reply_number, refused_noted, refused_balance, size_fits, accepted_noted, accepted_balance, acted_again}
 
-module _ {N w : ℕ} {h : Memory} (usable : Usable N w h) {c : Call} {n : ℕ} (new : Allocation c n) {y : Outcome} {k : Memory}
-    (forced : Worked N w collect h y k) {second : Outcome} {g : Memory} (tried : Worked N w c k second g) where
+module _ {N w : ℕ} {h : Memory} (usable : Usable N w h) {c : Call} {n : ℕ} (new : Allocation c n) {y : Came} {k : Memory}
+    (forced : Worked N w collect h y k) {second : Came} {g : Memory} (tried : Worked N w c k second g) where
   forced_usable : Usable N w k
   forced_usable = usable_kept usable forced.promise
 
@@ -106,8 +106,8 @@ module _ {N w : ℕ} {h : Memory} (usable : Usable N w h) {c : Call} {n : ℕ} (
 
 -- ---- an allocation that was tried twice: the first try left k, the collection l
 
-module _ {N w : ℕ} {h : Memory} (usable : Usable N w h) {c : Call} {n : ℕ} (new : Allocation c n) {first : Outcome} {k : Memory}
-    (tried : Worked N w c h first k) {y : Outcome} {l : Memory} (forced : Worked N w collect k y l) {second : Outcome} {g : Memory}
+module _ {N w : ℕ} {h : Memory} (usable : Usable N w h) {c : Call} {n : ℕ} (new : Allocation c n) {first : Came} {k : Memory}
+    (tried : Worked N w c h first k) {y : Came} {l : Memory} (forced : Worked N w collect k y l) {second : Came} {g : Memory}
     (retried : Worked N w c l second g) where
   tried_usable : Usable N w k
   tried_usable = usable_kept usable tried.promise

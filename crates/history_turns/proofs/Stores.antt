@@ -12,11 +12,12 @@ use Rattle.rules_calls.specs.Calls.{Call, store_root, store_cell, write_number, 
 use Rattle.rules.proofs.Tests.{also, done as no_more}
 use Rattle.rules_calls.proofs.Replies.{answer_either}
 use Rattle.types.specs.declared.Reply.{Reply}
-use Rattle.types.specs.declared.Outcome.{Outcome}
+use Rattle.types.specs.Told.{Came}
 use Rattle.theory.specs.Balance.{allocates, allocated_by}
 use Rattle.theory.proofs.EachCall.Five.{not_five, store_root_not_five, store_cell_not_five}
 use Rattle.theory_memories.specs.Heaps.{Usable}
-use Rattle.theory.specs.Usable.{reply_of, Worked}
+use Rattle.types.specs.Told.{reply_of}
+use Rattle.theory.specs.Usable.{Worked}
 use Rattle.theory.proofs.Usable.WorkDone.{accepted_allocates, refused_allocates, call_balance, refused_keeps}
 use Rattle.history_plans.specs.Asked.{makes, stops}
 use Rattle.history_figures.specs.declared.tally.Tally.{Tally}
@@ -74,7 +75,7 @@ number_plain a j v =
 
 module _ {N w : ℕ} {h : Memory} (usable : Usable N w h) where
   acted_plain :
-      (c : Call) → Plain c → {x : Outcome} {g : Memory} → Worked N w c h x g
+      (c : Call) → Plain c → {x : Came} {g : Memory} → Worked N w c h x g
       → Acted N h (turn_of N w h (makes c)) (done x.number 0 false x.freed x.stuck) g
   unfolding noted_all with_collection with_allocation moment_in
   acted_plain c plain {x} {g} worked =
@@ -117,16 +118,16 @@ module _ {N w : ℕ} {h : Memory} (usable : Usable N w h) where
       ]
 
   pub acted_root :
-      {r v : ℕ} {x : Outcome} {g : Memory} → Worked N w (store_root r v) h x g
+      {r v : ℕ} {x : Came} {g : Memory} → Worked N w (store_root r v) h x g
       → Acted N h (turn_of N w h (makes (store_root r v))) (done x.number 0 false x.freed x.stuck) g
   acted_root {r} {v} = acted_plain (store_root r v) (store_root_plain r v)
 
   pub acted_cell :
-      {a j v : ℕ} {x : Outcome} {g : Memory} → Worked N w (store_cell a j v) h x g
+      {a j v : ℕ} {x : Came} {g : Memory} → Worked N w (store_cell a j v) h x g
       → Acted N h (turn_of N w h (makes (store_cell a j v))) (done x.number 0 false x.freed x.stuck) g
   acted_cell {a} {j} {v} = acted_plain (store_cell a j v) (store_cell_plain a j v)
 
   pub acted_number :
-      {a j v : ℕ} {x : Outcome} {g : Memory} → Worked N w (write_number a j v) h x g
+      {a j v : ℕ} {x : Came} {g : Memory} → Worked N w (write_number a j v) h x g
       → Acted N h (turn_of N w h (makes (write_number a j v))) (done x.number 0 false x.freed x.stuck) g
   acted_number {a} {j} {v} = acted_plain (write_number a j v) (number_plain a j v)

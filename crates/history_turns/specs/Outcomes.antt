@@ -1,6 +1,6 @@
 -- What came of a record's calls, as numbers, and the run with it noted: for contracts of inner functions.
 use Rattle.std.specs.Prelude.{ℕ, ◌+◌, ◌-◌, ◌^◌, ◌≤◌, ◌<◌, Bool, true, false, eqb}
-use Rattle.types.specs.declared.Outcome.{Outcome}
+use Rattle.types.specs.Told.{Came}
 use Rattle.history_figures.specs.declared.tally.Tally.{Tally}
 use Rattle.history_figures.specs.declared.tally.Run.{Run}
 use Rattle.history_figures.specs.Figures.{allocated, collected, used, moment_in, run}
@@ -15,7 +15,7 @@ done number allocated collected freed stuck =
     record { number = number; allocated = allocated; collected = collected; freed = freed; stuck = stuck }
 
 -- what came of an allocation of n blocks: of its last try, and of a collection before that, if one was made, which freed so many blocks
-unfoldable pub done_after : Outcome → (n : ℕ) → (collected : Bool) → (freed : ℕ) → Done
+unfoldable pub done_after : Came → (n : ℕ) → (collected : Bool) → (freed : ℕ) → Done
 done_after last n collected freed =
     elim (eqb last.number 0) [
       | true ↦ done 0 n collected (freed + last.freed) last.stuck

@@ -9,8 +9,9 @@ use Rattle.rules.specs.Heap.{Memory, max_number}
 use Rattle.rules_calls.specs.Calls.{reply}
 use Rattle.rules_calls.specs.Promise.{Promise}
 use Rattle.types.specs.declared.Reply.{Reply}
-use Rattle.types.specs.declared.Outcome.{Outcome}
-use Rattle.theory.specs.Usable.{reply_of, Worked}
+use Rattle.types.specs.Told.{Came}
+use Rattle.types.specs.Told.{reply_of}
+use Rattle.theory.specs.Usable.{Worked}
 use Rattle.replay_words.specs.Encoding.{decoded, is_call}
 use Rattle.replay_call.specs.Dispatched.{Dispatched}
 
@@ -26,7 +27,7 @@ stepped_as k {N} {w} {code} {x} {y} {z} {h} {r} {g} known e promise =
 
 -- .. and one whose work was done
 pub stepped_worked :
-    (k : ℕ) {N w code x y z : ℕ} {h : Memory} {done : Outcome} {r : Reply} {g : Memory} → is_call k z ≡ true → code ≡ k
+    (k : ℕ) {N w code x y z : ℕ} {h : Memory} {done : Came} {r : Reply} {g : Memory} → is_call k z ≡ true → code ≡ k
     → Worked N w (decoded k x y z) h done g → r ≡ reply_of done → Dispatched N w code x y z h r g
 stepped_worked k known e worked replied =
     stepped_as k known e

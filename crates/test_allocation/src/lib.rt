@@ -6,11 +6,12 @@ ghost use Rattle.std.specs.Prelude.{◌≡◌, true, ◌*◌, ◌≤◌, length}
 ghost use Rattle.rules.specs.Heap.{is_blocks, exponent};
 ghost use Rattle.rules.specs.Sections.{figures};
 ghost use Rattle.section_search.specs.Search.{Found};
+ghost use Rattle.types.specs.Told.{replied};
 ghost use Rattle.test_allocation.specs.Replies.{allocate_reply};
 
 use search_chunk::Searched;
 use section_search::find_chunk;
-use types::{Ref, Reply, replies};
+use types::{Ref, Refusal};
 
 // The block that an object of n blocks would start at, or `blocks`, and how many blocks the search looked at.
 fn find_place(blocks: usize, a: &[u8], sections: &[Ref], n: usize) -> Searched
@@ -29,23 +30,23 @@ pub fn allocate_reply(
     roots: usize,
     n: usize,
     r: usize,
-) -> Reply
+) -> Result<usize, Refusal>
     requires { (is_blocks blocks ≡ true) × (blocks ≤ 8 * length a.now) × (sections.now ≡ figures blocks a.now) }
-    ensures { result ≡ allocate_reply blocks a.now roots n r }
+    ensures { replied result ≡ allocate_reply blocks a.now roots n r }
 {
     if n == 0 {
-        return replies::refusal(3);
+        return Err(Refusal::BadSize);
     }
     if blocks < n {
-        return replies::refusal(3);
+        return Err(Refusal::BadSize);
     }
     if roots <= r {
-        return replies::refusal(4);
+        return Err(Refusal::BadRoot);
     }
     let found = find_place(blocks, a, sections, n);
     let at = found.at;
     if at == blocks {
-        return replies::refusal(5);
+        return Err(Refusal::NoChunk);
     }
-    replies::acceptance(at)
+    Ok(at)
 }

@@ -8,7 +8,7 @@ use Rattle.rules.specs.Heap.{Memory, with_waiting}
 use Rattle.rules_calls.specs.Calls.{Call, Answer, Alone, outcome, answer}
 use Rattle.rules_calls.specs.Promise.{Promise}
 use Rattle.types.specs.declared.Reply.{Reply}
-use Rattle.types.specs.declared.Outcome.{Outcome}
+use Rattle.types.specs.Told.{Came}
 use Rattle.rules_calls.proofs.Replies.{none_applies}
 use Rattle.theory_memories.specs.Words.{heap_of}
 use Rattle.theory_memories.specs.Heaps.{Undamaged}
@@ -17,7 +17,8 @@ use Rattle.theory_memories.proofs.Memories.Accepted.{fit_number}
 use Rattle.theory.proofs.EachCall.AnyWaiting.{waiting_unread}
 use Rattle.test_arguments.specs.Replies.{own_test}
 use Rattle.theory_memories.specs.Heaps.{Usable}
-use Rattle.theory.specs.Usable.{reply_of, Worked}
+use Rattle.types.specs.Told.{reply_of}
+use Rattle.theory.specs.Usable.{Worked}
 use Rattle.theory.proofs.Usable.UsableHeap as usable
 use Rattle.theory.proofs.Usable.UsableAfterCalls.{usable_kept}
 
@@ -48,7 +49,7 @@ module _ {N w : ℕ} {h : Memory} (undamaged : Undamaged N w h) {waiting : List 
 
   -- .. and the reply tells what came of the work
   pub worked_back :
-      {c : Call} → Alone c → (own_test N h c).number ≡ 0 → (outcome N w h c).1.waiting ≡ replicate N 0 → {done : Outcome} {x : Reply} {g : Memory}
+      {c : Call} → Alone c → (own_test N h c).number ≡ 0 → (outcome N w h c).1.waiting ≡ replicate N 0 → {done : Came} {x : Reply} {g : Memory}
       → Worked N w c (with_waiting waiting h) done g → x ≡ reply_of done → Promise N w c h x g
   worked_back alone passes clears worked replied =
       let promise = worked.promise in

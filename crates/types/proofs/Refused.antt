@@ -3,8 +3,25 @@ use Rattle.std.proofs.Common.{ℕ, ◌≡◌, ap, ◌∙◌, arith}
 use Rattle.types.specs.declared.Reply.{Reply}
 use Rattle.types.specs.declared.refusals.Refusal.{Refusal}
 use Rattle.types.specs.declared.refusals.Refusal.TheVariants.{
-  Misshapen, Damaged, BadSize, BadRoot, NoChunk, NoObject, BadCell, BadReference, NoCall, CutOff, StaleSections, WrongKind,
-  BadMarks, OutOfTurn, ShortReason, ShortShape, NoPlace, ShortReplies, BadRun
+  Misshapen,
+  Damaged,
+  BadSize,
+  BadRoot,
+  NoChunk,
+  NoObject,
+  BadCell,
+  BadReference,
+  NoCall,
+  CutOff,
+  StaleSections,
+  WrongKind,
+  BadMarks,
+  OutOfTurn,
+  ShortReason,
+  ShortShape,
+  NoPlace,
+  ShortReplies,
+  BadRun,
 }
 use Rattle.types.specs.Refusals.{number_of}
 use Rattle.types.specs.Told.{refused}

@@ -1,5 +1,7 @@
 -- The reply that tells what a test or a call came to.
-use Rattle.std.specs.Prelude.{ℕ, Result, Ok, Err, Option, Some, None}
+use Rattle.std.specs.Prelude.{ℕ, Bool, false, Result, Ok, Err, Option, Some, None}
+use Rattle.bitmap.specs.Bit.{one}
+use Rattle.types.specs.declared.Outcome.{Outcome}
 use Rattle.types.specs.declared.Reply.{Reply}
 use Rattle.types.specs.declared.refusals.Damage.{Damage}
 use Rattle.types.specs.declared.refusals.Refusal.{Refusal}
@@ -26,3 +28,19 @@ tested (Err refusal) = refused refusal
 abbrev pub damage_kind : Option Damage → ℕ
 damage_kind None = 0
 damage_kind (Some damage) = kind_of damage
+
+-- what came of a call, accepted or refused: the number and the value of its reply, the blocks that it freed, and whether it
+-- brought a count to the capacity
+pub record Came : Type 0 where
+  pub number : ℕ
+  pub value : ℕ
+  pub freed : ℕ
+  pub stuck : Bool
+
+abbrev pub came_of : Result Outcome Refusal → Came
+came_of (Ok outcome) = record { number = 0; value = outcome.value; freed = outcome.freed; stuck = outcome.stuck }
+came_of (Err refusal) = record { number = number_of refusal; value = told_by refusal; freed = 0; stuck = false }
+
+-- the reply that tells it
+abbrev pub reply_of : Came → Reply
+reply_of came = record { number = came.number; value = came.value; second = one came.stuck }

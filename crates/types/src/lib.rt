@@ -3,7 +3,6 @@
 #![tactic(auto)]
 
 ghost use Rattle.std.specs.Prelude.{◌≡◌, ◌-◌, ◌^◌, ◌≤◌, ◌<◌};
-ghost use Rattle.bitmap.specs.Bit.{one};
 
 pub mod refusals;
 pub mod replies;
@@ -51,25 +50,11 @@ pub struct Reply {
     pub second: usize,
 }
 
-// What came of a call on an undamaged heap, accepted or refused: the number and the value of its reply, the blocks that it freed, and whether
-// it brought a count to the capacity. Code that works answers this, and who asked builds the reply.
+// What came of an accepted call on an undamaged heap: the value of its reply, the blocks that it freed, and whether it brought a count to
+// the capacity. Code that works answers this, and who asked makes the reply of it.
 #[derive(Clone, Copy)]
 pub struct Outcome {
-    pub number: usize,
     pub value: usize,
     pub freed: usize,
     pub stuck: bool,
-}
-
-impl Outcome {
-    // The reply that tells it.
-    pub fn reply(self) -> Reply
-        ensures { result ≡ record { number = self.number; value = self.value; second = one self.stuck } }
-    {
-        Reply {
-            number: self.number,
-            value: self.value,
-            second: self.stuck as usize,
-        }
-    }
 }

@@ -1,9 +1,9 @@
 // The replies as they are built: a refusal, and acceptance with one value.
 ghost use Rattle.std.specs.Prelude.{◌≡◌};
-ghost use Rattle.types.specs.Told.{refused, replied, tested};
+ghost use Rattle.types.specs.Told.{refused, replied, tested, came_of, reply_of};
 
-use crate::Reply;
 use crate::refusals::Refusal;
+use crate::{Outcome, Reply};
 
 impl From<Refusal> for Reply {
     ghost from_gives = { λ refusal reply. reply ≡ refused refusal };
@@ -34,6 +34,21 @@ impl From<Result<(), Refusal>> for Reply {
     fn from(answer: Result<(), Refusal>) -> Reply {
         match answer {
             Ok(()) => acceptance(0),
+            Err(refusal) => refusal.into(),
+        }
+    }
+}
+
+impl From<Result<Outcome, Refusal>> for Reply {
+    ghost from_gives = { λ answer reply. reply ≡ reply_of (came_of answer) };
+
+    fn from(answer: Result<Outcome, Refusal>) -> Reply {
+        match answer {
+            Ok(outcome) => Reply {
+                number: 0,
+                value: outcome.value,
+                second: outcome.stuck as usize,
+            },
             Err(refusal) => refusal.into(),
         }
     }

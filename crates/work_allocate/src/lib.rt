@@ -3,7 +3,8 @@
 
 #![tactic(auto)]
 
-ghost use Rattle.std.specs.Prelude.{◌≡◌, length};
+ghost use Rattle.std.specs.Prelude.{◌≡◌, Ok, length};
+ghost use Rattle.types.specs.Told.{came_of};
 ghost use Rattle.rules.specs.Lent.{before, after, lent};
 ghost use Rattle.rules_calls.specs.Calls.{allocate_as, reply};
 ghost use Rattle.theory_memories.specs.Heaps.{Usable};
@@ -35,7 +36,7 @@ pub fn allocate(
     requires { Usable blocks width (lent a.old b.old counts.old cells.old roots.old waiting.old sections.old d.old marks.old list.old)
         × (allocate_reply blocks a.old (length roots.old) n r ≡ reply 0 at 0) }
     ensures { Worked blocks width (allocate_as as_data n r)
-        (before a.old b.old counts.old cells.old roots.old waiting.old sections.old d.old marks.old list.old) result
+        (before a.old b.old counts.old cells.old roots.old waiting.old sections.old d.old marks.old list.old) (came_of (Ok result))
         (after a.new b.new counts.new cells.new roots.new waiting.new sections.new d.new marks.new list.new) }
 {
     let stuck = types::capacity_of(width) == 1;
@@ -50,9 +51,8 @@ pub fn allocate(
     );
     section_figures::renew(blocks, a, sections);
     Outcome {
-        number: 0,
         value: at,
-        freed: freed,
-        stuck: stuck,
+        freed,
+        stuck,
     }
 }

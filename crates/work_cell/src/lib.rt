@@ -3,7 +3,8 @@
 
 #![tactic(auto)]
 
-ghost use Rattle.std.specs.Prelude.{◌≡◌};
+ghost use Rattle.std.specs.Prelude.{◌≡◌, Ok};
+ghost use Rattle.types.specs.Told.{came_of};
 ghost use Rattle.rules.specs.Lent.{before, after, lent};
 ghost use Rattle.rules_calls.specs.Calls.{Call};
 ghost use Rattle.theory_memories.specs.Heaps.{Usable};
@@ -35,7 +36,7 @@ pub fn store_cell(
         × ((store_cell_test blocks
         (lent a.old b.old counts.old cells.old roots.now waiting.old sections.old d.old marks.old list.old) at j v).number ≡ 0) }
     ensures { Worked blocks width (Call.store_cell at j v)
-        (before a.old b.old counts.old cells.old roots.now waiting.old sections.old d.old marks.old list.old) result
+        (before a.old b.old counts.old cells.old roots.now waiting.old sections.old d.old marks.old list.old) (came_of (Ok result))
         (after a.new b.new counts.new cells.new roots.now waiting.new sections.new d.new marks.new list.new) }
 {
     let new = v as Ref;
@@ -43,7 +44,6 @@ pub fn store_cell(
     let old = cells[c];
     if old == new {
         return Outcome {
-            number: 0,
             value: 0,
             freed: 0,
             stuck: false, // nothing is counted up
@@ -69,9 +69,8 @@ pub fn store_cell(
     );
     section_figures::renew_after(blocks, a, sections, freed);
     Outcome {
-        number: 0,
         value: freed,
-        freed: freed,
-        stuck: stuck,
+        freed,
+        stuck,
     }
 }

@@ -3,7 +3,8 @@
 
 #![tactic(auto)]
 
-ghost use Rattle.std.specs.Prelude.{◌≡◌, false};
+ghost use Rattle.std.specs.Prelude.{◌≡◌, Ok, false};
+ghost use Rattle.types.specs.Told.{came_of};
 ghost use Rattle.rules.specs.Lent.{before, after, lent};
 ghost use Rattle.rules_steps.specs.Steps.{is_open};
 ghost use Rattle.rules_calls.specs.Calls.{Call};
@@ -30,16 +31,15 @@ pub fn collect(
     requires { Usable blocks width (lent a.old b.old counts.old cells.old roots.now waiting.old sections.old d.old marks.now list.now)
         × (is_open blocks (lent a.old b.old counts.old cells.old roots.now waiting.old sections.old d.old marks.now list.now) ≡ false) }
     ensures { Worked blocks width Call.collect
-        (before a.old b.old counts.old cells.old roots.now waiting.old sections.old d.old marks.now list.now) result
+        (before a.old b.old counts.old cells.old roots.now waiting.old sections.old d.old marks.now list.now) (came_of (Ok result))
         (after a.new b.new counts.new cells.new roots.now waiting.new sections.new d.new marks.now list.now) }
 {
     collect_mark::mark(blocks, width, b, counts, cells, roots, waiting, d);
     let freed = collect_sweep::sweep(blocks, width, a, b, counts, cells, sections, d);
     section_figures::renew(blocks, a, sections);
     Outcome {
-        number: 0,
         value: freed,
-        freed: freed,
+        freed,
         stuck: false, // counts are made anew, and nothing is told of them
     }
 }

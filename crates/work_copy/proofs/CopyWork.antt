@@ -7,7 +7,7 @@ use Prim.Native.Nat.{ℕ, zero, suc, ◌+◌, ◌-◌, ◌/◌}
 use lib.ListN.{length, get_or, replicate}
 use Rattle.bitmap.specs.Bit.{zeros}
 use Rattle.types.specs.declared.Reply.{Reply}
-use Rattle.types.specs.declared.Outcome.{Outcome}
+use Rattle.types.specs.Told.{Came}
 use Rattle.rules.specs.Heap.{Memory, lent_memory, with_roots, shaped}
 use Rattle.rules.specs.Sections.{figures}
 use Rattle.rules_stores.specs.Store.{formatted}
@@ -119,7 +119,7 @@ module _ {N w : ℕ} {h : Memory} (u : Undamaged N w h) (M v : ℕ) (g : Memory)
     pub full_shut : is_open M before ≡ false
     full_shut = ap (is_open M) full ∙ filled_shut N (read h) (walkable u).named M v empty_shaped placed.0 placed.1
 
-    pub copy_collected : is_open N h ≡ false → {done : Outcome} {after : Memory} → Worked M v collect before done after
+    pub copy_collected : is_open N h ≡ false → {done : Came} {after : Memory} → Worked M v collect before done after
         → {x : Reply} → x ≡ reply 0 (M - zeros after.a) 0 → Promise M v (copy_from N w h) g x after
     unfolding freeing
     copy_collected shut {done} {after} worked x_is =

@@ -2,8 +2,9 @@
 
 #![tactic(auto)]
 
-ghost use Rattle.std.specs.Prelude.{◌+◌, ◌*◌, ◌<◌, ◌≤◌, length};
+ghost use Rattle.std.specs.Prelude.{Ok, ◌+◌, ◌*◌, ◌<◌, ◌≤◌, length};
 ghost use Rattle.rules.specs.Heap.{max_blocks};
+ghost use Rattle.types.specs.Told.{came_of};
 ghost use Rattle.work_number.specs.Written.{Written};
 
 use types::{Outcome, Ref};
@@ -11,12 +12,11 @@ use types::{Outcome, Ref};
 // Writes x into cell j of the data at block `at`. Any number that a cell holds is right, and nothing else is touched.
 pub fn write_number(cells: &mut [Ref], at: usize, j: usize, x: Ref) -> Outcome
     requires { (4 * at + j < length cells.old) × (length cells.old ≤ 4 * max_blocks) }
-    ensures { Written cells.old at j x result cells.new }
+    ensures { Written cells.old at j x (came_of (Ok result)) cells.new }
 {
     let c = 4 * at + j;
     cells[c] = x;
     Outcome {
-        number: 0,
         value: 0,
         freed: 0,
         stuck: false,

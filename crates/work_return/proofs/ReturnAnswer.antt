@@ -13,7 +13,7 @@ use Rattle.rules_stores.specs.Store.{chosen_below}
 use Rattle.rules_steps.specs.Steps.{store_root_shading, clear_shading, return_shading}
 use Rattle.rules_calls.specs.Calls.{return_roots, store_root, Answer, settled, freeing, outcome, answer}
 use Rattle.types.specs.declared.Reply.{Reply}
-use Rattle.types.specs.declared.Outcome.{Outcome}
+use Rattle.types.specs.Told.{Came}
 use Rattle.rules_calls.proofs.Replies.{Passed, passed_own}
 use Rattle.rules.proofs.Tests.{first_not}
 use Rattle.rules_calls.proofs.Unread.{store_root_aside}
@@ -57,7 +57,7 @@ module _ {N w : ℕ} {h : Memory} (usable : Usable N w h) {chosen r : ℕ} where
 
   -- it is, and was cleared; the waiting list was clear and is left so, and the store reads no list of sections
   pub chosen_cleared :
-      r < length h.roots → bit_of chosen r ≡ 1 → {done : Outcome} {g : Memory} → Worked N w (store_root r 0) h done g
+      r < length h.roots → bit_of chosen r ≡ 1 → {done : Came} {g : Memory} → Worked N w (store_root r 0) h done g
       → ClearedIfChosen N w h chosen r g done.freed
   unfolding freeing clear_shading
   chosen_cleared inside e {done} {g} worked =

@@ -3,7 +3,8 @@
 
 #![tactic(auto)]
 
-ghost use Rattle.std.specs.Prelude.{◌≡◌};
+ghost use Rattle.std.specs.Prelude.{◌≡◌, Ok};
+ghost use Rattle.types.specs.Told.{came_of};
 ghost use Rattle.rules.specs.Lent.{before, after, lent};
 ghost use Rattle.rules_calls.specs.Calls.{Call};
 ghost use Rattle.theory_memories.specs.Heaps.{Usable};
@@ -34,14 +35,13 @@ pub fn store_root(
         × ((store_root_test blocks
         (lent a.old b.old counts.old cells.old roots.old waiting.old sections.old d.old marks.old list.old) r v).number ≡ 0) }
     ensures { Worked blocks width (Call.store_root r v)
-        (before a.old b.old counts.old cells.old roots.old waiting.old sections.old d.old marks.old list.old) result
+        (before a.old b.old counts.old cells.old roots.old waiting.old sections.old d.old marks.old list.old) (came_of (Ok result))
         (after a.new b.new counts.new cells.new roots.new waiting.new sections.new d.new marks.new list.new) }
 {
     let new = v as Ref;
     let old = roots[r];
     if old == new {
         return Outcome {
-            number: 0,
             value: 0,
             freed: 0, // nothing is let go
             stuck: false,
@@ -54,9 +54,8 @@ pub fn store_root(
     );
     section_figures::renew_after(blocks, a, sections, freed);
     Outcome {
-        number: 0,
         value: freed,
-        freed: freed,
-        stuck: stuck,
+        freed,
+        stuck,
     }
 }

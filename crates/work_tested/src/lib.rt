@@ -2,13 +2,14 @@
 
 #![tactic(auto)]
 
+ghost use Rattle.types.specs.Told.{came_of};
 ghost use Rattle.rules.specs.Lent.{before, after, lent};
 ghost use Rattle.rules_calls.specs.Calls.{Call, allocate_as};
 ghost use Rattle.theory_memories.specs.Heaps.{Usable};
 ghost use Rattle.theory.specs.Usable.{Worked};
 
 use test_arguments::{collecting, numbers, storing};
-use types::{Outcome, Ref};
+use types::{Outcome, Ref, Refusal};
 
 // Allocates n blocks into root r, as data or as an ordinary object (request U6); a refused allocation frees nothing.
 pub fn allocate(
@@ -27,27 +28,17 @@ pub fn allocate(
     as_data: bool,
     n: usize,
     r: usize,
-) -> Outcome
+) -> Result<Outcome, Refusal>
     requires { Usable blocks width (lent a.old b.old counts.old cells.old roots.old waiting.old sections.old d.old marks.old list.old) }
     ensures { Worked blocks width (allocate_as as_data n r)
-        (before a.old b.old counts.old cells.old roots.old waiting.old sections.old d.old marks.old list.old) result
+        (before a.old b.old counts.old cells.old roots.old waiting.old sections.old d.old marks.old list.old) (came_of result)
         (after a.new b.new counts.new cells.new roots.new waiting.new sections.new d.new marks.new list.new) }
 {
-    let test = test_allocation::allocate_reply(blocks, a, sections, roots.len(), n, r);
-    let number = test.number;
-    if number != 0 {
-        return Outcome {
-            number: number,
-            value: 0,
-            freed: 0,
-            stuck: false,
-        };
-    }
-    let at = test.value;
-    work_allocate::allocate(
+    let at = test_allocation::allocate_reply(blocks, a, sections, roots.len(), n, r)?;
+    Ok(work_allocate::allocate(
         blocks, width, a, b, counts, cells, roots, waiting, sections, d, marks, list, as_data, n,
         r, at,
-    )
+    ))
 }
 
 // Stores v in root r.
@@ -66,25 +57,16 @@ pub fn store_root(
     list: &mut [Ref],
     r: usize,
     v: usize,
-) -> Outcome
+) -> Result<Outcome, Refusal>
     requires { Usable blocks width (lent a.old b.old counts.old cells.old roots.old waiting.old sections.old d.old marks.old list.old) }
     ensures { Worked blocks width (Call.store_root r v)
-        (before a.old b.old counts.old cells.old roots.old waiting.old sections.old d.old marks.old list.old) result
+        (before a.old b.old counts.old cells.old roots.old waiting.old sections.old d.old marks.old list.old) (came_of result)
         (after a.new b.new counts.new cells.new roots.new waiting.new sections.new d.new marks.new list.new) }
 {
-    let test = storing::store_root_test(blocks, a, b, roots, r, v);
-    let number = test.number;
-    if number != 0 {
-        return Outcome {
-            number: number,
-            value: 0,
-            freed: 0,
-            stuck: false,
-        };
-    }
-    work_root::store_root(
+    storing::store_root_test(blocks, a, b, roots, r, v)?;
+    Ok(work_root::store_root(
         blocks, width, a, b, counts, cells, roots, waiting, sections, d, marks, list, r, v,
-    )
+    ))
 }
 
 // Stores v in cell j of the object at block `at`.
@@ -104,25 +86,16 @@ pub fn store_cell(
     at: usize,
     j: usize,
     v: usize,
-) -> Outcome
+) -> Result<Outcome, Refusal>
     requires { Usable blocks width (lent a.old b.old counts.old cells.old roots.now waiting.old sections.old d.old marks.old list.old) }
     ensures { Worked blocks width (Call.store_cell at j v)
-        (before a.old b.old counts.old cells.old roots.now waiting.old sections.old d.old marks.old list.old) result
+        (before a.old b.old counts.old cells.old roots.now waiting.old sections.old d.old marks.old list.old) (came_of result)
         (after a.new b.new counts.new cells.new roots.now waiting.new sections.new d.new marks.new list.new) }
 {
-    let test = storing::store_cell_test(blocks, a, b, d, at, j, v);
-    let number = test.number;
-    if number != 0 {
-        return Outcome {
-            number: number,
-            value: 0,
-            freed: 0,
-            stuck: false,
-        };
-    }
-    work_cell::store_cell(
+    storing::store_cell_test(blocks, a, b, d, at, j, v)?;
+    Ok(work_cell::store_cell(
         blocks, width, a, b, counts, cells, roots, waiting, sections, d, marks, list, at, j, v,
-    )
+    ))
 }
 
 // Writes the number x into cell j of the data at block `at` (request U6). The cells alone are written.
@@ -142,23 +115,14 @@ pub fn write_number(
     at: usize,
     j: usize,
     x: Ref,
-) -> Outcome
+) -> Result<Outcome, Refusal>
     requires { Usable blocks width (lent a.now b.now counts.now cells.old roots.now waiting.now sections.now d.now marks.now list.now) }
     ensures { Worked blocks width (Call.write_number at j x)
-        (before a.now b.now counts.now cells.old roots.now waiting.now sections.now d.now marks.now list.now) result
+        (before a.now b.now counts.now cells.old roots.now waiting.now sections.now d.now marks.now list.now) (came_of result)
         (after a.now b.now counts.now cells.new roots.now waiting.now sections.now d.now marks.now list.now) }
 {
-    let test = numbers::number_test(blocks, a, b, d, at, j);
-    let number = test.number;
-    if number != 0 {
-        return Outcome {
-            number: number,
-            value: 0,
-            freed: 0,
-            stuck: false,
-        };
-    }
-    work_number::write_number(cells, at, j, x)
+    numbers::number_test(blocks, a, b, d, at, j)?;
+    Ok(work_number::write_number(cells, at, j, x))
 }
 
 // Collects, where no collection in small steps is open (request U8).
@@ -175,23 +139,14 @@ pub fn collect(
     d: &mut [u8],
     marks: &[u8],
     list: &[Ref],
-) -> Outcome
+) -> Result<Outcome, Refusal>
     requires { Usable blocks width (lent a.old b.old counts.old cells.old roots.now waiting.old sections.old d.old marks.now list.now) }
     ensures { Worked blocks width Call.collect
-        (before a.old b.old counts.old cells.old roots.now waiting.old sections.old d.old marks.now list.now) result
+        (before a.old b.old counts.old cells.old roots.now waiting.old sections.old d.old marks.now list.now) (came_of result)
         (after a.new b.new counts.new cells.new roots.now waiting.new sections.new d.new marks.now list.now) }
 {
-    let test = collecting::shut_test(blocks, list);
-    let number = test.number;
-    if number != 0 {
-        return Outcome {
-            number: number,
-            value: 0,
-            freed: 0,
-            stuck: false,
-        };
-    }
-    work_collect::collect(
+    collecting::shut_test(blocks, list)?;
+    Ok(work_collect::collect(
         blocks, width, a, b, counts, cells, roots, waiting, sections, d, marks, list,
-    )
+    ))
 }

@@ -1,5 +1,6 @@
 -- What came of a call on a usable heap: a refused one, and one that frees.
 use mathlib.Core.Path.{◌≡◌, refl, sym, ap, ◌∙◌}
+use Rattle.std.specs.Prelude.{Err}
 use mathlib.Core.Bool.{Bool, false}
 use Prim.Native.Nat.{ℕ, ◌+◌, ◌-◌}
 use native.Mathlib.Omega.{arith}
@@ -16,6 +17,9 @@ use Rattle.rules_calls.proofs.Promised.{promised}
 use Rattle.theory.specs.Balance.{freed_blocks, allocates, allocated_by, FreedValue}
 use Rattle.theory_memories.specs.Words.{in_use}
 use Rattle.theory_memories.specs.Heaps.{Usable}
+use Rattle.types.specs.declared.refusals.Refusal.{Refusal}
+use Rattle.types.specs.Told.{refused, came_of}
+use Rattle.types.proofs.Refused.{number_ne0}
 use Rattle.theory.specs.Usable.{outcome_of, Worked}
 use Rattle.theory_memories.proofs.Memories.Fit.{Fit}
 use Rattle.theory_memories.proofs.Memories.Accepted.{fit_accepted, refused_plain}
@@ -46,18 +50,12 @@ module _ {N w : ℕ} {h : Memory} (usable : Usable N w h) {c : Call} (alone : Al
       (λ number nonzero _. (refl, ap (λ (y : Answer). y.0.value) (refused_plain N w h (usable_fit usable) c alone number), refl))
       (λ _ refused. absurd (refused (outcome_accepts N w h c))))
 
-module _ {N w : ℕ} {h : Memory} (usable : Usable N w h) {c : Call} (alone : Alone c) {x : Reply} (promise : Promise N w c h x h) where
-  pub worked_refused : (x.number ≡ 0 → ⊥) → Worked N w c h (outcome_of x.number 0 0 false) h
-  worked_refused refused =
-      let plain = refused_keeps usable alone promise refused in
-      record {
-        promise =
-            record {
-              reply_is = (λ i. reply x.number (sym plain.1 i) (sym plain.2 i)) ∙ promise.reply_is;
-              after_is = promise.after_is;
-            };
-        freed_is = omega (arith, call_balance usable alone promise, refused_allocates c x refused);
-      }
+module _ {N w : ℕ} {h : Memory} (usable : Usable N w h) {c : Call} (alone : Alone c) where
+  pub worked_refused : (refusal : Refusal) → Promise N w c h (refused refusal) h → Worked N w c h (came_of (Err refusal)) h
+  worked_refused refusal promise = record {
+    promise = promise;
+    freed_is = omega (arith, call_balance usable alone promise, refused_allocates c (refused refusal) (number_ne0 refusal));
+  }
 
 -- ---- a call that frees: its value is the number of blocks freed
 

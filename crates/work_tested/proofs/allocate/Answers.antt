@@ -1,9 +1,11 @@
 -- `work_tested::allocate` meets its contract.
-use mathlib.Core.Path.{◌≡◌}
+use mathlib.Core.Path.{◌≡◌, refl}
 use mathlib.Core.Bool.{Bool, true, false}
 use Prim.Native.Nat.{ℕ}
 use native.Mathlib.Omega.{arith}
 use lib.ListN.{length}
+use Rattle.std.proofs.lemmas.Result.{err_from_is_err_and}
+use Rattle.types.proofs.Refused.{number_ne0}
 use Rattle.rules.specs.Heap.{Memory}
 use Rattle.rules_calls.specs.Calls.{allocate_as}
 use Rattle.rules_calls.specs.Promise.{Promise}
@@ -24,18 +26,19 @@ refused-so :
 refused-so true n r tested fit fails = allocate_data_refused tested fit fails
 refused-so false n r tested fit fails = allocate_refused tested fit fails
 
-pub allocate_reply-test-requires : goal.allocate_reply-test-requires
-allocate_reply-test-requires c =
+pub allocate_reply-requires : goal.allocate_reply-requires
+allocate_reply-requires c =
     let fit = usable_fit c.requires in
     let shape = fit.healthy.shape in
     (shaped_blocks _ _ _ shape, omega (arith, shape.length_a, shape.whole_bytes), fit.listed)
 
-pub returns-then-number-ne0 : goal.returns-then-number-ne0
-returns-then-number-ne0 c =
-    worked_refused c.requires (allocation_alone c.args.as_data c.args.n c.args.r)
-    (refused-so c.args.as_data c.args.n c.args.r c.allocate_reply-test.ensures (usable_fit c.requires) c.if-number-ne0.true)
-    c.if-number-ne0.true
+pub returns-in_err-at : goal.returns-in_err-at
+returns-in_err-at c =
+    let exit = err_from_is_err_and c.from_residual.result c.from_residual.ensures.1 in
+    rw (exit.1, exit.2)
+    (worked_refused c.requires (allocation_alone c.args.as_data c.args.n c.args.r) _
+    (refused-so c.args.as_data c.args.n c.args.r c.in_err-at.ensures (usable_fit c.requires) (number_ne0 _)))
 
 pub allocate-requires : goal.allocate-requires
 allocate-requires c =
-    (c.requires, allocate_accepts (replied c.allocate_reply-test.ensures) c.if-number-ne0.false)
+    (c.requires, allocate_accepts (replied c.in_ok-at.ensures) refl)

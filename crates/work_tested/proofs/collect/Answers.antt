@@ -1,20 +1,23 @@
 -- `work_tested::collect` meets its contract.
 use mathlib.Core.Path.{refl}
 use native.Mathlib.Omega.{arith}
+use Rattle.std.proofs.lemmas.Result.{err_from_is_err_and}
+use Rattle.types.proofs.Refused.{number_ne0}
 use Rattle.rules.specs.Heap.{Memory, lent_memory}
 use Rattle.test_arguments.proofs.ArgumentTests.{own_refused, collect_tested, none_open}
 use Rattle.theory.proofs.Usable.UsableHeap.{usable_fit, usable_healthy}
 use Rattle.theory.proofs.Usable.WorkDone.{worked_refused}
 use Rattle.work_tested.proofs.collect.Goals as goal
 
-pub shut_test-test-requires : goal.shut_test-test-requires
-shut_test-test-requires c =
+pub shut_test-requires : goal.shut_test-requires
+shut_test-requires c =
     omega (arith, (usable_healthy c.requires).shape.length_list)
 
-pub returns-then-number-ne0 : goal.returns-then-number-ne0
-returns-then-number-ne0 c =
-    worked_refused c.requires refl (own_refused (collect_tested c.shut_test-test.ensures) (usable_fit c.requires) c.if-number-ne0.true)
-    c.if-number-ne0.true
+pub returns-in_err-shut_test : goal.returns-in_err-shut_test
+returns-in_err-shut_test c =
+    let exit = err_from_is_err_and c.from_residual.result c.from_residual.ensures.1 in
+    rw (exit.1, exit.2)
+    (worked_refused c.requires refl _ (own_refused (collect_tested c.in_err-shut_test.ensures) (usable_fit c.requires) (number_ne0 _)))
 
 -- the lent heap
 abbrev lent : (c : goal.After-collect-arg-7-1) → Memory
@@ -24,4 +27,4 @@ lent c =
 
 pub collect-requires : goal.collect-requires
 collect-requires c =
-    (c.requires, none_open (collect_tested {h = lent c} c.shut_test-test.ensures) c.if-number-ne0.false)
+    (c.requires, none_open (collect_tested {h = lent c} c.in_ok-shut_test.ensures) refl)

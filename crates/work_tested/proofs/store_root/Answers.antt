@@ -1,21 +1,24 @@
 -- `work_tested::store_root` meets its contract.
 use mathlib.Core.Path.{refl}
 use native.Mathlib.Omega.{arith}
+use Rattle.std.proofs.lemmas.Result.{err_from_is_err_and}
+use Rattle.types.proofs.Refused.{number_ne0}
 use Rattle.test_arguments.proofs.ArgumentTests.{goes_on, own_refused, root_tested}
 use Rattle.theory.proofs.Usable.UsableHeap.{usable_fit, usable_healthy}
 use Rattle.theory.proofs.Usable.WorkDone.{worked_refused}
 use Rattle.work_tested.proofs.store_root.Goals as goal
 
-pub store_root_test-test-requires : goal.store_root_test-test-requires
-store_root_test-test-requires c =
+pub store_root_test-requires : goal.store_root_test-requires
+store_root_test-requires c =
     let shape = (usable_healthy c.requires).shape in
     (omega (arith, shape.length_a, shape.whole_bytes), omega (arith, shape.length_b, shape.whole_bytes))
 
-pub returns-then-number-ne0 : goal.returns-then-number-ne0
-returns-then-number-ne0 c =
-    worked_refused c.requires refl (own_refused (root_tested c.store_root_test-test.ensures) (usable_fit c.requires) c.if-number-ne0.true)
-    c.if-number-ne0.true
+pub returns-in_err-store_root_test : goal.returns-in_err-store_root_test
+returns-in_err-store_root_test c =
+    let exit = err_from_is_err_and c.from_residual.result c.from_residual.ensures.1 in
+    rw (exit.1, exit.2)
+    (worked_refused c.requires refl _ (own_refused (root_tested c.in_err-store_root_test.ensures) (usable_fit c.requires) (number_ne0 _)))
 
 pub store_root-requires : goal.store_root-requires
 store_root-requires c =
-    (c.requires, goes_on (root_tested c.store_root_test-test.ensures) c.if-number-ne0.false)
+    (c.requires, goes_on (root_tested c.in_ok-store_root_test.ensures) refl)
