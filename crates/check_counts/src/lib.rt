@@ -9,12 +9,13 @@ ghost use Rattle.bitmap.specs.Bit.{bit_of};
 ghost use Rattle.planes.specs.Plane.{count_at};
 ghost use Rattle.rules.specs.Tools.{some_below, first_number};
 ghost use Rattle.rules.specs.Heap.{max_blocks};
+ghost use Rattle.types.specs.Told.{damage_kind};
 ghost use Rattle.check_references.specs.Tally.{Room};
 ghost use Rattle.check_counts.specs.Lanes.{pack};
 ghost use Rattle.check_counts.specs.Late.{Cleared, stray_in, off_in, stray_tally, off_tally, Countable, kind_of};
 
 use map_objects::objects;
-use types::{MAX_BLOCKS, Ref};
+use types::{Damage, MAX_BLOCKS, Ref};
 
 // The places of the short and of the middle array: enough for heaps of 1,024 and of 8,192 blocks.
 const SMALL_ROOM: usize = MAX_BLOCKS / 64;
@@ -121,11 +122,18 @@ fn is_off(first: u8, counts: &[u8], bytes: usize, width: usize, k: usize, at: &[
 }
 
 // The kind that the tally tells: 4 where a block is named and no object starts, else 5 where a count is damage.
-fn late_kind(blocks: usize, width: usize, a: &[u8], b: &[u8], counts: &[u8], at: &[u8]) -> usize
+fn late_kind(
+    blocks: usize,
+    width: usize,
+    a: &[u8],
+    b: &[u8],
+    counts: &[u8],
+    at: &[u8],
+) -> Option<Damage>
     requires { (blocks ≤ max_blocks) × (blocks ≡ 8 * (blocks / 8)) × (blocks ≤ 8 * length a.now) × (blocks ≤ 8 * length b.now)
         × (length counts.now ≡ width * (blocks / 8)) × (1 ≤ width) × (width ≤ 4) × (blocks ≤ length at.now)
         × Room at.now }
-    ensures { result ≡ first_number
+    ensures { damage_kind result ≡ first_number
         ((4, some_below (stray_tally blocks a.now b.now at.now) blocks)
         ∷ (5, some_below (off_tally blocks width a.now b.now counts.now at.now) blocks) ∷ []) }
 {
@@ -135,7 +143,7 @@ fn late_kind(blocks: usize, width: usize, a: &[u8], b: &[u8], counts: &[u8], at:
     while k < bytes {
         let first = objects::first_byte(a, b, k);
         if is_stray(first, at, k) {
-            return 4;
+            return Some(Damage::DanglingReference);
         }
         if is_off(first, counts, bytes, width, k, at) {
             off = true;
@@ -143,9 +151,9 @@ fn late_kind(blocks: usize, width: usize, a: &[u8], b: &[u8], counts: &[u8], at:
         k += 1;
     }
     if off {
-        return 5;
+        return Some(Damage::WrongCount);
     }
-    0
+    None
 }
 
 // Kinds 4 and 5, tallied in `at`.
@@ -159,16 +167,16 @@ fn kind_in(
     roots: &[Ref],
     d: &[u8],
     at: &mut [u8],
-) -> usize
+) -> Option<Damage>
     requires { Countable blocks width a.now b.now counts.now cells.now roots.now d.now × Cleared blocks at.old }
-    ensures { result ≡ kind_of blocks width a.now b.now counts.now cells.now roots.now
+    ensures { damage_kind result ≡ kind_of blocks width a.now b.now counts.now cells.now roots.now
         d.now }
 {
     if check_references::tally_cells(blocks, a, b, cells, d, at) {
-        return 4;
+        return Some(Damage::DanglingReference);
     }
     if check_references::tally_roots(blocks, roots, at) {
-        return 4;
+        return Some(Damage::DanglingReference);
     }
     late_kind(blocks, width, a, b, counts, at)
 }
@@ -185,9 +193,9 @@ fn kind_in_small(
     cells: &[Ref],
     roots: &[Ref],
     d: &[u8],
-) -> usize
+) -> Option<Damage>
     requires { Countable blocks width a.now b.now counts.now cells.now roots.now d.now × (blocks ≤ max_blocks / 64) }
-    ensures { result ≡ kind_of blocks width a.now b.now counts.now cells.now roots.now
+    ensures { damage_kind result ≡ kind_of blocks width a.now b.now counts.now cells.now roots.now
         d.now }
 {
     let mut at = [0u8; SMALL_ROOM];
@@ -205,9 +213,9 @@ fn kind_in_middle(
     cells: &[Ref],
     roots: &[Ref],
     d: &[u8],
-) -> usize
+) -> Option<Damage>
     requires { Countable blocks width a.now b.now counts.now cells.now roots.now d.now × (blocks ≤ max_blocks / 8) }
-    ensures { result ≡ kind_of blocks width a.now b.now counts.now cells.now roots.now
+    ensures { damage_kind result ≡ kind_of blocks width a.now b.now counts.now cells.now roots.now
         d.now }
 {
     let mut at = [0u8; MIDDLE_ROOM];
@@ -225,9 +233,9 @@ fn kind_in_largest(
     cells: &[Ref],
     roots: &[Ref],
     d: &[u8],
-) -> usize
+) -> Option<Damage>
     requires { Countable blocks width a.now b.now counts.now cells.now roots.now d.now }
-    ensures { result ≡ kind_of blocks width a.now b.now counts.now cells.now roots.now
+    ensures { damage_kind result ≡ kind_of blocks width a.now b.now counts.now cells.now roots.now
         d.now }
 {
     let mut at = [0u8; MAX_BLOCKS];
@@ -247,9 +255,9 @@ fn kind_in_room(
     cells: &[Ref],
     roots: &[Ref],
     d: &[u8],
-) -> usize
+) -> Option<Damage>
     requires { Countable blocks width a.now b.now counts.now cells.now roots.now d.now × (1 ≤ places) }
-    ensures { result ≡ kind_of blocks width a.now b.now counts.now cells.now roots.now
+    ensures { damage_kind result ≡ kind_of blocks width a.now b.now counts.now cells.now roots.now
         d.now }
 {
     if places < blocks {
@@ -274,9 +282,9 @@ pub fn reference_kind(
     cells: &[Ref],
     roots: &[Ref],
     d: &[u8],
-) -> usize
+) -> Option<Damage>
     requires { Countable blocks width a.now b.now counts.now cells.now roots.now d.now }
-    ensures { result ≡ kind_of blocks width a.now b.now counts.now cells.now roots.now
+    ensures { damage_kind result ≡ kind_of blocks width a.now b.now counts.now cells.now roots.now
         d.now }
 {
     kind_in_room(SMALL_ROOM, blocks, width, a, b, counts, cells, roots, d)

@@ -3,12 +3,13 @@
 #![tactic(auto)]
 
 ghost use Rattle.std.specs.Prelude.{◌≡◌, true, List, ℕ};
+ghost use Rattle.types.specs.Told.{damage_kind};
 ghost use Rattle.rules.specs.Heap.{shaped, lent_memory};
 ghost use Rattle.rules.specs.Damage.{damage};
 
-use types::Ref;
+use types::{Damage, Ref};
 
-// The damage kind of a heap of right shape, or 0. Each kind is tested over the whole heap before the next. No kind reads the waiting list,
+// The damage of a heap of right shape, if there is any. Each kind is tested over the whole heap before the next. No kind reads the waiting list,
 // the sections, the marks or the second list: the answer is the same whatever they hold.
 pub fn damage_kind(
     blocks: usize,
@@ -19,30 +20,31 @@ pub fn damage_kind(
     cells: &[Ref],
     roots: &[Ref],
     d: &[u8],
-) -> usize
+) -> Option<Damage>
     requires { (waiting : List ℕ) × (sections : List ℕ) × (marks : List ℕ) × (list : List ℕ)
         × (shaped blocks width
         (lent_memory a.now b.now counts.now cells.now roots.now waiting sections d.now marks list) ≡ true) }
     ensures { (waiting sections marks list : List ℕ)
-        → result ≡ damage blocks width
+        → damage_kind result ≡ damage blocks width
         (lent_memory a.now b.now counts.now cells.now roots.now
         waiting sections d.now marks list) }
 {
     if check_maps::has_end_on_free(blocks, a, b) {
-        return 1;
+        return Some(Damage::EndOnFree);
     }
     if check_maps::has_open_end(blocks, a, b) {
-        return 2;
+        return Some(Damage::OpenEnd);
     }
     if check_maps::has_unaligned(blocks, a, b) {
-        return 3;
+        return Some(Damage::Unaligned);
     }
-    let kind = check_counts::reference_kind(blocks, width, a, b, counts, cells, roots, d);
-    if kind != 0 {
-        return kind;
+    if let Some(damage) = check_counts::reference_kind(
+        blocks, width, a, b, counts, cells, roots, d,
+    ) {
+        return Some(damage);
     }
     if check_maps::has_stray_data(blocks, a, b, d) {
-        return 7;
+        return Some(Damage::StrayData);
     }
-    0
+    None
 }

@@ -8,7 +8,7 @@ ghost use Rattle.rules_calls.specs.Calls.{Call};
 ghost use Rattle.rules_calls.specs.Promise.{Promise};
 
 use map_objects::lists;
-use types::{Ref, Reply, replies};
+use types::{Ref, Refusal, Reply};
 
 // Makes an empty heap of whatever the buffers held.
 pub fn format(
@@ -43,7 +43,7 @@ pub fn format(
         marks.len(),
         list.len(),
     ) {
-        return replies::refusal(1);
+        return Refusal::Misshapen.into();
     }
     work_format::format(
         blocks, width, a, b, counts, cells, roots, waiting, sections, d, marks, list,
@@ -71,20 +71,18 @@ pub fn allocate(
         (before a.old b.old counts.old cells.old roots.old waiting.old sections.old d.old marks.old list.old) result
         (after a.new b.new counts.new cells.new roots.new waiting.new sections.new d.new marks.new list.new) }
 {
-    let found = test_calls::allocate(
+    let at = match test_calls::allocate(
         blocks, width, a, b, counts, cells, roots, waiting, sections, d, marks, list, n, r,
-    );
-    let number = found.number;
-    if number != 0 {
-        return found;
-    }
-    let at = found.value;
+    ) {
+        Ok(at) => at,
+        Err(refusal) => return refusal.into(),
+    };
     lists::clear_all(waiting);
-    let done = work_allocate::allocate(
+    work_allocate::allocate(
         blocks, width, a, b, counts, cells, roots, waiting, sections, d, marks, list, false, n, r,
         at,
-    );
-    done.reply()
+    )
+    .into()
 }
 
 // Allocates n blocks of data into root r (request U6). The value is the first block.
@@ -108,20 +106,18 @@ pub fn allocate_data(
         (before a.old b.old counts.old cells.old roots.old waiting.old sections.old d.old marks.old list.old) result
         (after a.new b.new counts.new cells.new roots.new waiting.new sections.new d.new marks.new list.new) }
 {
-    let tested = test_calls::allocate_data(
+    let at = match test_calls::allocate(
         blocks, width, a, b, counts, cells, roots, waiting, sections, d, marks, list, n, r,
-    );
-    let number = tested.number;
-    if number != 0 {
-        return tested;
-    }
-    let at = tested.value;
+    ) {
+        Ok(at) => at,
+        Err(refusal) => return refusal.into(),
+    };
     lists::clear_all(waiting);
-    let done = work_allocate::allocate(
+    work_allocate::allocate(
         blocks, width, a, b, counts, cells, roots, waiting, sections, d, marks, list, true, n, r,
         at,
-    );
-    done.reply()
+    )
+    .into()
 }
 
 // Frees what no root reaches, and counts the rest anew. The value is the number of blocks freed. While a collection in small steps is open
@@ -144,16 +140,14 @@ pub fn collect(
         (before a.old b.old counts.old cells.old roots.now waiting.old sections.old d.old marks.now list.now) result
         (after a.new b.new counts.new cells.new roots.now waiting.new sections.new d.new marks.now list.now) }
 {
-    let checked = test_calls::none_open(
+    if let Err(refusal) = test_calls::none_open(
         blocks, width, a, b, counts, cells, roots, waiting, sections, d, marks, list,
-    );
-    let number = checked.number;
-    if number != 0 {
-        return checked;
+    ) {
+        return refusal.into();
     }
     lists::clear_all(waiting);
-    let done = work_collect::collect(
+    work_collect::collect(
         blocks, width, a, b, counts, cells, roots, waiting, sections, d, marks, list,
-    );
-    done.reply()
+    )
+    .into()
 }

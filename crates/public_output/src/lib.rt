@@ -29,12 +29,10 @@ pub fn reason(
         (before a.now b.now counts.now cells.now roots.now waiting.now sections.now d.now marks.now list.now) out.old result
         (after a.now b.now counts.now cells.now roots.now waiting.now sections.now d.now marks.now list.now) out.new }
 {
-    let checked = public_read::check(
+    if let Err(refusal) = public_read::test_heap(
         blocks, width, a, b, counts, cells, roots, waiting, sections, d, marks, list,
-    );
-    let number = checked.number;
-    if number != 0 {
-        return checked;
+    ) {
+        return refusal.into();
     }
     walk_reason::reason(
         blocks, width, a, b, counts, cells, roots, waiting, sections, d, marks, list, at, out,
@@ -61,12 +59,10 @@ pub fn shape(
         (before a.now b.now counts.now cells.now roots.now waiting.now sections.now d.now marks.now list.now) out.old result
         (after a.now b.now counts.now cells.now roots.now waiting.now sections.now d.now marks.now list.now) out.new }
 {
-    let tested = public_read::check(
+    if let Err(refusal) = public_read::test_heap(
         blocks, width, a, b, counts, cells, roots, waiting, sections, d, marks, list,
-    );
-    let number = tested.number;
-    if number != 0 {
-        return tested;
+    ) {
+        return refusal.into();
     }
     walk_shape::shape(
         blocks, width, a, b, counts, cells, roots, waiting, sections, d, marks, list, out,

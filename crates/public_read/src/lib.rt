@@ -2,15 +2,63 @@
 
 #![tactic(auto)]
 
+ghost use Rattle.types.specs.Told.{tested};
 ghost use Rattle.rules.specs.Lent.{before, after};
 ghost use Rattle.rules_calls.specs.Calls.{Call};
 ghost use Rattle.rules_calls.specs.Promise.{Promise};
 
 use test_arguments::{looking, numbers};
-use types::{Ref, Reply, replies};
+use types::{Ref, Refusal, Reply, replies};
 
 // Whether the heap has the right shape, is undamaged, has a true list of sections, and marks and a second list as they have to be: number 1,
 // or 2 with the damage kind, or 11, or 13, or 0. Every call but format tests the heap by this one.
+pub fn test_heap(
+    blocks: usize,
+    width: usize,
+    a: &[u8],
+    b: &[u8],
+    counts: &[u8],
+    cells: &[Ref],
+    roots: &[Ref],
+    waiting: &[Ref],
+    sections: &[Ref],
+    d: &[u8],
+    marks: &[u8],
+    list: &[Ref],
+) -> Result<(), Refusal>
+    ensures { Promise blocks width Call.check
+        (before a.now b.now counts.now cells.now roots.now waiting.now sections.now d.now marks.now list.now) (tested result)
+        (after a.now b.now counts.now cells.now roots.now waiting.now sections.now d.now marks.now list.now) }
+{
+    if !check_shape::is_shaped(
+        blocks,
+        width,
+        a.len(),
+        b.len(),
+        counts.len(),
+        cells.len(),
+        roots.len(),
+        waiting.len(),
+        sections.len(),
+        d.len(),
+        marks.len(),
+        list.len(),
+    ) {
+        return Err(Refusal::Misshapen);
+    }
+    if let Some(damage) = check_damage::damage_kind(blocks, width, a, b, counts, cells, roots, d) {
+        return Err(Refusal::Damaged(damage));
+    }
+    if section_figures::is_stale(blocks, a, sections) {
+        return Err(Refusal::StaleSections);
+    }
+    if check_marks::is_untidy(blocks, a, b, d, cells, roots, marks, list) {
+        return Err(Refusal::BadMarks);
+    }
+    Ok(())
+}
+
+// The same, as a reply.
 pub fn check(
     blocks: usize,
     width: usize,
@@ -29,37 +77,10 @@ pub fn check(
         (before a.now b.now counts.now cells.now roots.now waiting.now sections.now d.now marks.now list.now) result
         (after a.now b.now counts.now cells.now roots.now waiting.now sections.now d.now marks.now list.now) }
 {
-    if !check_shape::is_shaped(
-        blocks,
-        width,
-        a.len(),
-        b.len(),
-        counts.len(),
-        cells.len(),
-        roots.len(),
-        waiting.len(),
-        sections.len(),
-        d.len(),
-        marks.len(),
-        list.len(),
-    ) {
-        return replies::refusal(1);
-    }
-    let kind = check_damage::damage_kind(blocks, width, a, b, counts, cells, roots, d);
-    if kind != 0 {
-        return Reply {
-            number: 2,
-            value: kind,
-            second: 0,
-        };
-    }
-    if section_figures::is_stale(blocks, a, sections) {
-        return replies::refusal(11);
-    }
-    if check_marks::is_untidy(blocks, a, b, d, cells, roots, marks, list) {
-        return replies::refusal(13);
-    }
-    replies::acceptance(0)
+    test_heap(
+        blocks, width, a, b, counts, cells, roots, waiting, sections, d, marks, list,
+    )
+    .into()
 }
 
 // The number of free blocks.
@@ -81,12 +102,10 @@ pub fn free_blocks(
         (before a.now b.now counts.now cells.now roots.now waiting.now sections.now d.now marks.now list.now) result
         (after a.now b.now counts.now cells.now roots.now waiting.now sections.now d.now marks.now list.now) }
 {
-    let check_reply = check(
+    if let Err(refusal) = test_heap(
         blocks, width, a, b, counts, cells, roots, waiting, sections, d, marks, list,
-    );
-    let number = check_reply.number;
-    if number != 0 {
-        return check_reply;
+    ) {
+        return refusal.into();
     }
     replies::acceptance(bitmap::count_zeros(a))
 }
@@ -111,12 +130,10 @@ pub fn look(
         (before a.now b.now counts.now cells.now roots.now waiting.now sections.now d.now marks.now list.now) result
         (after a.now b.now counts.now cells.now roots.now waiting.now sections.now d.now marks.now list.now) }
 {
-    let checked = check(
+    if let Err(refusal) = test_heap(
         blocks, width, a, b, counts, cells, roots, waiting, sections, d, marks, list,
-    );
-    let number = checked.number;
-    if number != 0 {
-        return checked;
+    ) {
+        return refusal.into();
     }
     looking::look_reply(blocks, width, a, b, counts, at)
 }
@@ -142,12 +159,10 @@ pub fn read_number(
         (before a.now b.now counts.now cells.now roots.now waiting.now sections.now d.now marks.now list.now) result
         (after a.now b.now counts.now cells.now roots.now waiting.now sections.now d.now marks.now list.now) }
 {
-    let tested = check(
+    if let Err(refusal) = test_heap(
         blocks, width, a, b, counts, cells, roots, waiting, sections, d, marks, list,
-    );
-    let number = tested.number;
-    if number != 0 {
-        return tested;
+    ) {
+        return refusal.into();
     }
-    numbers::read_reply(blocks, a, b, cells, d, at, j)
+    numbers::read_reply(blocks, a, b, cells, d, at, j).into()
 }

@@ -30,12 +30,10 @@ pub fn open_collection(
         (before a.now b.now counts.now cells.now roots.now waiting.now sections.now d.now marks.old list.old) result
         (after a.now b.now counts.now cells.now roots.now waiting.now sections.now d.now marks.new list.new) }
 {
-    let shut = test_calls::none_open(
+    if let Err(refusal) = test_calls::none_open(
         blocks, width, a, b, counts, cells, roots, waiting, sections, d, marks, list,
-    );
-    let number = shut.number;
-    if number != 0 {
-        return shut;
+    ) {
+        return refusal.into();
     }
     work_open::open_collection(blocks, roots, marks, list)
 }
@@ -61,12 +59,10 @@ pub fn step_collection(
         (before a.old b.old counts.old cells.old roots.now waiting.old sections.old d.old marks.old list.old) result
         (after a.new b.new counts.new cells.new roots.now waiting.new sections.new d.new marks.new list.new) }
 {
-    let tested = test_calls::one_open(
+    if let Err(refusal) = test_calls::one_open(
         blocks, width, a, b, counts, cells, roots, waiting, sections, d, marks, list,
-    );
-    let number = tested.number;
-    if number != 0 {
-        return tested;
+    ) {
+        return refusal.into();
     }
     lists::clear_all(waiting);
     work_step::take_steps(

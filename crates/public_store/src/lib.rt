@@ -31,18 +31,16 @@ pub fn store_root(
         (before a.old b.old counts.old cells.old roots.old waiting.old sections.old d.old marks.old list.old) result
         (after a.new b.new counts.new cells.new roots.new waiting.new sections.new d.new marks.new list.new) }
 {
-    let tested = test_calls::store_root(
+    if let Err(refusal) = test_calls::store_root(
         blocks, width, a, b, counts, cells, roots, waiting, sections, d, marks, list, r, v,
-    );
-    let number = tested.number;
-    if number != 0 {
-        return tested;
+    ) {
+        return refusal.into();
     }
     lists::clear_all(waiting);
-    let done = work_root::store_root(
+    work_root::store_root(
         blocks, width, a, b, counts, cells, roots, waiting, sections, d, marks, list, r, v,
-    );
-    done.reply()
+    )
+    .into()
 }
 
 // Stores v in cell j of the object at block `at`. The value is the number of blocks freed.
@@ -67,18 +65,16 @@ pub fn store_cell(
         (before a.old b.old counts.old cells.old roots.now waiting.old sections.old d.old marks.old list.old) result
         (after a.new b.new counts.new cells.new roots.now waiting.new sections.new d.new marks.new list.new) }
 {
-    let tested = test_calls::store_cell(
+    if let Err(refusal) = test_calls::store_cell(
         blocks, width, a, b, counts, cells, roots, waiting, sections, d, marks, list, at, j, v,
-    );
-    let number = tested.number;
-    if number != 0 {
-        return tested;
+    ) {
+        return refusal.into();
     }
     lists::clear_all(waiting);
-    let done = work_cell::store_cell(
+    work_cell::store_cell(
         blocks, width, a, b, counts, cells, roots, waiting, sections, d, marks, list, at, j, v,
-    );
-    done.reply()
+    )
+    .into()
 }
 
 // Clears the roots of a set, bit r of `chosen` for root r, the lowest first. The value is the number of blocks freed in all.
@@ -101,18 +97,16 @@ pub fn return_roots(
         (before a.old b.old counts.old cells.old roots.old waiting.old sections.old d.old marks.old list.old) result
         (after a.new b.new counts.new cells.new roots.new waiting.new sections.new d.new marks.new list.new) }
 {
-    let tested = test_calls::return_roots(
+    if let Err(refusal) = test_calls::return_roots(
         blocks, width, a, b, counts, cells, roots, waiting, sections, d, marks, list, chosen,
-    );
-    let number = tested.number;
-    if number != 0 {
-        return tested;
+    ) {
+        return refusal.into();
     }
     lists::clear_all(waiting);
-    let done = work_return::clear_roots(
+    work_return::clear_roots(
         blocks, width, a, b, counts, cells, roots, waiting, sections, d, marks, list, chosen,
-    );
-    done.reply()
+    )
+    .into()
 }
 
 // Writes the number x into cell j of the data at block `at` (request U6). Nothing but the cell is written: no reference is stored and nothing
@@ -138,13 +132,10 @@ pub fn write_number(
         (before a.now b.now counts.now cells.old roots.now waiting.now sections.now d.now marks.now list.now) result
         (after a.now b.now counts.now cells.new roots.now waiting.now sections.now d.now marks.now list.now) }
 {
-    let tested = test_calls::write_number(
+    if let Err(refusal) = test_calls::write_number(
         blocks, width, a, b, counts, cells, roots, waiting, sections, d, marks, list, at, j, x,
-    );
-    let number = tested.number;
-    if number != 0 {
-        return tested;
+    ) {
+        return refusal.into();
     }
-    let done = work_number::write_number(cells, at, j, x);
-    done.reply()
+    work_number::write_number(cells, at, j, x).into()
 }

@@ -3,18 +3,20 @@
 
 #![tactic(auto)]
 
-ghost use Rattle.std.specs.Prelude.{[], ℕ, length};
+ghost use Rattle.std.specs.Prelude.{Bool, [], ℕ, length};
+ghost use Rattle.types.specs.Told.{replied, tested};
 ghost use Rattle.rules.specs.Heap.{memory, lent_memory};
 ghost use Rattle.rules.specs.Lent.{before};
-ghost use Rattle.rules_calls.specs.Calls.{Call};
+ghost use Rattle.rules_calls.specs.Calls.{Call, allocate_as};
 ghost use Rattle.test_arguments.specs.Replies.{store_root_test, store_cell_test, number_test, return_test, shut_test, open_test};
 ghost use Rattle.test_allocation.specs.Replies.{allocate_reply};
 ghost use Rattle.test_calls.specs.Gated.{Gated};
 
 use test_arguments::{collecting, numbers, returning, storing};
-use types::{Ref, Reply};
+use types::{Ref, Refusal};
 
-// The tests of an allocation of n blocks into root r. The value is the block where the object can start.
+// The tests of an allocation of n blocks into root r, which are the same where it is made as data (request U6). The block where the object can
+// start.
 pub fn allocate(
     blocks: usize,
     width: usize,
@@ -30,51 +32,16 @@ pub fn allocate(
     list: &[Ref],
     n: usize,
     r: usize,
-) -> Reply
-    ensures { Gated blocks width (Call.allocate n r)
-        (before a.now b.now counts.now cells.now roots.now waiting.now sections.now d.now marks.now list.now) result
+) -> Result<usize, Refusal>
+    ensures { (as_data : Bool)
+        → Gated blocks width (allocate_as as_data n r)
+        (before a.now b.now counts.now cells.now roots.now waiting.now sections.now d.now marks.now list.now) (replied result)
         (allocate_reply blocks a.now (length roots.now) n r) }
 {
-    let checked = public_read::check(
+    public_read::test_heap(
         blocks, width, a, b, counts, cells, roots, waiting, sections, d, marks, list,
-    );
-    let number = checked.number;
-    if number != 0 {
-        return checked;
-    }
+    )?;
     test_allocation::allocate_reply(blocks, a, sections, roots.len(), n, r)
-}
-
-// The tests of an allocation of data (request U6), which are those of any allocation.
-pub fn allocate_data(
-    blocks: usize,
-    width: usize,
-    a: &[u8],
-    b: &[u8],
-    counts: &[u8],
-    cells: &[Ref],
-    roots: &[Ref],
-    waiting: &[Ref],
-    sections: &[Ref],
-    d: &[u8],
-    marks: &[u8],
-    list: &[Ref],
-    n: usize,
-    r: usize,
-) -> Reply
-    ensures { Gated blocks width (Call.allocate_data n r)
-        (before a.now b.now counts.now cells.now roots.now waiting.now sections.now d.now marks.now list.now) result
-        (allocate_reply blocks a.now (length roots.now) n r) }
-{
-    let checked = public_read::check(
-        blocks, width, a, b, counts, cells, roots, waiting, sections, d, marks, list,
-    );
-    let number = checked.number;
-    if number != 0 {
-        return checked;
-    }
-    let root_count = roots.len();
-    test_allocation::allocate_reply(blocks, a, sections, root_count, n, r)
 }
 
 // The tests of a store in root r.
@@ -93,18 +60,14 @@ pub fn store_root(
     list: &[Ref],
     r: usize,
     v: usize,
-) -> Reply
+) -> Result<(), Refusal>
     ensures { Gated blocks width (Call.store_root r v)
-        (before a.now b.now counts.now cells.now roots.now waiting.now sections.now d.now marks.now list.now) result
+        (before a.now b.now counts.now cells.now roots.now waiting.now sections.now d.now marks.now list.now) (tested result)
         (store_root_test blocks (memory a.now b.now [] [] roots.now []) r v) }
 {
-    let checked = public_read::check(
+    public_read::test_heap(
         blocks, width, a, b, counts, cells, roots, waiting, sections, d, marks, list,
-    );
-    let number = checked.number;
-    if number != 0 {
-        return checked;
-    }
+    )?;
     storing::store_root_test(blocks, a, b, roots, r, v)
 }
 
@@ -125,18 +88,14 @@ pub fn store_cell(
     at: usize,
     j: usize,
     v: usize,
-) -> Reply
+) -> Result<(), Refusal>
     ensures { Gated blocks width (Call.store_cell at j v)
-        (before a.now b.now counts.now cells.now roots.now waiting.now sections.now d.now marks.now list.now) result
+        (before a.now b.now counts.now cells.now roots.now waiting.now sections.now d.now marks.now list.now) (tested result)
         (store_cell_test blocks (lent_memory a.now b.now [] [] [] [] [] d.now [] []) at j v) }
 {
-    let checked = public_read::check(
+    public_read::test_heap(
         blocks, width, a, b, counts, cells, roots, waiting, sections, d, marks, list,
-    );
-    let number = checked.number;
-    if number != 0 {
-        return checked;
-    }
+    )?;
     storing::store_cell_test(blocks, a, b, d, at, j, v)
 }
 
@@ -155,18 +114,14 @@ pub fn return_roots(
     marks: &[u8],
     list: &[Ref],
     chosen: u64,
-) -> Reply
+) -> Result<(), Refusal>
     ensures { Gated blocks width (Call.return_roots chosen)
-        (before a.now b.now counts.now cells.now roots.now waiting.now sections.now d.now marks.now list.now) result
+        (before a.now b.now counts.now cells.now roots.now waiting.now sections.now d.now marks.now list.now) (tested result)
         (return_test (length roots.now) chosen) }
 {
-    let checked = public_read::check(
+    public_read::test_heap(
         blocks, width, a, b, counts, cells, roots, waiting, sections, d, marks, list,
-    );
-    let number = checked.number;
-    if number != 0 {
-        return checked;
-    }
+    )?;
     returning::return_test(roots.len(), chosen)
 }
 
@@ -187,18 +142,14 @@ pub fn write_number(
     at: usize,
     j: usize,
     v: Ref,
-) -> Reply
+) -> Result<(), Refusal>
     ensures { Gated blocks width (Call.write_number at j v)
-        (before a.now b.now counts.now cells.now roots.now waiting.now sections.now d.now marks.now list.now) result
+        (before a.now b.now counts.now cells.now roots.now waiting.now sections.now d.now marks.now list.now) (tested result)
         (number_test blocks (lent_memory a.now b.now [] [] [] [] [] d.now [] []) at j) }
 {
-    let checked = public_read::check(
+    public_read::test_heap(
         blocks, width, a, b, counts, cells, roots, waiting, sections, d, marks, list,
-    );
-    let number = checked.number;
-    if number != 0 {
-        return checked;
-    }
+    )?;
     numbers::number_test(blocks, a, b, d, at, j)
 }
 
@@ -216,21 +167,17 @@ pub fn none_open(
     d: &[u8],
     marks: &[u8],
     list: &[Ref],
-) -> Reply
+) -> Result<(), Refusal>
     ensures { Gated blocks width Call.collect
-        (before a.now b.now counts.now cells.now roots.now waiting.now sections.now d.now marks.now list.now) result
+        (before a.now b.now counts.now cells.now roots.now waiting.now sections.now d.now marks.now list.now) (tested result)
         (shut_test blocks list.now)
         × Gated blocks width Call.open_collection
-        (before a.now b.now counts.now cells.now roots.now waiting.now sections.now d.now marks.now list.now) result
+        (before a.now b.now counts.now cells.now roots.now waiting.now sections.now d.now marks.now list.now) (tested result)
         (shut_test blocks list.now) }
 {
-    let checked = public_read::check(
+    public_read::test_heap(
         blocks, width, a, b, counts, cells, roots, waiting, sections, d, marks, list,
-    );
-    let number = checked.number;
-    if number != 0 {
-        return checked;
-    }
+    )?;
     collecting::shut_test(blocks, list)
 }
 
@@ -248,18 +195,14 @@ pub fn one_open(
     d: &[u8],
     marks: &[u8],
     list: &[Ref],
-) -> Reply
+) -> Result<(), Refusal>
     ensures { (budget : ℕ)
         → Gated blocks width (Call.take_steps budget)
-        (before a.now b.now counts.now cells.now roots.now waiting.now sections.now d.now marks.now list.now) result
+        (before a.now b.now counts.now cells.now roots.now waiting.now sections.now d.now marks.now list.now) (tested result)
         (open_test blocks list.now) }
 {
-    let tested = public_read::check(
+    public_read::test_heap(
         blocks, width, a, b, counts, cells, roots, waiting, sections, d, marks, list,
-    );
-    let number = tested.number;
-    if number != 0 {
-        return tested;
-    }
+    )?; // the heap's refusals come first
     collecting::open_test(blocks, list)
 }

@@ -1,5 +1,5 @@
 // The replies as they are built: a refusal, and acceptance with one value.
-ghost use Rattle.std.specs.Prelude.{◌≡◌};
+ghost use Rattle.std.specs.Prelude.{◌≡◌, Ok};
 ghost use Rattle.types.specs.Told.{refused, replied, tested, came_of, reply_of};
 
 use crate::refusals::Refusal;
@@ -39,16 +39,24 @@ impl From<Result<(), Refusal>> for Reply {
     }
 }
 
+impl From<Outcome> for Reply {
+    ghost from_gives = { λ outcome reply. reply ≡ reply_of (came_of (Ok outcome)) };
+
+    fn from(outcome: Outcome) -> Reply {
+        Reply {
+            number: 0,
+            value: outcome.value,
+            second: outcome.stuck as usize,
+        }
+    }
+}
+
 impl From<Result<Outcome, Refusal>> for Reply {
     ghost from_gives = { λ answer reply. reply ≡ reply_of (came_of answer) };
 
     fn from(answer: Result<Outcome, Refusal>) -> Reply {
         match answer {
-            Ok(outcome) => Reply {
-                number: 0,
-                value: outcome.value,
-                second: outcome.stuck as usize,
-            },
+            Ok(outcome) => outcome.into(),
             Err(refusal) => refusal.into(),
         }
     }

@@ -11,6 +11,7 @@ use Rattle.rules.specs.Tools.{some_below, first_number}
 use Rattle.rules.specs.Damage.{end_on_free, open_end, unaligned, bad_cell, bad_root, bad_count, stray_data, damage}
 use Rattle.rules.proofs.Tests.{first_no}
 use Rattle.rules.proofs.Shape.{shape_facts}
+use Rattle.types.proofs.Refused.{kind_ne0}
 use Rattle.check_damage.proofs.damage_kind.Goals as goal
 
 -- ---- the seven tests, in the rule's order; kind 4 has two, and the code makes them with kind 5's in one. No test reads the waiting list, the sections,
@@ -114,8 +115,8 @@ returns-then-has_unaligned c = λ x s m l.
     (sym c.has_open_end.ensures ∙ c.if-has_open_end.false)
     (sym c.has_unaligned.ensures ∙ c.if-has_unaligned.true)
 
-pub reference_kind-kind-requires : goal.reference_kind-kind-requires
-reference_kind-kind-requires c =
+pub reference_kind-requires : goal.reference_kind-requires
+reference_kind-requires c =
     let len =
     shape_facts c.args.blocks c.args.width
     (lent_memory c.args.a.now c.args.b.now c.args.counts.now c.args.cells.now c.args.roots.now c.requires.0 c.requires.1 c.args.d.now
@@ -134,16 +135,16 @@ reference_kind-kind-requires c =
       roots_max = len.roots_max;
     }
 
-pub returns-then-kind-ne0 : goal.returns-then-kind-ne0
+pub returns-in-Some : goal.returns-in-Some
 unfolding end_on_free open_end unaligned bad_cell bad_root bad_count
-returns-then-kind-ne0 c = λ x s m l.
-    c.reference_kind-kind.ensures
+returns-in-Some c = λ x s m l.
+    c.in-Some.ensures
     ∙ is_4_or_5 c.args.blocks c.args.width
     (lent_memory c.args.a.now c.args.b.now c.args.counts.now c.args.cells.now c.args.roots.now x s c.args.d.now m l)
     (sym c.has_end_on_free.ensures ∙ c.if-has_end_on_free.false)
     (sym c.has_open_end.ensures ∙ c.if-has_open_end.false)
     (sym c.has_unaligned.ensures ∙ c.if-has_unaligned.false)
-    (λ e. c.if-kind-ne0.true (c.reference_kind-kind.ensures ∙ e))
+    (λ e. kind_ne0 _ (c.in-Some.ensures ∙ e))
 
 pub has_stray_data-requires : goal.has_stray_data-requires
 has_stray_data-requires c =
@@ -162,7 +163,7 @@ returns-then-has_stray_data c = λ x s m l.
     (sym c.has_end_on_free.ensures ∙ c.if-has_end_on_free.false)
     (sym c.has_open_end.ensures ∙ c.if-has_open_end.false)
     (sym c.has_unaligned.ensures ∙ c.if-has_unaligned.false)
-    (sym c.reference_kind-kind.ensures ∙ c.if-kind-ne0.false)
+    (sym c.in_default.ensures)
     true
     (sym c.has_stray_data.ensures ∙ c.if-has_stray_data.true)
 
@@ -174,6 +175,6 @@ returns c = λ x s m l.
     (sym c.has_end_on_free.ensures ∙ c.if-has_end_on_free.false)
     (sym c.has_open_end.ensures ∙ c.if-has_open_end.false)
     (sym c.has_unaligned.ensures ∙ c.if-has_unaligned.false)
-    (sym c.reference_kind-kind.ensures ∙ c.if-kind-ne0.false)
+    (sym c.in_default.ensures)
     false
     (sym c.has_stray_data.ensures ∙ c.if-has_stray_data.false)

@@ -1,21 +1,23 @@
 -- `public_heap::allocate_data` meets its contract: the gate, and then the work on the cleared heap.
 use mathlib.Core.Path.{refl}
+use mathlib.Core.Bool.{true}
+use Rattle.types.proofs.Refused.{number_ne0}
 use Rattle.rules_calls.specs.Calls.{outcome}
 use Rattle.test_allocation.proofs.AllocationReply.{replied, allocate_accepts, allocate_data_goes_on}
 use Rattle.test_calls.proofs.ClearedHeap.{cleared_usable, worked_back}
 use Rattle.public_heap.proofs.allocate_data.Goals as goal
 
-pub returns-then-number-ne0 : goal.returns-then-number-ne0
-returns-then-number-ne0 c = c.allocate_data-tested.ensures.refused c.if-number-ne0.true
+pub returns-in-Err : goal.returns-in-Err
+returns-in-Err c = rw c.into.ensures ((c.in-Err.ensures true).refused (number_ne0 _))
 
-pub allocate-done-requires : goal.allocate-done-requires
-allocate-done-requires c = (
-  cleared_usable (c.allocate_data-tested.ensures.fit c.if-number-ne0.false) c.clear_all.ensures,
-  allocate_accepts (replied (c.allocate_data-tested.ensures.tested c.if-number-ne0.false)) c.if-number-ne0.false,
+pub allocate-requires-2 : goal.allocate-requires-2
+allocate-requires-2 c = (
+  cleared_usable ((c.in-Ok.ensures true).fit refl) c.clear_all.ensures,
+  allocate_accepts (replied ((c.in-Ok.ensures true).tested refl)) refl,
 )
 
 pub returns : goal.returns
 unfolding outcome
 returns c =
-    worked_back (c.allocate_data-tested.ensures.fit c.if-number-ne0.false) c.clear_all.ensures refl
-    (allocate_data_goes_on _ (replied (c.allocate_data-tested.ensures.tested c.if-number-ne0.false)) c.if-number-ne0.false) refl c.allocate-done.ensures c.reply.ensures
+    worked_back ((c.in-Ok.ensures true).fit refl) c.clear_all.ensures refl
+    (allocate_data_goes_on _ (replied ((c.in-Ok.ensures true).tested refl)) refl) refl c.allocate-2.ensures c.into-2.ensures

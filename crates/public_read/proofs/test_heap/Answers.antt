@@ -1,17 +1,19 @@
--- `check` meets its contract: the shape is tested before the damage, that before the list of sections, and that before
+-- `test_heap` meets its contract: the shape is tested before the damage, that before the list of sections, and that before
 -- marks and second list.
-use mathlib.Core.Path.{sym, ◌∙◌}
+use mathlib.Core.Path.{refl, sym, ◌∙◌}
+use Rattle.types.proofs.Refused.{kind_ne0}
 use native.Mathlib.Omega.{arith}
 use Rattle.rules.specs.Heap.{lent_memory}
 use Rattle.rules.proofs.Shape.{shape_facts, shaped_blocks}
 use Rattle.public_read.proofs.CheckReply.{check_unshaped, check_damaged, check_stale, check_untidy, check_passed}
-use Rattle.public_read.proofs.check.Goals as goal
+use Rattle.public_read.proofs.test_heap.Goals as goal
 
 pub returns-then-not-is_shaped : goal.returns-then-not-is_shaped
-returns-then-not-is_shaped c = check_unshaped (sym c.is_shaped.ensures ∙ c.if-not-is_shaped.true) c.refusal.ensures
+returns-then-not-is_shaped c = check_unshaped (sym c.is_shaped.ensures ∙ c.if-not-is_shaped.true)
+    refl
 
-pub damage_kind-kind-requires : goal.damage_kind-kind-requires
-damage_kind-kind-requires c = (
+pub damage_kind-requires : goal.damage_kind-requires
+damage_kind-requires c = (
   c.args.waiting.now,
   c.args.sections.now,
   c.args.marks.now,
@@ -19,10 +21,10 @@ damage_kind-kind-requires c = (
   sym c.is_shaped.ensures ∙ c.if-not-is_shaped.false,
 )
 
-pub returns-then-kind-ne0 : goal.returns-then-kind-ne0
-returns-then-kind-ne0 c =
+pub returns-in-Some : goal.returns-in-Some
+returns-in-Some c =
     check_damaged (sym c.is_shaped.ensures ∙ c.if-not-is_shaped.false)
-    (c.damage_kind-kind.ensures c.args.waiting.now c.args.sections.now c.args.marks.now c.args.list.now) c.if-kind-ne0.true
+    (c.in-Some.ensures c.args.waiting.now c.args.sections.now c.args.marks.now c.args.list.now) (kind_ne0 _)
 
 pub is_stale-requires : goal.is_stale-requires
 is_stale-requires c =
@@ -35,8 +37,8 @@ is_stale-requires c =
 pub returns-then-is_stale : goal.returns-then-is_stale
 returns-then-is_stale c =
     check_stale (sym c.is_shaped.ensures ∙ c.if-not-is_shaped.false)
-    (sym (c.damage_kind-kind.ensures c.args.waiting.now c.args.sections.now c.args.marks.now c.args.list.now) ∙ c.if-kind-ne0.false)
-    (sym c.is_stale.ensures ∙ c.if-is_stale.true) c.refusal-then-is_stale.ensures
+    (sym (c.in_default.ensures c.args.waiting.now c.args.sections.now c.args.marks.now c.args.list.now))
+    (sym c.is_stale.ensures ∙ c.if-is_stale.true) refl
 
 pub is_untidy-requires : goal.is_untidy-requires
 is_untidy-requires c = (
@@ -46,8 +48,7 @@ is_untidy-requires c = (
   c.args.sections.now,
   record {
     right_shape = sym c.is_shaped.ensures ∙ c.if-not-is_shaped.false;
-    no_damage = sym (c.damage_kind-kind.ensures c.args.waiting.now c.args.sections.now c.args.marks.now c.args.list.now)
-        ∙ c.if-kind-ne0.false;
+    no_damage = sym (c.in_default.ensures c.args.waiting.now c.args.sections.now c.args.marks.now c.args.list.now);
   },
 )
 
@@ -56,12 +57,11 @@ returns-then-is_untidy c =
     check_untidy
     (record {
       right_shape = sym c.is_shaped.ensures ∙ c.if-not-is_shaped.false;
-      no_damage = sym (c.damage_kind-kind.ensures c.args.waiting.now c.args.sections.now c.args.marks.now c.args.list.now)
-          ∙ c.if-kind-ne0.false;
+      no_damage = sym (c.in_default.ensures c.args.waiting.now c.args.sections.now c.args.marks.now c.args.list.now);
     })
     (sym c.is_stale.ensures ∙ c.if-is_stale.false)
     (sym (c.is_untidy.ensures c.args.counts.now c.args.waiting.now c.args.sections.now) ∙ c.if-is_untidy.true)
-    c.refusal-then-is_untidy.ensures
+    refl
 
 pub returns : goal.returns
 returns c =
@@ -69,10 +69,9 @@ returns c =
     (record {
       intact = record {
         right_shape = sym c.is_shaped.ensures ∙ c.if-not-is_shaped.false;
-        no_damage = sym (c.damage_kind-kind.ensures c.args.waiting.now c.args.sections.now c.args.marks.now c.args.list.now)
-            ∙ c.if-kind-ne0.false;
+        no_damage = sym (c.in_default.ensures c.args.waiting.now c.args.sections.now c.args.marks.now c.args.list.now);
       };
       true_list = sym c.is_stale.ensures ∙ c.if-is_stale.false;
       tidy = sym (c.is_untidy.ensures c.args.counts.now c.args.waiting.now c.args.sections.now) ∙ c.if-is_untidy.false;
     })
-    c.acceptance.ensures
+    refl
