@@ -12,14 +12,10 @@ pub fn get_count(counts: &[u8], bytes: usize, width: usize, block: usize) -> u8
     requires { (length counts.now ≡ width * bytes) × (width ≤ 8) × (block < 8 * bytes) }
     ensures { (result ≡ count_at bytes width counts.now block) × (result < 2 ^ width) }
 {
-    let mut count: u8 = 0;
-    let mut k = 0;
-    let mut from = 0;
-    while k < width {
-        let to = from + bytes;
-        count = count + (bitmap::get_bit(&counts[from..to], block) << k);
-        from = to;
-        k += 1;
+    let mut count = 0;
+    for k in 0..width {
+        let map = &counts[k * bytes..(k + 1) * bytes];
+        count += bitmap::get_bit(map, block) << k;
     }
     count
 }
@@ -29,15 +25,7 @@ pub fn some_byte(counts: &[u8], bytes: usize, width: usize, k: usize) -> u8
     requires { (length counts.now ≡ width * bytes) × (k < bytes) }
     ensures { (s : ℕ) → s < 8 → eqb (bit_of result s) 0 ≡ eqb (count_at bytes width counts.now (8 * k + s)) 0 }
 {
-    let mut some: u8 = 0;
-    let mut p = 0;
-    let mut from = 0;
-    while p < width {
-        some = some | counts[from + k];
-        from += bytes;
-        p += 1;
-    }
-    some
+    (0..width).fold(0, |some, p| some | counts[p * bytes + k])
 }
 
 // The blocks among the eight of byte k whose count has every bit 1, as the bits of a byte.
@@ -46,15 +34,7 @@ pub fn full_byte(counts: &[u8], bytes: usize, width: usize, k: usize) -> u8
     ensures { (s : ℕ) → s < 8
         → eqb (bit_of result s) 1 ≡ eqb (count_at bytes width counts.now (8 * k + s)) (2 ^ width - 1) }
 {
-    let mut full: u8 = 255;
-    let mut p = 0;
-    let mut from = 0;
-    while p < width {
-        full = full & counts[from + k];
-        from += bytes;
-        p += 1;
-    }
-    full
+    (0..width).fold(255, |full, p| full & counts[p * bytes + k])
 }
 
 // Writes the count of a block.
@@ -62,12 +42,8 @@ pub fn set_count(counts: &mut [u8], bytes: usize, width: usize, block: usize, va
     requires { (length counts.old ≡ width * bytes) × (width ≤ 8) × (block < 8 * bytes) }
     ensures { counts.new ≡ set_count bytes width counts.old block value }
 {
-    let mut k = 0;
-    let mut from = 0;
-    while k < width {
-        let to = from + bytes;
-        bitmap::set_bit(&mut counts[from..to], block, (value >> k) % 2);
-        from = to;
-        k += 1;
+    for k in 0..width {
+        let map = &mut counts[k * bytes..(k + 1) * bytes];
+        bitmap::set_bit(map, block, (value >> k) % 2);
     }
 }

@@ -1,44 +1,21 @@
-use mathlib.Core.Path.{◌≡◌, subst}
-use Prim.Native.Nat.{ℕ, ◌≤◌, ◌+◌, ◌-◌}
+-- `planes::some_byte` meets its contract, turn by turn of its fold.
+use mathlib.Core.Path.{refl, sym, subst}
+use Prim.Native.Nat.{ℕ, ◌+◌, ◌*◌}
 use native.Mathlib.Omega.{arith}
-use lib.ListN.{length}
-use Rattle.planes.proofs.PlaneBits.{plane_inside, plane_next}
-use Rattle.planes.proofs.Eights.{SomeEight, some_start, some_more}
+use lib.Bits.{bit_or}
+use lib.ListN.{get_or}
+use Rattle.std.proofs.Common.{rules}
+use Rattle.std.proofs.lemmas.Iterator.{YieldsList-from_range}
+use Rattle.std.proofs.lemmas.Iterator.Consumers.{fold_from_yields_List}
+use Rattle.planes.proofs.Eights.{SomeEight, fold_turns, some_start, some_more}
 use Rattle.planes.proofs.some_byte.Goals as goal
-
-pub loop-p-init : goal.loop-p-init
-loop-p-init c = (omega arith, omega arith, some_start c.args.counts.now c.args.bytes c.args.k)
-
--- the map lies in the slice
-inside-In-loop-p : (c : goal.In-loop-p) → c.loop-p.from + c.args.bytes ≤ length c.args.counts.now
-inside-In-loop-p c =
-    omega (arith, plane_inside c.args.bytes c.loop-p.p c.args.width c.loop-p-test.true)
-
-pub overflow_add-some : goal.overflow_add-some
-overflow_add-some c = omega (arith, inside-In-loop-p c)
-
--- the map lies in the slice
-inside-After-shared_slice_known-1-unread : (c : goal.After-shared_slice_known-1-unread) → c.loop-p.from + c.args.bytes ≤ length c.args.counts.now
-inside-After-shared_slice_known-1-unread c =
-    omega (arith, plane_inside c.args.bytes c.loop-p.p c.args.width c.loop-p-test.true)
-
-pub bounds-counts-from : goal.bounds-counts-from
-bounds-counts-from c = omega (arith, inside-After-shared_slice_known-1-unread c)
-
--- the map lies in the slice
-inside-After-shared_slice_known-1 : (c : goal.After-shared_slice_known-1) → c.loop-p.from + c.args.bytes ≤ length c.args.counts.now
-inside-After-shared_slice_known-1 c =
-    omega (arith, plane_inside c.args.bytes c.loop-p.p c.args.width c.loop-p-test.true)
-
-pub overflow_add-from : goal.overflow_add-from
-overflow_add-from c = omega (arith, inside-After-shared_slice_known-1 c)
-
-pub loop-p-preserved : goal.loop-p-preserved
-loop-p-preserved c =
-    let more = some_more c.args.counts.now c.args.bytes c.args.k c.loop-p.p c.loop-p.some c.loop-p.invariant.2 in
-    (omega arith, omega (arith, plane_next c.args.bytes c.loop-p.p), rw c.loop-p.invariant.1 more)
 
 pub returns : goal.returns
 returns c =
-    let done : c.loop-p.p ≡ c.args.width = omega arith in
-    subst (λ (p : ℕ). SomeEight c.args.counts.now c.args.bytes c.args.k p c.loop-p.some) done c.loop-p.invariant.2
+    let n : ℕ = c.args.width in
+    let turn : ℕ → ℕ → ℕ = λ x p. bit_or x (get_or c.args.counts.now (p * c.args.bytes + c.args.k) 0) in
+    let folded =
+    fold_from_yields_List _ turn 0 c.fold.result c.fold.ensures.ran (YieldsList-from_range 0 n n refl (omega arith)) (λ a p b q k. search rules) in
+    subst (SomeEight c.args.counts.now c.args.bytes c.args.k n) (sym folded)
+    (fold_turns (SomeEight c.args.counts.now c.args.bytes c.args.k) turn (some_more c.args.counts.now c.args.bytes c.args.k) n 0 n 0 (omega arith)
+    (some_start c.args.counts.now c.args.bytes c.args.k))
