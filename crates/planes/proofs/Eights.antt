@@ -1,7 +1,7 @@
 -- The counts of eight blocks at once, by the bytes of the maps: which are 0, and which have every bit 1.
-use mathlib.Core.Path.{◌≡◌, sym, ap, ◌∙◌, subst}
+use mathlib.Core.Path.{◌≡◌, sym, ap, ◌∙◌}
 use mathlib.Core.List.{List}
-use Prim.Native.Nat.{ℕ, zero, suc, ◌+◌, ◌-◌, ◌*◌, ◌^◌, ◌<◌, min, max}
+use Prim.Native.Nat.{ℕ, ◌+◌, ◌-◌, ◌*◌, ◌^◌, ◌<◌, min, max}
 use native.Mathlib.Nat.{pow-suc}
 use native.Mathlib.Numerals.{add-one}
 use native.Mathlib.Decide.{ℕ_discrete}
@@ -9,7 +9,6 @@ use native.Mathlib.Omega.{arith}
 use lib.Bits.{bit_and, bit_or}
 use lib.Dec.{eqb}
 use lib.ListN.{get_or}
-use Rattle.std.specs.List.{fold, range_with_len}
 use lib.Pow.{pow_pos}
 use borrow.Author.Tests.{eq-eqb, ne_eqb, eqb-true}
 use Rattle.bitmap.specs.Bit.{bit_of, bit_at}
@@ -31,12 +30,6 @@ test_to x y u v t e = eqb-true u v (sym t ∙ eq-eqb x y e)
 
 pub test_from : (x y u v : ℕ) → eqb x y ≡ eqb u v → u ≡ v → x ≡ y
 test_from x y u v t e = eqb-true x y (t ∙ eq-eqb u v e)
-
--- what each turn of a fold over the numbers from a on hands to the next holds at its end
-pub fold_turns : (P : ℕ → ℕ → Type 0) (f : ℕ → ℕ → ℕ) → ((p x : ℕ) → P p x → P (p + 1) (f x p))
-    → (n a e x : ℕ) → a + n ≡ e → P a x → P e (fold f x (range_with_len a n))
-fold_turns P f turn zero a e x at h = subst (λ (p : ℕ). P p x) (omega arith) h
-fold_turns P f turn (suc n) a e x at h = fold_turns P f turn n (a + 1) e (f x a) (omega arith) (turn a x h)
 
 module _ (counts : List ℕ) (bytes k : ℕ) where
   -- bit s of the byte of map p is the bit of block 8 k + s
