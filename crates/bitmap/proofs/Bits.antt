@@ -147,11 +147,3 @@ bits_ext (suc n) a b ha hb h =
 
 pub shift_exact : (a k : ℕ) → a < 2 → k < 8 → a * 2 ^ k % 256 ≡ a * 2 ^ k
 shift_exact a k h l = shl_exact 1 k 8 h (omega arith)
-
--- the byte computed as `b - ((b >> k) % 2 << k) + (v << k)`: the difference is none below 0 ..
-pub machine_le : (b k : ℕ) → k < 8 → bit_of b k * 2 ^ k % 256 ≤ b
-machine_le b k l = omega (arith, shift_exact (bit_of b k) k (bit_lt b k) l, bit_le b k)
-
--- .. and the result is `put_bit`'s
-pub machine_put : (b k v : ℕ) → k < 8 → v < 2 → b - bit_of b k * 2 ^ k % 256 + v * 2 ^ k % 256 ≡ put_bit b k v
-machine_put b k v l h = omega (arith, shift_exact (bit_of b k) k (bit_lt b k) l, shift_exact v k h l)

@@ -10,7 +10,7 @@ use lib.Bits.{bit_and, bit_or, bit_xor, differ, and_step, or_step, xor_step, and
 use lib.Count.{count_trailing_zeros}
 use lib.Pow.{pow_pos, shl-shr, split}
 use Rattle.bitmap.specs.Bit.{bit_of, put_bit}
-use Rattle.bitmap.proofs.Bits.{bit_suc, bit_lt, bit_below, bit_from, bit_zero, bits_past, bits_ext, put_zero, put_suc, some_bit_past}
+use Rattle.bitmap.proofs.Bits.{bit_suc, bit_below, bit_from, bit_zero, bits_past, bits_ext, put_zero, put_suc}
 
 -- ---- a digit is 0 or 1
 

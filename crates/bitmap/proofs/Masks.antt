@@ -15,6 +15,11 @@ use Rattle.bitmap.proofs.Bits.{bit_lt, bit_put_same, bit_put_other, put_lt, bit_
 use Rattle.bitmap.proofs.Runs.{length_fill}
 use Rattle.bitmap.proofs.Digits.{digit_and, digit_or, digit_not, digit_mod, digit_shl_low, digit_shl, digit_past}
 
+-- a run of one bit
+pub run_one : (b k v : ℕ) → put_run b k 1 v ≡ put_bit b k v
+unfolding put_run
+run_one b k v = ap (λ (x : ℕ). put_bit b x v) (add-zero k)
+
 -- ---- the bits of a run
 
 pub run_lt : (b k n v : ℕ) → b < 256 → k + n ≤ 8 → v < 2 → put_run b k n v < 256

@@ -1,18 +1,24 @@
 -- Laws of counting: `count_below`, and the number of 0 bits of a map, `zeros`.
--- What a write of a bit or of a run does to that number, its bounds, and the sum byte by byte with the language's count of ones.
+-- What a write of a bit or of a run does to that number, its bounds, and the sum of the language's count of zeros of each byte.
 use mathlib.Core.Path.{◌≡◌, refl, sym, ap, ◌∙◌}
 use mathlib.Core.Logic.{◌≢◌, inr}
 use mathlib.Core.Bool.{Bool, true, false}
 use mathlib.Core.List.{List}
 use Prim.Native.Nat.{ℕ, zero, suc, ◌+◌, ◌-◌, ◌*◌, ◌/◌, ◌%◌, ◌^◌, ◌≤◌, ◌<◌}
 use native.Mathlib.Nat.{add-zero, add-suc, pow-suc}
+use native.Mathlib.Numerals.{add-one}
 use native.Mathlib.Decide.{ℕ_discrete}
 use native.Mathlib.Omega.{arith}
 use lib.Count.{ones, ones_step, ones-le}
 use lib.Dec.{eqb}
-use lib.ListN.{length, get_or, replicate, length-replicate}
-use Rattle.bitmap.specs.Bit.{bit_of, bit_at, set_bit, fill_bits, one, count_below, zeros}
+use lib.ListN.{length, get_or, replicate, length-replicate, take}
+use lib.Seq.{take-length}
+use Rattle.std.specs.Int.{count_zeros, w8}
+use Rattle.std.specs.List.{sum_by}
+use Rattle.std.proofs.lemmas.List.Sums.{sum_by_more}
+use Rattle.bitmap.specs.Bit.{bit_of, bit_at, set_bit, fill_bits, one, count_below, zeros, Bytes}
 use Rattle.bitmap.proofs.Bits.{bit_suc}
+use Rattle.bitmap.proofs.Digits.{digit_not}
 use Rattle.bitmap.proofs.Maps.{bit_of_byte, bit_set_same, bit_set_other, length_set_bit, bit_all_zero}
 use Rattle.bitmap.proofs.Runs.{length_fill, bit_fill_out}
 
@@ -140,28 +146,48 @@ ones_low (suc n) b h =
     let half : b / 2 < 2 ^ n = omega (arith, pow-suc 2 n) in
     omega (arith, ones_step b, ones_low n (b / 2) half, low_suc b n)
 
--- the 0 bits among the k lowest of byte j
-zeros_in_byte : (map : List ℕ) (j k : ℕ) → k ≤ 8 → zeros_below map (8 * j + k) + low (get_or map j 0) k ≡ zeros_below map (8 * j) + k
+-- the 0 bits among the k lowest of byte j are the 1 bits of its complement
+zeros_in_byte : (map : List ℕ) (j k : ℕ) → k ≤ 8 → get_or map j 0 < 256
+    → zeros_below map (8 * j + k) ≡ zeros_below map (8 * j) + low (255 - get_or map j 0) k
 unfolding count_below low
-zeros_in_byte map j zero h = omega (arith, ap (zeros_below map) (add-zero (8 * j)))
-zeros_in_byte map j (suc k) h =
+zeros_in_byte map j zero h small = omega (arith, ap (zeros_below map) (add-zero (8 * j)))
+zeros_in_byte map j (suc k) h small =
     omega (
       arith,
-      zeros_in_byte map j k (omega arith),
+      zeros_in_byte map j k (omega arith) small,
       ap (zeros_below map) (add-suc (8 * j) k),
       bit_of_byte map j k h,
+      digit_not 8 (get_or map j 0) k small h,
       one_bit (bit_at map (8 * j + k)) (omega (arith, bit_of_byte map j k h)),
     )
 
 -- one byte more
-pub zeros_more : (map : List ℕ) (j : ℕ) → get_or map j 0 < 256
-    → zeros_below map (8 * (j + 1)) ≡ zeros_below map (8 * j) + (8 - ones (get_or map j 0))
+zeros_more : (map : List ℕ) (j : ℕ) → get_or map j 0 < 256
+    → zeros_below map (8 * (j + 1)) ≡ zeros_below map (8 * j) + count_zeros w8 (get_or map j 0)
 zeros_more map j h =
     let e : 8 * (j + 1) ≡ 8 * j + 8 = omega arith in
     omega (
       arith,
       ap (zeros_below map) e,
-      zeros_in_byte map j 8 (omega arith),
-      ones_low 8 (get_or map j 0) h,
-      ones-le 8 (get_or map j 0) h,
+      zeros_in_byte map j 8 (omega arith) h,
+      ones_low 8 (255 - get_or map j 0) (omega arith),
     )
+
+sum_below : (map : List ℕ) → Bytes map → (n : ℕ) → n ≤ length map
+    → sum_by (count_zeros w8) (take n map) ≡ zeros_below map (8 * n)
+unfolding count_below Bytes
+sum_below map small zero l = refl
+sum_below map small (suc n) l =
+    ap (λ (k : ℕ). sum_by (count_zeros w8) (take k map)) (sym (add-one n))
+    ∙ omega (
+      arith,
+      sum_by_more (count_zeros w8) map n 0 l,
+      sum_below map small n (omega arith),
+      zeros_more map n (small n),
+      ap (λ (k : ℕ). zeros_below map (8 * k)) (add-one n),
+    )
+
+pub zeros_sum : (map : List ℕ) → Bytes map → sum_by (count_zeros w8) map ≡ zeros map
+unfolding zeros
+zeros_sum map small =
+    sym (ap (sum_by (count_zeros w8)) (take-length map)) ∙ sum_below map small (length map) (omega arith)

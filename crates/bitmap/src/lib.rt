@@ -19,9 +19,7 @@ pub fn set_bit(map: &mut [u8], i: usize, v: u8)
     requires { (i < 8 * length map.old) × (v < 2) }
     ensures { map.new ≡ set_bit map.old i v }
 {
-    let k = i % 8;
-    let b = map[i / 8];
-    map[i / 8] = b - ((b >> k) % 2 << k) + (v << k);
+    map[i / 8] = fill_byte(map[i / 8], i % 8, 1, v);
 }
 
 // The byte with its `count` bits from bit `from` on replaced by v, 0 or 1.
@@ -33,24 +31,16 @@ fn fill_byte(byte: u8, from: usize, count: usize, v: u8) -> u8
     (byte & !mask) | (mask * v)
 }
 
-fn least(x: usize, y: usize) -> usize
-    ensures { result ≡ min x y }
-{
-    if x < y {
-        return x;
-    }
-    y
-}
-
 // Writes v, 0 or 1, to the `count` bits from bit `from` on: byte by byte, the first and the last by a mask.
 pub fn fill_bits(map: &mut [u8], from: usize, count: usize, v: u8)
     requires { (from + count ≤ 8 * length map.old) × (v < 2) × (8 * length map.old < 2 ^ 64) }
     ensures { map.new ≡ fill_bits map.old from count v }
 {
     let mut i = 0;
+    // A turn goes on by what it wrote of a byte, up to 8 bits: no `for` steps so.
     while i < count {
         let at = from + i;
-        let n = least(8 - at % 8, count - i);
+        let n = (8 - at % 8).min(count - i);
         map[at / 8] = fill_byte(map[at / 8], at % 8, n, v);
         i += n;
     }
@@ -60,23 +50,13 @@ pub fn fill_bits(map: &mut [u8], from: usize, count: usize, v: u8)
 pub fn fill_bytes(map: &mut [u8], v: u8)
     ensures { map.new ≡ replicate (length map.old) v }
 {
-    let mut i = 0;
-    while i < map.len() {
-        map[i] = v;
-        i += 1;
-    }
+    map.fill(v);
 }
 
-// The number of 0 bits of the map, summed byte by byte by the language's count of ones.
+// The number of 0 bits of the map.
 pub fn count_zeros(map: &[u8]) -> usize
     requires { 8 * length map.now < 2 ^ 64 }
     ensures { (result ≡ zeros map.now) × (result ≤ 8 * length map.now) }
 {
-    let mut n: usize = 0;
-    let mut i = 0;
-    while i < map.len() {
-        n += (8 - u8::count_ones(map[i])) as usize;
-        i += 1;
-    }
-    n
+    map.iter().map(|byte| byte.count_zeros() as usize).sum()
 }

@@ -1,18 +1,17 @@
 -- The first blocks of a byte of the maps, as bits.
 use mathlib.Core.Path.{◌≡◌, refl, sym, ap, ◌∙◌}
 use mathlib.Core.Logic.{◌≢◌}
-use mathlib.Core.Bool.{Bool, true, false, not, ◌&&◌, ◌||◌}
+use mathlib.Core.Bool.{true, not, ◌&&◌, ◌||◌}
 use mathlib.Core.List.{List}
-use Prim.Native.Nat.{ℕ, zero, suc, ◌+◌, ◌-◌, ◌*◌, ◌/◌, ◌%◌, ◌^◌, ◌≤◌, ◌<◌, min, max}
-use native.Mathlib.Nat.{le_of_suc-le-suc}
+use Prim.Native.Nat.{ℕ, zero, suc, ◌+◌, ◌-◌, ◌*◌, ◌/◌, ◌%◌, ◌^◌, ◌≤◌, ◌<◌, min}
 use native.Mathlib.Omega.{arith}
 use lib.Bits.{bit_and, bit_or, and_le_l, or_lt}
 use lib.Dec.{eqb}
 use lib.ListN.{get_or}
 use lib.Pow.{shr_le}
-use borrow.Author.Tests.{lt-ltb, eq-eqb, ne_eqb}
-use Rattle.bitmap.specs.Bit.{bit_of, bit_at, Bytes}
-use Rattle.bitmap.proofs.Bits.{bit_from, bit_zero}
+use borrow.Author.Tests.{lt-ltb, ne_eqb}
+use Rattle.bitmap.specs.Bit.{bit_of, bit_at}
+use Rattle.bitmap.proofs.Bits.{bit_from}
 use Rattle.bitmap.proofs.Digits.{each_bit, digit_and, digit_or, digit_not, digit_mod, digit_shl_low, digit_shl, digit_past}
 use Rattle.bitmap.proofs.Maps.{bit_at_lt, bit_of_byte}
 use Rattle.rules.specs.Heap.{first_in}

@@ -1,13 +1,11 @@
 -- Laws of first blocks, by the ways a test of one can go: `first_in`.
 use mathlib.Core.Path.{◌≡◌}
-use mathlib.Core.Logic.{◌≢◌}
-use mathlib.Core.Bool.{false, ◌||◌}
+use mathlib.Core.Bool.{false}
 use mathlib.Core.List.{List}
-use Prim.Native.Nat.{ℕ, ◌-◌, ◌≤◌, ◌<◌}
-use lib.Dec.{eqb}
-use borrow.Author.Tests.{lt-ltb, le-ltb, eq-eqb, ne_eqb}
+use Prim.Native.Nat.{ℕ, ◌≤◌, ◌<◌}
+use borrow.Author.Tests.{lt-ltb, le-ltb, eq-eqb}
 use Rattle.bitmap.specs.Bit.{bit_at}
-use Rattle.rules.specs.Heap.{is_free, is_last, first_in}
+use Rattle.rules.specs.Heap.{first_in}
 
 pub first_past : (N : ℕ) (a b : List ℕ) (i : ℕ) → N ≤ i → false ≡ first_in N a b i
 unfolding first_in
@@ -16,9 +14,3 @@ first_past N a b i h = rw (le-ltb i N h, first_in)
 pub first_free : (N : ℕ) (a b : List ℕ) (i : ℕ) → i < N → bit_at a i ≡ 0 → false ≡ first_in N a b i
 unfolding first_in
 first_free N a b i h e = rw (lt-ltb i N h, eq-eqb (bit_at a i) 0 e, first_in)
-
--- an allocated block is a first one if it is block 0, or follows a free block, or follows a last one
-pub first_allocated : (N : ℕ) (a b : List ℕ) (i : ℕ) → i < N → bit_at a i ≢ 0
-    → first_in N a b i ≡ (eqb i 0 || is_free a (i - 1) || is_last b (i - 1))
-unfolding first_in
-first_allocated N a b i h e = rw (lt-ltb i N h, ne_eqb (bit_at a i) 0 e, first_in)

@@ -2,7 +2,7 @@
 use mathlib.Core.Path.{◌≡◌, refl, sym, ap, ◌∙◌}
 use mathlib.Core.Logic.{◌≢◌}
 use mathlib.Core.List.{List}
-use Prim.Native.Nat.{ℕ, zero, suc, ◌+◌, ◌-◌, ◌*◌, ◌/◌, ◌%◌, ◌^◌, ◌≤◌, ◌<◌}
+use Prim.Native.Nat.{ℕ, zero, suc, ◌+◌, ◌-◌, ◌*◌, ◌/◌, ◌%◌, ◌^◌, ◌≤◌, ◌<◌, min}
 use native.Mathlib.Decide.{dec_lt}
 use native.Mathlib.Omega.{arith}
 use lib.Count.{count_trailing_zeros}
@@ -87,13 +87,17 @@ module _ (b : List ℕ) (at : ℕ) (byte : get_or b (at / 8) 0 < 256) where
         omega (arith, low.below (j - at) (omega arith), rest_digit (j - at) inside, ap (bit_at b) there, bit_at_lt b j)
   ]
 
--- the size, where the first 0 from i on stands at `last`, inside of the heap or past it
-pub size_found : (N : ℕ) (b : List ℕ) (i last : ℕ) → i ≤ last → last < N → Inner b i last → bit_at b last ≡ 0
-    → last + 1 - i ≡ size_from (N - i) b i
-size_found N b i last l u inner e =
-    let there : i + (last - i) ≡ last = omega arith in
-    let size = rules.size_is (N - i) b i (last - i) (omega arith) (λ j p q. inner j p (omega arith)) (ap (bit_at b) there ∙ e) in
-    omega arith
-
+-- the size, where there is no 0 from i on inside of the heap
 pub size_open : (N : ℕ) (b : List ℕ) (i last : ℕ) → i ≤ N → N ≤ last → Inner b i last → N - i ≡ size_from (N - i) b i
 size_open N b i last l u inner = sym (size_full (N - i) b i (λ j p q. inner j p (omega arith)))
+
+-- the size, where the first 0 from i on stands at `last`, if it is inside of the heap, or where there is none
+pub size_to : (N : ℕ) (b : List ℕ) (i last : ℕ) → i ≤ last → i < N → Inner b i last → bit_at b last ≡ 0
+    → min last (N - 1) + 1 - i ≡ size_from (N - i) b i
+size_to N b i last l u inner e = elim (dec_lt last N) [
+  | yes s ↦
+      let there : i + (last - i) ≡ last = omega arith in
+      let size = rules.size_is (N - i) b i (last - i) (omega arith) (λ j p q. inner j p (omega arith)) (ap (bit_at b) there ∙ e) in
+      omega arith
+  | no s ↦ omega (arith, size_open N b i last (omega arith) (omega arith) inner)
+]

@@ -1,7 +1,9 @@
 -- Laws of blocks of data in a walk: block i from its own bits and from the block before it.
 use mathlib.Core.Path.{◌≡◌, refl, sym, ◌∙◌}
 use mathlib.Core.Logic.{◌≢◌, inl, inr}
-use mathlib.Core.Bool.{Bool, true, false, true≢false}
+use mathlib.Core.Bool.{Bool, true, false, true≢false, not, cond, ◌&&◌, ◌||◌}
+use lib.Dec.{eqb}
+use borrow.Author.Tests.{eq-eqb, ne_eqb}
 use mathlib.Core.List.{List}
 use Prim.Native.Nat.{ℕ, zero, suc, ◌+◌, ◌<◌}
 use native.Mathlib.Numerals.{add-one, unary_clauses}
@@ -14,6 +16,25 @@ use Rattle.rules.proofs.Objects.{Starts, first_test}
 use Rattle.rules.proofs.Tests.{test_cases_lem}
 use Rattle.rules.proofs.Reading.{free_no_data, first_data, inner_data}
 use Rattle.map_objects.specs.Walk.{data_before}
+use Rattle.map_objects.proofs.Firsts.{first_free}
+
+-- tests of a block with D bit d behind one of data, or any other: a free block, a first one, and one inside of an object
+at_free : (before d : Bool) → false ≡ cond before false (d && false)
+at_free true d = refl
+at_free false true = refl
+at_free false false = refl
+
+at_first : (before d : Bool) → d ≡ cond before (d || false) (d && true)
+at_first true true = refl
+at_first true false = refl
+at_first false true = refl
+at_first false false = refl
+
+at_inner : (before d : Bool) → before ≡ cond before (d || true) (d && false)
+at_inner true true = refl
+at_inner true false = refl
+at_inner false true = refl
+at_inner false false = refl
 
 module _ (N : ℕ) (a b d : List ℕ) where
   pub walk_start : false ≡ data_before N a b d 0
@@ -49,8 +70,18 @@ module _ (N : ℕ) (a b d : List ℕ) where
     | inr other ↦ walk_outside i l none other
   ]
 
-  pub walk_marked : (i : ℕ) → i < N → data_before N a b d i ≡ false → is_data d i ≡ true → in_data N a b d i ≡ first_in N a b i
-  walk_marked i l none marked = elim (test_cases_lem (first_in N a b i)) [
-    | inl first ↦ first_data N a b d i first ∙ marked ∙ sym first
-    | inr other ↦ walk_outside i l none other ∙ sym other
+  -- so a block after one of data is one too, but for a free one and a first one with no D bit; after any other, a first one with a D bit
+  pub walk_on : (i : ℕ) → i < N
+      → in_data N a b d i
+      ≡ cond (data_before N a b d i) (not (eqb (bit_at a i) 0) && (is_data d i || not (first_in N a b i))) (is_data d i && first_in N a b i)
+  walk_on i l = elim (ℕ_discrete (bit_at a i) 0) [
+    | yes free ↦
+        rw (free_no_data N a b d i free, sym (first_free N a b i l free), eq-eqb (bit_at a i) 0 free)
+        (at_free (data_before N a b d i) (is_data d i))
+    | no used ↦ elim (test_cases_lem (first_in N a b i)) [
+      | inl first ↦
+          rw (first_data N a b d i first, first, ne_eqb (bit_at a i) 0 used) (at_first (data_before N a b d i) (is_data d i))
+      | inr other ↦
+          rw (walk_inner i l used other, other, ne_eqb (bit_at a i) 0 used) (at_inner (data_before N a b d i) (is_data d i))
+    ]
   ]

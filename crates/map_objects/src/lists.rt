@@ -7,14 +7,11 @@ use types::Ref;
 pub fn clear_all(refs: &mut [Ref])
     ensures { refs.new ≡ replicate (length refs.old) 0 }
 {
-    let mut i = 0;
-    while i < refs.len() {
-        refs[i] = 0;
-        i += 1;
-    }
+    refs.fill(0);
 }
 
 // 0 only where the four numbers from `from` on are all 0.
+#[tactic(auto, using(bitmap::proofs::Digits::or_none))]
 pub fn any_of_four(refs: &[Ref], from: usize) -> Ref
     requires { from + 4 ≤ length refs.now }
     ensures { result ≡ 0 → (c : ℕ) → c < 4 → get_or refs.now (from + c) 0 ≡ 0 }

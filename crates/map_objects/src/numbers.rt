@@ -7,6 +7,7 @@ use crate::objects;
 
 // Whether block i is a block of data, in a walk from block 0 upwards: `before` says it of the block before
 // it.
+#[tactic(auto, using(crate::proofs::Walk::walk_on))]
 pub fn is_in_data(blocks: usize, a: &[u8], b: &[u8], d: &[u8], i: usize, before: bool) -> bool
     requires { (blocks ≤ 8 * length a.now) × (blocks ≤ 8 * length b.now) × (blocks ≤ 8 * length d.now) × (i < blocks)
         × (before ≡ data_before blocks a.now b.now d.now i) }
@@ -14,17 +15,9 @@ pub fn is_in_data(blocks: usize, a: &[u8], b: &[u8], d: &[u8], i: usize, before:
 {
     let marked = bitmap::get_bit(d, i) == 1;
     if before {
-        if bitmap::get_bit(a, i) == 0 {
-            return false;
-        }
-        if !objects::is_first(blocks, a, b, i) {
-            return true;
-        }
-        return marked;
+        bitmap::get_bit(a, i) != 0 && (marked || !objects::is_first(blocks, a, b, i))
+    } else {
+        // After any other block only a first block can be one.
+        marked && objects::is_first(blocks, a, b, i)
     }
-    // After any other block only a first block can be one.
-    if marked {
-        return objects::is_first(blocks, a, b, i);
-    }
-    false
 }

@@ -2,7 +2,7 @@
 -- Each bit has one map and one block, and a map that is lent as a middle part reads and writes the buffer's own bits.
 use mathlib.Core.Path.{◌≡◌, sym, ap, ◌∙◌}
 use mathlib.Core.List.{List}
-use Prim.Native.Nat.{ℕ, zero, suc, ◌+◌, ◌*◌, ◌/◌, ◌%◌, ◌≤◌, ◌<◌}
+use Prim.Native.Nat.{ℕ, zero, suc, ◌+◌, ◌-◌, ◌*◌, ◌/◌, ◌%◌, ◌≤◌, ◌<◌}
 use native.Mathlib.Nat.{suc-mul, mul_assoc, mul_comm, mul-le-mul_right, div-add-mod', div-lt_iff_lt-mul, mod-lt}
 use native.Mathlib.Numerals.{add-one}
 use native.Mathlib.Omega.{arith}
@@ -17,6 +17,9 @@ use Rattle.planes.specs.Plane.{plane_bit}
 
 pub plane_next : (bytes k : ℕ) → k * bytes + bytes ≡ (k + 1) * bytes
 plane_next bytes k = sym (ap (λ (x : ℕ). x * bytes) (add-one k) ∙ suc-mul k bytes)
+
+pub map_len : (bytes k : ℕ) → (k + 1) * bytes - k * bytes ≡ bytes
+map_len bytes k = omega (arith, plane_next bytes k)
 
 pub plane_inside : (bytes k width : ℕ) → k < width → k * bytes + bytes ≤ width * bytes
 plane_inside bytes k width l = omega (arith, suc-mul k bytes, mul-le-mul_right bytes l)

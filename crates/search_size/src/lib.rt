@@ -10,9 +10,5 @@ pub fn chunk_size(n: usize) -> usize
     requires { n ≤ max_blocks }
     ensures { (result ≡ 2 ^ exponent n) × (result ≤ max_blocks) }
 {
-    let mut size: usize = 1;
-    while size < n {
-        size = size * 2;
-    }
-    size
+    n.next_power_of_two()
 }

@@ -10,12 +10,12 @@ ghost use Rattle.work_number.specs.Written.{Written};
 use types::{Outcome, Ref};
 
 // Writes x into cell j of the data at block `at`. Any number that a cell holds is right, and nothing else is touched.
+#[tactic(auto, using(crate::proofs::NumberAnswer::number_written))]
 pub fn write_number(cells: &mut [Ref], at: usize, j: usize, x: Ref) -> Outcome
     requires { (4 * at + j < length cells.old) × (length cells.old ≤ 4 * max_blocks) }
     ensures { Written cells.old at j x (came_of (Ok result)) cells.new }
 {
-    let c = 4 * at + j;
-    cells[c] = x;
+    cells[4 * at + j] = x;
     Outcome {
         value: 0,
         freed: 0,

@@ -1,33 +1,23 @@
-use mathlib.Core.Path.{◌≡◌, refl, ap, ◌∙◌}
-use Prim.Native.Nat.{ℕ, ◌-◌, ◌*◌}
+use mathlib.Core.Path.{◌≡◌, ◌∙◌}
+use Prim.Native.Nat.{◌<◌, ◌^◌}
 use native.Mathlib.Omega.{arith}
-use lib.Count.{ones-le}
-use lib.Dec.{eqb}
-use lib.ListN.{length, get_or}
-use Rattle.bitmap.specs.Bit.{bit_at, count_below, zeros}
-use Rattle.bitmap.proofs.Zeros.{zeros_below, count_le, zeros_le, zeros_more}
+use Rattle.std.proofs.Common.{rules}
+use Rattle.std.specs.Int.{count_zeros, w8}
+use Rattle.std.specs.List.{sum_by}
+use Rattle.std.proofs.iter.runs.Made.{chains}
+use Rattle.bitmap.specs.Bit.{Bytes}
+use Rattle.bitmap.proofs.Zeros.{zeros_sum, zeros_le}
 use Rattle.bitmap.proofs.count_zeros.Goals as goal
 
-pub loop-i-init : goal.loop-i-init
-unfolding count_below
-loop-i-init c = (omega arith, refl)
-
-pub overflow_sub-n : goal.overflow_sub-n
-overflow_sub-n c =
-    ones-le 8 (get_or c.args.map.now c.loop-i.i 0) (c.type_inv.map c.loop-i.i).fits
-
--- the sum is at most 8 for each byte passed
-pub overflow_add-n : goal.overflow_add-n
-overflow_add-n c =
-    omega (arith, count_le (λ i. eqb (bit_at c.args.map.now i) 0) (8 * c.loop-i.i))
-
-pub loop-i-preserved : goal.loop-i-preserved
-loop-i-preserved c =
-    omega (arith, zeros_more c.args.map.now c.loop-i.i (c.type_inv.map c.loop-i.i).fits)
+pub sum-requires-clause-fits : goal.sum-requires-clause-fits
+unfolding Bytes
+sum-requires-clause-fits c =
+    let fits : sum_by (count_zeros w8) c.args.map.now < 2 ^ 64 =
+    omega (arith, zeros_sum c.args.map.now (λ i. (c.type_inv.map i).fits), zeros_le c.args.map.now) in
+    search (rules, chains)
 
 pub returns : goal.returns
-unfolding zeros
+unfolding Bytes
 returns c =
-    let done : c.loop-i.i ≡ length c.args.map.now = omega arith in
-    let all = c.loop-i.invariant.1 ∙ ap (λ (k : ℕ). zeros_below c.args.map.now (8 * k)) done in
-    (all, omega (arith, zeros_le c.args.map.now))
+    let total : c.sum.result ≡ sum_by (count_zeros w8) c.args.map.now = search (rules, chains) in
+    (total ∙ zeros_sum c.args.map.now (λ i. (c.type_inv.map i).fits), omega (arith, zeros_sum c.args.map.now (λ i. (c.type_inv.map i).fits), zeros_le c.args.map.now))

@@ -1,5 +1,5 @@
 use mathlib.Core.Path.{◌≡◌, refl, ap, ◌∙◌}
-use Prim.Native.Nat.{ℕ, ◌-◌, ◌+◌, ◌/◌, ◌%◌}
+use Prim.Native.Nat.{ℕ, ◌+◌, ◌/◌, ◌%◌}
 use native.Mathlib.Omega.{arith}
 use mathlib.Core.List.{List}
 use lib.ListN.{get_or, set, length-set}
@@ -15,7 +15,7 @@ loop-i-init c = (omega arith, refl, refl)
 pub loop-i-preserved : goal.loop-i-preserved
 loop-i-preserved c =
     let at = c.args.from + c.loop-i.i in
-    let n = c.least-n.result in
+    let n = c.min-n.result in
     let v = c.args.v in (
       omega arith,
       ap (set c.loop-i.map (at / 8)) c.fill_byte.ensures
