@@ -1,19 +1,23 @@
 -- Laws of numbers as the bytes of a word: `pack`.
 use mathlib.Core.Path.{◌≡◌, refl, sym, ap, ap₂, ◌∙◌}
 use mathlib.Core.Logic.{◌≢◌}
-use mathlib.Core.Bool.{Bool, true, false, not}
-use Prim.Native.Nat.{ℕ, zero, suc, ◌+◌, ◌*◌, ◌/◌, ◌^◌, ◌≤◌, ◌<◌}
-use native.Mathlib.Nat.{add-mul, mul_assoc, mul-one, mul-zero}
+use mathlib.Core.Bool.{Bool, false, not}
+use Prim.Native.Nat.{ℕ, zero, suc, ◌+◌, ◌*◌, ◌/◌, ◌^◌, ◌<◌}
+use native.Mathlib.Nat.{add-mul, mul_assoc, mul-zero}
 use native.Mathlib.Decide.{ℕ_discrete}
 use native.Mathlib.Omega.{arith}
 use lib.Bits.{bit_and, and_block, and_mask, and_zero_r}
 use lib.Dec.{eqb}
+use lib.ListN.{get_or}
+use Rattle.std.proofs.Common.{List, Fits, w8}
 use borrow.Author.Tests.{eqb-true, not-false}
 use Rattle.bitmap.specs.Bit.{bit_of}
-use Rattle.bitmap.proofs.Bits.{bit_lt}
+use Rattle.bitmap.proofs.Bits.{bit_lt, bits_ext}
 use Rattle.bitmap.proofs.Digits.{each_bit}
 use Rattle.rules.specs.Tools.{some_below}
 use Rattle.rules.proofs.Tests.{some_false}
+use Rattle.section_words.specs.Words.{Digits}
+use Rattle.section_words.proofs.Words.{eight_digits}
 use Rattle.check_counts.specs.Lanes.{pack}
 
 pub pack_same : (f g : ℕ → ℕ) (n : ℕ) → ((s : ℕ) → s < n → f s ≡ g s) → pack f n ≡ pack g n
@@ -123,3 +127,15 @@ masked t x small =
     (and_zero_r (t s) ∙ sym (mul-zero (t s)))
     (and_mask (t s) 8 ∙ omega (arith, small s l))
     (bit_of x s) (bit_lt x s))
+
+-- ---- a word of eight bytes
+
+-- the word whose digits are those of the map from byte i on
+pub word_of_bytes : (map : List ℕ) (i w : ℕ) → ((j : ℕ) → Fits w8 (get_or map j 0)) → Digits 64 map (8 * i) w
+    → w ≡ pack (λ s. get_or map (i + s) 0) 8
+unfolding pack
+word_of_bytes map i w fits d =
+    let word : ℕ = pack (λ s. get_or map (i + s) 0) 8 in
+    let here : i ≡ i + 0 = omega arith in
+    let same : Digits 64 map (8 * i) word = eight_digits map i word fits (omega (arith, ap (λ (x : ℕ). get_or map x 0) here)) in
+    bits_ext 64 w word d.below same.below (λ n l. d.each n l ∙ sym (same.each n l))

@@ -15,12 +15,7 @@ ghost use Rattle.check_counts.specs.Lanes.{pack};
 ghost use Rattle.check_counts.specs.Late.{Cleared, stray_in, off_in, stray_tally, off_tally, Countable, kind_of};
 
 use map_objects::objects;
-use types::{Damage, MAX_BLOCKS, Ref};
-
-// The places of the short and of the middle array: enough for heaps of 1,024 and of 8,192 blocks.
-const SMALL_ROOM: usize = MAX_BLOCKS / 64;
-
-const MIDDLE_ROOM: usize = MAX_BLOCKS / 8;
+use types::{Damage, MAX_BLOCKS, MIDDLE_ROOM, Ref, SMALL_ROOM};
 
 // A 1 in each byte of a word; bit n in byte n; and all bits but the highest of each byte.
 const ONES: u64 = 0x0101_0101_0101_0101;
@@ -44,33 +39,12 @@ fn mask(x: u8) -> u64
     lanes(x) * 255
 }
 
-// Two, four and eight tallies as the bytes of a word.
-fn two_tallies(at: &[u8], i: usize) -> u64
-    requires { (i + 2 ≤ length at.now) × (i + 2 < 2 ^ 64) }
-    ensures { (result ≡ get_or at.now i 0 + get_or at.now (i + 1) 0 * 256) × (result < 65536) }
-{
-    let lower = at[i] as u64;
-    let upper = at[i + 1] as u64;
-    lower + upper * 256
-}
-
-fn four_tallies(at: &[u8], i: usize) -> u64
-    requires { (i + 4 ≤ length at.now) × (i + 4 < 2 ^ 64) }
-    ensures { (result ≡ get_or at.now i 0 + get_or at.now (i + 1) 0 * 256 + get_or at.now (i + 2) 0 * 65536
-        + get_or at.now (i + 3) 0 * 16777216) × (result < 4294967296) }
-{
-    let lower = two_tallies(at, i);
-    let upper = two_tallies(at, i + 2);
-    lower + upper * 65536
-}
-
+// The tallies of the eight blocks of byte k as the bytes of a word.
 fn tallies(at: &[u8], k: usize) -> u64
     requires { (8 * (k + 1) ≤ length at.now) × (8 * k ≤ max_blocks) }
     ensures { result ≡ pack (λ s. get_or at.now (8 * k + s) 0) 8 }
 {
-    let lower = four_tallies(at, 8 * k);
-    let upper = four_tallies(at, 8 * k + 4);
-    lower + upper * 4294967296
+    section_words::eight_bytes(at, 8 * k)
 }
 
 // Byte k of map p of the counts; 0 where there are fewer maps.
@@ -78,10 +52,7 @@ fn plane_byte(counts: &[u8], bytes: usize, width: usize, p: usize, k: usize) -> 
     requires { (length counts.now ≡ width * bytes) × (k < bytes) × (8 * bytes ≤ max_blocks) × (p < 4) }
     ensures { (p < width → result ≡ get_or counts.now (p * bytes + k) 0) × (width ≤ p → result ≡ 0) }
 {
-    if p < width {
-        return counts[p * bytes + k];
-    }
-    0
+    if p < width { counts[p * bytes + k] } else { 0 }
 }
 
 // The counts of the eight blocks of byte k as the bytes of a word.
@@ -112,24 +83,17 @@ fn is_off(first: u8, counts: &[u8], bytes: usize, width: usize, k: usize, at: &[
     ensures { result ≡ some_below (off_in first bytes width counts.now at.now k) 8 }
 {
     if planes::some_byte(counts, bytes, width, k) != first {
-        return true;
+        true
+    } else if first == 0 {
+        false
+    } else {
+        let kept = mask(first & !planes::full_byte(counts, bytes, width, k));
+        tallies(at, k) & kept != count_lanes(counts, bytes, width, k) & kept
     }
-    if first == 0 {
-        return false;
-    }
-    let kept = mask(first & !planes::full_byte(counts, bytes, width, k));
-    tallies(at, k) & kept != count_lanes(counts, bytes, width, k) & kept
 }
 
 // The kind that the tally tells: 4 where a block is named and no object starts, else 5 where a count is damage.
-fn late_kind(
-    blocks: usize,
-    width: usize,
-    a: &[u8],
-    b: &[u8],
-    counts: &[u8],
-    at: &[u8],
-) -> Option<Damage>
+fn late_kind(blocks: usize, width: usize, a: &[u8], b: &[u8], counts: &[u8], at: &[u8]) -> Option<Damage>
     requires { (blocks ≤ max_blocks) × (blocks ≡ 8 * (blocks / 8)) × (blocks ≤ 8 * length a.now) × (blocks ≤ 8 * length b.now)
         × (length counts.now ≡ width * (blocks / 8)) × (1 ≤ width) × (width ≤ 4) × (blocks ≤ length at.now)
         × Room at.now }
@@ -139,21 +103,18 @@ fn late_kind(
 {
     let bytes = blocks / 8;
     let mut off = false;
-    let mut k = 0;
-    while k < bytes {
+    for k in 0..bytes {
         let first = objects::first_byte(a, b, k);
         if is_stray(first, at, k) {
             return Some(Damage::DanglingReference);
         }
-        if is_off(first, counts, bytes, width, k, at) {
-            off = true;
-        }
-        k += 1;
+        off |= is_off(first, counts, bytes, width, k, at);
     }
     if off {
-        return Some(Damage::WrongCount);
+        Some(Damage::WrongCount)
+    } else {
+        None
     }
-    None
 }
 
 // Kinds 4 and 5, tallied in `at`.
@@ -172,19 +133,19 @@ fn kind_in(
     ensures { damage_kind result ≡ kind_of blocks width a.now b.now counts.now cells.now roots.now
         d.now }
 {
-    if check_references::tally_cells(blocks, a, b, cells, d, at) {
-        return Some(Damage::DanglingReference);
+    if check_references::tally_cells(blocks, a, b, cells, d, at)
+        || check_references::tally_roots(blocks, roots, at)
+    {
+        Some(Damage::DanglingReference)
+    } else {
+        late_kind(blocks, width, a, b, counts, at)
     }
-    if check_references::tally_roots(blocks, roots, at) {
-        return Some(Damage::DanglingReference);
-    }
-    late_kind(blocks, width, a, b, counts, at)
 }
 
-// .. in the short array.
-// Not inlined, like the two after it: its array is on the stack only while it runs.
+// .. in an array of so many places. Not inlined: the array is on the stack only while this runs, so that a small
+// heap does not take the stack of the largest.
 #[inline(never)]
-fn kind_in_small(
+fn kind_in_array<const PLACES: usize>(
     blocks: usize,
     width: usize,
     a: &[u8],
@@ -194,85 +155,16 @@ fn kind_in_small(
     roots: &[Ref],
     d: &[u8],
 ) -> Option<Damage>
-    requires { Countable blocks width a.now b.now counts.now cells.now roots.now d.now × (blocks ≤ max_blocks / 64) }
+    requires { Countable blocks width a.now b.now counts.now cells.now roots.now d.now × (blocks ≤ PLACES)
+        × (PLACES ≤ max_blocks) }
     ensures { damage_kind result ≡ kind_of blocks width a.now b.now counts.now cells.now roots.now
         d.now }
 {
-    let mut at = [0u8; SMALL_ROOM];
+    let mut at = [0u8; PLACES];
     kind_in(blocks, width, a, b, counts, cells, roots, d, &mut at)
 }
 
-// .. in the middle array.
-#[inline(never)]
-fn kind_in_middle(
-    blocks: usize,
-    width: usize,
-    a: &[u8],
-    b: &[u8],
-    counts: &[u8],
-    cells: &[Ref],
-    roots: &[Ref],
-    d: &[u8],
-) -> Option<Damage>
-    requires { Countable blocks width a.now b.now counts.now cells.now roots.now d.now × (blocks ≤ max_blocks / 8) }
-    ensures { damage_kind result ≡ kind_of blocks width a.now b.now counts.now cells.now roots.now
-        d.now }
-{
-    let mut at = [0u8; MIDDLE_ROOM];
-    kind_in(blocks, width, a, b, counts, cells, roots, d, &mut at)
-}
-
-// .. in the longest array.
-#[inline(never)]
-fn kind_in_largest(
-    blocks: usize,
-    width: usize,
-    a: &[u8],
-    b: &[u8],
-    counts: &[u8],
-    cells: &[Ref],
-    roots: &[Ref],
-    d: &[u8],
-) -> Option<Damage>
-    requires { Countable blocks width a.now b.now counts.now cells.now roots.now d.now }
-    ensures { damage_kind result ≡ kind_of blocks width a.now b.now counts.now cells.now roots.now
-        d.now }
-{
-    let mut at = [0u8; MAX_BLOCKS];
-    kind_in(blocks, width, a, b, counts, cells, roots, d, &mut at)
-}
-
-// Kinds 4 and 5 in an array of so many places, or in a longer one where the heap has more blocks. What calls itself is not built into its
-// caller, nor are large arrays into what calls itself: so each array has a frame of its own, and a small heap does not take the
-// stack of the largest.
-fn kind_in_room(
-    places: usize,
-    blocks: usize,
-    width: usize,
-    a: &[u8],
-    b: &[u8],
-    counts: &[u8],
-    cells: &[Ref],
-    roots: &[Ref],
-    d: &[u8],
-) -> Option<Damage>
-    requires { Countable blocks width a.now b.now counts.now cells.now roots.now d.now × (1 ≤ places) }
-    ensures { damage_kind result ≡ kind_of blocks width a.now b.now counts.now cells.now roots.now
-        d.now }
-{
-    if places < blocks {
-        return kind_in_room(8 * places, blocks, width, a, b, counts, cells, roots, d);
-    }
-    if places == SMALL_ROOM {
-        return kind_in_small(blocks, width, a, b, counts, cells, roots, d);
-    }
-    if places == MIDDLE_ROOM {
-        return kind_in_middle(blocks, width, a, b, counts, cells, roots, d);
-    }
-    kind_in_largest(blocks, width, a, b, counts, cells, roots, d)
-}
-
-// The first of kinds 4 and 5 that applies, or 0.
+// The first of kinds 4 and 5 that applies, if there is one.
 pub fn reference_kind(
     blocks: usize,
     width: usize,
@@ -287,5 +179,11 @@ pub fn reference_kind(
     ensures { damage_kind result ≡ kind_of blocks width a.now b.now counts.now cells.now roots.now
         d.now }
 {
-    kind_in_room(SMALL_ROOM, blocks, width, a, b, counts, cells, roots, d)
+    if blocks <= SMALL_ROOM {
+        kind_in_array::<SMALL_ROOM>(blocks, width, a, b, counts, cells, roots, d)
+    } else if blocks <= MIDDLE_ROOM {
+        kind_in_array::<MIDDLE_ROOM>(blocks, width, a, b, counts, cells, roots, d)
+    } else {
+        kind_in_array::<MAX_BLOCKS>(blocks, width, a, b, counts, cells, roots, d)
+    }
 }

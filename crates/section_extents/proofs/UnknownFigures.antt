@@ -1,16 +1,18 @@
 -- Figures made unknown: the sections that some blocks lie in, and that a list stays coherent where only bits of these blocks change.
-use mathlib.Core.Path.{◌≡◌, refl, sym, ap, ap₂, ◌∙◌}
+use mathlib.Core.Path.{◌≡◌, sym, ap, ap₂, ◌∙◌}
 use mathlib.Core.Logic.{◌⊎◌, inl, inr}
 use mathlib.Core.Bool.{Bool, true, false}
 use mathlib.Core.List.{List}
 use Prim.Native.Nat.{ℕ, zero, suc, ◌+◌, ◌-◌, ◌*◌, ◌/◌, ◌^◌, ◌≤◌, ◌<◌, max}
 use native.Mathlib.Nat.{div-eq_of_lt, div-mul-le_self, lt-div-mul-add, le-div_iff_mul-le, div-lt_iff_lt-mul, mul-le-mul_right, div-le_self, pow-suc, add_assoc}
-use native.Mathlib.Decide.{dec_lt, ℕ_discrete}
+use native.Mathlib.Decide.{dec_lt}
 use native.Mathlib.Omega.{arith}
 use lib.Dec.{eqb}
-use lib.ListN.{length, get_or, set, length-set}
-use lib.Seq.{get_or-set_same, get_or-set_other}
-use Rattle.bitmap.specs.Bit.{bit_at, fill_bits}
+use lib.ListN.{length, get_or, replicate}
+use Rattle.std.proofs.lemmas.List.{length-replicate, get_or-replicate}
+use Rattle.std.proofs.lemmas.Grind.{common_steps}
+use borrow.Rule.Slice.PartMut.{put_mid}
+use Rattle.bitmap.specs.Bit.{bit_at, one, fill_bits}
 use Rattle.bitmap.proofs.Runs.{bit_fill_out}
 use Rattle.rules.specs.Heap.{max_blocks, is_blocks, section_length, section_count, exponent, chunk_free}
 use Rattle.rules.specs.Sections.{figure, largest_free}
@@ -87,7 +89,7 @@ sections_of {N} {i} {n} {first} {last} blocks some inside f l =
       ends = omega arith;
     }
 
--- ---- the loop
+-- ---- figures made unknown
 
 -- the figures from number `first` up to number s are unknown, the others are as they were
 pub record Forgetting (first s : ℕ) (sections after : List ℕ) : Type 0 where
@@ -95,23 +97,19 @@ pub record Forgetting (first s : ℕ) (sections after : List ℕ) : Type 0 where
   pub gone : (j : ℕ) → first ≤ j → j < s → get_or after j 0 ≡ 65535
   pub rest : (j : ℕ) → (j < first) ⊎ (s ≤ j) → get_or after j 0 ≡ get_or sections j 0
 
-pub forgetting_start : {first : ℕ} {sections : List ℕ} → Forgetting first first sections sections
-forgetting_start = record { same_length = refl; gone = λ j l u. absurd (omega arith); rest = λ j o. refl }
-
-pub forgetting_next :
-    {first s : ℕ} {sections after : List ℕ} → Forgetting first s sections after → first ≤ s → s < length after
-    → Forgetting first (s + 1) sections (set after s 65535)
-forgetting_next {s = s} {after = after} f low inside = record {
-  same_length = length-set after s 65535 ∙ f.same_length;
-  gone = λ j l u. elim (ℕ_discrete j s) [
-    | yes e ↦ ap (λ (x : ℕ). get_or (set after s 65535) x 0) e ∙ get_or-set_same after s 65535 0 inside
-    | no m ↦ get_or-set_other after s j 65535 0 m ∙ f.gone j l (omega arith)
-  ];
-  rest = λ j o. elim o [
-    | inl l ↦ get_or-set_other after s j 65535 0 (λ e. omega arith) ∙ f.rest j (inl l)
-    | inr l ↦ get_or-set_other after s j 65535 0 (λ e. omega arith) ∙ f.rest j (inr (omega arith))
-  ];
-}
+pub forgetting_filled :
+    {first s : ℕ} {sections new : List ℕ} → first ≤ s → s ≤ length sections → new ≡ replicate (s - first) 65535
+    → Forgetting first s sections (put_mid first (s - first) sections new)
+forgetting_filled {first} {s} {sections} {new} low inside is =
+    let many : length new ≡ s - first = ap length is ∙ length-replicate (s - first) 65535 in
+    record {
+      same_length = grind (arith, common_steps);
+      gone = λ j l u.
+          let place : j ≡ first + (j - first) = omega arith in
+          let item : get_or new (j - first) 0 ≡ 65535 = ap (λ (x : List ℕ). get_or x (j - first) 0) is ∙ get_or-replicate (s - first) (j - first) 65535 0 (omega arith) in
+          grind (arith, common_steps);
+      rest = λ j o. elim o [ inl l ↦ grind (arith, common_steps) | inr l ↦ grind (arith, common_steps) ];
+    }
 
 pub forgotten :
     {N i n first last s : ℕ} {sections after : List ℕ} → Sections N i n first last → Forgetting first s sections after → s ≡ last + 1
@@ -132,6 +130,10 @@ forgotten {N} {first = first} {last = last} {s = s} at f e = record {
     less x y l = mul-le-mul_right (section_length N) l
 
 -- ---- bits of these blocks change
+
+pub one_small : (t : Bool) → one t < 2
+one_small true = omega arith
+one_small false = omega arith
 
 pub coherent_filled :
     {N i n v : ℕ} {a b sections after : List ℕ} → v < 2 → Coherent N a sections → Forgotten N i n sections after → b ≡ fill_bits a i n v

@@ -3,8 +3,8 @@
 
 #![tactic(auto)]
 
-ghost use Rattle.std.specs.Prelude.{◌≡◌, true, ◌+◌, ◌-◌, ◌/◌, ◌<◌, ◌≤◌, length};
-ghost use Rattle.bitmap.specs.Bit.{set_bit, fill_bits};
+ghost use Rattle.std.specs.Prelude.{◌≡◌, true, not, ◌+◌, ◌-◌, ◌/◌, ◌<◌, ◌≤◌, length};
+ghost use Rattle.bitmap.specs.Bit.{one, set_bit, fill_bits};
 ghost use Rattle.rules.specs.Heap.{is_blocks, section_length, section_count};
 ghost use Rattle.section_figures.specs.Figures.{Coherent};
 ghost use Rattle.section_extents.specs.Forgotten.{Forgotten};
@@ -18,9 +18,10 @@ fn section_of(blocks: usize, i: usize) -> usize
     ensures { result ≡ i / section_length blocks }
 {
     if blocks < MAX_SECTION {
-        return 0;
+        0
+    } else {
+        i / MAX_SECTION
     }
-    i / MAX_SECTION
 }
 
 // The figures of the sections in which the n blocks from block i on lie become unknown.
@@ -28,46 +29,26 @@ fn forget(blocks: usize, sections: &mut [Ref], i: usize, n: usize)
     requires { (is_blocks blocks ≡ true) × (length sections.old ≡ section_count blocks) × (1 ≤ n) × (i + n ≤ blocks) }
     ensures { Forgotten blocks i n sections.old sections.new }
 {
+    let first = section_of(blocks, i);
     let last = section_of(blocks, i + n - 1);
-    let mut s = section_of(blocks, i);
-    while s <= last {
-        sections[s] = UNKNOWN;
-        s += 1;
-    }
+    sections[first..last + 1].fill(UNKNOWN);
 }
 
-// The n blocks from block i on become an object's.
-pub fn mark_extent(
+// The n blocks from block i on become an object's, or free.
+pub fn write_extent(
     blocks: usize,
     a: &mut [u8],
     b: &mut [u8],
     sections: &mut [Ref],
     i: usize,
     n: usize,
+    used: bool,
 )
     requires { Coherent blocks a.old sections.old × (length a.old ≡ blocks / 8) × (length b.old ≡ blocks / 8)
         × (1 ≤ n) × (i + n ≤ blocks) }
-    ensures { (a.new ≡ fill_bits a.old i n 1) × (b.new ≡ set_bit b.old (i + n - 1) 0)
+    ensures { (a.new ≡ fill_bits a.old i n (one used)) × (b.new ≡ set_bit b.old (i + n - 1) (one (not used)))
         × Coherent blocks a.new sections.new }
 {
     forget(blocks, sections, i, n);
-    map_extents::mark_extent(a, b, i, n);
-}
-
-// The n blocks from block i on, an object's, become free.
-pub fn clear_extent(
-    blocks: usize,
-    a: &mut [u8],
-    b: &mut [u8],
-    sections: &mut [Ref],
-    i: usize,
-    n: usize,
-)
-    requires { Coherent blocks a.old sections.old × (length a.old ≡ blocks / 8) × (length b.old ≡ blocks / 8)
-        × (1 ≤ n) × (i + n ≤ blocks) }
-    ensures { (a.new ≡ fill_bits a.old i n 0) × (b.new ≡ set_bit b.old (i + n - 1) 1)
-        × Coherent blocks a.new sections.new }
-{
-    forget(blocks, sections, i, n);
-    map_extents::clear_extent(a, b, i, n);
+    map_extents::write_extent(a, b, i, n, used);
 }

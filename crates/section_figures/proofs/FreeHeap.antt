@@ -2,10 +2,11 @@
 use mathlib.Core.Path.{◌≡◌, ap, sym, ◌∙◌}
 use mathlib.Core.Bool.{true}
 use mathlib.Core.List.{List}
-use Prim.Native.Nat.{ℕ, ◌+◌, ◌*◌, ◌/◌, ◌≤◌, ◌<◌}
+use Prim.Native.Nat.{ℕ, ◌+◌, ◌*◌, ◌/◌, ◌<◌}
 use native.Mathlib.Decide.{ℕ_discrete}
 use native.Mathlib.Omega.{arith}
 use lib.ListN.{length, get_or, set, replicate}
+use Rattle.std.proofs.lemmas.List.{length-replicate, get_or-replicate}
 use lib.Seq.{get_or-set_same, get_or-set_other}
 use Rattle.bitmap.proofs.Maps.{bit_all_zero}
 use Rattle.rules.specs.Heap.{is_blocks, exponent, section_length, section_count}
@@ -37,9 +38,8 @@ filled_next size s sections inside filled = record {
   ];
 }
 
-pub filled_all :
-    (N size s : ℕ) (sections : List ℕ) → is_blocks N ≡ true → length sections ≡ section_count N → size ≡ section_length N → section_count N ≤ s
-    → Filled size s sections → sections ≡ figures N (replicate (N / 8) 0)
-filled_all N size s sections blocks long size_is end filled =
-    true_list N (replicate (N / 8) 0) sections long
-    (λ j l. filled.full j (omega arith) ∙ size_is ∙ sym (whole_section N j blocks))
+pub whole_sections :
+    (N size n : ℕ) → is_blocks N ≡ true → n ≡ section_count N → size ≡ section_length N → replicate n size ≡ figures N (replicate (N / 8) 0)
+whole_sections N size n blocks long size_is =
+    true_list N (replicate (N / 8) 0) (replicate n size) (length-replicate n size ∙ long)
+    (λ j l. get_or-replicate n j size 0 (omega arith) ∙ size_is ∙ sym (whole_section N j blocks))

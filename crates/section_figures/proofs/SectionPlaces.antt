@@ -40,9 +40,6 @@ small_count N blocks small =
     let one : section_length N ≡ N = omega arith in
     sym (ap (λ (x : ℕ). N / x) one ∙ div_self {n = N} (omega (arith, facts.2, pow_pos facts.0)))
 
-pub large_count : (N : ℕ) → 256 ≤ N → N / 256 ≡ section_count N
-large_count N large = ap (λ (x : ℕ). N / x) (omega arith)
-
 -- section number s, whose length is `size`
 pub record Place (N s size : ℕ) : Type 0 where
   pub power : (k : ℕ) × (size ≡ 2 ^ k)

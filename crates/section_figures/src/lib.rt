@@ -20,10 +20,7 @@ pub const UNKNOWN: Ref = 65535;
 pub fn section_length(blocks: usize) -> usize
     ensures { result ≡ section_length blocks }
 {
-    if blocks < MAX_SECTION {
-        return blocks;
-    }
-    MAX_SECTION
+    blocks.min(MAX_SECTION)
 }
 
 // The number of sections: a heap of less than 256 blocks is one.
@@ -32,9 +29,10 @@ pub fn section_count(blocks: usize) -> usize
     ensures { result ≡ section_count blocks }
 {
     if blocks < MAX_SECTION {
-        return 1;
+        1
+    } else {
+        blocks / MAX_SECTION
     }
-    blocks / MAX_SECTION
 }
 
 // The figure of section number s.
@@ -51,14 +49,7 @@ pub fn is_stale(blocks: usize, a: &[u8], sections: &[Ref]) -> bool
     requires { (is_blocks blocks ≡ true) × (blocks ≤ 8 * length a.now) × (length sections.now ≡ section_count blocks) }
     ensures { result ≡ stale_figures blocks a.now sections.now }
 {
-    let mut s = 0;
-    while s < sections.len() {
-        if sections[s] as usize != section_figure(blocks, a, s) {
-            return true;
-        }
-        s += 1;
-    }
-    false
+    sections.iter().enumerate().any(|(s, figure)| *figure as usize != section_figure(blocks, a, s))
 }
 
 // How many figures are looked at together.
@@ -70,11 +61,9 @@ pub fn group_bound(sections: &[Ref], from: usize) -> Ref
     requires { from + 16 ≤ length sections.now }
     ensures { (s : ℕ) → from ≤ s → s < from + 16 → get_or sections.now s 0 ≤ result }
 {
-    let mut any: Ref = 0;
-    let mut i = 0;
-    while i < GROUP {
-        any = any | sections[from + i];
-        i += 1;
+    let mut any = 0;
+    for figure in &sections[from..from + GROUP] {
+        any |= *figure;
     }
     any
 }
@@ -85,12 +74,10 @@ fn renew_part(blocks: usize, a: &[u8], sections: &mut [Ref], from: usize, to: us
         × (to ≤ length sections.old) }
     ensures { Renewed blocks a.now sections.new to }
 {
-    let mut s = from;
-    while s < to {
+    for s in from..to {
         if sections[s] == UNKNOWN {
             sections[s] = section_figure(blocks, a, s) as Ref;
         }
-        s += 1;
     }
 }
 
@@ -99,15 +86,14 @@ pub fn renew(blocks: usize, a: &[u8], sections: &mut [Ref])
     requires { Coherent blocks a.now sections.old × (blocks ≤ 8 * length a.now) }
     ensures { sections.new ≡ figures blocks a.now }
 {
-    let all = sections.len();
-    let mut s = 0;
-    while GROUP <= all - s {
+    let groups = sections.len() / GROUP;
+    for group in 0..groups {
+        let s = group * GROUP;
         if UNKNOWN <= group_bound(sections, s) {
             renew_part(blocks, a, sections, s, s + GROUP);
         }
-        s += GROUP;
     }
-    renew_part(blocks, a, sections, s, all);
+    renew_part(blocks, a, sections, groups * GROUP, sections.len());
 }
 
 // The same after work that freed so many blocks: where it freed none, no figure is unknown, and the list is not looked at.
@@ -126,10 +112,5 @@ pub fn fill_free(blocks: usize, sections: &mut [Ref])
     requires { (is_blocks blocks ≡ true) × (length sections.old ≡ section_count blocks) }
     ensures { sections.new ≡ figures blocks (replicate (blocks / 8) 0) }
 {
-    let size = section_length(blocks) as Ref;
-    let mut s = 0;
-    while s < sections.len() {
-        sections[s] = size;
-        s += 1;
-    }
+    sections.fill(section_length(blocks) as Ref);
 }

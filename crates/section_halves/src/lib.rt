@@ -12,10 +12,7 @@ fn of_block(a: &[u8], at: usize) -> usize
     requires { at < 8 * length a.now }
     ensures { result ≡ largest_free 0 a.now at }
 {
-    if bitmap::get_bit(a, at) == 0 {
-        return 1;
-    }
-    0
+    if bitmap::get_bit(a, at) == 0 { 1 } else { 0 }
 }
 
 // The largest free chunk of 64 blocks, which are eight bytes of the map, as one word: what the recursion gives for them.
@@ -40,12 +37,12 @@ fn of_halves(lower: usize, upper: usize, half: usize) -> usize
     ensures { result ≡ of_halves half lower upper }
 {
     if lower < upper {
-        return upper;
+        upper
+    } else if upper == half {
+        half + half
+    } else {
+        lower
     }
-    if upper == half {
-        return half + half;
-    }
-    lower
 }
 
 // The largest free chunk of the `size` blocks from block `at` on: all of them where both halves are free, else the larger of what their
@@ -55,17 +52,15 @@ pub fn largest_free(a: &[u8], at: usize, size: usize) -> usize
     requires at_value { (64 ≤ size → at % 8 ≡ 0) × (at + size ≤ 8 * length a.now) × (at + size < 2 ^ 64) }
     ensures { (k : ℕ) → size ≡ 2 ^ k → result ≡ largest_free k a.now at }
 {
-    if size == 256 {
-        return of_four_words(a, at);
+    match size {
+        256 => of_four_words(a, at),
+        64 => of_word(a, at),
+        1 => of_block(a, at),
+        _ => {
+            let half = size / 2;
+            let lower = largest_free(a, at, half);
+            let upper = largest_free(a, at + half, half);
+            of_halves(lower, upper, half)
+        }
     }
-    if size == 64 {
-        return of_word(a, at);
-    }
-    if size == 1 {
-        return of_block(a, at);
-    }
-    let half = size / 2;
-    let lower = largest_free(a, at, half);
-    let upper = largest_free(a, at + half, half);
-    of_halves(lower, upper, half)
 }

@@ -2,6 +2,7 @@
 use mathlib.Core.Path.{◌≡◌, sym, ap, subst, ◌∙◌}
 use mathlib.Core.Logic.{◌≢◌}
 use mathlib.Core.List.{List}
+use Rattle.std.specs.Prelude.{slice_index}
 use Prim.Native.Nat.{ℕ, suc, ◌+◌, ◌^◌, ◌≤◌, ◌<◌}
 use native.Mathlib.Nat.{pow-suc}
 use native.Mathlib.Decide.{dec_le, ℕ_discrete}
@@ -29,7 +30,7 @@ module _ (k : ℕ) (a : List ℕ) (i : ℕ) where
 
 -- ---- the four words of 256 blocks
 
-module _ (k : ℕ) (a : List ℕ) (i w x y z : ℕ) (small : k ≤ 6) (f : FourChunks k a i w x y z) where
+module _ (k : ℕ) (a : List ℕ) (i : ℕ) (words : List ℕ) (small : k ≤ 6) (f : FourChunks k a i words) where
   -- a word's figure is at most that of all
   word_at_most : (largest_free 6 a i ≤ largest_free 8 a i) × (largest_free 6 a (i + 64) ≤ largest_free 8 a i)
       × (largest_free 6 a (i + 128) ≤ largest_free 8 a i) × (largest_free 6 a (i + 192) ≤ largest_free 8 a i)
@@ -40,23 +41,23 @@ module _ (k : ℕ) (a : List ℕ) (i w x y z : ℕ) (small : k ≤ 6) (f : FourC
       let last : largest_free 6 a (i + 128 + 64) ≡ largest_free 6 a (i + 192) = ap (largest_free 6 a) (omega arith) in
       (omega arith, omega arith, omega arith, omega arith)
 
-  pub four_none : NoneOfFour w x y z → largest_free 8 a i < 2 ^ k
+  pub four_none : NoneOfFour words → largest_free 8 a i < 2 ^ k
   four_none zero =
       let at_most : 2 ^ k ≤ 64 = pow_mono {i = k} {j = 6} small in
       let last : largest_free 6 a (i + 128 + 64) ≡ largest_free 6 a (i + 192) = ap (largest_free 6 a) (omega arith) in
-      let first = none k a i w small f.first zero.0 in
-      let second = none k a (i + 64) x small f.second zero.1 in
-      let third = none k a (i + 128) y small f.third zero.2 in
-      let fourth = none k a (i + 192) z small f.fourth zero.3 in
+      let first = none k a i (slice_index words 0) small f.first zero.0 in
+      let second = none k a (i + 64) (slice_index words 1) small f.second zero.1 in
+      let third = none k a (i + 128) (slice_index words 2) small f.third zero.2 in
+      let fourth = none k a (i + 192) (slice_index words 3) small f.fourth zero.3 in
       halves_below 7 a i (2 ^ k) (halves_below 6 a i (2 ^ k) first second at_most)
       (halves_below 6 a (i + 128) (2 ^ k) third (omega arith) at_most) (omega arith)
 
-  pub four_some : (NoneOfFour w x y z → ⊥) → 2 ^ k ≤ largest_free 8 a i
+  pub four_some : (NoneOfFour words → ⊥) → 2 ^ k ≤ largest_free 8 a i
   four_some not_None = elim (dec_le (2 ^ k) (largest_free 8 a i)) [
     | yes l ↦ l
     | no l ↦
         absurd
-        (not_None (zero i w f.first word_at_most.0 l, zero (i + 64) x f.second word_at_most.1 l, zero (i + 128) y f.third word_at_most.2 l, zero (i + 192) z f.fourth word_at_most.3 l))
+        (not_None (zero i (slice_index words 0) f.first word_at_most.0 l, zero (i + 64) (slice_index words 1) f.second word_at_most.1 l, zero (i + 128) (slice_index words 2) f.third word_at_most.2 l, zero (i + 192) (slice_index words 3) f.fourth word_at_most.3 l))
   ]
     where
       zero : (j v : ℕ) → FreeChunks k a j v → largest_free 6 a j ≤ largest_free 8 a i → (2 ^ k ≤ largest_free 8 a i → ⊥) → v ≡ 0
@@ -110,7 +111,7 @@ module _ (a : List ℕ) (i : ℕ) where
   none_whole l u some-free = let q = (figure_of_halves 7 a i).1 (λ e. omega (arith, e.0)) in omega arith
 
 -- the third and the fourth word, as a pair
-pub upper_pair : {k i w x y z : ℕ} {a : List ℕ} → FourChunks k a i w x y z → FreeChunks k a (i + 128 + 64) z
-upper_pair {k} {i} {w} {x} {y} {z} {a} f =
+pub upper_pair : {k i : ℕ} {a words : List ℕ} → FourChunks k a i words → FreeChunks k a (i + 128 + 64) (slice_index words 3)
+upper_pair {k} {i} {a} {words} f =
     let same : i + 192 ≡ i + 128 + 64 = omega arith in
-    subst (λ (n : ℕ). FreeChunks k a n z) same f.fourth
+    subst (λ (n : ℕ). FreeChunks k a n (slice_index words 3)) same f.fourth

@@ -1,12 +1,13 @@
 -- The figure of 64 blocks, from the words of their free chunks.
-use mathlib.Core.Path.{◌≡◌, sym, ap, subst, ◌∙◌}
+use mathlib.Core.Path.{◌≡◌, refl, sym, ap, subst, ◌∙◌}
 use mathlib.Core.Logic.{◌≢◌, inl, inr}
 use mathlib.Core.Bool.{true}
-use mathlib.Core.List.{List}
+use mathlib.Core.List.{List, [], ◌∷◌}
 use Prim.Native.Nat.{ℕ, zero, suc, ◌+◌, ◌-◌, ◌*◌, ◌%◌, ◌^◌, ◌≤◌, ◌<◌}
 use native.Mathlib.Nat.{suc-add, zero-add, mul_assoc, mul-le-mul_right, mul-mod_left}
 use native.Mathlib.Decide.{dec_lt, dec_le, ℕ_discrete}
 use native.Mathlib.Omega.{arith}
+use lib.ListN.{get_or}
 use lib.Pow.{pow_pos, pow-lt, pow_mono, pow-add}
 use Rattle.bitmap.specs.Bit.{bit_of, one}
 use Rattle.bitmap.proofs.Bits.{bits_ext, bit_zero}
@@ -96,3 +97,13 @@ all a i w f s = omega (arith, some 6 a i w (omega arith) f s, (figure_le 6 a i).
 -- no block is free
 pub zero_figure : (a : List ℕ) (i w : ℕ) → FreeChunks 0 a i w → w ≡ 0 → 0 ≡ largest_free 6 a i
 zero_figure a i w f z = omega (arith, none 0 a i w (omega arith) f z)
+
+-- the sizes of chunks that are halves in a word
+pub sizes : (k : ℕ) → k < 6 → get_or (1 ∷ 2 ∷ 4 ∷ 8 ∷ 16 ∷ 32 ∷ []) k 0 ≡ 2 ^ k
+sizes zero l = refl
+sizes (suc zero) l = refl
+sizes (suc (suc zero)) l = refl
+sizes (suc (suc (suc zero))) l = refl
+sizes (suc (suc (suc (suc zero)))) l = refl
+sizes (suc (suc (suc (suc (suc zero))))) l = refl
+sizes (suc (suc (suc (suc (suc (suc k)))))) l = absurd (omega arith)

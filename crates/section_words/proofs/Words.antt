@@ -2,11 +2,13 @@
 use mathlib.Core.Path.{◌≡◌, refl, sym, ap, ap₂, subst, ◌∙◌}
 use mathlib.Core.Logic.{◌≢◌}
 use mathlib.Core.Bool.{Bool, true, false, not}
-use mathlib.Core.List.{List}
+use mathlib.Core.List.{List, [], ◌∷◌}
 use Prim.Native.Nat.{ℕ, zero, suc, ◌+◌, ◌-◌, ◌*◌, ◌/◌, ◌%◌, ◌^◌, ◌≤◌, ◌<◌, min}
 use native.Mathlib.Nat.{pow-suc, add_comm, min-zero, mod-one, mul-le-mul_right, mul-mod_left, le_of_suc-le-suc, not-suc-le-zero}
 use native.Mathlib.Decide.{dec_lt, ℕ_discrete}
 use native.Mathlib.Omega.{arith}
+use Rattle.std.specs.Int.{w64, from_le_bytes}
+use Rattle.std.proofs.Common.{Fits, w8}
 use lib.Bits.{bit_and, and_shr, and_step, and_le_l}
 use lib.Dec.{eqb}
 use lib.ListN.{get_or}
@@ -64,6 +66,29 @@ append m k map i j x y next low upper = record {
 
     room : (y + 1) * 2 ^ m ≤ 2 ^ k * 2 ^ m
     room = mul-le-mul_right (2 ^ m) (omega (arith, upper.below))
+
+-- one byte more
+byte_more : (m : ℕ) (map : List ℕ) (i j x : ℕ) → get_or map (i + j) 0 < 256 → m ≡ 8 * j → Digits m map (8 * i) x
+    → Digits (m + 8) map (8 * i) (x + get_or map (i + j) 0 * 2 ^ m)
+byte_more m map i j x h same low =
+    append m 8 map (8 * i) (8 * (i + j)) x (get_or map (i + j) 0) (omega arith) low (byte_digits map (i + j) h)
+
+-- .. and so eight
+pub eight_digits :
+    (map : List ℕ) (i w : ℕ) → ((j : ℕ) → Fits w8 (get_or map j 0))
+    → w ≡ from_le_bytes w64
+    (get_or map i 0 ∷ get_or map (i + 1) 0 ∷ get_or map (i + 2) 0 ∷ get_or map (i + 3) 0
+    ∷ get_or map (i + 4) 0 ∷ get_or map (i + 5) 0 ∷ get_or map (i + 6) 0 ∷ get_or map (i + 7) 0 ∷ [])
+    → Digits 64 map (8 * i) w
+eight_digits map i w fits is =
+    let first = byte_digits map i (fits i).fits in
+    let second = byte_more 8 map i 1 _ (fits (i + 1)).fits refl first in
+    let third = byte_more 16 map i 2 _ (fits (i + 2)).fits refl second in
+    let fourth = byte_more 24 map i 3 _ (fits (i + 3)).fits refl third in
+    let fifth = byte_more 32 map i 4 _ (fits (i + 4)).fits refl fourth in
+    let sixth = byte_more 40 map i 5 _ (fits (i + 5)).fits refl fifth in
+    let seventh = byte_more 48 map i 6 _ (fits (i + 6)).fits refl sixth in
+    rw is (byte_more 56 map i 7 _ (fits (i + 7)).fits refl seventh)
 
 -- .. at another name of their first block
 pub digits_at : (m : ℕ) (map : List ℕ) (i j w : ℕ) → i ≡ j → Digits m map i w → Digits m map j w

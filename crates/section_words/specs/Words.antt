@@ -1,5 +1,5 @@
 -- Blocks of a map as digits of one number, for contracts of inner functions: block i + n is digit n.
-use Rattle.std.specs.Prelude.{ℕ, ◌+◌, ◌%◌, ◌^◌, ◌<◌, ◌≡◌, ◌≢◌, List, eqb}
+use Rattle.std.specs.Prelude.{ℕ, ◌+◌, ◌%◌, ◌^◌, ◌<◌, ◌≡◌, ◌≢◌, List, eqb, slice_index}
 use Rattle.bitmap.specs.Bit.{bit_of, bit_at, one}
 use Rattle.rules.specs.Heap.{chunk_free}
 
@@ -19,12 +19,13 @@ pub record FreeChunks (k : ℕ) (a : List ℕ) (i w : ℕ) : Type 0 where
   pub other : (n : ℕ) → n < 64 → n % 2 ^ k ≢ 0 → bit_of w n ≡ 0
 
 -- the same for the 256 digits of four words
-pub record FourChunks (k : ℕ) (a : List ℕ) (i w x y z : ℕ) : Type 0 where
-  pub first : FreeChunks k a i w
-  pub second : FreeChunks k a (i + 64) x
-  pub third : FreeChunks k a (i + 128) y
-  pub fourth : FreeChunks k a (i + 192) z
+pub record FourChunks (k : ℕ) (a : List ℕ) (i : ℕ) (words : List ℕ) : Type 0 where
+  pub first : FreeChunks k a i (slice_index words 0)
+  pub second : FreeChunks k a (i + 64) (slice_index words 1)
+  pub third : FreeChunks k a (i + 128) (slice_index words 2)
+  pub fourth : FreeChunks k a (i + 192) (slice_index words 3)
 
 -- no digit of four words is 1
-abbrev pub NoneOfFour : ℕ → ℕ → ℕ → ℕ → Type 0
-NoneOfFour w x y z = (w ≡ 0) × (x ≡ 0) × (y ≡ 0) × (z ≡ 0)
+abbrev pub NoneOfFour : List ℕ → Type 0
+NoneOfFour words =
+    (slice_index words 0 ≡ 0) × (slice_index words 1 ≡ 0) × (slice_index words 2 ≡ 0) × (slice_index words 3 ≡ 0)

@@ -19,41 +19,24 @@ const HALVES: u64 = 0x0000_0001_0000_0001;
 
 const WHOLE: u64 = 1;
 
-// Two, four and eight bytes of a map as one number.
-fn two_bytes(a: &[u8], i: usize) -> u64
-    requires { (i + 2 ≤ length a.now) × (i + 2 < 2 ^ 64) }
-    ensures { Digits 16 a.now (8 * i) result }
-{
-    let lower = a[i] as u64;
-    let upper = a[i + 1] as u64;
-    lower + upper * 256
-}
+// The sizes of the chunks that are halves of chunks within a word.
+const SIZES: [usize; 6] = [1, 2, 4, 8, 16, 32];
 
-fn four_bytes(a: &[u8], i: usize) -> u64
-    requires { (i + 4 ≤ length a.now) × (i + 4 < 2 ^ 64) }
-    ensures { Digits 32 a.now (8 * i) result }
-{
-    let lower = two_bytes(a, i);
-    let upper = two_bytes(a, i + 2);
-    lower + upper * 65536
-}
-
+// Eight bytes of a map as one number, the first of them in its lowest digits.
 pub fn eight_bytes(a: &[u8], i: usize) -> u64
     requires { (i + 8 ≤ length a.now) × (i + 8 < 2 ^ 64) }
     ensures { Digits 64 a.now (8 * i) result }
 {
-    let lower = four_bytes(a, i);
-    let upper = four_bytes(a, i + 4);
-    lower + upper * 4294967296
-}
-
-// From the free chunks of `size` blocks those of twice the size: both halves of such a chunk are free.
-fn joined(free: u64, size: u64, starts: u64) -> u64
-    requires { size < 64 }
-    ensures { (k : ℕ) (a : List ℕ) (i : ℕ) → k < 6 → size ≡ 2 ^ k → Starts (suc k) starts → FreeChunks k a i free
-        → FreeChunks (suc k) a i result }
-{
-    free & (free >> size) & starts
+    u64::from_le_bytes([
+        a[i],
+        a[i + 1],
+        a[i + 2],
+        a[i + 3],
+        a[i + 4],
+        a[i + 5],
+        a[i + 6],
+        a[i + 7],
+    ])
 }
 
 // A 1 at the first block of each chunk of twice `size` blocks.
@@ -70,107 +53,65 @@ fn starts_of_twice(size: usize) -> u64
     }
 }
 
-// The same for any size of less than 64 blocks.
+// From the free chunks of `size` blocks those of twice the size: both halves of such a chunk are free.
 pub fn twice(free: u64, size: usize) -> u64
     requires { size < 64 }
     ensures { (k : ℕ) (a : List ℕ) (i : ℕ) → k < 6 → size ≡ 2 ^ k → FreeChunks k a i free → FreeChunks (suc k) a i result }
 {
-    joined(free, size as u64, starts_of_twice(size))
-}
-
-// The largest free chunk of 64 blocks, from their free chunks of eight, of which there are some.
-fn of_eights(eights: u64) -> usize
-    ensures { (a : List ℕ) (i : ℕ) → FreeChunks 3 a i eights → eights ≢ 0 → result ≡ largest_free 6 a i }
-{
-    let sixteens = joined(eights, 8, SIXTEENS);
-    if sixteens == 0 {
-        return 8;
-    }
-    let halves = joined(sixteens, 16, HALVES);
-    if halves == 0 {
-        return 16;
-    }
-    let whole = joined(halves, 32, WHOLE);
-    if whole == 0 {
-        return 32;
-    }
-    64
+    free & (free >> size) & starts_of_twice(size)
 }
 
 // The largest free chunk of 64 blocks, of which those are used whose bit is 1.
 pub fn figure(used: u64) -> usize
     ensures { (a : List ℕ) (i : ℕ) → Digits 64 a i used → result ≡ largest_free 6 a i }
 {
-    let free = !used;
-    if free == 0 {
+    let mut chunks = !used;
+    if chunks == 0 {
         return 0;
     }
-    let twos = joined(free, 1, TWOS);
-    if twos == 0 {
-        return 1;
+    for size in SIZES {
+        let larger = twice(chunks, size);
+        if larger == 0 {
+            return size;
+        }
+        chunks = larger;
     }
-    let fours = joined(twos, 2, FOURS);
-    if fours == 0 {
-        return 2;
-    }
-    let eights = joined(fours, 4, EIGHTS);
-    if eights == 0 {
-        return 4;
-    }
-    of_eights(eights)
+    64
 }
 
-// Four words, of 256 blocks one behind the other.
-#[derive(Clone, Copy)]
-pub struct Four {
-    pub first: u64,
-    pub second: u64,
-    pub third: u64,
-    pub fourth: u64,
-}
-
-// The free blocks of the 256 from byte i of the map on.
-pub fn free_of_four(a: &[u8], i: usize) -> Four
+// The free blocks of the 256 from byte i of the map on, 64 to a word.
+pub fn free_of_four(a: &[u8], i: usize) -> [u64; 4]
     requires { (i + 32 ≤ length a.now) × (i + 32 < 2 ^ 64) }
-    ensures { FourChunks 0 a.now (8 * i) result.first result.second result.third result.fourth }
+    ensures { FourChunks 0 a.now (8 * i) result }
 {
-    let first = !eight_bytes(a, i);
-    let second = !eight_bytes(a, i + 8);
-    let third = !eight_bytes(a, i + 16);
-    let fourth = !eight_bytes(a, i + 24);
-    Four {
-        first: first,
-        second: second,
-        third: third,
-        fourth: fourth,
-    }
+    [
+        !eight_bytes(a, i),
+        !eight_bytes(a, i + 8),
+        !eight_bytes(a, i + 16),
+        !eight_bytes(a, i + 24),
+    ]
 }
 
-// From the free chunks of `size` blocks of four words those of twice the size.
-fn twice_each(free: Four, size: usize) -> Four
+// From the free chunks of `size` blocks of four words those of twice the size. Written out: of a closure under
+// `map` the proof doesn't learn what `twice` promises, unless the closure repeats it.
+fn twice_each(free: [u64; 4], size: usize) -> [u64; 4]
     requires { size < 64 }
     ensures { (k : ℕ) (a : List ℕ) (i : ℕ) → k < 6 → size ≡ 2 ^ k
-        → FourChunks k a i free.first free.second free.third free.fourth
-        → FourChunks (suc k) a i result.first result.second result.third result.fourth }
+        → FourChunks k a i free → FourChunks (suc k) a i result }
 {
-    let first = twice(free.first, size);
-    let second = twice(free.second, size);
-    let third = twice(free.third, size);
-    let fourth = twice(free.fourth, size);
-    Four {
-        first: first,
-        second: second,
-        third: third,
-        fourth: fourth,
-    }
+    [
+        twice(free[0], size),
+        twice(free[1], size),
+        twice(free[2], size),
+        twice(free[3], size),
+    ]
 }
 
-// Whether none of four words has a chunk.
-fn is_none(free: Four) -> bool
-    ensures { (result ≡ true → NoneOfFour free.first free.second free.third free.fourth)
-        × (result ≡ false → NoneOfFour free.first free.second free.third free.fourth → ⊥) }
+// Whether none of four words has a chunk. By one `or`: `free == [0; 4]` takes half as long again.
+fn is_none(free: [u64; 4]) -> bool
+    ensures { (result ≡ true → NoneOfFour free) × (result ≡ false → NoneOfFour free → ⊥) }
 {
-    free.first | free.second | free.third | free.fourth == 0
+    free[0] | free[1] | free[2] | free[3] == 0
 }
 
 // Whether two words are both free throughout: a chunk of 128 blocks.
@@ -178,52 +119,35 @@ fn are_whole(lower: u64, upper: u64) -> bool
     ensures { (a : List ℕ) (i : ℕ) → FreeChunks 6 a i lower → FreeChunks 6 a (i + 64) upper
         → (result ≡ true → largest_free 7 a i ≡ 128) × (result ≡ false → largest_free 7 a i ≤ 64) }
 {
-    if lower == 0 {
-        return false;
-    }
-    if upper == 0 {
-        return false;
-    }
-    true
+    lower != 0 && upper != 0
 }
 
 // The largest free chunk of 256 blocks, from those of their four words that are free throughout, of which there are some.
-fn of_whole(free: Four) -> usize
-    ensures { (a : List ℕ) (i : ℕ) → FourChunks 6 a i free.first free.second free.third free.fourth
-        → 64 ≤ largest_free 8 a i → result ≡ largest_free 8 a i }
+fn of_whole(free: [u64; 4]) -> usize
+    ensures { (a : List ℕ) (i : ℕ) → FourChunks 6 a i free → 64 ≤ largest_free 8 a i → result ≡ largest_free 8 a i }
 {
-    let lower = are_whole(free.first, free.second);
-    let upper = are_whole(free.third, free.fourth);
-    if lower {
-        if upper {
-            return 256;
-        }
-        return 128;
+    match (are_whole(free[0], free[1]), are_whole(free[2], free[3])) {
+        (true, true) => 256,
+        (true, false) | (false, true) => 128,
+        (false, false) => 64,
     }
-    if upper {
-        return 128;
-    }
-    64
 }
 
 // The largest free chunk of 256 blocks, of which those are free whose bit is 1. The sizes go up for all four words together: what one
 // word's figure is decides nothing, so that there is one test for each size.
-pub fn figure_of_four(free: Four) -> usize
-    ensures { (a : List ℕ) (i : ℕ) → FourChunks 0 a i free.first free.second free.third free.fourth
-        → result ≡ largest_free 8 a i }
+pub fn figure_of_four(free: [u64; 4]) -> usize
+    ensures { (a : List ℕ) (i : ℕ) → FourChunks 0 a i free → result ≡ largest_free 8 a i }
 {
     if is_none(free) {
         return 0;
     }
     let mut chunks = free;
-    let mut size = 1;
-    while size < 64 {
+    for size in SIZES {
         let larger = twice_each(chunks, size);
         if is_none(larger) {
             return size;
         }
         chunks = larger;
-        size += size;
     }
     of_whole(chunks)
 }

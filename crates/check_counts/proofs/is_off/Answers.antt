@@ -20,8 +20,8 @@ returns-then-first-eq0 c =
     (eight_free c.args.first c.args.bytes c.args.width c.args.counts.now c.args.at.now c.args.k
     c.some_byte.result (omega arith) (omega arith) c.some_byte.ensures c.if-some_byte-first.false c.if-first-eq0.true)
 
-pub returns : goal.returns
-returns c =
+pub returns-else-first-eq0 : goal.returns-else-first-eq0
+returns-else-first-eq0 c =
     ap₂ (λ (x y : ℕ). not (eqb x y)) (ap₂ bit_and c.tallies.ensures c.mask-kept.ensures)
     (ap₂ bit_and c.count_lanes.ensures c.mask-kept.ensures)
     ∙ eight_held c.args.first c.args.bytes c.args.width c.args.counts.now c.args.at.now c.args.k

@@ -1,7 +1,7 @@
 use mathlib.Core.Path.{◌≡◌, sym, ap, ◌∙◌}
 use mathlib.Core.Logic.{inl, inr}
 use mathlib.Core.Bool.{Bool, not, ◌&&◌}
-use Prim.Native.Nat.{ℕ, ◌<◌, ◌-◌, ◌+◌, ◌*◌, ◌/◌}
+use Prim.Native.Nat.{ℕ, ◌<◌, ◌+◌, ◌*◌, ◌/◌}
 use native.Mathlib.Omega.{arith}
 use lib.Dec.{eqb}
 use lib.ListN.{get_or}
@@ -9,26 +9,14 @@ use Rattle.planes.specs.Plane.{count_at}
 use Rattle.rules.specs.Tools.{some_below}
 use Rattle.rules.proofs.Searches.{searched_start, searched_all}
 use Rattle.rules.proofs.Stretches.{some_further, eight_hit, eight_past}
-use Rattle.rules.proofs.Tests.{test_cases_lem, done, also, first_found, first_past, first_none}
+use Rattle.rules.proofs.Tests.{test_cases_lem, true_or, false_or, done, also, first_found, first_past, first_none}
 use Rattle.check_counts.specs.Late.{count_off, stray_tally, off_tally, stray_in, off_in}
 use Rattle.check_counts.proofs.late_kind.Goals as goal
-use Rattle.check_counts.proofs.late_kind.Goals.{then-is_off, else-is_off}
-
--- the two tests
-abbrev strays-After-shared_slice_known-4-1 : (c : goal.After-shared_slice_known-4-1) → ℕ → Bool
-strays-After-shared_slice_known-4-1 c = stray_tally c.args.blocks c.args.a.now c.args.b.now c.args.at.now
-
-abbrev offs-After-shared_slice_known-4-1 : (c : goal.After-shared_slice_known-4-1) → ℕ → Bool
-offs-After-shared_slice_known-4-1 c = off_tally c.args.blocks c.args.width c.args.a.now c.args.b.now c.args.counts.now c.args.at.now
 
 pub loop-k-init : goal.loop-k-init
 loop-k-init c =
-    let start = searched_start (offs-After-shared_slice_known-4-1 c) c.args.blocks in
-    (searched_start (strays-After-shared_slice_known-4-1 c) c.args.blocks, sym start.1)
-
-pub is_stray-requires : goal.is_stray-requires
-is_stray-requires c =
-    (omega arith, omega arith, c.requires.8)
+    let start = searched_start (off_tally c.args.blocks c.args.width c.args.a.now c.args.b.now c.args.counts.now c.args.at.now) c.args.blocks in
+    (searched_start (stray_tally c.args.blocks c.args.a.now c.args.b.now c.args.at.now) c.args.blocks, sym start.1)
 
 -- the two tests
 abbrev strays-Then-is_stray : (c : goal.Then-is_stray) → ℕ → Bool
@@ -50,26 +38,22 @@ returns-then-is_stray c =
     (eight_hit (strays-Then-is_stray c) (stray_in c.first_byte-first.result c.args.at.now k) k (stray-here-Then-is_stray c)
     (sym c.is_stray.ensures ∙ c.if-is_stray.true))))
 
-pub is_off-requires : goal.is_off-requires
-is_off-requires c =
-    (omega arith, omega arith, omega arith, omega arith, omega arith, omega arith, c.requires.8)
-
 -- the two tests
-abbrev strays-Joined-is_off : (c : goal.Joined-is_off) → ℕ → Bool
-strays-Joined-is_off c = stray_tally c.args.blocks c.args.a.now c.args.b.now c.args.at.now
+abbrev strays-After-is_off-off : (c : goal.After-is_off-off) → ℕ → Bool
+strays-After-is_off-off c = stray_tally c.args.blocks c.args.a.now c.args.b.now c.args.at.now
 
-abbrev offs-Joined-is_off : (c : goal.Joined-is_off) → ℕ → Bool
-offs-Joined-is_off c = off_tally c.args.blocks c.args.width c.args.a.now c.args.b.now c.args.counts.now c.args.at.now
+abbrev offs-After-is_off-off : (c : goal.After-is_off-off) → ℕ → Bool
+offs-After-is_off-off c = off_tally c.args.blocks c.args.width c.args.a.now c.args.b.now c.args.counts.now c.args.at.now
 
 -- the tests at the eight blocks of byte k
-stray-here-Joined-is_off : (c : goal.Joined-is_off) → (i : ℕ) → i < 8 → strays-Joined-is_off c (8 * c.loop-k.k + i) ≡ stray_in c.first_byte-first.result c.args.at.now c.loop-k.k i
+stray-here-After-is_off-off : (c : goal.After-is_off-off) → (i : ℕ) → i < 8 → strays-After-is_off-off c (8 * c.loop-k.k + i) ≡ stray_in c.first_byte-first.result c.args.at.now c.loop-k.k i
 unfolding stray_in
-stray-here-Joined-is_off c i u =
+stray-here-After-is_off-off c i u =
     ap (λ (t : Bool). not t && not (eqb (get_or c.args.at.now (8 * c.loop-k.k + i) 0) 0))
     (c.first_byte-first.ensures c.args.blocks (omega (arith, c.loop-k-test.true)) i u)
 
-off-here : (c : goal.Joined-is_off) → (i : ℕ) → i < 8
-    → offs-Joined-is_off c (8 * c.loop-k.k + i)
+off-here : (c : goal.After-is_off-off) → (i : ℕ) → i < 8
+    → offs-After-is_off-off c (8 * c.loop-k.k + i)
     ≡ off_in c.first_byte-first.result (c.args.blocks / 8) c.args.width c.args.counts.now c.args.at.now c.loop-k.k i
 unfolding off_in
 off-here c i u =
@@ -84,18 +68,19 @@ loop-k-preserved c =
     let other = off_in c.first_byte-first.result (c.args.blocks / 8) c.args.width c.args.counts.now c.args.at.now k in (
       (
         omega (arith, c.loop-k-test.true),
-        eight_past (strays-Joined-is_off c) (stray_in c.first_byte-first.result c.args.at.now k) k (stray-here-Joined-is_off c)
+        eight_past (strays-After-is_off-off c) (stray_in c.first_byte-first.result c.args.at.now k) k (stray-here-After-is_off-off c)
             (sym c.is_stray.ensures ∙ c.if-is_stray.false) c.loop-k.invariant.0.1,
       ),
-      elim c.if-is_off.branch [
-        | then-is_off w ↦ w.off-is ∙ sym (eight_hit (offs-Joined-is_off c) other k (off-here c) (sym c.is_off.ensures ∙ w.if-is_off.true))
-        | else-is_off w ↦
-            w.off-is
-            ∙ c.loop-k.invariant.1
-            ∙ elim (test_cases_lem (some_below (offs-Joined-is_off c) (8 * k))) [
-              | inl e ↦ e ∙ sym (some_further (offs-Joined-is_off c) (8 * k) (8 * (k + 1)) (omega arith) e)
-              | inr e ↦ e ∙ sym (eight_past (offs-Joined-is_off c) other k (off-here c) (sym c.is_off.ensures ∙ w.if-is_off.false) e)
-            ]
+      elim (test_cases_lem c.is_off-off.result) [
+        | inl t ↦ true_or c.loop-k.off c.is_off-off.result (inr t) ∙ sym (eight_hit (offs-After-is_off-off c) other k (off-here c) (sym c.is_off-off.ensures ∙ t))
+        | inr f ↦ elim (test_cases_lem (some_below (offs-After-is_off-off c) (8 * k))) [
+          | inl e ↦
+              true_or c.loop-k.off c.is_off-off.result (inl (c.loop-k.invariant.1 ∙ e))
+              ∙ sym (some_further (offs-After-is_off-off c) (8 * k) (8 * (k + 1)) (omega arith) e)
+          | inr e ↦
+              false_or c.loop-k.off c.is_off-off.result (c.loop-k.invariant.1 ∙ e) f
+              ∙ sym (eight_past (offs-After-is_off-off c) other k (off-here c) (sym c.is_off-off.ensures ∙ f) e)
+        ]
       ],
     )
 
@@ -120,8 +105,8 @@ strays-Else-off c = stray_tally c.args.blocks c.args.a.now c.args.b.now c.args.a
 abbrev offs-Else-off : (c : goal.Else-off) → ℕ → Bool
 offs-Else-off c = off_tally c.args.blocks c.args.width c.args.a.now c.args.b.now c.args.counts.now c.args.at.now
 
-pub returns : goal.returns
-returns c =
+pub returns-else-off : goal.returns-else-off
+returns-else-off c =
     let end : 8 * c.loop-k.k ≡ c.args.blocks = omega (arith, c.loop-k.invariant.0.0) in
     sym
     (first_none _

@@ -6,5 +6,5 @@ use Rattle.section_extents.proofs.section_of.Goals as goal
 pub returns-then-blocks-lt-MAX_SECTION : goal.returns-then-blocks-lt-MAX_SECTION
 returns-then-blocks-lt-MAX_SECTION c = only_section c.args.blocks c.args.i (omega arith) c.requires
 
-pub returns : goal.returns
-returns c = long_section c.args.blocks c.args.i (omega arith)
+pub returns-else-blocks-lt-MAX_SECTION : goal.returns-else-blocks-lt-MAX_SECTION
+returns-else-blocks-lt-MAX_SECTION c = long_section c.args.blocks c.args.i (omega arith)

@@ -7,6 +7,6 @@ pub returns-then-get_bit-eq0 : goal.returns-then-get_bit-eq0
 returns-then-get_bit-eq0 c =
     free_block c.args.a.now c.args.at (sym c.get_bit.ensures.0 ∙ c.if-get_bit-eq0.true)
 
-pub returns : goal.returns
-returns c =
+pub returns-else-get_bit-eq0 : goal.returns-else-get_bit-eq0
+returns-else-get_bit-eq0 c =
     used_block c.args.a.now c.args.at (λ e. c.if-get_bit-eq0.false (c.get_bit.ensures.0 ∙ e))

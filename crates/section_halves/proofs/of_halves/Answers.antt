@@ -14,7 +14,7 @@ unfolding of_halves
 returns-then-upper-half c =
     rw (le-ltb c.args.lower c.args.upper (omega arith), eq-eqb c.args.upper c.args.half c.if-upper-half.true, of_halves)
 
-pub returns : goal.returns
+pub returns-else-upper-half : goal.returns-else-upper-half
 unfolding of_halves
-returns c =
+returns-else-upper-half c =
     rw (le-ltb c.args.lower c.args.upper (omega arith), ne_eqb c.args.upper c.args.half c.if-upper-half.false, of_halves)

@@ -1,37 +1,31 @@
 -- `figure` meets its contract: the largest size of which the word is not 0.
-use mathlib.Core.Path.{refl}
-use native.Mathlib.Omega.{arith}
-use Rattle.section_words.proofs.Words.{free_blocks_lem, twos, fours, eights}
-use Rattle.section_words.proofs.FigureOfWord.{exact, zero_figure}
+use Rattle.std.proofs.Common.{◌≡◌, ℕ, ◌<◌, ◌∙◌, add-one, arith, subst}
+use Rattle.section_words.specs.Words.{FreeChunks}
+use Rattle.section_words.proofs.Words.{free_blocks_lem}
+use Rattle.section_words.proofs.FigureOfWord.{exact, all, zero_figure, sizes}
 use Rattle.section_words.proofs.figure.Goals as goal
 
-pub returns-then-free-eq0 : goal.returns-then-free-eq0
-returns-then-free-eq0 c = λ a i d. zero_figure a i _ (free_blocks_lem a i c.args.used d) c.if-free-eq0.true
+pub returns-then-chunks-eq0 : goal.returns-then-chunks-eq0
+returns-then-chunks-eq0 c = λ a i d. zero_figure a i _ (free_blocks_lem a i c.args.used d) c.if-chunks-eq0.true
 
-pub returns-then-twos-eq0 : goal.returns-then-twos-eq0
-returns-then-twos-eq0 c = λ a i d.
-    let f = free_blocks_lem a i c.args.used d in
-    let g = c.joined-twos.ensures 0 a i (omega arith) refl twos f in
-    exact 0 a i _ _ (omega arith) f g c.if-free-eq0.false c.if-twos-eq0.true
+pub loop-size-init : goal.loop-size-init
+loop-size-init c = (c.if-chunks-eq0.false, λ a i d. free_blocks_lem a i c.args.used d)
 
-pub returns-then-fours-eq0 : goal.returns-then-fours-eq0
-returns-then-fours-eq0 c = λ a i d.
-    let f = free_blocks_lem a i c.args.used d in
-    let g = c.joined-twos.ensures 0 a i (omega arith) refl twos f in
-    let h = c.joined-fours.ensures 1 a i (omega arith) refl fours g in
-    exact 1 a i _ _ (omega arith) g h c.if-twos-eq0.false c.if-fours-eq0.true
+pub returns-then-larger-eq0 : goal.returns-then-larger-eq0
+returns-then-larger-eq0 c = λ a i d.
+    let k : ℕ = c.loop-size.size-index in
+    let six : k < 6 = omega arith in
+    let here = c.loop-size.invariant.1 a i d in
+    let size = sizes k six in
+    size ∙ exact k a i _ _ six here (c.twice-larger.ensures k a i six size here) c.loop-size.invariant.0 c.if-larger-eq0.true
 
-pub returns-then-eights-eq0 : goal.returns-then-eights-eq0
-returns-then-eights-eq0 c = λ a i d.
-    let f = free_blocks_lem a i c.args.used d in
-    let g = c.joined-twos.ensures 0 a i (omega arith) refl twos f in
-    let h = c.joined-fours.ensures 1 a i (omega arith) refl fours g in
-    let j = c.joined-eights.ensures 2 a i (omega arith) refl eights h in
-    exact 2 a i _ _ (omega arith) h j c.if-fours-eq0.false c.if-eights-eq0.true
+pub loop-size-preserved : goal.loop-size-preserved
+loop-size-preserved c =
+    let k : ℕ = c.loop-size.size-index in
+    let six : k < 6 = omega arith in
+    (c.if-larger-eq0.false, λ a i d. rw add-one (c.twice-larger.ensures k a i six (sizes k six) (c.loop-size.invariant.1 a i d)))
 
 pub returns : goal.returns
 returns c = λ a i d.
-    let f = free_blocks_lem a i c.args.used d in
-    let g = c.joined-twos.ensures 0 a i (omega arith) refl twos f in
-    let h = c.joined-fours.ensures 1 a i (omega arith) refl fours g in
-    c.of_eights.ensures a i (c.joined-eights.ensures 2 a i (omega arith) refl eights h) c.if-eights-eq0.false
+    let last : c.loop-size.size-index ≡ 6 = omega arith in
+    all a i _ (subst (λ (k : ℕ). FreeChunks k a i c.loop-size.chunks) last (c.loop-size.invariant.1 a i d)) c.loop-size.invariant.0

@@ -6,8 +6,8 @@ use Rattle.section_words.proofs.free_of_four.Goals as goal
 pub returns : goal.returns
 returns c =
     record {
-      first = free_blocks_lem _ _ _ c.eight_bytes-first.ensures;
-      second = free_blocks_lem _ _ _ (digits_at 64 _ _ _ _ (omega arith) c.eight_bytes-second.ensures);
-      third = free_blocks_lem _ _ _ (digits_at 64 _ _ _ _ (omega arith) c.eight_bytes-third.ensures);
-      fourth = free_blocks_lem _ _ _ (digits_at 64 _ _ _ _ (omega arith) c.eight_bytes-fourth.ensures);
+      first = free_blocks_lem _ _ _ c.eight_bytes.ensures;
+      second = free_blocks_lem _ _ _ (digits_at 64 _ _ _ _ (omega arith) c.eight_bytes-2.ensures);
+      third = free_blocks_lem _ _ _ (digits_at 64 _ _ _ _ (omega arith) c.eight_bytes-3.ensures);
+      fourth = free_blocks_lem _ _ _ (digits_at 64 _ _ _ _ (omega arith) c.eight_bytes-4.ensures);
     }

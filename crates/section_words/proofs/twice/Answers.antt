@@ -1,6 +1,7 @@
--- `twice` meets its contract: `joined`, with the word of that size.
-
+-- `twice` meets its contract: a digit of the result is both digits of the halves.
+use Rattle.section_words.proofs.Words.{doubled}
 use Rattle.section_words.proofs.twice.Goals as goal
 
 pub returns : goal.returns
-returns c = λ k a i l e f. c.joined.ensures k a i l e (c.starts_of_twice.ensures k l e) f
+returns c = λ k a i small size_is f.
+    doubled k a i c.args.free c.args.size c.starts_of_twice.result small size_is (c.starts_of_twice.ensures k small size_is) f
