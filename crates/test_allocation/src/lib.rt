@@ -12,7 +12,7 @@ use search_chunk::Searched;
 use section_search::find_chunk;
 use types::{Ref, Reply, replies};
 
-// The block that an object of n blocks would start at, or `blocks`, and how many blocks the search looked at.
+// The block that an object of n blocks would start at, and how many blocks the search looked at.
 fn find_place(blocks: usize, a: &[u8], sections: &[Ref], n: usize) -> Searched
     requires { (is_blocks blocks ≡ true) × (blocks ≤ 8 * length a.now) × (sections.now ≡ figures blocks a.now) × (1 ≤ n) × (n ≤ blocks) }
     ensures { Found blocks (exponent n) a.now result.at result.looks }
@@ -33,19 +33,14 @@ pub fn allocate_reply(
     requires { (is_blocks blocks ≡ true) × (blocks ≤ 8 * length a.now) × (sections.now ≡ figures blocks a.now) }
     ensures { result ≡ allocate_reply blocks a.now roots n r }
 {
-    if n == 0 {
-        return replies::refusal(3);
-    }
-    if blocks < n {
+    if n == 0 || blocks < n {
         return replies::refusal(3);
     }
     if roots <= r {
         return replies::refusal(4);
     }
-    let found = find_place(blocks, a, sections, n);
-    let at = found.at;
-    if at == blocks {
-        return replies::refusal(5);
+    match find_place(blocks, a, sections, n).at {
+        Some(at) => replies::acceptance(at),
+        None => replies::refusal(5),
     }
-    replies::acceptance(at)
 }
