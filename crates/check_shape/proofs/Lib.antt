@@ -1,1 +1,1 @@
-pub mod Doubling
+pub mod Powers

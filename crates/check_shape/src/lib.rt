@@ -11,17 +11,11 @@ use types::{MAX_BLOCKS, MAX_ROOTS, MAX_WIDTH};
 fn is_blocks(n: usize) -> bool
     ensures { result ≡ is_blocks n }
 {
-    let mut power: usize = 8;
-    while power < MAX_BLOCKS {
-        if n == power {
-            return true;
-        }
-        power = power * 2;
-    }
-    n == power
+    n.is_power_of_two() && (8..=MAX_BLOCKS).contains(&n)
 }
 
 // Whether everything is as long as it has to be.
+#[tactic(auto, using(rules::proofs::Shape::blocks_le), unfolding(rules::specs::Heap::shape, rules::specs::Tools::all))]
 pub fn is_shaped(
     blocks: usize,
     width: usize,
@@ -38,44 +32,16 @@ pub fn is_shaped(
 ) -> bool
     ensures { result ≡ shape blocks width a b counts cells roots waiting sections d marks list }
 {
-    if !is_blocks(blocks) {
-        return false;
-    }
-    if width < 1 {
-        return false;
-    }
-    if MAX_WIDTH < width {
-        return false;
-    }
-    if roots < 1 {
-        return false;
-    }
-    if MAX_ROOTS < roots {
-        return false;
-    }
-    if a != blocks / 8 {
-        return false;
-    }
-    if b != blocks / 8 {
-        return false;
-    }
-    if counts != width * (blocks / 8) {
-        return false;
-    }
-    if cells != 4 * blocks {
-        return false;
-    }
-    if waiting != blocks {
-        return false;
-    }
-    if sections != section_figures::section_count(blocks) {
-        return false;
-    }
-    if d != blocks / 8 {
-        return false;
-    }
-    if marks != blocks / 8 {
-        return false;
-    }
-    list == blocks + 1
+    is_blocks(blocks)
+        && (1..=MAX_WIDTH).contains(&width)
+        && (1..=MAX_ROOTS).contains(&roots)
+        && a == blocks / 8
+        && b == blocks / 8
+        && counts == width * (blocks / 8)
+        && cells == 4 * blocks
+        && waiting == blocks
+        && sections == section_figures::section_count(blocks)
+        && d == blocks / 8
+        && marks == blocks / 8
+        && list == blocks + 1
 }

@@ -1,17 +1,20 @@
 -- The search for chunks of a size that goes on where it last found one.
 use mathlib.Core.Path.{◌≡◌, refl, sym, ap, ap₂, ◌∙◌, subst}
-use mathlib.Core.Logic.{◌≢◌, ◌⊎◌, inl, inr}
+use mathlib.Core.Logic.{◌⊎◌, inl, inr}
 use mathlib.Core.Bool.{true, false}
 use mathlib.Core.List.{List}
-use mathlib.Core.Option.{Option, none, some}
+use mathlib.Core.Option.{none, some}
+use Rattle.std.specs.Prelude.{Option as CodeOption, None, Some}
+use Rattle.std.proofs.lemmas.Option.{same_Some}
 use Prim.Native.Nat.{ℕ, zero, suc, ◌+◌, ◌-◌, ◌*◌, ◌/◌, ◌%◌, ◌^◌, ◌≤◌, ◌<◌}
-use native.Mathlib.Nat.{suc-mul, add-mul, mul-div_cancel, div-eq_of_lt, div-add-mod', mul-mod_left, mod_self, zero-mod}
+use native.Mathlib.Nat.{suc-mul, add-mul, mul-div_cancel, div-eq_of_lt, div-add-mod', mul-mod_left, mod_self, zero-mod, pow-suc}
 use native.Mathlib.Nat.{le_of_mul-le-mul_right, mul-lt-mul_of_pos_right}
 use native.Mathlib.Decide.{ℕ_discrete, dec_lt}
 use native.Mathlib.Omega.{arith}
+use lib.Count.{count_trailing_zeros}
 use lib.ListN.{length, get_or, set, replicate, length-set, length-replicate}
 use lib.Seq.{get_or-set_same, get_or-set_other}
-use lib.Pow.{pow_pos, pow_mono, pow-lt, shl_exact}
+use lib.Pow.{pow_pos, pow_mono, pow-lt}
 use Rattle.bitmap.specs.Bit.{bit_at, fill_bits}
 use Rattle.bitmap.proofs.Runs.{length_fill, bit_fill_in, bit_fill_out}
 use Rattle.rules.specs.Heap.{is_blocks, exponent, chunk_free, lowest_from, lowest_free}
@@ -21,7 +24,8 @@ use Rattle.rules.proofs.Chunks.{Used, exponent_covers, exponent_least, chunk_fre
 use Rattle.theory_memories.proofs.Maps.LowestChunk.{lowest_some}
 use Rattle.theory_graphs.proofs.Graphs.Stretch.{side}
 use Rattle.theory_memories.proofs.Memories.Formatted.{zeros_at}
-use Rattle.search_walk.specs.Search.{Part, or_else, lowest_in, Search}
+use Rattle.search_walk.specs.Search.{Part, answered, lowest_in, Search}
+use Rattle.search_walk.proofs.Answered.{answered_none, answered_some}
 use Rattle.search_walk.proofs.LowestChunk.{multiple_lower}
 use Rattle.copy_plan.specs.Laying.{PassedOver, Sought, LaidOne}
 
@@ -146,15 +150,9 @@ sought_start M blocks =
     }
 
 module _ (M n : ℕ) (a from : List ℕ) (s : Sought M a from) where
-  pub laid_nowhere : (a' from' : List ℕ) → lowest_free M (exponent n) a ≡ none → LaidOne M n a a' from' M
+  pub laid_nowhere : (a' from' : List ℕ) → lowest_free M (exponent n) a ≡ none → LaidOne M n a a' from' None
   laid_nowhere a' from' e =
-      record {
-        nowhere = λ _. e;
-        lowest = λ d. absurd (d refl);
-        below = λ d. absurd (d refl);
-        map_is = λ d. absurd (d refl);
-        sought = λ d. absurd (d refl);
-      }
+      record { lowest = ap answered (sym e); below = λ i d. cc; map_is = λ i d. cc; sought = λ i d. cc }
 
   module _ (fits : n ≤ M) where
     abbrev k : ℕ
@@ -167,38 +165,22 @@ module _ (M n : ℕ) (a from : List ℕ) (s : Sought M a from) where
     search_part = (s.passed k chunk).part
 
     -- what the search from there on found is the heap's lowest free chunk
-    pub search_is : (at looks : ℕ) → Search (get_or from k 0) M k (lowest_in (get_or from k 0) M k a) at looks → at ≡ or_else M (lowest_free M k a)
-    search_is at looks found = found.at_is ∙ ap (or_else M) (search_whole k a M (get_or from k 0) (s.passed k chunk))
+    pub search_is : (at : CodeOption ℕ) (looks : ℕ) → Search (get_or from k 0) M k (lowest_in (get_or from k 0) M k a) at looks
+        → at ≡ answered (lowest_free M k a)
+    search_is at looks found = found.at_is ∙ ap answered (search_whole k a M (get_or from k 0) (s.passed k chunk))
 
-    module _ (at : ℕ) (is : at ≡ or_else M (lowest_free M k a)) where
-      pub none_found : at ≡ M → lowest_free M k a ≡ none
-      none_found e = go (lowest_free M k a) refl
-        where
-          go : (o : Option ℕ) → lowest_free M k a ≡ o → o ≡ none
-          go none q = refl
-          go (some i) q =
-              let inside = (lowest_some M k a i q).inside in
-              let same : at ≡ i = is ∙ ap (or_else M) q in
-              absurd (omega (arith, pow_pos k))
+    module _ (at : ℕ) (is : lowest_free M k a ≡ some at) where
+      pub place_inside : at + n ≤ M
+      place_inside = omega (arith, (lowest_some M k a at is).inside, exponent_covers n)
 
-      some_found : at ≢ M → lowest_free M k a ≡ some at
-      some_found d = go (lowest_free M k a) refl
-        where
-          go : (o : Option ℕ) → lowest_free M k a ≡ o → o ≡ some at
-          go none q = absurd (d (is ∙ ap (or_else M) q))
-          go (some i) q = ap some (sym (is ∙ ap (or_else M) q))
-
-      pub place_inside : at ≢ M → at + n ≤ M
-      place_inside d = omega (arith, (lowest_some M k a at (some_found d)).inside, exponent_covers n)
-
-      pub laid_there : at ≢ M → LaidOne M n a (fill_bits a at n 1) (set from k (at - at % 8)) at
-      laid_there d =
+      pub laid_there : LaidOne M n a (fill_bits a at n 1) (set from k (at - at % 8)) (Some at)
+      laid_there =
+          let below : at < M = omega (arith, (lowest_some M k a at is).inside, pow_pos k) in
           record {
-            nowhere = λ e. absurd (d e);
-            lowest = some_found;
-            below = λ _. omega (arith, (lowest_some M k a at (some_found d)).inside, pow_pos k);
-            map_is = λ _. refl;
-            sought = λ _. record {
+            lowest = ap answered (sym is);
+            below = λ i e. omega (arith, same_Some at i e);
+            map_is = λ i e. ap (λ (x : ℕ). fill_bits a x n 1) (same_Some at i e);
+            sought = λ i e. record {
               blocks = s.blocks;
               length_map = length_fill a at n 1 ∙ s.length_map;
               length_from = length-set from k (at - at % 8) ∙ s.length_from;
@@ -207,7 +189,7 @@ module _ (M n : ℕ) (a from : List ℕ) (s : Sought M a from) where
           }
         where
           inside : at + n ≤ 8 * length a
-          inside = omega (arith, place_inside d, s.length_map, (blocks_facts M s.blocks).2)
+          inside = omega (arith, place_inside, s.length_map, (blocks_facts M s.blocks).2)
 
           few : k < length from
           few = omega (arith, s.length_from, exponent_least n 16 (omega (arith, blocks_le M s.blocks)))
@@ -217,36 +199,48 @@ module _ (M n : ℕ) (a from : List ℕ) (s : Sought M a from) where
             | yes e ↦
                 subst (λ (x : ℕ). PassedOver M x (fill_bits a at n 1) (get_or (set from k (at - at % 8)) x 0)) (sym e)
                 (subst (PassedOver M k (fill_bits a at n 1)) (sym (get_or-set_same from k (at - at % 8) 0 few))
-                (still_passed a at n inside M k (at - at % 8) (passed_lowest M k a s.blocks chunk at (some_found d))))
+                (still_passed a at n inside M k (at - at % 8) (passed_lowest M k a s.blocks chunk at is)))
             | no o ↦
                 subst (PassedOver M j (fill_bits a at n 1)) (sym (get_or-set_other from k j (at - at % 8) 0 o))
                 (still_passed a at n inside M j (get_or from j 0) (s.passed j l))
           ]
 
--- ---- as the code has it: r is the exponent that it found, and `size` the power
+-- ---- as the code has it: `size` is the chunk's, and r its exponent, which its lowest bit tells
 
-module _ (M n : ℕ) (a from : List ℕ) (s : Sought M a from) (fits : n ≤ M) (r : ℕ) (r-is : r ≡ exponent n) where
-  -- the power does not wrap
-  pub power_is : 1 * 2 ^ r % 2 ^ 64 ≡ 2 ^ r
-  power_is =
-      let few : r ≤ 16 = omega (arith, exponent_least n 16 (omega (arith, blocks_le M s.blocks))) in
-      shl_exact 1 r 64 (omega arith) (omega arith) ∙ omega arith
+trailing_power : (m k : ℕ) → k < m → count_trailing_zeros m (2 ^ k) ≡ k
+unfolding count_trailing_zeros
+trailing_power zero k l = absurd (omega arith)
+trailing_power (suc m) zero l = refl
+trailing_power (suc m) (suc k) l =
+    let even : 2 ^ suc k % 2 ≡ 0 = omega (arith, pow-suc 2 k) in
+    let half : 2 ^ suc k / 2 ≡ 2 ^ k = omega (arith, pow-suc 2 k) in
+    rw (even, half, count_trailing_zeros) (ap suc (trailing_power m k (omega arith)))
 
-  pub part_there : Part (get_or from r 0) M (1 * 2 ^ r % 2 ^ 64)
-  part_there = rw (power_is, r-is) (search_part M n a from s fits)
+module _ (M n : ℕ) (a from : List ℕ) (s : Sought M a from) (fits : n ≤ M) (size r : ℕ) (size-is : size ≡ 2 ^ exponent n)
+    (r-is : r ≡ count_trailing_zeros 64 size) where
+  pub few : exponent n ≤ 16
+  few = exponent_least n 16 (omega (arith, blocks_le M s.blocks))
 
-  module _ (at looks : ℕ)
-      (found : (k : ℕ) → 1 * 2 ^ r % 2 ^ 64 ≡ 2 ^ k → Search (get_or from r 0) M k (lowest_in (get_or from r 0) M k a) at looks) where
-    place : at ≡ or_else M (lowest_free M (exponent n) a)
-    place =
-        search_is M n a from s fits at looks
-        (rw r-is at (found (exponent n) (power_is ∙ ap (λ (x : ℕ). 2 ^ x) r-is)))
+  pub exponent_is : r ≡ exponent n
+  exponent_is = r-is ∙ ap (count_trailing_zeros 64) size-is ∙ trailing_power 64 (exponent n) (omega (arith, few))
 
-    pub laid_none : (a' from' : List ℕ) → at ≡ M → LaidOne M n a a' from' M
-    laid_none a' from' e = laid_nowhere M n a from s a' from' (none_found M n a from s fits at place e)
+  pub part_there : Part (get_or from r 0) M size
+  part_there = rw (size-is, exponent_is) (search_part M n a from s fits)
 
-    pub fill_inside : at ≢ M → at + n ≤ 8 * length a
-    fill_inside d = omega (arith, place_inside M n a from s fits at place d, s.length_map, (blocks_facts M s.blocks).2)
+  module _ (at : CodeOption ℕ) (looks : ℕ)
+      (found : (k : ℕ) → size ≡ 2 ^ k → Search (get_or from r 0) M k (lowest_in (get_or from r 0) M k a) at looks) where
+    place : at ≡ answered (lowest_free M (exponent n) a)
+    place = search_is M n a from s fits at looks (rw exponent_is at (found (exponent n) size-is))
 
-    pub laid_some : at ≢ M → LaidOne M n a (fill_bits a at n 1) (set from r (at - at % 8)) at
-    laid_some d = rw r-is (laid_there M n a from s fits at place d)
+    pub laid_none : (a' from' : List ℕ) → at ≡ None → LaidOne M n a a' from' None
+    laid_none a' from' e = laid_nowhere M n a from s a' from' (answered_none _ (sym e ∙ place))
+
+    module _ (i : ℕ) (is : at ≡ Some i) where
+      chosen : lowest_free M (exponent n) a ≡ some i
+      chosen = answered_some _ i (sym is ∙ place)
+
+      pub fill_inside : i + n ≤ 8 * length a
+      fill_inside = omega (arith, place_inside M n a from s fits i chosen, s.length_map, (blocks_facts M s.blocks).2)
+
+      pub laid_some : LaidOne M n a (fill_bits a i n 1) (set from r (i - i % 8)) (Some i)
+      laid_some = rw exponent_is (laid_there M n a from s fits i chosen)

@@ -4,6 +4,7 @@ use mathlib.Core.Logic.{◌≢◌}
 use mathlib.Core.Bool.{true, false, false≢true}
 use mathlib.Core.List.{List, [], ◌∷◌, ◌++◌}
 use mathlib.Core.Option.{none, some}
+use Rattle.std.specs.Prelude.{None, Some}
 use Prim.Native.Nat.{ℕ, zero, suc, ◌+◌, ◌-◌, ◌/◌, ◌≤◌, ◌<◌}
 use native.Mathlib.Decide.{ℕ_discrete}
 use native.Mathlib.Numerals.{add-one}
@@ -11,8 +12,8 @@ use native.Mathlib.Omega.{arith}
 use lib.ListN.{length, get_or, set, replicate, length-set, length-append, get_or-append}
 use lib.Seq.{get_or-set_same, get_or-set_other, get_or-append_seam}
 use borrow.Author.Tests.{eq-eqb, ne_eqb}
-use Rattle.bitmap.specs.Bit.{fill_bits}
 use Rattle.rules_copy.specs.Copy.{laid, lay_one, lay_next, lay_first, all_laid, places_in, new_reference}
+use Rattle.search_walk.proofs.Answered.{answered_none, answered_some}
 use Rattle.copy_plan.specs.Laying.{LaidOne}
 use Rattle.copy_plan.specs.Plan.{block_in, Numbering, Planned}
 
@@ -38,7 +39,7 @@ module _ (M : ℕ) (sizes : ℕ → ℕ) (N met : ℕ) (order numbers : List ℕ
       }
 
   module _ (k : ℕ) (moved map : List ℕ) (p : PlanTo M sizes N order numbers k moved map) (l : k < met) (map' from' : List ℕ) (at : ℕ)
-      (one : LaidOne M (sizes k) map map' from' at) where
+      (one : LaidOne M (sizes k) map map' from' (Some at)) where
     place_same : (i : ℕ) → i < k → get_or (p.places ++ (at ∷ [])) i 0 ≡ get_or p.places i 0
     place_same i u = get_or-append p.places (at ∷ []) 0 i (omega (arith, p.long))
 
@@ -48,15 +49,15 @@ module _ (M : ℕ) (sizes : ℕ → ℕ) (N met : ℕ) (order numbers : List ℕ
     here : block_in order k < length moved
     here = omega (arith, p.kept, n.long_numbers, n.some k l, n.below k l)
 
-    pub plan_next : at ≢ M → PlanTo M sizes N order numbers (k + 1) (set moved (block_in order k) (at + 1)) map'
+    pub plan_next : PlanTo M sizes N order numbers (k + 1) (set moved (block_in order k) (at + 1)) map'
     unfolding lay_first lay_next lay_one
-    plan_next d =
+    plan_next =
         record {
           places = p.places ++ (at ∷ []);
           laid_is =
               ap (lay_first M sizes) (add-one k)
               ∙ ap (lay_next M (sizes k)) p.laid_is
-              ∙ rw (one.lowest d, lay_one) (ap (λ (a : List ℕ). some (laid a (p.places ++ (at ∷ [])))) (sym (one.map_is d)));
+              ∙ rw (answered_some _ at one.lowest, lay_one) (ap (λ (a : List ℕ). some (laid a (p.places ++ (at ∷ [])))) (sym (one.map_is at refl)));
           long = length-append p.places (at ∷ []) ∙ omega (arith, p.long);
           kept = length-set moved (block_in order k) (at + 1) ∙ p.kept;
           done = λ i u. elim (ℕ_discrete i k) [
@@ -76,25 +77,27 @@ module _ (M : ℕ) (sizes : ℕ → ℕ) (N met : ℕ) (order numbers : List ℕ
         apart : (i : ℕ) → i < k → block_in order i ≢ block_in order k
         apart i u e = omega (arith, n.number i (omega arith), n.number k l, ap (λ (x : ℕ). get_or numbers x 0) e)
 
-    -- where it finds no chunk, there is no plan ..
-    none_next : at ≡ M → lay_first M sizes (suc k) ≡ none
+  -- where it finds no chunk, there is no plan ..
+  module _ (k : ℕ) (moved map : List ℕ) (p : PlanTo M sizes N order numbers k moved map) (l : k < met) (map' from' : List ℕ)
+      (one : LaidOne M (sizes k) map map' from' None) where
+    none_next : lay_first M sizes (suc k) ≡ none
     unfolding lay_first lay_next lay_one
-    none_next e = ap (lay_next M (sizes k)) p.laid_is ∙ rw (one.nowhere e, lay_one) refl
+    none_next = ap (lay_next M (sizes k)) p.laid_is ∙ rw (answered_none _ one.lowest, lay_one) refl
 
     -- .. whatever follows
-    none_later : (j : ℕ) → at ≡ M → lay_first M sizes (j + suc k) ≡ none
+    none_later : (j : ℕ) → lay_first M sizes (j + suc k) ≡ none
     unfolding lay_first lay_next
-    none_later zero e = let same : 0 + suc k ≡ suc k = omega arith in ap (lay_first M sizes) same ∙ none_next e
-    none_later (suc j) e =
+    none_later zero = let same : 0 + suc k ≡ suc k = omega arith in ap (lay_first M sizes) same ∙ none_next
+    none_later (suc j) =
         let same : suc j + suc k ≡ suc (j + suc k) = omega arith in
-        ap (lay_first M sizes) same ∙ ap (lay_next M (sizes (j + suc k))) (none_later j e)
+        ap (lay_first M sizes) same ∙ ap (lay_next M (sizes (j + suc k))) (none_later j)
 
-    pub plan_missed : at ≡ M → (left : List ℕ) → Planned M sizes met N numbers left false
+    pub plan_missed : (left : List ℕ) → Planned M sizes met N numbers left false
     unfolding all_laid
-    plan_missed e left =
+    plan_missed left =
         let all : met - suc k + suc k ≡ met = omega arith in
         record {
-          laid_all = sym (ap all_laid (ap (lay_first M sizes) (sym all) ∙ none_later (met - suc k) e));
+          laid_all = sym (ap all_laid (ap (lay_first M sizes) (sym all) ∙ none_later (met - suc k)));
           moved_is = λ t. absurd (false≢true t);
         }
 

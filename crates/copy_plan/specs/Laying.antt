@@ -1,11 +1,10 @@
 -- What the search for one object's chunk knows and finds, for contracts of inner functions. M is the number of blocks of the second heap, and a
 -- the A-map that it will have.
-use Rattle.std.specs.Prelude.{ℕ, ◌/◌, ◌%◌, ◌^◌, ◌≤◌, ◌<◌, ◌≡◌, ◌≢◌, true, List, length, get_or}
-use Rattle.std.proofs.Math.Option.{none, some}
+use Rattle.std.specs.Prelude.{ℕ, ◌/◌, ◌%◌, ◌^◌, ◌≤◌, ◌<◌, ◌≡◌, true, List, length, get_or, Option as CodeOption, Some}
 use Rattle.bitmap.specs.Bit.{fill_bits}
 use Rattle.rules.specs.Heap.{is_blocks, exponent, lowest_free}
 use Rattle.rules.proofs.Chunks.{Used}
-use Rattle.search_walk.specs.Search.{Part}
+use Rattle.search_walk.specs.Search.{Part, answered}
 
 -- no chunk of 2 ^ k blocks that starts before block `from` is free, and the search can go on there
 pub record PassedOver (M k : ℕ) (a : List ℕ) (from : ℕ) : Type 0 where
@@ -19,10 +18,9 @@ pub record Sought (M : ℕ) (a from : List ℕ) : Type 0 where
   pub length_from : length from ≡ 17
   pub passed : (k : ℕ) → 2 ^ k ≤ M → PassedOver M k a (get_or from k 0)
 
--- an object of n blocks is laid at block `at`, or nowhere where that is M
-pub record LaidOne (M n : ℕ) (a a' from' : List ℕ) (at : ℕ) : Type 0 where
-  pub nowhere : at ≡ M → lowest_free M (exponent n) a ≡ none
-  pub lowest : at ≢ M → lowest_free M (exponent n) a ≡ some at
-  pub below : at ≢ M → at < M
-  pub map_is : at ≢ M → a' ≡ fill_bits a at n 1
-  pub sought : at ≢ M → Sought M a' from'
+-- an object of n blocks is laid at block `at`, if there is room for it
+pub record LaidOne (M n : ℕ) (a a' from' : List ℕ) (at : CodeOption ℕ) : Type 0 where
+  pub lowest : at ≡ answered (lowest_free M (exponent n) a)
+  pub below : (i : ℕ) → at ≡ Some i → i < M
+  pub map_is : (i : ℕ) → at ≡ Some i → a' ≡ fill_bits a i n 1
+  pub sought : (i : ℕ) → at ≡ Some i → Sought M a' from'

@@ -1,7 +1,7 @@
 -- The plan as code has it: from the B-map of the first heap and the local arrays of the walk. For contracts of inner functions.
 use Rattle.std.specs.Prelude.{ℕ, ◌+◌, ◌-◌, ◌≤◌, ◌<◌, ◌≡◌, ◌≢◌, Bool, true, List, length, get_or}
 use Rattle.rules.specs.Heap.{max_blocks, size_from}
-use Rattle.rules_copy.specs.Copy.{Laid, lay_first, all_laid, places_in, new_reference}
+use Rattle.rules_copy.specs.Copy.{lay_first, all_laid, places_in, new_reference}
 
 -- the first block of object k + 1: `order` has the references to the objects in the order of their numbers
 abbrev pub block_in : (order : List ℕ) → (k : ℕ) → ℕ

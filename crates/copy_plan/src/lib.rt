@@ -6,48 +6,33 @@
 #![tactic(auto)]
 
 ghost use Rattle.std.specs.Prelude.{◌≡◌, ◌+◌, ◌*◌, ◌/◌, ◌≤◌, length, replicate, true};
-ghost use Rattle.rules.specs.Heap.{max_blocks, exponent, is_blocks};
+ghost use Rattle.rules.specs.Heap.{is_blocks};
 ghost use Rattle.copy_plan.specs.Laying.{Sought, LaidOne};
 ghost use Rattle.copy_plan.specs.Plan.{sizes_in, Numbering, Planned};
 
+use map_objects::objects::object_size;
+use search_chunk::lowest_chunk;
+use search_size::chunk_size;
 use types::{MAX_BLOCKS, Ref};
 
 // How many powers of two are the size of a chunk: those from 1 to the largest heap.
 const POWERS: usize = 17;
 
-// The exponent of the least power of two that is n or more.
-fn exponent_of(n: usize) -> usize
-    requires { n ≤ max_blocks }
-    ensures { (result ≡ exponent n) × (result ≤ 16) }
-{
-    let mut k = 0;
-    let mut size: usize = 1;
-    while size < n {
-        size = size * 2;
-        k += 1;
-    }
-    k
-}
-
-// The first block of the lowest free chunk for an object of n blocks, whose first n blocks become used, or `blocks` where none is free. For
-// each power of two `from` has a block before which no chunk of that size is free.
-fn lay_one(blocks: usize, map: &mut [u8], from: &mut [usize; POWERS], n: usize) -> usize
+// The first block of the lowest free chunk for an object of n blocks, whose first n blocks become used. For each power of two `from` has
+// a block before which no chunk of that size is free.
+fn lay_one(blocks: usize, map: &mut [u8], from: &mut [usize; POWERS], n: usize) -> Option<usize>
     requires { Sought blocks map.old from.old }
     ensures { LaidOne blocks n map.old map.new from.new result }
 {
     if blocks < n {
-        return blocks;
+        return None;
     }
-    let k = exponent_of(n);
-    let size = 1usize << k;
-    let found = search_chunk::lowest_chunk(map, from[k], blocks, size);
-    let at = found.at;
-    if at == blocks {
-        return blocks;
-    }
+    let size = chunk_size(n);
+    let k = size.trailing_zeros() as usize;
+    let at = lowest_chunk(map, from[k], blocks, size).at?;
     bitmap::fill_bits(map, at, n, 1);
     from[k] = at - at % 8;
-    at
+    Some(at)
 }
 
 // Whether each of the `met` objects finds a chunk at its turn. For those that do, 1 + the new first block is written over the object's number.
@@ -65,16 +50,13 @@ fn lay_each(
     ensures { Planned blocks2 (sizes_in blocks b.now order.now) met blocks numbers.old numbers.new result }
 {
     let mut from = [0usize; POWERS];
-    let mut k = 0;
-    while k < met {
-        let at = order[k] as usize - 1;
-        let n = map_objects::objects::object_size(blocks, b, at);
-        let place = lay_one(blocks2, map, &mut from, n);
-        if place == blocks2 {
+    for &reference in &order[..met] {
+        let at = reference as usize - 1;
+        let n = object_size(blocks, b, at);
+        let Some(place) = lay_one(blocks2, map, &mut from, n) else {
             return false;
-        }
+        };
         numbers[at] = (place + 1) as Ref;
-        k += 1;
     }
     true
 }

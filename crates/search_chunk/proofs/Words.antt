@@ -3,6 +3,7 @@ use mathlib.Core.Path.{◌≡◌, refl, sym, ap, ◌∙◌, subst, subst⁻¹}
 use mathlib.Core.Logic.{◌≢◌, inl, inr}
 use mathlib.Core.Bool.{true, false}
 use mathlib.Core.List.{List}
+use Rattle.std.specs.Prelude.{None, Some}
 use Prim.Native.Nat.{ℕ, suc, ◌+◌, ◌-◌, ◌*◌, ◌/◌, ◌%◌, ◌^◌, ◌≤◌, ◌<◌}
 use native.Mathlib.Nat.{div-add-mod', mul-add-mod_self_right, mod_self, pow-suc}
 use native.Mathlib.Decide.{dec_lt, ℕ_discrete}
@@ -45,7 +46,7 @@ passed_start from to a size part starts = record {
 
 -- nothing is left
 pub passed_none : (from to : ℕ) (a : List ℕ) (size looks : ℕ) → Passed from to a size looks → Part from to size → from + looks ≡ to
-    → (k : ℕ) → size ≡ 2 ^ k → Search from to k (lowest_in from to k a) to looks
+    → (k : ℕ) → size ≡ 2 ^ k → Search from to k (lowest_in from to k a) None looks
 passed_none from to a size looks passed part done k e =
     search_none k a from to looks (subst (Part from to) e part) done
     (λ end l u m. subst (λ (s : ℕ). Missed a s from (from + looks + 1)) e passed.missed end l (omega arith) m)
@@ -58,9 +59,6 @@ chunks_start a size p used some d = record { exponent = 0; power = omega arith; 
 -- there is a larger size in the word
 larger : (k j s size : ℕ) → s ≡ 2 ^ k → size ≡ 2 ^ j → s ≤ size → s ≢ size → k < j
 larger k j s size s-is size_is l d = exponent_lt k j (omega arith)
-
-pub chunks_less : (a : List ℕ) (size p s w : ℕ) → Chunks a size p s w → s ≢ size → (0 < s) × (s < size)
-chunks_less a size p s w c d = (omega (arith, c.power, pow_pos c.exponent), omega (arith, c.most))
 
 pub chunks_next : (a : List ℕ) (size j p s w r : ℕ) → size ≡ 2 ^ j → size ≤ 64 → Chunks a size p s w → s ≢ size
     → ((k : ℕ) (b : List ℕ) (i : ℕ) → k < 6 → s ≡ 2 ^ k → FreeChunks k b i w → FreeChunks (suc k) b i r) → Chunks a size p (s + s) r
@@ -147,7 +145,7 @@ module _ (from to : ℕ) (a : List ℕ) (size looks w : ℕ) (part : Part from t
       multiples_apart size (count_trailing_zeros 64 w) 64 multiple words lowest.inside
 
   pub lowest_found : (k : ℕ) → size ≡ 2 ^ k
-      → Search from to k (lowest_in from to k a) (from + (looks + (count_trailing_zeros 64 w + size)) - size) (looks + (count_trailing_zeros 64 w + size))
+      → Search from to k (lowest_in from to k a) (Some (from + (looks + (count_trailing_zeros 64 w + size)) - size)) (looks + (count_trailing_zeros 64 w + size))
   lowest_found k e =
       let t : ℕ = count_trailing_zeros 64 w in
       let p : ℕ = from + looks in
@@ -165,7 +163,7 @@ module _ (from to : ℕ) (a : List ℕ) (size looks w : ℕ) (part : Part from t
       let ends : (from + (looks + (t + 2 ^ k))) % 2 ^ k ≡ 0 =
       ap (λ (x : ℕ). x % 2 ^ k) (omega arith) ∙ sum_multiple (2 ^ k) (p + t) (2 ^ k) (sum_multiple (2 ^ k) p t starts t_multiple) (mod_self (2 ^ k)) in
       let missed = subst (λ (x : ℕ). Missed a x from (p + 1)) e passed.missed in
-      subst⁻¹ (λ (x : ℕ). Search from to k (lowest_in from to k a) (from + (looks + (t + x)) - x) (looks + (t + x))) e
+      subst⁻¹ (λ (x : ℕ). Search from to k (lowest_in from to k a) (Some (from + (looks + (t + x)) - x)) (looks + (t + x))) e
       (search_found k a from to (looks + (t + 2 ^ k)) (subst (Part from to) e part) (omega (arith, lowest_inside)) (omega arith) ends
       (λ end l u m. elim (dec_lt end (p + 1)) [
         | yes v ↦ missed end l v m

@@ -8,16 +8,17 @@ ghost use Rattle.search_walk.specs.Search.{Part, lowest_in, Search};
 
 use search_walk::is_judged_free;
 
-// What a search found: the first block of a chunk, or the end of the part searched, and how many blocks it looked at.
+// What a search found: the first block of a chunk, if there is one, and how many blocks it looked at.
 #[derive(Clone, Copy)]
 pub struct Searched {
-    pub at: usize,
+    pub at: Option<usize>,
     pub looks: usize,
 }
 
-// The search by bytes. The walk has come to block `from + looks`, and `stretch` is the length of the free stretch that ends there: a chunk is judged from it where
-// it ends. Each byte is read once, and its value judges its blocks: chunk by chunk where chunks have less than eight, else, and where
-// all are used, eight at once. A used block ends the stretch; the free ones after it begin the next.
+// The search by bytes. The walk has come to block `from + looks`, and `stretch` is the length of the free stretch that ends there:
+// a chunk is judged from it where it ends. Each byte is read once, and its value judges its blocks: chunk by chunk where chunks have
+// less than eight, else, and where all are used, eight at once. A used block ends the stretch; the free ones after it begin the next.
+// Loops left by labels, and no `for`: the walk goes on by a byte, by a chunk or at the next stretch as the byte's value says.
 fn walk_bytes(a: &[u8], from: usize, to: usize, size: usize) -> Searched
     requires part { Part from to size }
     requires to_bound { (to ≤ 8 * length a.now) × (to ≤ max_blocks) }
@@ -27,51 +28,47 @@ fn walk_bytes(a: &[u8], from: usize, to: usize, size: usize) -> Searched
     let mut stretch = 0;
     let at = 'bytes: loop {
         if from + looks == to {
-            break to;
+            break None;
         }
         let byte = a[(from + looks) / 8];
-        if size < 8 {
-            if byte != 255 {
-                let mut i: usize = 0;
-                'stretches: loop {
-                    loop {
-                        if i == 8 {
-                            continue 'bytes;
-                        }
-                        let chunk = (byte >> i) << (8 - size);
-                        i += size;
-                        looks += size;
-                        if chunk != 0 {
-                            stretch = u8::leading_zeros(chunk) as usize;
-                            continue 'stretches;
-                        }
-                        stretch += size;
-                        if is_judged_free(from + looks, size, stretch) {
-                            break 'bytes from + looks - size;
-                        }
+        if size < 8 && byte != 255 {
+            let mut i: usize = 0;
+            'stretches: loop {
+                loop {
+                    if i == 8 {
+                        continue 'bytes;
+                    }
+                    let chunk = (byte >> i) << (8 - size);
+                    i += size;
+                    looks += size;
+                    if chunk != 0 {
+                        stretch = chunk.leading_zeros() as usize;
+                        continue 'stretches;
+                    }
+                    stretch += size;
+                    if is_judged_free(from + looks, size, stretch) {
+                        break 'bytes Some(from + looks - size);
                     }
                 }
             }
         }
         looks += 8;
         if byte != 0 {
-            stretch = u8::leading_zeros(byte) as usize;
+            stretch = byte.leading_zeros() as usize;
             continue 'bytes;
         }
         stretch += 8;
         if is_judged_free(from + looks, size, stretch) {
-            break from + looks - size;
+            break Some(from + looks - size);
         }
     };
-    Searched {
-        at: at,
-        looks: looks,
-    }
+    Searched { at, looks }
 }
 
 // The search by words, for chunks of at most 64 blocks, which lie in one word each. The walk has come to the word from block
 // `from + looks` on. Each word is read once, and judges its blocks: `free` has the free chunks of `s` blocks in it, of twice the size
-// each time, and where there is none the word is passed. Of those of `size` blocks the lowest is taken.
+// each time, and where there is none the word is passed. Of those of `size` blocks the lowest is taken. Loops, and no `for`: `looks`
+// goes up by a word or by a part of one, and `s` doubles.
 fn walk_words(a: &[u8], from: usize, to: usize, size: usize) -> Searched
     requires part { Part from to size }
     requires to_bound { (to ≤ 8 * length a.now) × (to ≤ max_blocks) × (size ≤ 64) × (from % 64 ≡ 0) × (to % 64 ≡ 0) }
@@ -80,7 +77,7 @@ fn walk_words(a: &[u8], from: usize, to: usize, size: usize) -> Searched
     let mut looks = 0;
     let at = 'words: loop {
         if from + looks == to {
-            break 'words to;
+            break 'words None;
         }
         let mut free = !section_words::eight_bytes(a, (from + looks) / 8);
         let mut s = 1;
@@ -90,40 +87,32 @@ fn walk_words(a: &[u8], from: usize, to: usize, size: usize) -> Searched
                 continue 'words;
             }
             if s == size {
-                looks += u64::trailing_zeros(free) as usize + size;
-                break 'words from + looks - size;
+                looks += free.trailing_zeros() as usize + size;
+                break 'words Some(from + looks - size);
             }
             free = section_words::twice(free, s);
             s += s;
         }
     };
-    Searched {
-        at: at,
-        looks: looks,
-    }
+    Searched { at, looks }
 }
 
 // Whether chunks of `size` blocks lie in one word each, and the part has whole words.
 fn goes_by_words(from: usize, to: usize, size: usize) -> bool
     ensures { result ≡ true → (size ≤ 64) × (from % 64 ≡ 0) × (to % 64 ≡ 0) }
 {
-    if 64 < size {
-        return false;
-    }
-    if from % 64 != 0 {
-        return false;
-    }
-    to % 64 == 0
+    size <= 64 && from % 64 == 0 && to % 64 == 0
 }
 
-// The first block of the lowest free chunk of `size` blocks from block `from` up to block `to`, or `to` where none is free.
+// The lowest free chunk of `size` blocks from block `from` up to block `to`.
 pub fn lowest_chunk(a: &[u8], from: usize, to: usize, size: usize) -> Searched
     requires part { Part from to size }
     requires to_bound { (to ≤ 8 * length a.now) × (to ≤ max_blocks) }
     ensures { (k : ℕ) → size ≡ 2 ^ k → Search from to k (lowest_in from to k a.now) result.at result.looks }
 {
     if goes_by_words(from, to, size) {
-        return walk_words(a, from, to, size);
+        walk_words(a, from, to, size)
+    } else {
+        walk_bytes(a, from, to, size)
     }
-    walk_bytes(a, from, to, size)
 }

@@ -1,3 +1,4 @@
+pub mod Answered
 pub mod LowestChunk
 pub mod Parts
 pub mod Walk

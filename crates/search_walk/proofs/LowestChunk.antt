@@ -3,6 +3,7 @@ use mathlib.Core.Path.{◌≡◌, refl, sym, ap, ◌∙◌, subst⁻¹}
 use mathlib.Core.Bool.{false}
 use mathlib.Core.Option.{none, some}
 use mathlib.Core.List.{List}
+use Rattle.std.specs.Prelude.{None, Some}
 use Prim.Native.Nat.{ℕ, zero, suc, ◌+◌, ◌-◌, ◌*◌, ◌/◌, ◌%◌, ◌^◌, ◌≤◌, ◌<◌}
 use native.Mathlib.Nat.{suc-mul, add-mul, sub-zero, mul-div_cancel, zero-mod, div-add-mod', add-mod, add-mod_right, mul-le-mul_right, le_of_mul-le-mul_right, lt_of_mul-lt-mul_right}
 use native.Mathlib.Decide.{ℕ_discrete}
@@ -88,7 +89,7 @@ module _ (k : ℕ) (a : List ℕ) where
   module _ (from to looks : ℕ) (part : Part from to (2 ^ k)) where
     -- .. and the chunk that ends there is the first free one
     pub search_found : from + looks ≤ to → 2 ^ k ≤ looks → (from + looks) % 2 ^ k ≡ 0 → Missed a (2 ^ k) from (from + looks)
-        → Free a (from + looks - 2 ^ k) (2 ^ k) → Search from to k (lowest_in from to k a) (from + looks - 2 ^ k) looks
+        → Free a (from + looks - 2 ^ k) (2 ^ k) → Search from to k (lowest_in from to k a) (Some (from + looks - 2 ^ k)) looks
     unfolding lowest_in
     search_found inside all ends missed free =
         let at : ℕ = from + looks - 2 ^ k in
@@ -99,7 +100,7 @@ module _ (k : ℕ) (a : List ℕ) where
         rw found (record { at_is = refl; looks_is = omega arith })
 
     -- .. and they are all there are
-    pub search_none : from + looks ≡ to → Missed a (2 ^ k) from (to + 1) → Search from to k (lowest_in from to k a) to looks
+    pub search_none : from + looks ≡ to → Missed a (2 ^ k) from (to + 1) → Search from to k (lowest_in from to k a) None looks
     unfolding lowest_in
     search_none done missed =
         let chunks = part_chunks from to k part in

@@ -4,6 +4,7 @@ use mathlib.Core.Path.{◌≡◌, refl, sym, ap, ◌∙◌, subst, subst⁻¹}
 use mathlib.Core.Logic.{◌⊎◌, inl, inr}
 use mathlib.Core.Bool.{true, false, true≢false}
 use mathlib.Core.List.{List}
+use Rattle.std.specs.Prelude.{None, Some}
 use Prim.Native.Nat.{ℕ, ◌+◌, ◌-◌, ◌/◌, ◌%◌, ◌^◌, ◌≤◌, ◌<◌}
 use native.Mathlib.Decide.{dec_lt}
 use native.Mathlib.Omega.{arith}
@@ -98,11 +99,11 @@ module _ (from to : ℕ) (a : List ℕ) (size looks stretch : ℕ) where
 
   module _ (walk : Walked from to a size looks stretch (from + looks)) where
     pub judged_free_lem : Part from to size → judged_free (from + looks) size stretch ≡ true
-        → (k : ℕ) → size ≡ 2 ^ k → Search from to k (lowest_in from to k a) (from + looks - size) looks
+        → (k : ℕ) → size ≡ 2 ^ k → Search from to k (lowest_in from to k a) (Some (from + looks - size)) looks
     judged_free_lem part judged k e =
         let (enough, ends) = judged_true (from + looks) size stretch judged in
         let walk' = subst (λ (s : ℕ). Walked from to a s looks stretch (from + looks)) e walk in
-        subst⁻¹ (λ (s : ℕ). Search from to k (lowest_in from to k a) (from + looks - s) looks) e
+        subst⁻¹ (λ (s : ℕ). Search from to k (lowest_in from to k a) (Some (from + looks - s)) looks) e
         (search_found k a from to looks (subst (Part from to) e part) walk.inside (omega (arith, walk.within))
         (subst (λ (s : ℕ). (from + looks) % s ≡ 0) e ends) walk'.missed
         (λ j l u. walk.free j (omega (arith, walk.within)) (omega (arith, walk.within))))
@@ -128,7 +129,7 @@ module _ (from to : ℕ) (a : List ℕ) (size looks stretch : ℕ) where
 
   -- nothing is left
   pub walked_none : Walked from to a size looks stretch (from + looks + 1) → Part from to size → from + looks ≡ to
-      → (k : ℕ) → size ≡ 2 ^ k → Search from to k (lowest_in from to k a) to looks
+      → (k : ℕ) → size ≡ 2 ^ k → Search from to k (lowest_in from to k a) None looks
   walked_none walk part done k e =
       search_none k a from to looks (subst (Part from to) e part) done
       (λ end l u m. subst (λ (s : ℕ). Missed a s from (from + looks + 1)) e walk.missed end l (omega arith) m)

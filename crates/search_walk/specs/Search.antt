@@ -1,12 +1,12 @@
 -- What a search of a part of the heap answers, for contracts of inner functions: where it found a chunk, and how many blocks it looked at.
-use Rattle.std.specs.Prelude.{ℕ, ◌+◌, ◌-◌, ◌/◌, ◌%◌, ◌^◌, ◌≤◌, ◌≡◌, Bool, ◌&&◌, List, leb, eqb}
+use Rattle.std.specs.Prelude.{ℕ, ◌+◌, ◌-◌, ◌/◌, ◌%◌, ◌^◌, ◌≤◌, ◌≡◌, Bool, ◌&&◌, List, leb, eqb, Option as CodeOption, None, Some}
 use Rattle.std.proofs.Math.Option.{Option, none, some}
 use Rattle.rules.specs.Heap.{lowest_from}
 
--- the number that was found, or another where there is none
-abbrev pub or_else : ℕ → Option ℕ → ℕ
-or_else other none = other
-or_else other (some i) = i
+-- what the rules find, as a function answers it: code's `Option` is another type than that of the rules
+abbrev pub answered : Option ℕ → CodeOption ℕ
+answered none = None
+answered (some i) = Some i
 
 -- Request U3: "keep the length of the free stretch that ends here, and judge each chunk from that figure": a chunk ends before block `end`,
 -- and the free stretch that ends there covers it
@@ -32,7 +32,7 @@ abbrev pub looks_for : (from to k : ℕ) → Option ℕ → ℕ
 looks_for from to k none = to - from
 looks_for from to k (some i) = i + 2 ^ k - from
 
--- `at` is where the chunk was found, or `to`; `looks` is the number of looks
-pub record Search (from to k : ℕ) (lowest : Option ℕ) (at looks : ℕ) : Type 0 where
-  pub at_is : at ≡ or_else to lowest
+-- `at` is where the chunk was found, if it was; `looks` is the number of looks
+pub record Search (from to k : ℕ) (lowest : Option ℕ) (at : CodeOption ℕ) (looks : ℕ) : Type 0 where
+  pub at_is : at ≡ answered lowest
   pub looks_is : looks ≡ looks_for from to k lowest

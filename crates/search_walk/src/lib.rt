@@ -11,8 +11,5 @@ pub fn is_judged_free(end: usize, size: usize, stretch: usize) -> bool
     requires { (k : ℕ) × (size ≡ 2 ^ k) }
     ensures { result ≡ judged_free end size stretch }
 {
-    if stretch < size {
-        return false;
-    }
-    end & (size - 1) == 0
+    size <= stretch && end & (size - 1) == 0
 }

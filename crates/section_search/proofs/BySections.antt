@@ -1,9 +1,9 @@
 -- The search by sections, as its loop goes, and what the search of one section answers for the heap.
 use mathlib.Core.Path.{◌≡◌, refl, sym, ap, ap₂, ◌∙◌}
-use mathlib.Core.Logic.{◌≢◌}
 use mathlib.Core.Bool.{true}
 use mathlib.Core.List.{List}
 use mathlib.Core.Option.{Option, none, some}
+use Rattle.std.specs.Prelude.{Option as CodeOption, None, Some, MatchOption}
 use Prim.Native.Nat.{ℕ, zero, suc, ◌+◌, ◌-◌, ◌*◌, ◌/◌, ◌^◌, ◌≤◌, ◌<◌}
 use native.Mathlib.Nat.{sub-zero}
 use native.Mathlib.Omega.{arith}
@@ -13,7 +13,8 @@ use Rattle.rules.specs.Heap.{is_blocks, lowest_from, lowest_free, section_length
 use Rattle.rules.specs.Sections.{figure, figures, suffices_from, lowest_in_section, lowest_by_sections}
 use Rattle.rules.proofs.Tabulate.{length_tabulate}
 use Rattle.rules.proofs.Sections.{sections_find_lowest, section_has, suffices_facts}
-use Rattle.search_walk.specs.Search.{or_else, looks_for, lowest_in, Search}
+use Rattle.search_walk.specs.Search.{answered, looks_for, lowest_in, Search}
+use Rattle.search_walk.proofs.Answered.{answered_some}
 use Rattle.search_walk.proofs.LowestChunk.{lowest_whole}
 use Rattle.section_search.specs.Search.{looks_in_section, looks_by_sections, Found}
 
@@ -53,27 +54,24 @@ module _ (sections : List ℕ) (size n : ℕ) where
       let end : n - s ≡ 0 = omega arith in
       ap (λ (m : ℕ). suffices_from m sections size s) end
 
--- what the loop answers, as the number that the rules choose
+  -- the first of the rest that suffices, where none before number s does
+  pub suffices_found :
+      (s : ℕ) → s ≤ n → suffices_from (n - s) sections size s ≡ suffices_from n sections size 0 → (r : CodeOption ℕ)
+      → MatchOption r ((k : ℕ) → s ≤ k → k < n → get_or sections k 0 < size)
+      (λ i. (s ≤ i) × (i < n) × (size ≤ get_or sections i 0) × ((k : ℕ) → s ≤ k → k < i → get_or sections k 0 < size))
+      → r ≡ answered (suffices_from n sections size 0)
+  suffices_found s l before None less =
+      ap answered (sym (suffices_past (n - s) s n (omega arith) (omega arith) less ∙ suffices_none n (omega arith)) ∙ before)
+  suffices_found s l before (Some i) (low, high, enough, less) =
+      ap answered (sym (suffices_past (i - s) s i (omega arith) (omega arith) less ∙ suffices_here i high enough) ∙ before)
 
-module _ (n : ℕ) (sections : List ℕ) (size : ℕ) where
-  inside : (m from s : ℕ) → suffices_from m sections size from ≡ some s → s < from + m
-  inside m from s e = (suffices_facts m sections size from s e).0
+-- the section that it answers
 
-  pub chosen_none : (r : ℕ) → r ≡ or_else n (suffices_from n sections size 0) → r ≡ n → suffices_from n sections size 0 ≡ none
-  chosen_none r e end = go (suffices_from n sections size 0) refl
-    where
-      go : (o : Option ℕ) → suffices_from n sections size 0 ≡ o → suffices_from n sections size 0 ≡ none
-      go none f = f
-      go (some s) f = absurd (omega (arith, inside n 0 s f, ap (or_else n) f))
-
-  pub chosen_some : (r : ℕ) → r ≡ or_else n (suffices_from n sections size 0) → r ≢ n → (suffices_from n sections size 0 ≡ some r) × (r < n)
-  chosen_some r e other = go (suffices_from n sections size 0) refl
-    where
-      go : (o : Option ℕ) → suffices_from n sections size 0 ≡ o → (suffices_from n sections size 0 ≡ some r) × (r < n)
-      go none f = absurd (other (e ∙ ap (or_else n) f))
-      go (some s) f =
-          let here : r ≡ s = e ∙ ap (or_else n) f in
-          (f ∙ ap some (sym here), omega (arith, inside n 0 s f))
+pub chosen_some : (sections : List ℕ) (size s : ℕ) → Some s ≡ answered (suffices_from (length sections) sections size 0)
+    → (suffices_from (length sections) sections size 0 ≡ some s) × (s < length sections)
+chosen_some sections size s e =
+    let chosen = answered_some _ s e in
+    (chosen, omega (arith, (suffices_facts (length sections) sections size 0 s chosen).0))
 
 pub figures_length : (N : ℕ) (a sections : List ℕ) → sections ≡ figures N a → length sections ≡ section_count N
 unfolding figures
@@ -90,12 +88,12 @@ on_figures N k a sections size e p =
 
 module _ (N k : ℕ) (a : List ℕ) (blocks : is_blocks N ≡ true) where
   -- a size of more than a section: the whole map was searched
-  pub found_longer : (at looks : ℕ) → section_length N < 2 ^ k → Search 0 N k (lowest_in 0 N k a) at looks → Found N k a at looks
+  pub found_longer : (at : CodeOption ℕ) (looks : ℕ) → section_length N < 2 ^ k → Search 0 N k (lowest_in 0 N k a) at looks → Found N k a at looks
   unfolding looks_by_sections
   found_longer at looks long s =
       let whole = lowest_whole N k a in
       record {
-        at_is = s.at_is ∙ ap (or_else N) whole;
+        at_is = s.at_is ∙ ap answered whole;
         looks_is = s.looks_is ∙ ap (looks_for 0 N k) whole ∙ sym (rw (lt-leb (2 ^ k) (section_length N) long, looks_by_sections));
       }
 
@@ -109,12 +107,12 @@ module _ (N k : ℕ) (a : List ℕ) (blocks : is_blocks N ≡ true) where
     looked s e = rw (le-leb (2 ^ k) (section_length N) short, looks_by_sections) (ap (looks_in_section N k a) e)
 
     -- no figure suffices
-    pub found_none : suffices_from (section_count N) (figures N a) (2 ^ k) 0 ≡ none → Found N k a N 0
+    pub found_none : suffices_from (section_count N) (figures N a) (2 ^ k) 0 ≡ none → Found N k a None 0
     unfolding lowest_in_section looks_in_section
-    found_none e = record { at_is = ap (or_else N) (address none e); looks_is = sym (looked none e) }
+    found_none e = record { at_is = ap answered (address none e); looks_is = sym (looked none e) }
 
     -- the lowest section that suffices was searched
-    pub found_within : (s at looks : ℕ) → suffices_from (section_count N) (figures N a) (2 ^ k) 0 ≡ some s
+    pub found_within : (s : ℕ) (at : CodeOption ℕ) (looks : ℕ) → suffices_from (section_count N) (figures N a) (2 ^ k) 0 ≡ some s
         → let from = s * section_length N in
         let to = from + section_length N in
         Search from to k (lowest_in from to k a) at looks → Found N k a at looks
@@ -126,6 +124,6 @@ module _ (N k : ℕ) (a : List ℕ) (blocks : is_blocks N ≡ true) where
         let size : to - from ≡ section_length N = omega arith in
         let same : lowest_in from to k a ≡ lowest_in_section N k a (some s) = ap (λ (n : ℕ). lowest_from (n / 2 ^ k) k a from) size in
         record {
-          at_is = found.at_is ∙ ap (or_else to) (same ∙ has.1) ∙ ap (or_else N) (sym has.1 ∙ address (some s) e);
+          at_is = found.at_is ∙ ap answered (same ∙ address (some s) e);
           looks_is = found.looks_is ∙ ap (looks_for from to k) same ∙ sym (looked (some s) e);
         }

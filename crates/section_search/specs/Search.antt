@@ -1,9 +1,9 @@
 -- What the search of an allocation answers: where a chunk is, and how many blocks it looked at.
-use Rattle.std.specs.Prelude.{ℕ, ◌+◌, ◌*◌, ◌^◌, ◌≡◌, true, false, List, leb}
+use Rattle.std.specs.Prelude.{ℕ, ◌+◌, ◌*◌, ◌^◌, ◌≡◌, true, false, List, leb, Option as CodeOption}
 use Rattle.std.proofs.Math.Option.{Option, none, some}
 use Rattle.rules.specs.Heap.{lowest_free, section_length, section_count}
 use Rattle.rules.specs.Sections.{figures, suffices_from, lowest_in_section}
-use Rattle.search_walk.specs.Search.{or_else, looks_for}
+use Rattle.search_walk.specs.Search.{answered, looks_for}
 
 -- in a section the count begins at its first block; where no figure suffices nothing is searched
 unfoldable pub looks_in_section : (N k : ℕ) → List ℕ → Option ℕ → ℕ
@@ -19,7 +19,7 @@ looks_by_sections N k a =
       | false ↦ looks_for 0 N k (lowest_free N k a)
     ]
 
--- `at` is the heap's lowest free chunk of 2 ^ k blocks, or N
-pub record Found (N k : ℕ) (a : List ℕ) (at looks : ℕ) : Type 0 where
-  pub at_is : at ≡ or_else N (lowest_free N k a)
+-- `at` is the heap's lowest free chunk of 2 ^ k blocks, if there is one
+pub record Found (N k : ℕ) (a : List ℕ) (at : CodeOption ℕ) (looks : ℕ) : Type 0 where
+  pub at_is : at ≡ answered (lowest_free N k a)
   pub looks_is : looks ≡ looks_by_sections N k a

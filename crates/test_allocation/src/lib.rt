@@ -13,7 +13,7 @@ use search_chunk::Searched;
 use section_search::find_chunk;
 use types::{Ref, Refusal};
 
-// The block that an object of n blocks would start at, or `blocks`, and how many blocks the search looked at.
+// The block that an object of n blocks would start at, and how many blocks the search looked at.
 fn find_place(blocks: usize, a: &[u8], sections: &[Ref], n: usize) -> Searched
     requires { (is_blocks blocks ≡ true) × (blocks ≤ 8 * length a.now) × (sections.now ≡ figures blocks a.now) × (1 ≤ n) × (n ≤ blocks) }
     ensures { Found blocks (exponent n) a.now result.at result.looks }
@@ -22,7 +22,7 @@ fn find_place(blocks: usize, a: &[u8], sections: &[Ref], n: usize) -> Searched
     find_chunk(blocks, a, sections, size)
 }
 
-// The number and the value of the reply of an allocation of n blocks into root r.
+// The block that an allocation of n blocks into root r starts at, or why it is refused.
 pub fn allocate_reply(
     blocks: usize,
     a: &[u8],
@@ -34,19 +34,11 @@ pub fn allocate_reply(
     requires { (is_blocks blocks ≡ true) × (blocks ≤ 8 * length a.now) × (sections.now ≡ figures blocks a.now) }
     ensures { replied result ≡ allocate_reply blocks a.now roots n r }
 {
-    if n == 0 {
-        return Err(Refusal::BadSize);
-    }
-    if blocks < n {
+    if n == 0 || blocks < n {
         return Err(Refusal::BadSize);
     }
     if roots <= r {
         return Err(Refusal::BadRoot);
     }
-    let found = find_place(blocks, a, sections, n);
-    let at = found.at;
-    if at == blocks {
-        return Err(Refusal::NoChunk);
-    }
-    Ok(at)
+    find_place(blocks, a, sections, n).at.ok_or(Refusal::NoChunk)
 }

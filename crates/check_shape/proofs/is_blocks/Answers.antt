@@ -1,18 +1,12 @@
-use Prim.Native.Nat.{◌-◌}
-use native.Mathlib.Omega.{arith}
-use Rattle.check_shape.proofs.Doubling.{doubling_start, doubling_here, doubling_next, doubling_end}
+-- `check_shape::is_blocks` meets its contract.
+use Rattle.std.proofs.Common.{arith}
+use Rattle.std.proofs.lemmas.Grind.{common_steps}
+use Rattle.std.proofs.lemmas.Bool.Decides.{nat_tests}
+use Rattle.check_shape.proofs.Powers.{blocks_of_tests, tests_of_blocks}
 use Rattle.check_shape.proofs.is_blocks.Goals as goal
 
-pub loop-power-init : goal.loop-power-init
-loop-power-init c = doubling_start c.args.n
+pub returns-then-is_power_of_two : goal.returns-then-is_power_of_two
+returns-then-is_power_of_two c = let low = blocks_of_tests c.args.n in let high = tests_of_blocks c.args.n in grind (arith, nat_tests, common_steps)
 
-pub returns-then-n-power : goal.returns-then-n-power
-returns-then-n-power c =
-    doubling_here c.args.n c.loop-power.power c.loop-power.invariant c.if-n-power.true
-
-pub loop-power-preserved : goal.loop-power-preserved
-loop-power-preserved c =
-    doubling_next c.args.n c.loop-power.power c.loop-power.invariant (omega arith) c.if-n-power.false
-
-pub returns : goal.returns
-returns c = doubling_end c.args.n c.loop-power.power c.loop-power.invariant (omega arith)
+pub returns-else-is_power_of_two : goal.returns-else-is_power_of_two
+returns-else-is_power_of_two c = let high = tests_of_blocks c.args.n in grind (arith, nat_tests, common_steps)

@@ -1,117 +1,94 @@
--- `check_shape::is_shaped` meets its contract: where one test fails, the shape is not right.
-use mathlib.Core.Path.{◌≡◌, sym, ◌∙◌}
-use mathlib.Core.Bool.{Bool, true}
-use mathlib.Core.List.{List, [], ◌∷◌}
-use Prim.Native.Nat.{◌+◌, ◌*◌, ◌/◌}
-use native.Mathlib.Nat.{mul-le-mul_right}
-use native.Mathlib.Omega.{arith}
+-- `check_shape::is_shaped` meets its contract. Where a test fails, it is sought from the last back: of each test that was made after all before it
+-- held, `.._fails` says that the shape is not right where that test or an earlier one failed.
+use mathlib.Core.Path.{◌≡◌, sym, ap, ◌∙◌}
+use mathlib.Core.Bool.{false, ◌&&◌}
 use lib.Dec.{leb, eqb}
-use borrow.Author.Tests.{le-leb, lt-leb, eq-eqb, ne_eqb}
-use Rattle.rules.specs.Tools.{all}
-use Rattle.rules.specs.Heap.{is_blocks, shape, section_count}
-use Rattle.rules.proofs.Tests.{all_failed, all_one}
-use Rattle.rules.proofs.Shape.{blocks_le}
+use Rattle.std.proofs.Common.{arith}
+use Rattle.std.proofs.lemmas.Grind.{common_steps}
+use Rattle.std.proofs.lemmas.Bool.Decides.{nat_tests}
+use Rattle.rules.specs.Heap.{shape}
+use Rattle.rules.proofs.Tests.{all_failed}
+use Rattle.check_shape.proofs.Powers.{both_failed}
+use Rattle.check_shape.proofs.is_shaped.Goals.{then-d-blocks, else-d-blocks, then-sections-section_count, else-sections-section_count, then-waiting-blocks, else-waiting-blocks, then-cells-blocks, else-cells-blocks, then-counts-width, else-counts-width, then-b-blocks, else-b-blocks, then-a-blocks, else-a-blocks, then-contains-2, else-contains-2, then-contains, else-contains, then-is_blocks, else-is_blocks}
 use Rattle.check_shape.proofs.is_shaped.Goals as goal
 
-pub returns-then-not-is_blocks : goal.returns-then-not-is_blocks
-unfolding shape
-returns-then-not-is_blocks c =
-    sym (all_failed _ 0 (sym c.is_blocks.ensures ∙ c.if-not-is_blocks.true))
+module _ (c : goal.Else-marks-blocks) where
+  abbrev Wrong : Type 0
+  Wrong =
+      let x = c.args in
+      shape x.blocks x.width x.a x.b x.counts x.cells x.roots x.waiting x.sections x.d x.marks x.list ≡ false
 
-pub returns-then-width-lt1 : goal.returns-then-width-lt1
-unfolding shape
-returns-then-width-lt1 c =
-    sym (all_failed _ 1 (lt-leb 1 c.args.width c.if-width-lt1.true))
+  width_fails : c.if-is_blocks.value ≡ false → Wrong
+  unfolding shape
+  width_fails e = elim c.if-is_blocks.branch [
+    | then-is_blocks w ↦
+        let h : leb 1 c.args.width && leb c.args.width 4 ≡ false = grind (arith, nat_tests, common_steps) in both_failed _ 1 h
+    | else-is_blocks w ↦ all_failed _ 0 (sym c.is_blocks.ensures ∙ w.if-is_blocks.false)
+  ]
 
-pub returns-then-width-gt-MAX_WIDTH : goal.returns-then-width-gt-MAX_WIDTH
-unfolding shape
-returns-then-width-gt-MAX_WIDTH c =
-    sym (all_failed _ 2 (lt-leb c.args.width 4 c.if-width-gt-MAX_WIDTH.true))
+  roots_fails : c.if-contains.value ≡ false → Wrong
+  unfolding shape
+  roots_fails e = elim c.if-contains.branch [
+    | then-contains w ↦
+        let h : leb 1 c.args.roots && leb c.args.roots 64 ≡ false = grind (arith, nat_tests, common_steps) in both_failed _ 3 h
+    | else-contains w ↦ width_fails w.if-contains.false
+  ]
 
-pub returns-then-roots-lt1 : goal.returns-then-roots-lt1
-unfolding shape
-returns-then-roots-lt1 c =
-    sym (all_failed _ 3 (lt-leb 1 c.args.roots c.if-roots-lt1.true))
+  a_fails : c.if-contains-2.value ≡ false → Wrong
+  unfolding shape
+  a_fails e = elim c.if-contains-2.branch [
+    | then-contains-2 w ↦ all_failed _ 5 (sym w.value-is ∙ e)
+    | else-contains-2 w ↦ roots_fails w.if-contains-2.false
+  ]
 
-pub returns-then-roots-gt-MAX_ROOTS : goal.returns-then-roots-gt-MAX_ROOTS
-unfolding shape
-returns-then-roots-gt-MAX_ROOTS c =
-    sym (all_failed _ 4 (lt-leb c.args.roots 64 c.if-roots-gt-MAX_ROOTS.true))
+  b_fails : c.if-a-blocks.value ≡ false → Wrong
+  unfolding shape
+  b_fails e = elim c.if-a-blocks.branch [
+    | then-a-blocks w ↦ all_failed _ 6 (sym w.value-is ∙ e)
+    | else-a-blocks w ↦ a_fails w.if-a-blocks.false
+  ]
 
-pub returns-then-a-blocks : goal.returns-then-a-blocks
-unfolding shape
-returns-then-a-blocks c =
-    sym (all_failed _ 5 (ne_eqb c.args.a (c.args.blocks / 8) c.if-a-blocks.true))
+  counts_fails : c.if-b-blocks.value ≡ false → Wrong
+  unfolding shape
+  counts_fails e = elim c.if-b-blocks.branch [
+    | then-b-blocks w ↦ all_failed _ 7 (sym w.value-is ∙ e)
+    | else-b-blocks w ↦ b_fails w.if-b-blocks.false
+  ]
 
-pub returns-then-b-blocks : goal.returns-then-b-blocks
-unfolding shape
-returns-then-b-blocks c =
-    sym (all_failed _ 6 (ne_eqb c.args.b (c.args.blocks / 8) c.if-b-blocks.true))
+  cells_fails : c.if-counts-width.value ≡ false → Wrong
+  unfolding shape
+  cells_fails e = elim c.if-counts-width.branch [
+    | then-counts-width w ↦ all_failed _ 8 (sym w.value-is ∙ e)
+    | else-counts-width w ↦ counts_fails w.if-counts-width.false
+  ]
 
-pub overflow_mul-width : goal.overflow_mul-width
-overflow_mul-width c =
-    omega (arith, mul-le-mul_right (c.args.blocks / 8) c.if-width-gt-MAX_WIDTH.false)
+  waiting_fails : c.if-cells-blocks.value ≡ false → Wrong
+  unfolding shape
+  waiting_fails e = elim c.if-cells-blocks.branch [
+    | then-cells-blocks w ↦ all_failed _ 9 (sym w.value-is ∙ e)
+    | else-cells-blocks w ↦ cells_fails w.if-cells-blocks.false
+  ]
 
-pub returns-then-counts-width : goal.returns-then-counts-width
-unfolding shape
-returns-then-counts-width c =
-    sym (all_failed _ 7 (ne_eqb c.args.counts (c.args.width * (c.args.blocks / 8)) c.if-counts-width.true))
+  sections_fails : c.if-waiting-blocks.value ≡ false → Wrong
+  unfolding shape
+  sections_fails e = elim c.if-waiting-blocks.branch [
+    | then-waiting-blocks w ↦ all_failed _ 10 (ap (eqb c.args.sections) (sym w.section_count.ensures) ∙ sym w.value-is ∙ e)
+    | else-waiting-blocks w ↦ waiting_fails w.if-waiting-blocks.false
+  ]
 
-pub overflow_mul-blocks : goal.overflow_mul-blocks
-overflow_mul-blocks c =
-    omega (arith, blocks_le c.args.blocks (sym c.is_blocks.ensures ∙ c.if-not-is_blocks.false))
+  d_fails : c.if-sections-section_count.value ≡ false → Wrong
+  unfolding shape
+  d_fails e = elim c.if-sections-section_count.branch [
+    | then-sections-section_count w ↦ all_failed _ 11 (sym w.value-is ∙ e)
+    | else-sections-section_count w ↦ sections_fails w.if-sections-section_count.false
+  ]
 
-pub returns-then-cells-blocks : goal.returns-then-cells-blocks
-unfolding shape
-returns-then-cells-blocks c =
-    sym (all_failed _ 8 (ne_eqb c.args.cells (4 * c.args.blocks) c.if-cells-blocks.true))
+  marks_fails : c.if-d-blocks.value ≡ false → Wrong
+  unfolding shape
+  marks_fails e = elim c.if-d-blocks.branch [
+    | then-d-blocks w ↦ all_failed _ 12 (sym w.value-is ∙ e)
+    | else-d-blocks w ↦ d_fails w.if-d-blocks.false
+  ]
 
-pub returns-then-waiting-blocks : goal.returns-then-waiting-blocks
-unfolding shape
-returns-then-waiting-blocks c =
-    sym (all_failed _ 9 (ne_eqb c.args.waiting c.args.blocks c.if-waiting-blocks.true))
-
-pub section_count-requires : goal.section_count-requires
-section_count-requires c = sym c.is_blocks.ensures ∙ c.if-not-is_blocks.false
-
-pub returns-then-sections-section_count : goal.returns-then-sections-section_count
-unfolding shape
-returns-then-sections-section_count c =
-    sym
-    (all_failed _ 10
-    (ne_eqb c.args.sections (section_count c.args.blocks) (λ e. omega (arith, c.section_count.ensures))))
-
-pub returns-then-d-blocks : goal.returns-then-d-blocks
-unfolding shape
-returns-then-d-blocks c =
-    sym (all_failed _ 11 (ne_eqb c.args.d (c.args.blocks / 8) c.if-d-blocks.true))
-
-pub returns-then-marks-blocks : goal.returns-then-marks-blocks
-unfolding shape
-returns-then-marks-blocks c =
-    sym (all_failed _ 12 (ne_eqb c.args.marks (c.args.blocks / 8) c.if-marks-blocks.true))
-
-pub overflow_add-result : goal.overflow_add-result
-overflow_add-result c =
-    omega (arith, blocks_le c.args.blocks (sym c.is_blocks.ensures ∙ c.if-not-is_blocks.false))
-
-pub returns : goal.returns
-unfolding shape all
-returns c =
-    rw (
-      sym c.is_blocks.ensures ∙ c.if-not-is_blocks.false,
-      le-leb 1 c.args.width c.if-width-lt1.false,
-      le-leb c.args.width 4 c.if-width-gt-MAX_WIDTH.false,
-      le-leb 1 c.args.roots c.if-roots-lt1.false,
-      le-leb c.args.roots 64 c.if-roots-gt-MAX_ROOTS.false,
-      eq-eqb c.args.a (c.args.blocks / 8) c.if-a-blocks.false,
-      eq-eqb c.args.b (c.args.blocks / 8) c.if-b-blocks.false,
-      eq-eqb c.args.counts (c.args.width * (c.args.blocks / 8)) c.if-counts-width.false,
-      eq-eqb c.args.cells (4 * c.args.blocks) c.if-cells-blocks.false,
-      eq-eqb c.args.waiting c.args.blocks c.if-waiting-blocks.false,
-      eq-eqb c.args.sections (section_count c.args.blocks) (omega (arith, c.section_count.ensures)),
-      eq-eqb c.args.d (c.args.blocks / 8) c.if-d-blocks.false,
-      eq-eqb c.args.marks (c.args.blocks / 8) c.if-marks-blocks.false,
-      shape,
-      all,
-    ) (sym (all_one (eqb c.args.list (c.args.blocks + 1))))
+pub returns-else-marks-blocks : goal.returns-else-marks-blocks
+returns-else-marks-blocks c = c.if-marks-blocks.false ∙ sym (marks_fails c c.if-marks-blocks.false)
