@@ -1,14 +1,13 @@
 -- Kind 3 within a byte: objects of up to four blocks are told by its bits.
 use mathlib.Core.Path.{◌≡◌, refl, sym, ap, ap₂, ◌∙◌}
 use mathlib.Core.Logic.{◌≢◌, inl, inr}
-use mathlib.Core.Bool.{Bool, true, false, not, ◌&&◌}
+use mathlib.Core.Bool.{true}
 use mathlib.Core.List.{List}
 use Prim.Native.Nat.{ℕ, zero, suc, ◌+◌, ◌-◌, ◌*◌, ◌/◌, ◌%◌, ◌^◌, ◌≤◌, ◌<◌, min, max}
 use native.Mathlib.Decide.{ℕ_discrete}
 use native.Mathlib.Omega.{arith}
 use lib.Bits.{bit_and, bit_or, and_le_r, or_lt}
 use lib.Count.{count_trailing_zeros}
-use lib.Dec.{eqb}
 use lib.ListN.{get_or}
 use lib.Pow.{mod-mod-pow}
 use borrow.Author.Tests.{eq-eqb, ne_eqb}

@@ -1,2 +1,3 @@
 pub mod Eights
+pub mod Chains
 pub mod Aligned

@@ -1,8 +1,7 @@
 -- The tests of number 13 as the code makes them.
 use mathlib.Core.Path.{◌≡◌, refl, sym, ap, ap₂, ◌∙◌}
-use mathlib.Core.Logic.{◌≢◌, inl, inr}
-use mathlib.Core.Bool.{Bool, true, false, not, ◌&&◌, false≢true}
-use mathlib.Core.List.{List}
+use mathlib.Core.Bool.{Bool, true, false, not, ◌&&◌, ◌||◌, or-false, false≢true}
+use mathlib.Core.List.{List, [], ◌∷◌}
 use Prim.Native.Nat.{ℕ, ◌+◌, ◌-◌, ◌*◌, ◌≤◌, ◌<◌, min}
 use native.Mathlib.Decide.{ℕ_discrete}
 use native.Mathlib.Omega.{arith}
@@ -14,12 +13,14 @@ use Rattle.bitmap.specs.Bit.{bit_of, bit_at}
 use Rattle.bitmap.proofs.Bits.{bit_lt}
 use Rattle.bitmap.proofs.Digits.{each_bit, digit_and, digit_not, or_some}
 use Rattle.bitmap.proofs.Maps.{bit_past_end, bit_of_byte, bit_at_lt}
+use Rattle.std.specs.List.{fold, list_any}
 use Rattle.rules.specs.Tools.{some_below}
 use Rattle.rules.specs.Heap.{first_in}
 use Rattle.rules_steps.specs.Steps.{bad_place}
-use Rattle.rules.proofs.Tests.{false_unless, test_cases_lem, and_true, some_true, true_some, false_some, some_next}
+use Rattle.rules.proofs.Tests.{false_unless, and_true, some_true, true_some, false_some}
 use Rattle.rules.proofs.Stretches.{EightTests}
-use Rattle.step_list.specs.Lists.{is_set, listed_in, Shows}
+use Rattle.check_maps.proofs.Chains.{items}
+use Rattle.step_list.specs.Lists.{is_set, listed_in}
 use Rattle.step_list.proofs.Bits.{zero_is}
 use Rattle.check_marks.specs.Tidy.{bad_place_in, missed_at, cell_missed_in, missed_apart, missed_of}
 
@@ -31,21 +32,28 @@ pub never : (t : Bool) → (t && false) ≡ false
 never true = refl
 never false = refl
 
--- the or of the numbers so far is 0 just where each of them is
-pub or_more :
-    (test : ℕ → Bool) (any v k : ℕ) → not (eqb any 0) ≡ some_below test k → test k ≡ not (eqb v 0)
-    → not (eqb (bit_or any v) 0) ≡ some_below test (k + 1)
-or_more test any v k so_far here =
-    elim (ℕ_discrete any 0) [
-      | yes none ↦
-          let same : bit_or any v ≡ v = ap (λ (x : ℕ). bit_or x v) none in
-          ap (λ (n : ℕ). not (eqb n 0)) same ∙ sym here
-          ∙ sym (some_next test k (sym so_far ∙ ap not (eq-eqb any 0 none)))
-      | no some ↦
-          let found = some_true test k (sym so_far ∙ ap not (ne_eqb any 0 some)) in
-          ap not (ne_eqb (bit_or any v) 0 (or_some any v some))
-          ∙ sym (true_some test (k + 1) found.0 (omega (arith, found.1)) found.2)
-    ]
+-- the or of numbers is 0 just where each of them is
+or_either : (a b : ℕ) → not (eqb (bit_or a b) 0) ≡ (not (eqb a 0) || not (eqb b 0))
+or_either a b = elim (ℕ_discrete a 0) [
+  | yes z ↦
+      ap (λ (x : ℕ). not (eqb (bit_or x b) 0)) z ∙ ap (λ (t : Bool). not t || not (eqb b 0)) (sym (eq-eqb a 0 z))
+  | no n ↦
+      ap not (ne_eqb (bit_or a b) 0 (or_some a b n)) ∙ ap (λ (t : Bool). not t || not (eqb b 0)) (sym (ne_eqb a 0 n))
+]
+
+or_all : (any : ℕ) (l : List ℕ) → not (eqb (fold bit_or any l) 0) ≡ (not (eqb any 0) || list_any (λ v. not (eqb v 0)) l)
+or_all any [] = sym (or-false (not (eqb any 0)))
+or_all any (v ∷ l) =
+    or_all (bit_or any v) l
+    ∙ ap (λ (t : Bool). t || list_any (λ v. not (eqb v 0)) l) (or_either any v)
+    ∙ or_assoc (not (eqb any 0)) (not (eqb v 0)) (list_any (λ v. not (eqb v 0)) l)
+  where
+    or_assoc : (s t u : Bool) → ((s || t) || u) ≡ (s || (t || u))
+    or_assoc true t u = refl
+    or_assoc false t u = refl
+
+pub or_items : (l : List ℕ) → not (eqb (fold bit_or 0 l) 0) ≡ some_below (λ k. not (eqb (get_or l k 0) 0)) (length l)
+or_items l = or_all 0 l ∙ items (λ v. not (eqb v 0)) l
 
 -- ---- the numbers of the list
 

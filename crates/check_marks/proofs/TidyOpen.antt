@@ -9,21 +9,14 @@ use borrow.Author.Tests.{eq-eqb, not-true, not-false}
 use Rattle.rules.specs.Tools.{some_below}
 use Rattle.rules.specs.Heap.{Memory, lent_memory, is_first}
 use Rattle.rules.specs.Damage.{stray_data}
-use Rattle.rules_steps.specs.Steps.{names, is_marked, is_listed, bad_next, bad_place, stray_mark, root_missed, cell_missed, is_untidy}
+use Rattle.rules_steps.specs.Steps.{is_marked, is_listed, bad_next, bad_place, stray_mark, root_missed, cell_missed, is_untidy}
 use Rattle.rules.proofs.Tests.{test_cases_lem, and_true, and_false, some_true, some_false, false_some, true_some}
+use Rattle.check_maps.proofs.Chains.{some_same}
 use Rattle.step_list.specs.Lists.{is_set, listed_in}
 use Rattle.check_marks.specs.Tidy.{bad_next_in, bad_place_in, stray_mark_in, root_missed_in, missed_at, cell_missed_in, missed_apart, Read}
 use Rattle.check_marks.proofs.Tests.{place_past, place_unmarked, places_good, apart_same}
 use Rattle.theory_memories.specs.Heaps.{Intact}
 use Rattle.check_marks.proofs.TidySame.{intact_healthy, names_same}
-
-some_same : (test other : ℕ → Bool) (n : ℕ) → ((i : ℕ) → i < n → test i ≡ other i) → some_below test n ≡ some_below other n
-some_same test other n same = elim (test_cases_lem (some_below test n)) [
-  | inl e ↦
-      let found = some_true test n e in
-      e ∙ sym (true_some other n found.0 found.1 (sym (same found.0 found.1) ∙ found.2))
-  | inr e ↦ e ∙ sym (false_some other n (λ i l. sym (same i l) ∙ some_false test n e i l))
-]
 
 module _ {N w : ℕ} (h : Memory) (intact : Intact N w h) (opened : get_or h.list N 0 ≡ 1) where
   abbrev test_1 : Bool
@@ -81,7 +74,7 @@ module _ {N w : ℕ} (h : Memory) (intact : Intact N w h) (opened : get_or h.lis
 
   -- ---- the same as code goes: the list read into a map, then the maps by bytes, then roots and cells
 
-  pub unread_list : {map : List ℕ} → Read N h.list map false → true ≡ is_untidy N h
+  unread_list : {map : List ℕ} → Read N h.list map false → true ≡ is_untidy N h
   unread_list r = elim (r.refused refl) [
     | inl e ↦ untidy_1 (sym e)
     | inr past ↦
@@ -100,11 +93,11 @@ module _ {N w : ℕ} (h : Memory) (intact : Intact N w h) (opened : get_or h.lis
     risen : false ≡ test_1
     risen = sym (false_some (bad_next_in h.list) (N - 1) (r.rises refl))
 
-    pub stray_mark_lem : true ≡ some_below (stray_data N (lent_memory h.a h.b [] [] [] [] [] h.marks [] [])) N → true ≡ is_untidy N h
+    stray_mark_lem : true ≡ some_below (stray_data N (lent_memory h.a h.b [] [] [] [] [] h.marks [] [])) N → true ≡ is_untidy N h
     stray_mark_lem e =
         elim (test_cases_lem test_2) [ inl t ↦ untidy_2 risen (sym t) | inr f ↦ untidy_3 risen (sym f) (e ∙ stray_same) ]
 
-    pub unmarked_listed : true ≡ some_below (λ i. is_set map i && not (is_set h.marks i)) N → true ≡ is_untidy N h
+    unmarked_listed : true ≡ some_below (λ i. is_set map i && not (is_set h.marks i)) N → true ≡ is_untidy N h
     unmarked_listed e =
         let found = some_true (λ i. is_set map i && not (is_set h.marks i)) N (sym e) in
         let parts = and_true (is_set map found.0) (not (is_set h.marks found.0)) found.2 in
@@ -133,12 +126,33 @@ module _ {N w : ℕ} (h : Memory) (intact : Intact N w h) (opened : get_or h.lis
             (some_false (λ i. is_set map i && not (is_set h.marks i)) N (sym all) i l) ((r.shown refl).bits i l ∙ on)) in
             (on_first i l marked, marked)))
 
-        pub missed_root : true ≡ test_4 → true ≡ is_untidy N h
+        missed_root : true ≡ test_4 → true ≡ is_untidy N h
         missed_root e = untidy_4 risen placed (none ∙ stray_same) e
 
-        pub missed_cell : false ≡ test_4 → {t : Bool} → t ≡ some_below (missed_apart N h.b h.d h.cells h.marks map) N → t ≡ is_untidy N h
+        missed_cell : false ≡ test_4 → {t : Bool} → t ≡ some_below (missed_apart N h.b h.d h.cells h.marks map) N → t ≡ is_untidy N h
         missed_cell e {t} f =
             untidy_5 risen placed (none ∙ stray_same) e
             (f ∙ some_same (missed_apart N h.b h.d h.cells h.marks map)
             (cell_missed_in N h.a h.b h.d h.cells h.marks h.list) N
             (λ x l. apart_same N h.b h.d h.cells h.marks h.a h.list map x ((r.shown refl).bits x l) (on_first x l)))
+
+  -- all of it, as the code joins it
+  pub untidy_all :
+      {map : List ℕ} (r : Bool) → Read N h.list map r
+      → (not r || some_below (stray_data N (lent_memory h.a h.b [] [] [] [] [] h.marks [] [])) N
+      || some_below (λ i. is_set map i && not (is_set h.marks i)) N
+      || test_4
+      || some_below (missed_apart N h.b h.d h.cells h.marks map) N)
+      ≡ is_untidy N h
+  untidy_all {map} false read = unread_list read
+  untidy_all {map} true read =
+      elim (test_cases_lem (some_below (stray_data N (lent_memory h.a h.b [] [] [] [] [] h.marks [] [])) N)) [
+        | inl s ↦ rw s (stray_mark_lem read (sym s))
+        | inr s ↦ elim (test_cases_lem (some_below (λ i. is_set map i && not (is_set h.marks i)) N)) [
+          | inl u ↦ rw (s, u) (unmarked_listed read (sym u))
+          | inr u ↦ elim (test_cases_lem test_4) [
+            | inl t ↦ rw (s, u, t) (missed_root read (sym s) (sym u) (sym t))
+            | inr t ↦ rw (s, u, t) (missed_cell read (sym s) (sym u) (sym t) refl)
+          ]
+        ]
+      ]

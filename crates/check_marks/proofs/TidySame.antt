@@ -4,8 +4,7 @@ use mathlib.Core.Path.{◌≡◌, refl, sym, ap, ◌∙◌}
 use mathlib.Core.Logic.{◌≢◌}
 use mathlib.Core.Bool.{Bool, true, not, ◌||◌}
 use mathlib.Core.List.{List}
-use Prim.Native.Nat.{ℕ, ◌+◌, ◌-◌, ◌≤◌, ◌<◌}
-use native.Mathlib.Nat.{zero-add}
+use Prim.Native.Nat.{ℕ, ◌+◌, ◌≤◌, ◌<◌}
 use native.Mathlib.Omega.{arith}
 use lib.Dec.{eqb}
 use lib.ListN.{get_or}
@@ -50,10 +49,9 @@ module _ (N : ℕ) (h : Memory) (shut : get_or h.list N 0 ≢ 1) where
 
   pub remains_listed :
       {r : ℕ} → NextBit h.marks 0 N r → N ≤ r → {t : Bool}
-      → t ≡ some_below (λ k. not (eqb (get_or h.list (0 + k) 0) 0)) (N + 1) → t ≡ is_untidy N h
+      → t ≡ some_below (λ k. not (eqb (get_or h.list k 0) 0)) (N + 1) → t ≡ is_untidy N h
   unfolding is_untidy
   remains_listed next l e =
       rw (ne_eqb (get_or h.list N 0) 1 shut, is_untidy)
-      (e ∙ (λ m. some_below (λ k. not (eqb (get_or h.list (zero-add k m) 0) 0)) (N + 1))
-      ∙ ap (λ (t : Bool). t || some_below (λ k. not (eqb (get_or h.list k 0) 0)) (N + 1))
+      (e ∙ ap (λ (t : Bool). t || some_below (λ k. not (eqb (get_or h.list k 0) 0)) (N + 1))
       (sym (false_some (is_marked h) N (λ i u. next.clear i (omega arith) (omega arith)))))

@@ -10,22 +10,16 @@ ghost use Rattle.rules_steps.specs.Steps.{is_untidy};
 ghost use Rattle.theory_memories.specs.Heaps.{Intact};
 ghost use Rattle.step_list.specs.Lists.{is_set, listed_in, Shows};
 ghost use Rattle.step_list.specs.Naming.{named_from};
-ghost use Rattle.check_marks.specs.Tidy.{root_missed_in, Read, missed_of, missed_apart};
+ghost use Rattle.check_marks.specs.Tidy.{root_missed_in, Read, missed_at, missed_of, missed_apart};
 
+use map_objects::objects;
 use types::{MAX_BLOCKS, Ref};
 
-// Whether one of the n numbers from place `from` on is not 0. All are looked at, so that the loop has no way out.
-fn has_number(list: &[Ref], from: usize, n: usize) -> bool
-    requires { from + n ≤ length list.now }
-    ensures { result ≡ some_below (λ k. not (eqb (get_or list.now (from + k) 0) 0)) n }
+// Whether one of the numbers is not 0. All are looked at, so that the loop has no way out.
+fn has_number(list: &[Ref]) -> bool
+    ensures { result ≡ some_below (λ k. not (eqb (get_or list.now k 0) 0)) (length list.now) }
 {
-    let mut any: Ref = 0;
-    let mut k = 0;
-    while k < n {
-        any = any | list[from + k];
-        k += 1;
-    }
-    any != 0
+    list.iter().fold(0, |any, v| any | v) != 0
 }
 
 // The list read, up to its first 0, into a map that has no 1 yet. Whether it is strictly rising, then 0, and names blocks alone.
@@ -34,21 +28,16 @@ fn read_list(blocks: usize, list: &[Ref], map: &mut [u8]) -> bool
     ensures { Read blocks list.now map.new result }
 {
     let mut before: Ref = 0;
-    let mut k = 0;
-    while k < blocks {
+    for k in 0..blocks {
         let v = list[k];
         if v == 0 {
-            return !has_number(list, k, blocks - k);
+            return !has_number(&list[k..blocks]);
         }
-        if v <= before {
-            return false;
-        }
-        if blocks < v as usize {
+        if v <= before || blocks < v as usize {
             return false;
         }
         step_marks::set_mark(map, v as usize - 1);
         before = v;
-        k += 1;
     }
     true
 }
@@ -58,41 +47,27 @@ fn has_unmarked(blocks: usize, marks: &[u8], map: &[u8]) -> bool
     requires { (blocks ≡ 8 * (blocks / 8)) × (blocks ≤ 8 * length marks.now) × (blocks ≤ 8 * length map.now) }
     ensures { result ≡ some_below (λ i. is_set map.now i && not (is_set marks.now i)) blocks }
 {
+    let bytes = blocks / 8;
     let mut found: u8 = 0;
-    let mut k = 0;
-    while k < blocks / 8 {
-        found = found | (map[k] & !marks[k]);
-        k += 1;
+    for (x, y) in map[..bytes].iter().zip(&marks[..bytes]) {
+        found |= x & !y;
     }
     found != 0
 }
 
-// What a root holds names an unmarked object. (No bit past the end of the map is 1.)
+// What a root holds names an unmarked object. (No bit past the end of the map is 1: what names none is missed, unlike in a cell.)
 fn is_missed_root(blocks: usize, marks: &[u8], v: Ref) -> bool
     requires { blocks ≡ 8 * length marks.now }
     ensures { result ≡ (not (eqb v 0) && not (is_set marks.now (v - 1))) }
 {
-    if v == 0 {
-        return false;
-    }
-    if blocks < v as usize {
-        return true;
-    }
-    bitmap::get_bit(marks, v as usize - 1) != 1
+    v != 0 && (blocks < v as usize || bitmap::get_bit(marks, v as usize - 1) != 1)
 }
 
 fn has_missed_root(blocks: usize, roots: &[Ref], marks: &[u8]) -> bool
     requires { blocks ≡ 8 * length marks.now }
     ensures { result ≡ some_below (root_missed_in roots.now marks.now) (length roots.now) }
 {
-    let mut k = 0;
-    while k < roots.len() {
-        if is_missed_root(blocks, marks, roots[k]) {
-            return true;
-        }
-        k += 1;
-    }
-    false
+    roots.iter().any(|v| is_missed_root(blocks, marks, *v))
 }
 
 // What a cell holds names an unmarked block.
@@ -100,13 +75,7 @@ fn is_missed(blocks: usize, marks: &[u8], v: Ref) -> bool
     requires { blocks ≤ 8 * length marks.now }
     ensures { result ≡ (not (eqb v 0) && (leb v blocks && not (is_set marks.now (v - 1)))) }
 {
-    if v == 0 {
-        return false;
-    }
-    if blocks < v as usize {
-        return false;
-    }
-    bitmap::get_bit(marks, v as usize - 1) != 1
+    v != 0 && v as usize <= blocks && bitmap::get_bit(marks, v as usize - 1) != 1
 }
 
 // One of the n cells from cell j on names an unmarked block.
@@ -114,14 +83,17 @@ fn misses_any(blocks: usize, cells: &[Ref], marks: &[u8], j: usize, n: usize) ->
     requires { (blocks ≤ 8 * length marks.now) × (j + n ≤ length cells.now) }
     ensures { result ≡ some_below (λ i. named_from cells.now j n i && not (is_set marks.now i)) blocks }
 {
-    let mut k = 0;
-    while k < n {
-        if is_missed(blocks, marks, cells[j + k]) {
-            return true;
-        }
-        k += 1;
-    }
-    false
+    cells[j..j + n].iter().any(|v| is_missed(blocks, marks, *v))
+}
+
+// The object at block x names an unmarked one. Its kind is looked at once.
+fn misses_at(blocks: usize, b: &[u8], d: &[u8], cells: &[Ref], marks: &[u8], x: usize) -> bool
+    requires { (blocks ≤ 8 * length b.now) × (blocks ≤ 8 * length d.now) × (length cells.now ≡ 4 * blocks) × (blocks ≤ max_blocks)
+        × (blocks ≤ 8 * length marks.now) × (x < blocks) }
+    ensures { result ≡ missed_at blocks b.now d.now cells.now marks.now x }
+{
+    let n = objects::object_size(blocks, b, x);
+    misses_any(blocks, cells, marks, 4 * x, objects::naming_cells(d, x, n))
 }
 
 // One of the objects that start at the blocks of byte k which are the bits of `these` names an unmarked one.
@@ -140,13 +112,11 @@ fn misses_of(
 {
     let mut left = these;
     while left != 0 {
-        let x = 8 * k + u8::trailing_zeros(left) as usize;
-        let n = map_objects::objects::object_size(blocks, b, x);
-        let named = map_objects::objects::naming_cells(d, x, n);
-        if misses_any(blocks, cells, marks, 4 * x, named) {
+        let x = 8 * k + left.trailing_zeros() as usize;
+        if misses_at(blocks, b, d, cells, marks, x) {
             return true;
         }
-        left = left & (left - 1);
+        left &= left - 1;
     }
     false
 }
@@ -165,14 +135,7 @@ fn has_missed_cell(
     ensures { result ≡ some_below
         (missed_apart blocks b.now d.now cells.now marks.now map.now) blocks }
 {
-    let mut k = 0;
-    while k < blocks / 8 {
-        if misses_of(blocks, b, d, cells, marks, k, marks[k] & !map[k]) {
-            return true;
-        }
-        k += 1;
-    }
-    false
+    (0..blocks / 8).any(|k| misses_of(blocks, b, d, cells, marks, k, marks[k] & !map[k]))
 }
 
 // Number 13, on a heap that 1 and 2 don't refuse. No test reads counts, waiting list or sections: the answer
@@ -198,23 +161,12 @@ pub fn is_untidy(
         d.now marks.now list.now) }
 {
     if list[blocks] != 1 {
-        if step_list::next_bit(marks, 0, blocks) < blocks {
-            return true;
-        }
-        return has_number(list, 0, blocks + 1);
+        return step_list::next_bit(marks, 0, blocks) < blocks || has_number(list);
     }
     let mut map = [0u8; MAX_BLOCKS / 8];
-    if !read_list(blocks, list, &mut map) {
-        return true;
-    }
-    if check_maps::has_stray_data(blocks, a, b, marks) {
-        return true;
-    }
-    if has_unmarked(blocks, marks, &map) {
-        return true;
-    }
-    if has_missed_root(blocks, roots, marks) {
-        return true;
-    }
-    has_missed_cell(blocks, b, d, cells, marks, &map)
+    !read_list(blocks, list, &mut map)
+        || check_maps::has_stray_data(blocks, a, b, marks)
+        || has_unmarked(blocks, marks, &map)
+        || has_missed_root(blocks, roots, marks)
+        || has_missed_cell(blocks, b, d, cells, marks, &map)
 }

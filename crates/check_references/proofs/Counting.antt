@@ -1,11 +1,11 @@
 -- Laws of counting: one number more, and some more: `count_below`.
-use mathlib.Core.Path.{◌≡◌, refl}
+use mathlib.Core.Path.{◌≡◌}
 use mathlib.Core.Bool.{Bool, true, false}
-use Prim.Native.Nat.{ℕ, zero, suc, ◌+◌, ◌<◌}
+use Prim.Native.Nat.{ℕ, zero, suc, ◌+◌}
 use native.Mathlib.Nat.{add-zero, add-suc}
 use native.Mathlib.Numerals.{add-one}
 use native.Mathlib.Omega.{arith}
-use Rattle.bitmap.specs.Bit.{one, count_below}
+use Rattle.bitmap.specs.Bit.{count_below}
 
 pub count_passed : (test : ℕ → Bool) (i : ℕ) → test i ≡ true → count_below test (i + 1) ≡ count_below test i + 1
 unfolding count_below

@@ -3,3 +3,4 @@ pub mod Tallies
 pub mod Wilds
 pub mod Visited
 pub mod Eights
+pub mod Folds

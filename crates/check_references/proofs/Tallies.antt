@@ -1,8 +1,7 @@
 -- Laws of the tally of references, number by number, to 255 at most.
 use mathlib.Core.Path.{◌≡◌, refl, sym, ap, ◌∙◌, subst}
-use mathlib.Core.Bool.{true, false}
 use mathlib.Core.List.{List}
-use Prim.Native.Nat.{ℕ, zero, suc, ◌+◌, ◌-◌, ◌*◌, ◌/◌, ◌≤◌, ◌<◌, min}
+use Prim.Native.Nat.{ℕ, zero, suc, ◌+◌, ◌-◌, ◌≤◌, ◌<◌, min}
 use native.Mathlib.Decide.{ℕ_discrete}
 use native.Mathlib.Omega.{arith}
 use lib.Dec.{eqb}
@@ -74,6 +73,12 @@ module _ (read : ℕ → ℕ) (at₀ : List ℕ) where
               (λ k inside. ap (λ (x : ℕ). eqb x (b + 1)) (same k inside)),
         );
   }
+
+  -- one number more, tallied by itself
+  pub tallied_next : (v j : ℕ) (at next : List ℕ) → read j ≡ v → Tallied read j at₀ at → Tallied (λ k. v) 1 at next
+      → Tallied read (j + 1) at₀ next
+  tallied_next v j at next e t u =
+      tallied_more (λ k. v) j 1 at next (λ k l. let place : j + k ≡ j = omega arith in ap read place ∙ e) t u
 
 -- numbers that name no block leave a tally as it is
 pub tallied_nothing : (n : ℕ) (at : List ℕ) → Room at → Tallied (λ k. 0) n at at

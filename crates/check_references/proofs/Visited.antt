@@ -1,20 +1,19 @@
 -- The cells of a byte's blocks tallied from the lowest on: how far a tally has come while bits of the word are left.
-use mathlib.Core.Path.{◌≡◌, refl, sym, ap, ◌∙◌, subst}
+use mathlib.Core.Path.{◌≡◌, refl, sym, ap, ◌∙◌}
 use mathlib.Core.Logic.{◌≢◌}
-use mathlib.Core.Bool.{Bool, true, false}
+use mathlib.Core.Bool.{Bool, false}
 use mathlib.Core.List.{List}
-use Prim.Native.Nat.{ℕ, ◌+◌, ◌-◌, ◌*◌, ◌/◌, ◌^◌, ◌≤◌, ◌<◌}
+use Prim.Native.Nat.{ℕ, ◌+◌, ◌-◌, ◌/◌, ◌^◌, ◌≤◌, ◌<◌}
 use native.Mathlib.Decide.{ℕ_discrete, dec_lt}
 use native.Mathlib.Omega.{arith}
 use lib.Bits.{bit_and}
 use lib.Count.{count_trailing_zeros}
 use lib.Dec.{eqb}
-use lib.ListN.{get_or}
 use Rattle.bitmap.specs.Bit.{bit_of, put_bit}
 use Rattle.bitmap.proofs.Bits.{bit_zero, bit_put_same, bit_put_other}
 use Rattle.bitmap.proofs.Digits.{trailing_lowest, clear_lowest}
 use Rattle.rules.specs.Tools.{some_below}
-use Rattle.rules.proofs.Searches.{Searched, searched_start, searched_next}
+use Rattle.rules.proofs.Searches.{searched_start, searched_next}
 use Rattle.rules.proofs.Stretches.{none_further}
 use Rattle.check_references.specs.Wild.{read_in, wild_in, FilledCells}
 use Rattle.check_references.specs.Tally.{Room, Tallied}

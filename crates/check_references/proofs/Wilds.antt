@@ -1,13 +1,14 @@
 -- Laws of what is told of a reference before what it names is looked at.
-use mathlib.Core.Path.{◌≡◌, refl, sym, ap, ◌∙◌}
+use mathlib.Core.Path.{◌≡◌, refl, ◌∙◌}
 use mathlib.Core.Logic.{◌≢◌}
-use mathlib.Core.Bool.{Bool, true, false, not, ◌||◌}
+use mathlib.Core.Bool.{Bool, false, ◌||◌}
 use mathlib.Core.List.{List}
-use Prim.Native.Nat.{ℕ, ◌+◌, ◌*◌, ◌/◌, ◌≤◌, ◌<◌}
+use Prim.Native.Nat.{ℕ, ◌+◌, ◌*◌, ◌/◌, ◌≤◌}
 use native.Mathlib.Decide.{ℕ_discrete}
-use lib.Dec.{eqb, ltb}
+use lib.Dec.{ltb}
 use lib.ListN.{get_or}
 use borrow.Author.Tests.{eq-eqb, ne_eqb, ltb-false}
+use Rattle.rules.specs.Tools.{some_below}
 use Rattle.rules.proofs.Tests.{or_false}
 use Rattle.bitmap.specs.Bit.{bit_of}
 use Rattle.check_references.specs.Wild.{wild, read_in}
@@ -38,3 +39,8 @@ module _ (made : ℕ) (cells : List ℕ) (k j : ℕ) where
 -- what is not wild is at most N
 pub wild_within : (N : ℕ) (free : Bool) (v : ℕ) → (free || ltb N v) ≡ false → v ≤ N
 wild_within N free v e = ltb-false N v (or_false free (ltb N v) e).1
+
+-- a search among one
+pub once : (t : Bool) → some_below (λ j. t) 1 ≡ t
+unfolding some_below
+once t = refl

@@ -4,41 +4,24 @@
 
 #![tactic(auto)]
 
-ghost use Rattle.std.specs.Prelude.{◌≡◌, not, ◌||◌, ℕ, ◌+◌, ◌*◌, ◌/◌, ◌≤◌, ◌<◌, min, eqb, ltb, length, get_or};
+ghost use Rattle.std.specs.Prelude.{◌≡◌, false, not, ◌||◌, ℕ, ◌+◌, ◌*◌, ◌/◌, ◌≤◌, ◌<◌, min, eqb, ltb, length, get_or};
 ghost use Rattle.bitmap.specs.Bit.{bit_of};
 ghost use Rattle.rules.specs.Heap.{max_blocks, in_data, ref_at};
 ghost use Rattle.map_objects.specs.Walk.{data_before};
-ghost use Rattle.check_references.specs.Wild.{wild_cell, wild_root, read_in, wild_in, FilledCells};
+ghost use Rattle.check_references.specs.Wild.{wild, wild_cell, wild_root, read_in, wild_in, FilledCells};
 ghost use Rattle.check_references.specs.Tally.{Room, Answered};
 
 use map_objects::{numbers, objects};
 use types::Ref;
 
-// One more, to 255 at most.
-fn one_more(n: u8) -> u8
-    ensures { result ≡ min 255 (n + 1) }
-{
-    if n < 255 {
-        return n + 1;
-    }
-    255
-}
-
 // How many cells are looked at together: those of eight blocks.
 const STRETCH: usize = 32;
 
-// 0 only where the cells of the eight blocks of byte k are all 0.
-fn any_cell(cells: &[Ref], k: usize) -> Ref
-    requires { (32 * (k + 1) ≤ length cells.now) × (length cells.now ≤ 4 * max_blocks) }
-    ensures { result ≡ 0 → (j : ℕ) → j < 32 → get_or cells.now (32 * k + j) 0 ≡ 0 }
+// Whether a cell is not 0. All are looked at, so that the loop has no way out.
+fn has_filled(cells: &[Ref]) -> bool
+    ensures { result ≡ false → (j : ℕ) → j < length cells.now → get_or cells.now j 0 ≡ 0 }
 {
-    let mut any: Ref = 0;
-    let mut j = 0;
-    while j < STRETCH {
-        any = any | cells[STRETCH * k + j];
-        j += 1;
-    }
-    any
+    cells.iter().fold(0, |any, v| any | v) != 0
 }
 
 // Which of the 32 cells of the eight blocks of byte k are not 0, as the bits of a word. Most stretches of cells are all 0, and are
@@ -47,16 +30,14 @@ fn filled_cells(cells: &[Ref], k: usize) -> u32
     requires { (32 * (k + 1) ≤ length cells.now) × (length cells.now ≤ 4 * max_blocks) }
     ensures { FilledCells cells.now k result }
 {
-    if any_cell(cells, k) == 0 {
-        return 0;
-    }
+    let stretch = &cells[STRETCH * k..STRETCH * (k + 1)];
     let mut filled: u32 = 0;
-    let mut j = 0;
-    while j < STRETCH {
-        if cells[STRETCH * k + j] != 0 {
-            filled = filled | (1u32 << j);
+    if has_filled(stretch) {
+        for (j, v) in stretch.iter().enumerate() {
+            if *v != 0 {
+                filled |= 1 << j;
+            }
         }
-        j += 1;
     }
     filled
 }
@@ -73,21 +54,17 @@ fn data_byte(blocks: usize, a: &[u8], b: &[u8], d: &[u8], k: usize, before: bool
         if !before {
             return 0;
         }
-        if a[k] == 255 {
-            if objects::first_byte(a, b, k) == 0 {
-                return 255;
-            }
+        if a[k] == 255 && objects::first_byte(a, b, k) == 0 {
+            return 255;
         }
     }
     let mut in_data = before;
     let mut made: u8 = 0;
-    let mut s = 0;
-    while s < 8 {
+    for s in 0..8 {
         in_data = numbers::is_in_data(blocks, a, b, d, 8 * k + s, in_data);
         if in_data {
-            made = made + (1u8 << s);
+            made |= 1 << s;
         }
-        s += 1;
     }
     made
 }
@@ -98,20 +75,25 @@ fn read_cell(cells: &[Ref], k: usize, made: u8, j: usize) -> usize
     ensures { result ≡ read_in made cells.now k j }
 {
     if (made >> (j / 4)) % 2 != 0 {
-        return 0;
+        0
+    } else {
+        cells[STRETCH * k + j] as usize
     }
-    cells[STRETCH * k + j] as usize
 }
 
-// Whether v, which is not 0, names no block, or its cell j lies in none of the used blocks, which are the bits of `used`.
-fn is_wild(blocks: usize, used: u8, j: usize, v: usize) -> bool
-    requires { j < 32 }
-    ensures { result ≡ (eqb (bit_of used (j / 4)) 0 || ltb blocks v) }
+// Tallies v, to 255 at most; whether it is wild. It stands in a free block or not.
+fn tally_one(blocks: usize, free: bool, v: usize, at: &mut [u8]) -> bool
+    requires { (blocks ≤ length at.old) × Room at.old }
+    ensures { Answered (λ j. wild blocks free v) (λ j. v) 1 at.old at.new result }
 {
-    if (used >> (j / 4)) % 2 == 0 {
+    if v == 0 {
+        return false;
+    }
+    if free || blocks < v {
         return true;
     }
-    blocks < v
+    at[v - 1] = at[v - 1].saturating_add(1);
+    false
 }
 
 // Tallies those of the 32 cells of byte k that are the bits of `these`; the others are 0.
@@ -131,15 +113,12 @@ fn tally_among(
 {
     let mut left = these;
     while left != 0 {
-        let j = u32::trailing_zeros(left) as usize;
-        let v = read_cell(cells, k, made, j);
-        if v != 0 {
-            if is_wild(blocks, used, j, v) {
-                return true;
-            }
-            at[v - 1] = one_more(at[v - 1]);
+        let j = left.trailing_zeros() as usize;
+        let free = (used >> (j / 4)) % 2 == 0;
+        if tally_one(blocks, free, read_cell(cells, k, made, j), at) {
+            return true;
         }
-        left = left & (left - 1);
+        left &= left - 1;
     }
     false
 }
@@ -151,10 +130,7 @@ fn tally_byte(blocks: usize, used: u8, made: u8, cells: &[Ref], k: usize, at: &m
     ensures { Answered (wild_in blocks used made cells.now k) (read_in made cells.now k) 32 at.old
         at.new result }
 {
-    if made == 255 {
-        return false;
-    }
-    tally_among(blocks, used, made, cells, k, filled_cells(cells, k), at)
+    made != 255 && tally_among(blocks, used, made, cells, k, filled_cells(cells, k), at)
 }
 
 // Tallies what the cells name, eight blocks at a time; whether one of them is wild. Those of data name nothing (request U6).
@@ -173,16 +149,13 @@ pub fn tally_cells(
         (ref_at blocks a.now b.now d.now cells.now) (4 * blocks) at.old
         at.new result }
 {
-    let bytes = blocks / 8;
     let mut before = false;
-    let mut k = 0;
-    while k < bytes {
+    for k in 0..blocks / 8 {
         let made = data_byte(blocks, a, b, d, k, before);
         if tally_byte(blocks, a[k], made, cells, k, at) {
             return true;
         }
         before = 127 < made;
-        k += 1;
     }
     false
 }
@@ -193,16 +166,10 @@ pub fn tally_roots(blocks: usize, roots: &[Ref], at: &mut [u8]) -> bool
     ensures { Answered (wild_root blocks roots.now) (λ i. get_or roots.now i 0) (length roots.now)
         at.old at.new result }
 {
-    let mut r = 0;
-    while r < roots.len() {
-        let v = roots[r] as usize;
-        if v != 0 {
-            if blocks < v {
-                return true;
-            }
-            at[v - 1] = one_more(at[v - 1]);
+    for v in roots {
+        if tally_one(blocks, false, *v as usize, at) {
+            return true;
         }
-        r += 1;
     }
     false
 }

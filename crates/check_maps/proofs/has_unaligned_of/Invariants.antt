@@ -1,5 +1,5 @@
--- `map_damage::has_unaligned_of` meets its contract: the test can pass at bits that are left alone. The measure is their number as a byte.
-use Prim.Native.Nat.{◌<◌, ◌-◌}
+-- `check_maps::has_unaligned_of` meets its contract: the test can pass at bits that are left alone. The measure is their number as a byte.
+use Prim.Native.Nat.{◌<◌}
 use Rattle.rules.proofs.Stretches.{ToVisit}
 use Rattle.check_maps.specs.Chunks.{off_chunk}
 use Rattle.check_maps.proofs.has_unaligned_of.Given as goal

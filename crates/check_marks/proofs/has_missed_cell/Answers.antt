@@ -1,62 +1,30 @@
+-- `check_marks::has_missed_cell` meets its contract.
 use mathlib.Core.Path.{◌≡◌, refl, sym, ap, ◌∙◌}
-use mathlib.Core.Bool.{Bool}
-use Prim.Native.Nat.{ℕ, ◌<◌, ◌+◌, ◌-◌, ◌*◌}
+use Prim.Native.Nat.{ℕ, ◌+◌, ◌-◌, ◌*◌, ◌/◌}
 use native.Mathlib.Omega.{arith}
 use lib.Bits.{bit_and}
 use lib.ListN.{get_or}
+use Rattle.std.proofs.Common.{rules}
+use borrow.Author.Tests.{tests}
 use Rattle.rules.specs.Tools.{some_below}
-use Rattle.rules.proofs.Stretches.{some_further, eight_hit, eight_past}
+use Rattle.check_maps.proofs.Chains.{any_range, by_eights, some_same}
 use Rattle.check_marks.specs.Tidy.{missed_apart, missed_of}
 use Rattle.check_marks.proofs.Tests.{of_eight}
 use Rattle.check_marks.proofs.has_missed_cell.Goals as goal
 
-pub loop-k-init : goal.loop-k-init
-unfolding some_below
-loop-k-init c = (omega arith, refl)
-
--- the test, on what is lent
-abbrev test-Then-misses_of : (c : goal.Then-misses_of) → ℕ → Bool
-test-Then-misses_of c = missed_apart c.args.blocks c.args.b.now c.args.d.now c.args.cells.now c.args.marks.now c.args.map.now
-
--- at the eight blocks of byte k it is the test that the callee makes
-alike-Then-misses_of : (c : goal.Then-misses_of) → (t : ℕ) → t < 8
-    → test-Then-misses_of c (8 * c.loop-k.k + t)
-    ≡ missed_of (bit_and (get_or c.args.marks.now c.loop-k.k 0) (255 - get_or c.args.map.now c.loop-k.k 0)) c.loop-k.k c.args.blocks c.args.b.now c.args.d.now
-    c.args.cells.now c.args.marks.now t
-alike-Then-misses_of c t u =
-    of_eight c.args.blocks c.args.b.now c.args.d.now c.args.cells.now c.args.marks.now c.args.map.now c.loop-k.k
-    (c.type_inv.map c.loop-k.k).fits t u
-
-pub returns-then-misses_of : goal.returns-then-misses_of
-returns-then-misses_of c =
-    sym
-    (some_further (test-Then-misses_of c) (8 * (c.loop-k.k + 1)) c.args.blocks (omega arith)
-    (eight_hit (test-Then-misses_of c) _ c.loop-k.k (alike-Then-misses_of c) (sym c.misses_of.ensures ∙ c.if-misses_of.true)))
-
--- the test, on what is lent
-abbrev test-Else-misses_of : (c : goal.Else-misses_of) → ℕ → Bool
-test-Else-misses_of c = missed_apart c.args.blocks c.args.b.now c.args.d.now c.args.cells.now c.args.marks.now c.args.map.now
-
--- at the eight blocks of byte k it is the test that the callee makes
-alike-Else-misses_of : (c : goal.Else-misses_of) → (t : ℕ) → t < 8
-    → test-Else-misses_of c (8 * c.loop-k.k + t)
-    ≡ missed_of (bit_and (get_or c.args.marks.now c.loop-k.k 0) (255 - get_or c.args.map.now c.loop-k.k 0)) c.loop-k.k c.args.blocks c.args.b.now c.args.d.now
-    c.args.cells.now c.args.marks.now t
-alike-Else-misses_of c t u =
-    of_eight c.args.blocks c.args.b.now c.args.d.now c.args.cells.now c.args.marks.now c.args.map.now c.loop-k.k
-    (c.type_inv.map c.loop-k.k).fits t u
-
-pub loop-k-preserved : goal.loop-k-preserved
-loop-k-preserved c = (
-  omega arith,
-  eight_past (test-Else-misses_of c) _ c.loop-k.k (alike-Else-misses_of c) (sym c.misses_of.ensures ∙ c.if-misses_of.false) c.loop-k.invariant.1,
-)
-
--- the test, on what is lent
-abbrev test-After-loop-k : (c : goal.After-loop-k) → ℕ → Bool
-test-After-loop-k c = missed_apart c.args.blocks c.args.b.now c.args.d.now c.args.cells.now c.args.marks.now c.args.map.now
-
 pub returns : goal.returns
+unfolding some_below
 returns c =
-    let done : 8 * c.loop-k.k ≡ c.args.blocks = omega arith in
-    sym (ap (some_below (test-After-loop-k c)) (sym done) ∙ c.loop-k.invariant.1)
+    let N : ℕ = c.args.blocks in
+    let b = c.args.b.now in
+    let d = c.args.d.now in
+    let cells = c.args.cells.now in
+    let marks = c.args.marks.now in
+    let map = c.args.map.now in
+    let whole : 8 * (N / 8) ≡ N = omega arith in
+    any_range (λ k. some_below (missed_of (bit_and (get_or marks k 0) (255 - get_or map k 0)) k N b d cells marks) 8) 0 (N / 8) _ _ c.any.result c.any.ensures.ran
+    (λ x r q k. search (rules, tests)) (omega arith) refl
+    ∙ some_same _ (λ k. some_below (λ s. missed_apart N b d cells marks map (8 * k + s)) 8) (N / 8)
+    (λ k l. some_same _ _ 8 (λ s u. sym (of_eight N b d cells marks map k (c.type_inv.map k).fits s u)))
+    ∙ by_eights (missed_apart N b d cells marks map) (N / 8)
+    ∙ ap (some_below (missed_apart N b d cells marks map)) whole

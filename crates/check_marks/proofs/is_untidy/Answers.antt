@@ -1,19 +1,25 @@
 -- `check_marks::is_untidy` meets its contract: one law of the whole test for each way out.
-use mathlib.Core.Path.{◌≡◌, refl, sym, subst, ◌∙◌}
-use mathlib.Core.Bool.{Bool}
-use mathlib.Core.List.{List}
-use Prim.Native.Nat.{ℕ, ◌-◌, ◌/◌}
+use mathlib.Core.Path.{◌≡◌, refl, sym, ap, ◌∙◌}
+use mathlib.Core.Bool.{Bool, true, false, not, ◌&&◌, ◌||◌, false≢true}
+use mathlib.Core.List.{List, []}
+use Prim.Native.Nat.{ℕ, ◌/◌}
 use native.Mathlib.Omega.{arith}
-use lib.ListN.{length-replicate}
+use lib.Dec.{eqb}
+use lib.ListN.{length, get_or, length-replicate}
+use borrow.Author.Tests.{lt-ltb}
 use Rattle.rules.specs.Heap.{Memory, lent_memory, max_blocks}
+use Rattle.rules.specs.Damage.{stray_data}
+use Rattle.rules.specs.Tools.{some_below}
 use Rattle.rules_steps.specs.Steps.{is_untidy}
 use Rattle.rules.proofs.Shape.{Shaped, shape_facts}
 use Rattle.theory_memories.specs.Heaps.{Intact}
+use Rattle.step_list.specs.Lists.{is_set}
 use Rattle.step_list.proofs.Bits.{shows_none}
-use Rattle.check_marks.specs.Tidy.{Read}
+use Rattle.check_marks.specs.Tidy.{root_missed_in, missed_apart}
 use Rattle.check_marks.proofs.TidySame.{unread, remains_marked, remains_listed}
-use Rattle.check_marks.proofs.TidyOpen.{unread_list, stray_mark_lem, unmarked_listed, missed_root, missed_cell}
+use Rattle.check_marks.proofs.TidyOpen.{untidy_all}
 use Rattle.check_marks.proofs.is_untidy.Goals as goal
+use Rattle.check_marks.proofs.is_untidy.Goals.{then-not-read_list, else-not-read_list, then-has_stray_data, else-has_stray_data, then-has_unmarked, else-has_unmarked}
 
 -- the lengths of a heap that 1 and 2 did not refuse
 lengths : {N w : ℕ} {h : Memory} → Intact N w h → Shaped N w h
@@ -23,6 +29,11 @@ lengths {N} {w} {h} fit = shape_facts N w h fit.right_shape
 for_all : {N w : ℕ} {h : Memory} → Intact N w h → {t : Bool} → t ≡ is_untidy N h → (counts waiting sections : List ℕ)
     → t ≡ is_untidy N (lent_memory h.a h.b counts h.cells h.roots waiting sections h.d h.marks h.list)
 for_all {N} {w} {h} fit e counts waiting sections = e ∙ unread N h counts waiting sections
+
+-- a test that passes, with another behind it
+or_here : (v x : Bool) → v ≡ true → v ≡ (v || x)
+or_here true x e = refl
+or_here false x e = absurd (false≢true e)
 
 pub offset_bounds-list-blocks : goal.offset_bounds-list-blocks
 offset_bounds-list-blocks c =
@@ -39,21 +50,16 @@ next_bit-requires c =
 
 pub returns-then-next_bit-blocks : goal.returns-then-next_bit-blocks
 returns-then-next_bit-blocks c =
-    for_all c.requires.4 (remains_marked _ _ c.if-list-blocks-ne1.true c.next_bit.ensures c.if-next_bit-blocks.true)
+    for_all c.requires.4
+    (lt-ltb c.next_bit.result c.args.blocks c.if-next_bit-blocks.true
+    ∙ remains_marked _ _ c.if-list-blocks-ne1.true c.next_bit.ensures c.if-next_bit-blocks.true)
 
-pub overflow_add-blocks : goal.overflow_add-blocks
-overflow_add-blocks c =
-    omega (arith, (lengths c.requires.4).blocks_max)
-
-pub has_number-requires : goal.has_number-requires
-has_number-requires c =
-    omega (arith, (lengths c.requires.4).length_list)
-
-pub returns-then-list-blocks-ne1 : goal.returns-then-list-blocks-ne1
-returns-then-list-blocks-ne1 c =
+pub returns-else-next_bit-blocks : goal.returns-else-next_bit-blocks
+returns-else-next_bit-blocks c =
     for_all c.requires.4
     (remains_listed _ _ c.if-list-blocks-ne1.true c.next_bit.ensures (omega (arith, c.if-next_bit-blocks.false))
-    c.has_number.ensures)
+    (c.has_number.ensures
+    ∙ ap (some_below (λ k. not (eqb (get_or c.args.list.now k 0) 0))) (lengths c.requires.4).length_list))
 
 pub read_list-requires : goal.read_list-requires
 read_list-requires c = (
@@ -61,12 +67,6 @@ read_list-requires c = (
   omega (arith, (lengths c.requires.4).blocks_max, length-replicate {A = ℕ} (max_blocks / 8) 0),
   shows_none c.args.list.now (max_blocks / 8) refl,
 )
-
-pub returns-then-not-read_list : goal.returns-then-not-read_list
-returns-then-not-read_list c =
-    for_all c.requires.4
-    (unread_list _ c.requires.4 c.if-list-blocks-ne1.false
-    (subst (Read c.args.blocks c.args.list.now _) c.if-not-read_list.true c.read_list.ensures))
 
 pub has_stray_data-requires : goal.has_stray_data-requires
 has_stray_data-requires c =
@@ -77,13 +77,6 @@ has_stray_data-requires c =
       sym shape.whole_bytes,
     )
 
-pub returns-then-has_stray_data : goal.returns-then-has_stray_data
-returns-then-has_stray_data c =
-    for_all c.requires.4
-    (stray_mark_lem _ c.requires.4 c.if-list-blocks-ne1.false
-    (subst (Read c.args.blocks c.args.list.now _) c.if-not-read_list.false c.read_list.ensures)
-    (sym c.if-has_stray_data.true ∙ c.has_stray_data.ensures))
-
 pub has_unmarked-requires : goal.has_unmarked-requires
 has_unmarked-requires c =
     let shape = lengths c.requires.4 in (
@@ -92,24 +85,9 @@ has_unmarked-requires c =
       omega (arith, shape.blocks_max, c.read_list.auto.map, length-replicate {A = ℕ} (max_blocks / 8) 0),
     )
 
-pub returns-then-has_unmarked : goal.returns-then-has_unmarked
-returns-then-has_unmarked c =
-    for_all c.requires.4
-    (unmarked_listed _ c.requires.4 c.if-list-blocks-ne1.false
-    (subst (Read c.args.blocks c.args.list.now _) c.if-not-read_list.false c.read_list.ensures)
-    (sym c.if-has_unmarked.true ∙ c.has_unmarked.ensures))
-
 pub has_missed_root-requires : goal.has_missed_root-requires
 has_missed_root-requires c =
     omega (arith, (lengths c.requires.4).length_marks, (lengths c.requires.4).whole_bytes)
-
-pub returns-then-has_missed_root : goal.returns-then-has_missed_root
-returns-then-has_missed_root c =
-    for_all c.requires.4
-    (missed_root _ c.requires.4 c.if-list-blocks-ne1.false
-    (subst (Read c.args.blocks c.args.list.now _) c.if-not-read_list.false c.read_list.ensures)
-    (sym c.if-has_stray_data.false ∙ c.has_stray_data.ensures) (sym c.if-has_unmarked.false ∙ c.has_unmarked.ensures)
-    (sym c.if-has_missed_root.true ∙ c.has_missed_root.ensures))
 
 pub has_missed_cell-requires : goal.has_missed_cell-requires
 has_missed_cell-requires c =
@@ -123,10 +101,58 @@ has_missed_cell-requires c =
       omega (arith, shape.blocks_max, c.read_list.auto.map, length-replicate {A = ℕ} (max_blocks / 8) 0),
     )
 
-pub returns : goal.returns
-returns c =
+pub returns-then-has_missed_root : goal.returns-then-has_missed_root
+returns-then-has_missed_root c =
+    let S = some_below (stray_data c.args.blocks (lent_memory c.args.a.now c.args.b.now [] [] [] [] [] c.args.marks.now [] [])) c.args.blocks in
+    let U = some_below (λ i. is_set c.read_list.new.map i && not (is_set c.args.marks.now i)) c.args.blocks in
+    let T = some_below (root_missed_in c.args.roots.now c.args.marks.now) (length c.args.roots.now) in
+    let X = some_below (missed_apart c.args.blocks c.args.b.now c.args.d.now c.args.cells.now c.args.marks.now c.read_list.new.map) c.args.blocks in
+    let to_stray : c.if-not-read_list.value ≡ (not c.read_list.result || S) =
+    elim c.if-not-read_list.branch [
+      | then-not-read_list w ↦ rw (w.value-is, w.if-not-read_list.true) refl
+      | else-not-read_list w ↦ rw (w.value-is, w.if-not-read_list.false) w.has_stray_data.ensures
+    ] in
+    let to_unmarked : c.if-has_stray_data.value ≡ (c.if-not-read_list.value || U) =
+    elim c.if-has_stray_data.branch [
+      | then-has_stray_data w ↦ rw (w.value-is, w.if-has_stray_data.true) refl
+      | else-has_stray_data w ↦ rw (w.value-is, w.if-has_stray_data.false) w.has_unmarked.ensures
+    ] in
+    let to_root : c.if-has_unmarked.value ≡ (c.if-has_stray_data.value || T) =
+    elim c.if-has_unmarked.branch [
+      | then-has_unmarked w ↦ rw (w.value-is, w.if-has_unmarked.true) refl
+      | else-has_unmarked w ↦ rw (w.value-is, w.if-has_unmarked.false) w.has_missed_root.ensures
+    ] in
+    let joined : c.if-has_unmarked.value ≡ (not c.read_list.result || S || U || T) =
+    to_root ∙ ap (λ (v : Bool). v || T) (to_unmarked ∙ ap (λ (v : Bool). v || U) to_stray) in
     for_all c.requires.4
-    (missed_cell _ c.requires.4 c.if-list-blocks-ne1.false
-    (subst (Read c.args.blocks c.args.list.now _) c.if-not-read_list.false c.read_list.ensures)
-    (sym c.if-has_stray_data.false ∙ c.has_stray_data.ensures) (sym c.if-has_unmarked.false ∙ c.has_unmarked.ensures)
-    (sym c.if-has_missed_root.false ∙ c.has_missed_root.ensures) c.has_missed_cell.ensures)
+    (or_here c.if-has_unmarked.value X c.if-has_missed_root.true
+    ∙ ap (λ (v : Bool). v || X) joined
+    ∙ untidy_all _ c.requires.4 c.if-list-blocks-ne1.false c.read_list.result c.read_list.ensures)
+
+pub returns-else-has_missed_root : goal.returns-else-has_missed_root
+returns-else-has_missed_root c =
+    let S = some_below (stray_data c.args.blocks (lent_memory c.args.a.now c.args.b.now [] [] [] [] [] c.args.marks.now [] [])) c.args.blocks in
+    let U = some_below (λ i. is_set c.read_list.new.map i && not (is_set c.args.marks.now i)) c.args.blocks in
+    let T = some_below (root_missed_in c.args.roots.now c.args.marks.now) (length c.args.roots.now) in
+    let X = some_below (missed_apart c.args.blocks c.args.b.now c.args.d.now c.args.cells.now c.args.marks.now c.read_list.new.map) c.args.blocks in
+    let to_stray : c.if-not-read_list.value ≡ (not c.read_list.result || S) =
+    elim c.if-not-read_list.branch [
+      | then-not-read_list w ↦ rw (w.value-is, w.if-not-read_list.true) refl
+      | else-not-read_list w ↦ rw (w.value-is, w.if-not-read_list.false) w.has_stray_data.ensures
+    ] in
+    let to_unmarked : c.if-has_stray_data.value ≡ (c.if-not-read_list.value || U) =
+    elim c.if-has_stray_data.branch [
+      | then-has_stray_data w ↦ rw (w.value-is, w.if-has_stray_data.true) refl
+      | else-has_stray_data w ↦ rw (w.value-is, w.if-has_stray_data.false) w.has_unmarked.ensures
+    ] in
+    let to_root : c.if-has_unmarked.value ≡ (c.if-has_stray_data.value || T) =
+    elim c.if-has_unmarked.branch [
+      | then-has_unmarked w ↦ rw (w.value-is, w.if-has_unmarked.true) refl
+      | else-has_unmarked w ↦ rw (w.value-is, w.if-has_unmarked.false) w.has_missed_root.ensures
+    ] in
+    let joined : c.if-has_unmarked.value ≡ (not c.read_list.result || S || U || T) =
+    to_root ∙ ap (λ (v : Bool). v || T) (to_unmarked ∙ ap (λ (v : Bool). v || U) to_stray) in
+    for_all c.requires.4
+    (c.has_missed_cell.ensures
+    ∙ ap (λ (v : Bool). v || X) (sym c.if-has_missed_root.false ∙ joined)
+    ∙ untidy_all _ c.requires.4 c.if-list-blocks-ne1.false c.read_list.result c.read_list.ensures)

@@ -1,5 +1,5 @@
 -- `check_marks::misses_of` meets its contract: the test can pass at bits that are left alone. The measure is their number as a byte.
-use Prim.Native.Nat.{◌<◌, ◌-◌}
+use Prim.Native.Nat.{◌<◌}
 use Rattle.rules.proofs.Stretches.{ToVisit}
 use Rattle.check_marks.specs.Tidy.{missed_of}
 use Rattle.check_marks.proofs.misses_of.Given as goal

@@ -1,20 +1,32 @@
 use mathlib.Core.Path.{◌≡◌, sym, ap, ◌∙◌, subst}
 use mathlib.Core.List.{List}
-use Prim.Native.Nat.{ℕ, ◌<◌, ◌+◌, ◌-◌, ◌*◌, ◌%◌, ◌^◌}
+use Prim.Native.Nat.{ℕ, ◌≤◌, ◌<◌, ◌+◌, ◌-◌, ◌*◌, ◌%◌, ◌^◌}
 use native.Mathlib.Decide.{ℕ_discrete}
 use native.Mathlib.Omega.{arith}
 use lib.Bits.{bit_or}
-use lib.ListN.{get_or}
+use lib.ListN.{length, get_or, take, drop}
+use Rattle.std.proofs.lemmas.List.{length-take, length-drop, get_or-take, get_or-drop}
 use Rattle.bitmap.specs.Bit.{bit_of}
 use Rattle.bitmap.proofs.Digits.{digit_or, digit_mod, digit_shl}
 use Rattle.check_references.proofs.filled_cells.Goals as goal
-use Rattle.check_references.proofs.filled_cells.Goals.{then-cells-k-ne0, else-cells-k-ne0}
+use Rattle.check_references.proofs.filled_cells.Goals.{then-v-ne0, else-v-ne0}
 use Rattle.check_references.proofs.filled_cells.Invariants.{FilledBelow}
 
+-- the stretch of byte k
+abbrev stretch : List ℕ → ℕ → List ℕ
+stretch cells k = take (32 * (k + 1) - 32 * k) (drop (32 * k) cells)
+
+stretch_length : (cells : List ℕ) (k : ℕ) → 32 * (k + 1) ≤ length cells → length (stretch cells k) ≡ 32
+stretch_length cells k l =
+    omega (arith, length-take (32 * (k + 1) - 32 * k) (drop (32 * k) cells), length-drop (32 * k) cells)
+
+stretch_item : (cells : List ℕ) (k i : ℕ) → i < 32 → get_or (stretch cells k) i 0 ≡ get_or cells (32 * k + i) 0
+stretch_item cells k i l =
+    get_or-take (32 * (k + 1) - 32 * k) (drop (32 * k) cells) i 0 (omega arith) ∙ get_or-drop (32 * k) cells i 0
+
 -- bit n raised
-raised : (cells : List ℕ) (k filled n : ℕ) → n < 32 → FilledBelow cells k filled n
-    → FilledBelow cells k (bit_or filled (1 * 2 ^ n % 2 ^ 32)) (n + 1)
-raised cells k filled n inside h i l e =
+raised : (cells : List ℕ) (filled n : ℕ) → n < 32 → FilledBelow cells filled n → FilledBelow cells (bit_or filled (1 * 2 ^ n % 2 ^ 32)) (n + 1)
+raised cells filled n inside h i l e =
     elim (ℕ_discrete i n) [
       | yes q ↦
           absurd
@@ -29,31 +41,32 @@ raised cells k filled n inside h i l e =
     ]
 
 -- bit n left
-left : (cells : List ℕ) (k filled n : ℕ) → get_or cells (32 * k + n) 0 ≡ 0 → FilledBelow cells k filled n → FilledBelow cells k filled (n + 1)
-left cells k filled n empty h i l e =
+left : (cells : List ℕ) (filled n : ℕ) → get_or cells n 0 ≡ 0 → FilledBelow cells filled n → FilledBelow cells filled (n + 1)
+left cells filled n empty h i l e =
     elim (ℕ_discrete i n) [
-      | yes q ↦ ap (λ (x : ℕ). get_or cells (32 * k + x) 0) q ∙ empty
+      | yes q ↦ ap (λ (x : ℕ). get_or cells x 0) q ∙ empty
       | no q ↦ h i (omega arith) e
     ]
 
-pub returns-then-any_cell-eq0 : goal.returns-then-any_cell-eq0
-returns-then-any_cell-eq0 c = λ i u e. c.any_cell.ensures c.if-any_cell-eq0.true i u
-
 pub loop-j-init : goal.loop-j-init
-loop-j-init c = (omega arith, λ i l e. absurd (omega arith))
+loop-j-init c = λ i l e. absurd (omega arith)
 
 pub loop-j-preserved : goal.loop-j-preserved
 loop-j-preserved c =
-    let k : ℕ = c.args.k in
-    let filled : ℕ = c.loop-j.filled in
-    let at : ℕ = c.loop-j.j in (
-      omega arith,
-      elim c.if-cells-k-ne0.branch [
-        | then-cells-k-ne0 w ↦
-            subst (λ (x : ℕ). FilledBelow c.args.cells.now k x (at + 1)) (sym w.filled-is) (raised c.args.cells.now k filled at (omega arith) c.loop-j.invariant.1)
-        | else-cells-k-ne0 w ↦ subst (λ (x : ℕ). FilledBelow c.args.cells.now k x (at + 1)) (sym w.filled-is) (left c.args.cells.now k filled at w.if-cells-k-ne0.false c.loop-j.invariant.1)
-      ],
-    )
+    let cells = stretch c.args.cells.now c.args.k in
+    let j : ℕ = c.loop-j.j in
+    let inside : j < 32 = omega (arith, c.loop-j-test.true, stretch_length c.args.cells.now c.args.k c.requires.0) in
+    elim c.if-v-ne0.branch [
+      | then-v-ne0 w ↦ subst (λ (x : ℕ). FilledBelow cells x (j + 1)) (sym w.filled-is) (raised cells c.loop-j.filled j inside c.loop-j.invariant)
+      | else-v-ne0 w ↦ subst (λ (x : ℕ). FilledBelow cells x (j + 1)) (sym w.filled-is) (left cells c.loop-j.filled j w.if-v-ne0.false c.loop-j.invariant)
+    ]
 
-pub returns : goal.returns
-returns c = λ i u e. c.loop-j.invariant.1 i (omega arith) e
+pub returns-after-loop-j : goal.returns-after-loop-j
+returns-after-loop-j c = λ i u e.
+    sym (stretch_item c.args.cells.now c.args.k i u)
+    ∙ c.loop-j.invariant i (omega (arith, c.loop-j-test.false, stretch_length c.args.cells.now c.args.k c.requires.0)) e
+
+pub returns-else-has_filled : goal.returns-else-has_filled
+returns-else-has_filled c = λ i u e.
+    sym (stretch_item c.args.cells.now c.args.k i u)
+    ∙ c.has_filled.ensures c.if-has_filled.false i (omega (arith, stretch_length c.args.cells.now c.args.k c.requires.0))

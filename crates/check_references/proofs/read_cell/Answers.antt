@@ -13,6 +13,6 @@ pub overflow_cast-result : goal.overflow_cast-result
 overflow_cast-result c =
     omega (arith, c.type_inv.cells (32 * c.args.k + c.args.j))
 
-pub returns : goal.returns
-returns c =
+pub returns-else-made-j-ne0 : goal.returns-else-made-j-ne0
+returns-else-made-j-ne0 c =
     sym (read_plain c.args.made c.args.cells.now c.args.k c.args.j c.if-made-j-ne0.false)

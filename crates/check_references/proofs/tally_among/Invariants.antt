@@ -1,6 +1,6 @@
 -- `check_references::tally_among` meets its contract: the cells before the lowest bit that is left are tallied. The measure is the bits as
 -- a word.
-use Prim.Native.Nat.{◌<◌, ◌-◌, ◌^◌}
+use Prim.Native.Nat.{◌<◌, ◌^◌}
 use Rattle.check_references.proofs.Visited.{Visited}
 use Rattle.check_references.proofs.tally_among.Given as goal
 

@@ -1,5 +1,5 @@
 use mathlib.Core.Path.{◌≡◌, sym, ap, ◌∙◌, subst}
-use mathlib.Core.Bool.{Bool, true, false, true≢false}
+use mathlib.Core.Bool.{true≢false}
 use mathlib.Core.List.{List}
 use Prim.Native.Nat.{ℕ, ◌≤◌, ◌<◌, ◌-◌, ◌+◌, ◌*◌}
 use native.Mathlib.Omega.{arith}
@@ -11,7 +11,7 @@ use Rattle.rules.proofs.Tests.{some_true, some_false, true_some}
 use Rattle.map_objects.proofs.Walk.{walk_start}
 use Rattle.check_references.specs.Wild.{wild_cell, read_in, wild_in}
 use Rattle.check_references.specs.Tally.{Tallied}
-use Rattle.check_references.proofs.Tallies.{tallied_start, tallied_more, tallied_room}
+use Rattle.check_references.proofs.Tallies.{tallied_start, tallied_more}
 use Rattle.check_references.proofs.Eights.{last_before, eight_read, eight_wild}
 use Rattle.check_references.proofs.tally_cells.Goals as goal
 
@@ -22,38 +22,12 @@ byte_more read more at₀ at next k same t u =
     let end : 32 * k + 32 ≡ 32 * (k + 1) = omega arith in
     subst (λ (n : ℕ). Tallied read n at₀ next) end (tallied_more read at₀ more (32 * k) 32 at next same t u)
 
--- what the cells are read as, and whether they are wild
-abbrev reads-After-slice_known-1 : (c : goal.After-slice_known-1) → ℕ → ℕ
-reads-After-slice_known-1 c = ref_at c.args.blocks c.args.a.now c.args.b.now c.args.d.now c.args.cells.now
-
-abbrev wilds-After-slice_known-1 : (c : goal.After-slice_known-1) → ℕ → Bool
-wilds-After-slice_known-1 c = wild_cell c.args.blocks c.args.a.now c.args.b.now c.args.d.now c.args.cells.now
-
 pub loop-k-init : goal.loop-k-init
 loop-k-init c = (
-  omega arith,
   walk_start c.args.blocks c.args.a.now c.args.b.now c.args.d.now,
-  searched_start (wilds-After-slice_known-1 c) (4 * c.args.blocks),
-  tallied_start (reads-After-slice_known-1 c) c.args.at.now c.requires.7,
+  searched_start (wild_cell c.args.blocks c.args.a.now c.args.b.now c.args.d.now c.args.cells.now) (4 * c.args.blocks),
+  tallied_start (ref_at c.args.blocks c.args.a.now c.args.b.now c.args.d.now c.args.cells.now) c.args.at.now c.requires.7,
 )
-
-pub data_byte-made-requires : goal.data_byte-made-requires
-data_byte-made-requires c = (omega arith, omega arith, omega arith, omega arith, omega arith, c.loop-k.invariant.1)
-
--- what the cells are read as, and whether they are wild
-abbrev reads-After-tally_byte-arg-1 : (c : goal.After-tally_byte-arg-1) → ℕ → ℕ
-reads-After-tally_byte-arg-1 c = ref_at c.args.blocks c.args.a.now c.args.b.now c.args.d.now c.args.cells.now
-
-pub tally_byte-requires : goal.tally_byte-requires
-tally_byte-requires c = (
-  omega (arith, c.loop-k-test.true),
-  omega arith,
-  omega (arith, c.requires.6, c.loop-k.invariant.3.same_length),
-  tallied_room (reads-After-tally_byte-arg-1 c) c.args.at.now (32 * c.loop-k.k) c.loop-k.at c.loop-k.invariant.3,
-)
-
-abbrev wilds-Then-tally_byte : (c : goal.Then-tally_byte) → ℕ → Bool
-wilds-Then-tally_byte c = wild_cell c.args.blocks c.args.a.now c.args.b.now c.args.d.now c.args.cells.now
 
 pub returns-then-tally_byte : goal.returns-then-tally_byte
 returns-then-tally_byte c =
@@ -63,18 +37,11 @@ returns-then-tally_byte c =
     (sym c.tally_byte.ensures.told ∙ c.if-tally_byte.true) in
     record {
       told = sym
-          (true_some (wilds-Then-tally_byte c) (4 * c.args.blocks) (32 * k + found.0) (omega (arith, found.1, c.loop-k-test.true))
+          (true_some (wild_cell c.args.blocks c.args.a.now c.args.b.now c.args.d.now c.args.cells.now) (4 * c.args.blocks) (32 * k + found.0) (omega (arith, found.1, c.loop-k-test.true))
           (eight_wild c.args.blocks c.args.a.now c.args.b.now c.args.d.now k (omega (arith, c.loop-k-test.true))
           c.args.cells.now c.data_byte-made.result c.data_byte-made.ensures found.0 found.1 ∙ found.2));
       tallied = λ e. absurd (true≢false e);
     }
-
--- what the cells are read as, and whether they are wild
-abbrev reads-Else-tally_byte : (c : goal.Else-tally_byte) → ℕ → ℕ
-reads-Else-tally_byte c = ref_at c.args.blocks c.args.a.now c.args.b.now c.args.d.now c.args.cells.now
-
-abbrev wilds-Else-tally_byte : (c : goal.Else-tally_byte) → ℕ → Bool
-wilds-Else-tally_byte c = wild_cell c.args.blocks c.args.a.now c.args.b.now c.args.d.now c.args.cells.now
 
 pub loop-k-preserved : goal.loop-k-preserved
 loop-k-preserved c =
@@ -83,33 +50,25 @@ loop-k-preserved c =
     let made : ℕ = c.data_byte-made.result in
     let inside : 8 * (k + 1) ≤ N = omega (arith, c.loop-k-test.true) in
     let none = sym c.tally_byte.ensures.told ∙ c.if-tally_byte.false in (
-      omega (arith, c.loop-k-test.true),
       last_before N c.args.a.now c.args.b.now c.args.d.now k inside made (omega arith) c.data_byte-made.ensures,
       (
         omega (arith, inside),
-        none_further (wilds-Else-tally_byte c) (32 * k) (32 * (k + 1)) c.loop-k.invariant.2.1
+        none_further (wild_cell c.args.blocks c.args.a.now c.args.b.now c.args.d.now c.args.cells.now) (32 * k) (32 * (k + 1)) c.loop-k.invariant.1.1
             (λ i from to.
             let place : i ≡ 32 * k + (i - 32 * k) = omega arith in
-            ap (wilds-Else-tally_byte c) place
+            ap (wild_cell c.args.blocks c.args.a.now c.args.b.now c.args.d.now c.args.cells.now) place
             ∙ eight_wild N c.args.a.now c.args.b.now c.args.d.now k inside c.args.cells.now made c.data_byte-made.ensures (i - 32 * k) (omega arith)
             ∙ some_false (wild_in N (get_or c.args.a.now k 0) made c.args.cells.now k) 32 none (i - 32 * k) (omega arith)),
       ),
-      byte_more (reads-Else-tally_byte c) (read_in made c.args.cells.now k) c.args.at.now c.loop-k.at _ k
-          (eight_read N c.args.a.now c.args.b.now c.args.d.now k inside c.args.cells.now made c.data_byte-made.ensures) c.loop-k.invariant.3
+      byte_more (ref_at c.args.blocks c.args.a.now c.args.b.now c.args.d.now c.args.cells.now) (read_in made c.args.cells.now k) c.args.at.now c.loop-k.at _ k
+          (eight_read N c.args.a.now c.args.b.now c.args.d.now k inside c.args.cells.now made c.data_byte-made.ensures) c.loop-k.invariant.2
           (c.tally_byte.ensures.tallied c.if-tally_byte.false),
     )
 
--- what the cells are read as, and whether they are wild
-abbrev reads-After-loop-k : (c : goal.After-loop-k) → ℕ → ℕ
-reads-After-loop-k c = ref_at c.args.blocks c.args.a.now c.args.b.now c.args.d.now c.args.cells.now
-
-abbrev wilds-After-loop-k : (c : goal.After-loop-k) → ℕ → Bool
-wilds-After-loop-k c = wild_cell c.args.blocks c.args.a.now c.args.b.now c.args.d.now c.args.cells.now
-
 pub returns : goal.returns
 returns c =
-    let done : 32 * c.loop-k.k ≡ 4 * c.args.blocks = omega (arith, c.loop-k.invariant.0) in
+    let done : 32 * c.loop-k.k ≡ 4 * c.args.blocks = omega (arith, c.loop-k.auto.k-end) in
     record {
-      told = searched_all (wilds-After-loop-k c) (4 * c.args.blocks) (32 * c.loop-k.k) c.loop-k.invariant.2 (omega arith);
-      tallied = λ e. subst (λ (n : ℕ). Tallied (reads-After-loop-k c) n c.args.at.now c.loop-k.at) done c.loop-k.invariant.3;
+      told = searched_all (wild_cell c.args.blocks c.args.a.now c.args.b.now c.args.d.now c.args.cells.now) (4 * c.args.blocks) (32 * c.loop-k.k) c.loop-k.invariant.1 (omega arith);
+      tallied = λ e. subst (λ (n : ℕ). Tallied (ref_at c.args.blocks c.args.a.now c.args.b.now c.args.d.now c.args.cells.now) n c.args.at.now c.loop-k.at) done c.loop-k.invariant.2;
     }

@@ -1,7 +1,6 @@
--- `check_references::tally_cells` meets its contract: the cells of the bytes before are tallied, none of them wild. The measure is what is
--- left of the bytes.
+-- `check_references::tally_cells` meets its contract: the cells of the bytes before are tallied, none of them wild.
 use mathlib.Core.Path.{◌≡◌}
-use Prim.Native.Nat.{◌≤◌, ◌-◌, ◌*◌}
+use Prim.Native.Nat.{◌*◌}
 use Rattle.rules.specs.Heap.{ref_at}
 use Rattle.rules.proofs.Searches.{Searched}
 use Rattle.map_objects.specs.Walk.{data_before}
@@ -11,8 +10,5 @@ use Rattle.check_references.proofs.tally_cells.Given as goal
 
 abbrev pub invariant-loop-k : goal.invariant-loop-k
 invariant-loop-k l =
-    (l.k ≤ l.bytes) × (l.before ≡ data_before l.blocks l.a l.b l.d (8 * l.k)) × Searched (wild_cell l.blocks l.a l.b l.d l.cells) (4 * l.blocks) (32 * l.k)
+    (l.before ≡ data_before l.blocks l.a l.b l.d (8 * l.k)) × Searched (wild_cell l.blocks l.a l.b l.d l.cells) (4 * l.blocks) (32 * l.k)
     × Tallied (ref_at l.blocks l.a l.b l.d l.cells) (32 * l.k) l.initial.at l.at
-
-abbrev pub decreases-loop-k : goal.decreases-loop-k
-decreases-loop-k l = l.bytes - l.k
