@@ -13,6 +13,7 @@ ghost use Rattle.work_place.specs.Born.{born_marks};
 use types::Ref;
 
 // The object at block i is marked where a collection is open (request U8).
+#[tactic(auto, unfolding(crate::specs::Born::born_marks))]
 fn mark_born(blocks: usize, marks: &mut [u8], list: &[Ref], i: usize)
     requires { (i < 8 * length marks.old) × (blocks < length list.now) }
     ensures { marks.new ≡ born_marks blocks marks.old list.now i }
