@@ -1,9 +1,10 @@
 -- Counting down, by the ways the code goes: each leaves what `count_down` gives, and a stack with room for the rest.
 use mathlib.Core.Path.{◌≡◌, refl, sym, ap, ◌∙◌}
-use mathlib.Core.Logic.{◌≢◌, inr}
+use mathlib.Core.Logic.{◌≢◌, inl, inr}
 use mathlib.Core.Bool.{true, false}
 use mathlib.Core.List.{List, ◌∷◌}
 use Prim.Native.Nat.{ℕ, zero, suc, ◌+◌, ◌-◌, ◌/◌, ◌^◌, ◌≤◌, ◌<◌}
+use native.Mathlib.Nat.{eq-zero-or-pos}
 use native.Mathlib.Numerals.{add-one}
 use native.Mathlib.Omega.{arith}
 use lib.Pow.{pow_mono}
@@ -31,38 +32,53 @@ pub record Lowered (N w : ℕ) (counts waiting : List ℕ) (top v x : ℕ) (coun
   pub more : x ≢ 1 → Down N w counts waiting top v counts' waiting top
 
 module _ {N w : ℕ} {counts waiting : List ℕ} {top : ℕ} (p : Planes N w counts) (s : Stack counted N w counts waiting top) {v : ℕ} where
-  pub down_none : v ≡ 0 → Down N w counts waiting top v counts waiting top
-  unfolding count_down
-  down_none e = unchanged p s (rw (eq-eqb v 0 e, count_down))
-
   -- no block is named by v
-  pub down_past : v ≢ 0 → N < v → Down N w counts waiting top v counts waiting top
+  pub down_unnamed : (1 ≤ v → N < v) → Down N w counts waiting top v counts waiting top
   unfolding count_down
-  down_past nv past = unchanged p s (rw (ne_eqb v 0 nv, lt-ltb N v past, count_down))
-
-  -- a block that v names has count 0 already, which is below the capacity: writing 0 once more changes nothing
-  pub down_zero : v ≢ 0 → v ≤ N → count_at (N / 8) w counts (v - 1) ≡ 0 → Down N w counts waiting top v counts waiting top
-  unfolding count_down
-  down_zero nv inside zero-there =
-      let least : 2 ^ 1 ≤ 2 ^ w = pow_mono {i = 1} p.some in
-      let below : count_at (N / 8) w counts (v - 1) ≢ capacity w = λ d. omega arith in
-      unchanged p s
-      (rw (ne_eqb v 0 nv, le-ltb N v inside, ne_eqb _ _ below, zero-there, count_down)
-      (ap (λ (l : List ℕ). work l (top_first waiting top)) (sym (set_count_there (N / 8) w counts (v - 1) 0 zero-there))))
+  down_unnamed past = unchanged p s (elim (eq-zero-or-pos v) [
+    | inl e ↦ rw (eq-eqb v 0 e, count_down)
+    | inr some ↦ rw (ne_eqb v 0 (λ e. omega arith), lt-ltb N v (past some), count_down)
+  ])
 
   -- v names a block; its count was read as x, and y is the capacity
-  module _ {x y : ℕ} (inside : v ≤ N) (nv : v ≢ 0) (ex : x ≡ count_at (N / 8) w counts (v - 1)) (ey : y ≡ capacity w) where
+  module _ {x y : ℕ} (block : ℕ) (named : block + 1 ≡ v) (within : block < N) (read : x ≡ count_at (N / 8) w counts block) (ey : y ≡ capacity w) where
+    there : block ≡ v - 1
+    there = omega arith
+
+    nv : v ≢ 0
+    nv e = omega arith
+
+    inside : v ≤ N
+    inside = omega arith
+
+    ex : x ≡ count_at (N / 8) w counts (v - 1)
+    ex = read ∙ ap (count_at (N / 8) w counts) there
+
+    -- a count of 0 is below the capacity: writing 0 once more changes nothing
+    pub down_zero : x ≡ 0 → Down N w counts waiting top v counts waiting top
+    unfolding count_down
+    down_zero e =
+        let zero-there = sym ex ∙ e in
+        let least : 2 ^ 1 ≤ 2 ^ w = pow_mono {i = 1} p.some in
+        let below : count_at (N / 8) w counts (v - 1) ≢ capacity w = λ d. omega arith in
+        unchanged p s
+        (rw (ne_eqb v 0 nv, le-ltb N v inside, ne_eqb _ _ below, zero-there, count_down)
+        (ap (λ (l : List ℕ). work l (top_first waiting top)) (sym (set_count_there (N / 8) w counts (v - 1) 0 zero-there))))
+
     pub down_stuck : x ≡ y → Down N w counts waiting top v counts waiting top
     unfolding count_down
     down_stuck e = unchanged p s (rw (ne_eqb v 0 nv, le-ltb N v inside, eq-eqb _ _ (sym ex ∙ e ∙ ey), count_down))
 
     -- the count was written: it is x - 1 now, and x was neither 0 nor the capacity
-    module _ {counts' : List ℕ} (written : counts' ≡ set_count (N / 8) w counts (v - 1) (x - 1)) (nx : x ≢ 0) (ny : x ≢ y) where
-      block : v - 1 < N
-      block = omega arith
+    module _ {counts' : List ℕ} (wrote : counts' ≡ set_count (N / 8) w counts block (x - 1)) (nx : x ≢ 0) (ny : x ≢ y) where
+      written : counts' ≡ set_count (N / 8) w counts (v - 1) (x - 1)
+      written = wrote ∙ ap (λ (b : ℕ). set_count (N / 8) w counts b (x - 1)) there
+
+      below_end : v - 1 < N
+      below_end = omega arith
 
       fits : x - 1 < 2 ^ w
-      fits = omega (arith, count_lt (N / 8) w counts (v - 1))
+      fits = omega (arith, ex, count_lt (N / 8) w counts (v - 1))
 
       below : count_at (N / 8) w counts (v - 1) ≢ capacity w
       below e = ny (ex ∙ e ∙ sym ey)
@@ -74,12 +90,12 @@ module _ {N w : ℕ} {counts waiting : List ℕ} {top : ℕ} (p : Planes N w cou
       none e = rw e
 
       place : x ≡ 1 → top < length waiting
-      place e = push_room p s (v - 1) (x - 1) block fits written had (none e)
+      place e = push_room p s (v - 1) (x - 1) below_end fits written had (none e)
 
       down_last : x ≡ 1 → Down N w counts waiting top v counts' (set waiting top (v - 1)) (top + 1)
       unfolding count_down
       down_last e =
-          pushed p s (v - 1) (x - 1) block fits written had (none e)
+          pushed p s (v - 1) (x - 1) below_end fits written had (none e)
           (rw (ne_eqb v 0 nv, le-ltb N v inside, ne_eqb _ _ below, eq-eqb _ 1 (sym ex ∙ e), ← ex, count_down)
           (ap (λ (c : List ℕ). work c ((v - 1) ∷ top_first waiting top)) written))
 
@@ -87,7 +103,7 @@ module _ {N w : ℕ} {counts waiting : List ℕ} {top : ℕ} (p : Planes N w cou
       unfolding count_down
       down_more d =
           let some : counted (x - 1) ≡ true = rw (ne_eqb (x - 1) 0 (λ e. omega arith)) in
-          kept p s (v - 1) (x - 1) block fits written (some ∙ sym had)
+          kept p s (v - 1) (x - 1) below_end fits written (some ∙ sym had)
           (rw (ne_eqb v 0 nv, le-ltb N v inside, ne_eqb _ _ below, ne_eqb _ 1 (λ e. d (ex ∙ e)), ← ex, count_down)
           (ap (λ (c : List ℕ). work c (top_first waiting top)) written))
 
@@ -96,17 +112,14 @@ module _ {N w : ℕ} {counts waiting : List ℕ} {top : ℕ} (p : Planes N w cou
 
 -- ---- the cells of a run, counted down one by one
 
--- one cell more: the cells before it are 0 already, and it still holds what it held
+-- one cell more
 pub each_more :
-    {N w left top top' : ℕ} {counts waiting cells' counts' waiting' : List ℕ} (s : Work) (cells : List ℕ) (j i : ℕ)
-    → cells' ≡ clear_cells cells j i
+    {N w left top top' : ℕ} {counts waiting counts' waiting' : List ℕ} (s : Work) (cells : List ℕ) (j i : ℕ) {v : ℕ} → v ≡ get_or cells (j + i) 0
     → Worked counted N w (count_down_each N w s cells j i) left counts waiting top
-    → Down N w counts waiting top (get_or cells' (j + i) 0) counts' waiting' top'
+    → Down N w counts waiting top v counts' waiting' top'
     → Worked counted N w (count_down_each N w s cells j (i + 1)) left counts' waiting' top'
 unfolding count_down_each
-each_more {N} {w} {cells' = cells'} s cells j i cleared =
-    let held = ap (λ (x : List ℕ). get_or x (j + i) 0) cleared ∙ clear_out cells j i (j + i) (inr (omega arith)) in
-    worked_next (λ x. count_down N w x (get_or cells' (j + i) 0)) (rw (add-one, held))
+each_more {N} {w} s cells j i {v} read = worked_next (λ x. count_down N w x v) (rw (add-one, read))
 
 -- ---- .. and several at once
 

@@ -11,6 +11,7 @@ ghost use Rattle.count_up.specs.Ready.{Planes};
 ghost use Rattle.count_up.specs.Stack.{top_first, counted, remaining, Stack, Worked};
 
 use map_objects::lists::any_of_four;
+use map_objects::names::named_block;
 use types::Ref;
 
 // Counts down the object that v names, if any; where its count comes to 0 it goes onto the stack. The stack's new height.
@@ -28,61 +29,25 @@ pub fn count_down(
         (remaining counted blocks width counts.old top)
         counts.new waiting.new result }
 {
-    if v == 0 {
+    let Some(block) = named_block(blocks, v) else {
         return top;
-    }
-    // Past the last block: it names no object.
-    if blocks < v as usize {
-        return top;
-    }
-    let block = v as usize - 1;
+    };
     let count = planes::get_count(counts, blocks / 8, width, block);
-    // Never so on an undamaged heap, where what is named has a count; it keeps `count - 1` in range.
-    if count == 0 {
-        return top;
-    }
-    if count == types::capacity_of(width) {
+    // 0 never on an undamaged heap, where what is named has a count: the test keeps `count - 1` in range.
+    if count == 0 || count == types::capacity_of(width) {
         return top;
     }
     planes::set_count(counts, blocks / 8, width, block, count - 1);
     if count == 1 {
         waiting[top] = v - 1;
-        return top + 1;
+        top + 1
+    } else {
+        top
     }
-    top
 }
 
-// Clears the n cells from cell j on, and counts down what each named.
-fn drop_each(
-    blocks: usize,
-    width: usize,
-    counts: &mut [u8],
-    cells: &mut [Ref],
-    waiting: &mut [Ref],
-    j: usize,
-    n: usize,
-    top: usize,
-) -> usize
-    requires { Planes blocks width counts.old × Stack counted blocks width counts.old waiting.old top
-        × (j + n ≤ length cells.old) }
-    ensures { Worked counted blocks width
-        (count_down_each blocks width (work counts.old (top_first waiting.old top)) cells.old j n)
-        (remaining counted blocks width counts.old top)
-        counts.new waiting.new result
-        × (cells.new ≡ clear_cells cells.old j n) }
-{
-    let mut t = top;
-    let mut i = 0;
-    while i < n {
-        let v = cells[j + i];
-        cells[j + i] = 0;
-        t = count_down(blocks, width, counts, waiting, v, t);
-        i += 1;
-    }
-    t
-}
-
-// The same for the four cells of a block, from cell j on. Where they are 0, as most are, they named nothing, and nothing is written.
+// Clears the four cells of a block, from cell j on, and counts down what they named. Where they are 0, as most are, they named nothing,
+// and nothing is written.
 fn drop_four(
     blocks: usize,
     width: usize,
@@ -90,7 +55,7 @@ fn drop_four(
     cells: &mut [Ref],
     waiting: &mut [Ref],
     j: usize,
-    top: usize,
+    mut top: usize,
 ) -> usize
     requires { Planes blocks width counts.old × Stack counted blocks width counts.old waiting.old top
         × (j + 4 ≤ length cells.old) }
@@ -103,7 +68,11 @@ fn drop_four(
     if any_of_four(cells, j) == 0 {
         return top;
     }
-    drop_each(blocks, width, counts, cells, waiting, j, 4, top)
+    for &v in &cells[j..j + 4] {
+        top = count_down(blocks, width, counts, waiting, v, top);
+    }
+    map_extents::clear_cells(cells, j, 4);
+    top
 }
 
 // The same for the n cells of whole blocks, from cell j on.
@@ -115,7 +84,7 @@ fn drop_cells(
     waiting: &mut [Ref],
     j: usize,
     n: usize,
-    top: usize,
+    mut top: usize,
 ) -> usize
     requires { Planes blocks width counts.old × Stack counted blocks width counts.old waiting.old top
         × (j + n ≤ length cells.old) × (n % 4 ≡ 0) }
@@ -125,13 +94,10 @@ fn drop_cells(
         counts.new waiting.new result
         × (cells.new ≡ clear_cells cells.old j n) }
 {
-    let mut t = top;
-    let mut i = 0;
-    while i < n {
-        t = drop_four(blocks, width, counts, cells, waiting, j + i, t);
-        i += 4;
+    for i in 0..n / 4 {
+        top = drop_four(blocks, width, counts, cells, waiting, j + 4 * i, top);
     }
-    t
+    top
 }
 
 // How many cells of the object of n blocks at block i may name others: of data none. Its D bit becomes 0.
@@ -142,9 +108,10 @@ fn end_kind(d: &mut [u8], i: usize, n: usize) -> usize
     // Where the bit is 0, as in all but data, nothing is written.
     if bitmap::get_bit(d, i) == 1 {
         bitmap::set_bit(d, i, 0);
-        return 0;
+        0
+    } else {
+        4 * n
     }
-    4 * n
 }
 
 // The cells and the D bit of the object of n blocks at block i, which is freed, are cleared, and what its cells named is counted
@@ -179,7 +146,7 @@ pub fn drop_object(
     let all = 4 * n;
     let named = end_kind(d, i, n);
     step_marks::shade_freed(blocks, cells, marks, i, named, shade);
-    let t = drop_cells(blocks, width, counts, cells, waiting, 4 * i, named, top);
+    let top = drop_cells(blocks, width, counts, cells, waiting, 4 * i, named, top);
     map_extents::clear_cells(cells, 4 * i + named, all - named);
-    t
+    top
 }

@@ -6,6 +6,7 @@ ghost use Rattle.std.specs.Prelude.{◌≡◌, ◌≤◌};
 ghost use Rattle.rules_stores.specs.Store.{count_up, sticks};
 ghost use Rattle.count_up.specs.Ready.{Planes};
 
+use map_objects::names::named_block;
 use types::Ref;
 
 // Counts up the object that v names, if any. Whether this very step brought its count to the capacity.
@@ -14,10 +15,9 @@ pub fn count_up(blocks: usize, width: usize, counts: &mut [u8], v: Ref) -> bool
     ensures { (counts.new ≡ count_up blocks width counts.old v)
         × (result ≡ sticks blocks width counts.old v) }
 {
-    if v == 0 {
+    let Some(block) = named_block(blocks, v) else {
         return false;
-    }
-    let block = v as usize - 1;
+    };
     let count = planes::get_count(counts, blocks / 8, width, block);
     let most = types::capacity_of(width);
     if count == most {

@@ -3,5 +3,6 @@
 #![tactic(auto)]
 
 pub mod lists;
+pub mod names;
 pub mod numbers;
 pub mod objects;

@@ -27,7 +27,7 @@ pub fn release_all(
     sections: &mut [Ref],
     d: &mut [u8],
     marks: &mut [u8],
-    top: usize,
+    mut top: usize,
     shade: bool,
 ) -> usize
     requires { Planes blocks width counts.old × Extents blocks a.old b.old cells.old d.old
@@ -49,16 +49,16 @@ pub fn release_all(
         (top_first waiting.old top) marks.old)
         × (result ≤ max_blocks * max_blocks) }
 {
-    let mut freed: usize = 0;
-    let mut t = top;
-    while 0 < t {
-        t -= 1;
-        let i = waiting[t] as usize;
-        waiting[t] = 0;
+    let mut freed = 0;
+    // A `while`, since it empties a stack, which each turn may heighten again.
+    while 0 < top {
+        top -= 1;
+        let i = waiting[top] as usize;
+        waiting[top] = 0;
         let n = map_objects::objects::object_size(blocks, b, i);
         section_extents::clear_extent(blocks, a, b, sections, i, n);
-        t = count_down::drop_object(
-            blocks, width, counts, cells, waiting, d, marks, i, n, t, shade,
+        top = count_down::drop_object(
+            blocks, width, counts, cells, waiting, d, marks, i, n, top, shade,
         );
         freed += n;
     }

@@ -1,9 +1,10 @@
 -- Survivors: the references that name them, a run of cells, and the stack when a count is made 0.
 use mathlib.Core.Path.{◌≡◌, refl, sym, ap, ◌∙◌}
-use mathlib.Core.Logic.{◌≢◌, inr}
+use mathlib.Core.Logic.{◌≢◌, inl, inr}
 use mathlib.Core.Bool.{Bool, true, false}
 use mathlib.Core.List.{List}
-use Prim.Native.Nat.{ℕ, ◌+◌, ◌-◌, ◌*◌, ◌/◌, ◌^◌, ◌<◌}
+use Prim.Native.Nat.{ℕ, ◌+◌, ◌-◌, ◌*◌, ◌/◌, ◌^◌, ◌≤◌, ◌<◌}
+use native.Mathlib.Nat.{eq-zero-or-pos}
 use native.Mathlib.Numerals.{add-one}
 use native.Mathlib.Decide.{ℕ_discrete}
 use native.Mathlib.Omega.{arith}
@@ -12,8 +13,7 @@ use lib.Pow.{pow_pos}
 use Rattle.bitmap.specs.Bit.{bit_at, one}
 use Rattle.bitmap.proofs.Maps.{bit_past_end}
 use Rattle.planes.specs.Plane.{count_at, set_count}
-use Rattle.map_objects.proofs.Cells.{clear_out}
-use Rattle.rules_stores.specs.Store.{Work, work, count_down, clear_cells}
+use Rattle.rules_stores.specs.Store.{Work, work, count_down}
 use Rattle.count_up.specs.Ready.{Planes}
 use Rattle.count_up.specs.Stack.{top_first, counted, passing, remaining, Stack, Worked}
 use Rattle.count_up.proofs.Counts.{count_written, count_kept, passing_set}
@@ -25,7 +25,7 @@ use Rattle.step_close.specs.Close.{to_survivor, count_down_survivors}
 -- ---- one reference
 
 module _ (v : ℕ) (marks : List ℕ) where
-  pub survivor_none : v ≡ 0 → 0 ≡ to_survivor marks v
+  survivor_none : v ≡ 0 → 0 ≡ to_survivor marks v
   unfolding to_survivor
   survivor_none e = go (is_set marks (v - 1))
     where
@@ -37,30 +37,35 @@ module _ (v : ℕ) (marks : List ℕ) where
   unfolding to_survivor
   dead e = rw (e, to_survivor)
 
-  pub survivor_past : {N : ℕ} → N ≡ 8 * length marks → N < v → 0 ≡ to_survivor marks v
+  survivor_past : {N : ℕ} → N ≡ 8 * length marks → N < v → 0 ≡ to_survivor marks v
   survivor_past whole past = dead (clear_is marks (v - 1) (λ q. omega (arith, bit_past_end marks (v - 1) (omega arith))))
 
-  pub survivor_unmarked : bit_at marks (v - 1) ≢ 1 → 0 ≡ to_survivor marks v
-  survivor_unmarked n = dead (clear_is marks (v - 1) n)
+  -- v names no block
+  pub survivor_unnamed : {N : ℕ} → N ≡ 8 * length marks → (1 ≤ v → N < v) → 0 ≡ to_survivor marks v
+  survivor_unnamed whole past = elim (eq-zero-or-pos v) [ inl e ↦ survivor_none e | inr some ↦ survivor_past whole (past some) ]
 
-  pub survivor_marked : bit_at marks (v - 1) ≡ 1 → v ≡ to_survivor marks v
-  unfolding to_survivor
-  survivor_marked e = rw (set_is marks (v - 1) e, to_survivor)
+  -- v names a block
+  module _ (block : ℕ) (named : block + 1 ≡ v) where
+    there : v - 1 ≡ block
+    there = omega arith
+
+    pub survivor_unmarked : bit_at marks block ≢ 1 → 0 ≡ to_survivor marks v
+    survivor_unmarked n = dead (rw there (clear_is marks block n))
+
+    pub survivor_marked : bit_at marks block ≡ 1 → v ≡ to_survivor marks v
+    unfolding to_survivor
+    survivor_marked e = rw (there, set_is marks block e, to_survivor)
 
 -- ---- a run of cells
 
 pub survivors_more :
-    {N w left top top' : ℕ} {counts waiting cells' counts' waiting' : List ℕ} (marks : List ℕ) (s : Work) (cells : List ℕ) (j i : ℕ) {v : ℕ}
-    → cells' ≡ clear_cells cells j i → v ≡ to_survivor marks (get_or cells' (j + i) 0)
+    {N w left top top' : ℕ} {counts waiting counts' waiting' : List ℕ} (marks : List ℕ) (s : Work) (cells : List ℕ) (j i : ℕ) {v : ℕ}
+    → v ≡ to_survivor marks (get_or cells (j + i) 0)
     → Worked counted N w (count_down_survivors N w marks s cells j i) left counts waiting top
     → Worked counted N w (count_down N w (work counts (top_first waiting top)) v) (remaining counted N w counts top) counts' waiting' top'
     → Worked counted N w (count_down_survivors N w marks s cells j (i + 1)) left counts' waiting' top'
 unfolding count_down_survivors
-survivors_more {N} {w} marks s cells j i {v} cleared at =
-    let held = at ∙ ap (λ (x : List ℕ). to_survivor marks (get_or x (j + i) 0)) cleared
-    ∙ ap (to_survivor marks) (clear_out cells j i (j + i) (inr (omega arith))) in
-    worked_next (λ x. count_down N w x v)
-    (ap (count_down N w (count_down_survivors N w marks s cells j i)) held ∙ sym (ap (λ (k : ℕ). count_down_survivors N w marks s cells j k) (add-one i)))
+survivors_more {N} {w} marks s cells j i {v} at = worked_next (λ x. count_down N w x v) (rw (add-one, at))
 
 -- ---- a count made 0
 

@@ -24,6 +24,7 @@ ghost use Rattle.step_close.specs.Close.{
   Standing,
 };
 
+use map_objects::names::named_block;
 use types::Ref;
 
 // v where it names a marked block, else 0.
@@ -31,48 +32,10 @@ fn survivor(blocks: usize, marks: &[u8], v: Ref) -> Ref
     requires { blocks ≡ 8 * length marks.now }
     ensures { result ≡ to_survivor marks.now v }
 {
-    if v == 0 {
-        return 0;
+    match named_block(blocks, v) {
+        Some(block) if bitmap::get_bit(marks, block) == 1 => v,
+        _ => 0,
     }
-    // Past the last block: it names no object.
-    if blocks < v as usize {
-        return 0;
-    }
-    if bitmap::get_bit(marks, v as usize - 1) == 1 {
-        return v;
-    }
-    0
-}
-
-// Clears the n cells from cell j on, and counts down the survivors that they named.
-fn drop_survivors(
-    blocks: usize,
-    width: usize,
-    counts: &mut [u8],
-    cells: &mut [Ref],
-    waiting: &mut [Ref],
-    marks: &[u8],
-    j: usize,
-    n: usize,
-    top: usize,
-) -> usize
-    requires { Planes blocks width counts.old × Stack counted blocks width counts.old waiting.old top
-        × (j + n ≤ length cells.old) × (blocks ≡ 8 * length marks.now) }
-    ensures { Worked counted blocks width
-        (count_down_survivors blocks width marks.now (work counts.old (top_first waiting.old top)) cells.old j n)
-        (remaining counted blocks width counts.old top)
-        counts.new waiting.new result
-        × (cells.new ≡ clear_cells cells.old j n) }
-{
-    let mut t = top;
-    let mut i = 0;
-    while i < n {
-        let v = survivor(blocks, marks, cells[j + i]);
-        cells[j + i] = 0;
-        t = count_down::count_down(blocks, width, counts, waiting, v, t);
-        i += 1;
-    }
-    t
 }
 
 // The cells and the D bit of the unmarked object of n blocks at block i are cleared, and the survivors that
@@ -87,7 +50,7 @@ fn drop_doomed(
     marks: &[u8],
     i: usize,
     n: usize,
-    top: usize,
+    mut top: usize,
 ) -> usize
     requires { Planes blocks width counts.old × Stack counted blocks width counts.old waiting.old top
         × (i + n ≤ blocks) × (i < blocks) × (length cells.old ≡ 4 * blocks) × (blocks ≤ 8 * length d.old)
@@ -102,19 +65,12 @@ fn drop_doomed(
 {
     let named = map_objects::objects::naming_cells(d, i, n);
     bitmap::set_bit(d, i, 0);
-    let t = drop_survivors(
-        blocks,
-        width,
-        counts,
-        cells,
-        waiting,
-        marks,
-        4 * i,
-        named,
-        top,
-    );
-    map_extents::clear_cells(cells, 4 * i + named, 4 * n - named);
-    t
+    for &v in &cells[4 * i..4 * i + named] {
+        let v = survivor(blocks, marks, v);
+        top = count_down::count_down(blocks, width, counts, waiting, v, top);
+    }
+    map_extents::clear_cells(cells, 4 * i, 4 * n);
+    top
 }
 
 // Where the pass stands: the stack's height, and the blocks freed.
@@ -151,17 +107,14 @@ fn close_one(
         × Standing blocks width a.new b.new counts.new cells.new waiting.new sections.new
         d.new result.top }
 {
-    if !map_objects::objects::is_first(blocks, a, b, i) {
-        return Pass { top: top, freed: 0 };
-    }
-    if bitmap::get_bit(marks, i) == 1 {
-        return Pass { top: top, freed: 0 };
+    if !map_objects::objects::is_first(blocks, a, b, i) || bitmap::get_bit(marks, i) == 1 {
+        return Pass { top, freed: 0 };
     }
     let n = map_objects::objects::object_size(blocks, b, i);
     section_extents::clear_extent(blocks, a, b, sections, i, n);
     planes::set_count(counts, blocks / 8, width, i, 0);
-    let t = drop_doomed(blocks, width, counts, cells, waiting, d, marks, i, n, top);
-    Pass { top: t, freed: n }
+    let top = drop_doomed(blocks, width, counts, cells, waiting, d, marks, i, n, top);
+    Pass { top, freed: n }
 }
 
 // Frees each unmarked object, and counts down the survivors that these named.
@@ -190,20 +143,15 @@ fn close_pass(
         d.new result.top }
 {
     let mut top = 0;
-    let mut freed: usize = 0;
-    let mut i = 0;
-    while i < blocks {
+    let mut freed = 0;
+    for i in 0..blocks {
         let one = close_one(
             blocks, width, a, b, counts, cells, waiting, sections, d, marks, i, top,
         );
         top = one.top;
         freed += one.freed;
-        i += 1;
     }
-    Pass {
-        top: top,
-        freed: freed,
-    }
+    Pass { top, freed }
 }
 
 // The close: unmarked objects are freed with what this lets go of. The number of blocks freed. The caller

@@ -1,10 +1,10 @@
 -- Laws of the marks that code writes: each step, and the map's length.
 use mathlib.Core.Path.{◌≡◌, refl, sym, ap, ◌∙◌}
-use mathlib.Core.Logic.{◌≢◌}
+use mathlib.Core.Logic.{◌≢◌, inl, inr}
 use mathlib.Core.Bool.{Bool, true, false, ◌||◌}
 use mathlib.Core.List.{List}
 use Prim.Native.Nat.{ℕ, zero, suc, ◌+◌, ◌-◌, ◌*◌, ◌/◌, ◌%◌, ◌^◌, ◌≤◌, ◌<◌}
-use native.Mathlib.Nat.{pow-suc}
+use native.Mathlib.Nat.{eq-zero-or-pos, pow-suc}
 use native.Mathlib.Numerals.{add-one}
 use native.Mathlib.Omega.{arith}
 use lib.Bits.{bit_or, or_step, or_add_and, and_le_r}
@@ -15,7 +15,7 @@ use borrow.Author.Tests.{eq-eqb, ne_eqb, lt-ltb, le-ltb}
 use Rattle.bitmap.specs.Bit.{put_bit, set_bit}
 use Rattle.bitmap.proofs.Bits.{put_zero, put_suc}
 use Rattle.bitmap.proofs.Maps.{length_set_bit}
-use Rattle.step_marks.specs.Marks.{mark_one, mark_named, freed_marks, mark_touched}
+use Rattle.step_marks.specs.Marks.{mark_one, mark_named, freed_marks}
 
 -- ---- a 1 written by an or
 
@@ -51,6 +51,15 @@ module _ (N : ℕ) (map : List ℕ) {v : ℕ} where
   unfolding mark_one
   mark_some e l = rw (ne_eqb v 0 e, le-ltb N v l, mark_one)
 
+  -- .. by whether v names a block
+  pub mark_unnamed : (1 ≤ v → N < v) → map ≡ mark_one N map v
+  mark_unnamed past = elim (eq-zero-or-pos v) [ inl e ↦ mark_none e | inr some ↦ mark_past (λ e. omega arith) (past some) ]
+
+  pub mark_block : {block : ℕ} {marks : List ℕ} → block + 1 ≡ v → block < N → marks ≡ set_bit map block 1 → marks ≡ mark_one N map v
+  mark_block {block} named inside done =
+      let there : block ≡ v - 1 = omega arith in
+      done ∙ ap (λ (k : ℕ). set_bit map k 1) there ∙ mark_some (λ e. omega arith) (omega arith)
+
 pub length_mark_one : (N : ℕ) (map : List ℕ) (v : ℕ) → length (mark_one N map v) ≡ length map
 unfolding mark_one
 length_mark_one N map v = go (eqb v 0 || ltb N v)
@@ -83,10 +92,3 @@ module _ {shade : Bool} (N : ℕ) (map cells : List ℕ) (i n : ℕ) where
   pub freed_shut : shade ≡ false → map ≡ freed_marks shade N map cells i n
   unfolding freed_marks
   freed_shut e = rw (e, freed_marks)
-
--- the three references of a store, one after another
-pub mark_three :
-    (N : ℕ) (map : List ℕ) (owner old new : ℕ) {first second third : List ℕ} → first ≡ mark_one N map owner → second ≡ mark_one N first old
-    → third ≡ mark_one N second new → third ≡ mark_touched N map owner old new
-mark_three N map owner old new e f g =
-    g ∙ ap (λ (m : List ℕ). mark_one N m new) (f ∙ ap (λ (m : List ℕ). mark_one N m old) e)

@@ -7,6 +7,7 @@ ghost use Rattle.std.specs.Prelude.{◌≡◌, ◌+◌, ◌*◌, ◌<◌, ◌≤
 ghost use Rattle.bitmap.specs.Bit.{set_bit};
 ghost use Rattle.step_marks.specs.Marks.{mark_one, mark_named, freed_marks, mark_touched};
 
+use map_objects::names::named_block;
 use types::Ref;
 
 // Bit i of the map becomes 1.
@@ -14,7 +15,7 @@ pub fn set_mark(marks: &mut [u8], i: usize)
     requires { i < 8 * length marks.old }
     ensures { marks.new ≡ set_bit marks.old i 1 }
 {
-    marks[i / 8] = marks[i / 8] | (1u8 << (i % 8));
+    marks[i / 8] |= 1 << (i % 8);
 }
 
 // The object that v names, if any, is marked.
@@ -22,25 +23,8 @@ pub fn mark_one(blocks: usize, marks: &mut [u8], v: Ref)
     requires { blocks ≤ 8 * length marks.old }
     ensures { marks.new ≡ mark_one blocks marks.old v }
 {
-    if v == 0 {
-        return;
-    }
-    // Past the last block: it names no object.
-    if blocks < v as usize {
-        return;
-    }
-    set_mark(marks, v as usize - 1);
-}
-
-// What the n cells from cell j on name is marked.
-fn mark_cells(blocks: usize, cells: &[Ref], marks: &mut [u8], j: usize, n: usize)
-    requires { (blocks ≤ 8 * length marks.old) × (j + n ≤ length cells.now) }
-    ensures { marks.new ≡ mark_named blocks marks.old cells.now j n }
-{
-    let mut k = 0;
-    while k < n {
-        mark_one(blocks, marks, cells[j + k]);
-        k += 1;
+    if let Some(block) = named_block(blocks, v) {
+        set_mark(marks, block);
     }
 }
 
@@ -52,7 +36,9 @@ pub fn shade_freed(blocks: usize, cells: &[Ref], marks: &mut [u8], i: usize, n: 
 {
     if shade {
         bitmap::set_bit(marks, i, 0);
-        mark_cells(blocks, cells, marks, 4 * i, n);
+        for &v in &cells[4 * i..4 * i + n] {
+            mark_one(blocks, marks, v);
+        }
     }
 }
 

@@ -12,19 +12,8 @@ ghost use Rattle.work_place.specs.Born.{born_marks};
 
 use types::Ref;
 
-// The D bit of the object at block i says whether it is made as data.
-fn set_kind(d: &mut [u8], i: usize, as_data: bool)
-    requires { i < 8 * length d.old }
-    ensures { d.new ≡ set_bit d.old i (one as_data) }
-{
-    if as_data {
-        bitmap::set_bit(d, i, 1);
-        return;
-    }
-    bitmap::set_bit(d, i, 0);
-}
-
 // The object at block i is marked where a collection is open (request U8).
+#[tactic(auto, unfolding(crate::specs::Born::born_marks))]
 fn mark_born(blocks: usize, marks: &mut [u8], list: &[Ref], i: usize)
     requires { (i < 8 * length marks.old) × (blocks < length list.now) }
     ensures { marks.new ≡ born_marks blocks marks.old list.now i }
@@ -62,6 +51,6 @@ pub fn place(
     section_extents::mark_extent(blocks, a, b, sections, i, n);
     planes::set_count(counts, blocks / 8, width, i, 1);
     map_extents::clear_cells(cells, 4 * i, 4 * n);
-    set_kind(d, i, as_data);
+    bitmap::set_bit(d, i, as_data as u8);
     mark_born(blocks, marks, list, i);
 }

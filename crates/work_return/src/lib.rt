@@ -39,13 +39,14 @@ fn clear_chosen(
         (after a.new b.new counts.new cells.new roots.new waiting.new sections.new d.new marks.new list.new)
         result }
 {
-    if (chosen >> r) % 2 != 1 {
-        return 0;
+    if (chosen >> r) % 2 == 1 {
+        let done = work_root::store_root(
+            blocks, width, a, b, counts, cells, roots, waiting, sections, d, marks, list, r, 0,
+        );
+        done.freed
+    } else {
+        0
     }
-    let done = work_root::store_root(
-        blocks, width, a, b, counts, cells, roots, waiting, sections, d, marks, list, r, 0,
-    );
-    done.freed
 }
 
 // Clears the roots of the set, the lowest first, once the test is passed.
@@ -70,19 +71,17 @@ pub fn clear_roots(
         (before a.old b.old counts.old cells.old roots.old waiting.old sections.old d.old marks.old list.old) result
         (after a.new b.new counts.new cells.new roots.new waiting.new sections.new d.new marks.new list.new) }
 {
-    let mut freed: usize = 0;
-    let mut r = 0;
-    while r < roots.len() {
+    let mut freed = 0;
+    for r in 0..roots.len() {
         let more = clear_chosen(
             blocks, width, a, b, counts, cells, roots, waiting, sections, d, marks, list, chosen, r,
         );
         freed += more;
-        r += 1;
     }
     Outcome {
         number: 0,
         value: freed,
-        freed: freed,
+        freed,
         stuck: false,
     }
 }
@@ -109,10 +108,9 @@ pub fn return_roots(
         (after a.new b.new counts.new cells.new roots.new waiting.new sections.new d.new marks.new list.new) }
 {
     let test = returning::return_test(roots.len(), chosen);
-    let number = test.number;
-    if number != 0 {
+    if test.number != 0 {
         return Outcome {
-            number: number,
+            number: test.number,
             value: 0,
             freed: 0,
             stuck: false,

@@ -1,24 +1,23 @@
 -- `step_close::close_one` meets its contract.
 use mathlib.Core.Path.{sym, ◌∙◌}
-use Prim.Native.Nat.{◌-◌}
 use Rattle.count_up.proofs.Shapes.{planes_same}
 use Rattle.step_close.proofs.Survivors.{stack_zeroed}
 use Rattle.step_close.proofs.Closes.{close_not_first, close_marked, close_doomed}
 use native.Mathlib.Omega.{arith}
 use Rattle.step_close.proofs.close_one.Goals as goal
+use Rattle.step_close.proofs.close_one.Goals.{then-not-is_first-via-then-not-is_first, then-not-is_first-via-else-not-is_first+then-get_bit-eq1}
 
 pub is_first-requires : goal.is_first-requires
 is_first-requires c =
     omega (arith, c.requires.0.extents.a_length, c.requires.0.extents.b_length, c.requires.0.planes.eighths)
 
 pub returns-then-not-is_first : goal.returns-then-not-is_first
-returns-then-not-is_first c =
-    close_not_first c.args.marks.now c.args.i c.requires.0 (sym c.is_first.ensures ∙ c.if-not-is_first.true)
-
-pub returns-then-get_bit-eq1 : goal.returns-then-get_bit-eq1
-returns-then-get_bit-eq1 c =
-    close_marked c.args.marks.now c.args.i c.requires.0 (sym c.is_first.ensures ∙ c.if-not-is_first.false)
-    (sym c.get_bit.ensures.0 ∙ c.if-get_bit-eq1.true)
+returns-then-not-is_first c = elim c.then-not-is_first.branch [
+  | then-not-is_first-via-then-not-is_first w ↦
+      close_not_first c.args.marks.now c.args.i c.requires.0 (sym c.is_first.ensures ∙ w.if-not-is_first.true)
+  | then-not-is_first-via-else-not-is_first+then-get_bit-eq1 w ↦
+      close_marked c.args.marks.now c.args.i c.requires.0 (sym c.is_first.ensures ∙ w.if-not-is_first.false) (sym w.get_bit.ensures.0 ∙ w.if-get_bit-eq1.true)
+]
 
 pub object_size-n-requires : goal.object_size-n-requires
 object_size-n-requires c =
@@ -32,8 +31,8 @@ pub set_count-requires : goal.set_count-requires
 set_count-requires c =
     (c.requires.0.planes.length_is, omega (arith, c.requires.0.planes.width), omega (arith, c.requires.0.planes.eighths, c.requires.2))
 
-pub drop_doomed-t-requires : goal.drop_doomed-t-requires
-drop_doomed-t-requires c = (
+pub drop_doomed-top-requires : goal.drop_doomed-top-requires
+drop_doomed-top-requires c = (
   planes_same c.requires.0.planes c.set_count.auto.counts,
   stack_zeroed c.requires.0.planes c.requires.0.stack c.args.i c.requires.2 c.set_count.ensures,
   c.object_size-n.ensures.2,
@@ -47,4 +46,4 @@ pub returns : goal.returns
 returns c =
     close_doomed c.args.marks.now c.args.i c.requires.0
     (sym c.is_first.ensures ∙ c.if-not-is_first.false) (λ e. c.if-get_bit-eq1.false (c.get_bit.ensures.0 ∙ e))
-    c.object_size-n.ensures.0 c.object_size-n.ensures.2 c.clear_extent.ensures.0 c.clear_extent.ensures.1 c.set_count.ensures c.drop_doomed-t.ensures.0 c.drop_doomed-t.ensures.1 c.drop_doomed-t.ensures.2 c.clear_extent.ensures.2
+    c.object_size-n.ensures.0 c.object_size-n.ensures.2 c.clear_extent.ensures.0 c.clear_extent.ensures.1 c.set_count.ensures c.drop_doomed-top.ensures.0 c.drop_doomed-top.ensures.1 c.drop_doomed-top.ensures.2 c.clear_extent.ensures.2

@@ -1,15 +1,11 @@
 -- `step_marks::mark_one` meets its contract: one law for each way out.
-use mathlib.Core.Path.{◌∙◌}
+use mathlib.Core.Path.{refl}
 use native.Mathlib.Omega.{arith}
-use Rattle.step_marks.proofs.Marked.{mark_none, mark_past, mark_some}
+use Rattle.step_marks.proofs.Marked.{mark_unnamed, mark_block}
 use Rattle.step_marks.proofs.mark_one.Goals as goal
 
-pub returns-then-v-eq0 : goal.returns-then-v-eq0
-returns-then-v-eq0 c = mark_none _ _ c.if-v-eq0.true
+pub returns-in-Some : goal.returns-in-Some
+returns-in-Some c = mark_block _ _ c.in-Some.ensures.some.0 (omega (arith, c.in-Some.ensures.some.1)) c.set_mark.ensures
 
-pub returns-then-blocks-v : goal.returns-then-blocks-v
-returns-then-blocks-v c = mark_past _ _ c.if-v-eq0.false c.if-blocks-v.true
-
-pub returns : goal.returns
-returns c =
-    c.set_mark.ensures ∙ mark_some _ _ c.if-v-eq0.false (omega arith)
+pub returns-in_default : goal.returns-in_default
+returns-in_default c = mark_unnamed _ _ (c.in_default.ensures.none refl)

@@ -1,4 +1,3 @@
-use Prim.Native.Nat.{◌-◌}
 use native.Mathlib.Omega.{arith}
 use Rattle.bitmap.proofs.Zeros.{zeros_le}
 use Rattle.theory.proofs.Usable.UsableHeap.{usable_healthy}
