@@ -4,13 +4,12 @@ use mathlib.Core.Path.{◌≡◌, refl, sym, ap, subst, ◌∙◌}
 use mathlib.Core.Logic.{◌≢◌}
 use mathlib.Core.Bool.{Bool, true, false, ◌||◌, or-false, or-true}
 use mathlib.Core.List.{List}
-use Prim.Native.Nat.{ℕ, zero, ◌+◌, ◌-◌, ◌*◌, ◌/◌, ◌%◌, ◌≤◌, ◌<◌}
+use Prim.Native.Nat.{ℕ, ◌+◌, ◌-◌, ◌*◌, ◌/◌, ◌%◌, ◌≤◌, ◌<◌}
 use native.Mathlib.Numerals.{add-one}
 use native.Mathlib.Decide.{ℕ_discrete, dec_lt}
 use native.Mathlib.Omega.{arith}
 use lib.Dec.{eqb}
-use lib.ListN.{length, get_or, set, replicate}
-use lib.Seq.{get_or-set_same, get_or-set_other}
+use lib.ListN.{length, get_or, replicate}
 use borrow.Author.Tests.{eq-eqb, ne_eqb}
 use Rattle.bitmap.specs.Bit.{bit_of, bit_at, set_bit}
 use Rattle.bitmap.proofs.Bits.{bit_zero}
@@ -170,13 +169,3 @@ shows_more k list s g = record {
       g.bits i l ∙ ap (λ (t : Bool). t || eqb (get_or list k 0) (i + 1)) (s.bits i l)
       ∙ sym (some_more (λ j. eqb (get_or list j 0) (i + 1)) k);
 }
-
--- ---- a map copied
-
-pub copied_more : (from to : List ℕ) (j : ℕ) → j < length to → ((k : ℕ) → k < j → get_or to k 0 ≡ get_or from k 0)
-    → (k : ℕ) → k < j + 1 → get_or (set to j (get_or from j 0)) k 0 ≡ get_or from k 0
-copied_more from to j l h k u =
-    elim (ℕ_discrete k j) [
-      | yes q ↦ ap (λ (m : ℕ). get_or (set to j (get_or from j 0)) m 0) q ∙ get_or-set_same to j (get_or from j 0) 0 l ∙ ap (λ (m : ℕ). get_or from m 0) (sym q)
-      | no n ↦ get_or-set_other to j k (get_or from j 0) 0 n ∙ h k (omega arith)
-    ]
