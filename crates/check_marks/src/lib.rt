@@ -198,7 +198,7 @@ pub fn is_untidy(
         d.now marks.now list.now) }
 {
     if list[blocks] != 1 {
-        if step_list::next_bit(marks, 0, blocks) < blocks {
+        if step_list::next_bit(marks, 0, blocks).is_some() {
             return true;
         }
         return has_number(list, 0, blocks + 1);

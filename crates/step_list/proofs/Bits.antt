@@ -18,7 +18,7 @@ use Rattle.rules.specs.Tools.{some_below}
 use Rattle.step_marks.specs.Marks.{mark_one}
 use Rattle.step_marks.proofs.Marked.{mark_none, mark_past, mark_some}
 use Rattle.section_words.specs.Words.{Digits}
-use Rattle.step_list.specs.Lists.{is_set, listed_in, Shows, Gains, Passed, NextBit}
+use Rattle.step_list.specs.Lists.{is_set, listed_in, Shows, Gains, Passed, NoBit, LowestBit}
 
 -- ---- one bit
 
@@ -80,8 +80,8 @@ module _ {map : List ℕ} {from end : ℕ} where
       ];
     }
 
-    pub passed_found : is_set map i ≡ true → NextBit map from end i
-    passed_found e = record { from_le = p.from_le; end_le = p.end_le; clear = p.clear; found = λ u. e }
+    pub passed_found : is_set map i ≡ true → LowestBit map from end i
+    passed_found e = record { from_le = p.from_le; below = l; clear = p.clear; found = e }
 
   -- none up to r
   pub passed_more : {i : ℕ} → Passed map from end i → (r : ℕ) → i ≤ r → r ≤ end → ((j : ℕ) → i ≤ j → j < r → is_set map j ≡ false) → Passed map from end r
@@ -91,13 +91,8 @@ module _ {map : List ℕ} {from end : ℕ} where
     clear = λ j s v. elim (dec_lt j i) [ yes q ↦ p.clear j s q | no q ↦ none j (omega arith) v ];
   }
 
-  pub passed_all : {i : ℕ} → Passed map from end i → end ≤ i → NextBit map from end end
-  passed_all {i} p l = record {
-    from_le = omega (arith, p.from_le, p.end_le);
-    end_le = omega arith;
-    clear = λ j u v. p.clear j u (omega arith);
-    found = λ u. absurd (omega arith);
-  }
+  pub passed_all : {i : ℕ} → Passed map from end i → end ≤ i → NoBit map from end
+  passed_all p l = record { clear = λ j u v. p.clear j u (omega arith) }
 
 -- a byte that is 0, and those behind it that were passed over
 pub passed_bytes : {map : List ℕ} {from end i : ℕ} (r : ℕ) → Passed map from end i → i < end → end ≡ 8 * (end / 8) → get_or map (i / 8) 0 ≡ 0

@@ -26,9 +26,9 @@ fn pass_zeros(map: &[u8], from: usize, end: usize) -> usize
     k
 }
 
-// The lowest 1 bit of the map from `from` on and below `end`, or `end`. Bytes that are 0 are passed over at
+// The lowest 1 bit of the map from `from` on and below `end`, if any. Bytes that are 0 are passed over at
 // once: a `while`, since its steps are bits and runs of bytes.
-pub fn next_bit(map: &[u8], from: usize, end: usize) -> usize
+pub fn next_bit(map: &[u8], from: usize, end: usize) -> Option<usize>
     requires { (from ≤ end) × (end ≡ 8 * (end / 8)) × (end ≤ 8 * length map.now) × (end ≤ max_blocks) }
     ensures { NextBit map.now from end result }
 {
@@ -37,12 +37,12 @@ pub fn next_bit(map: &[u8], from: usize, end: usize) -> usize
         if map[i / 8] == 0 {
             i = pass_zeros(map, i / 8 + 1, end / 8) * 8;
         } else if bitmap::get_bit(map, i) == 1 {
-            return i;
+            return Some(i);
         } else {
             i += 1;
         }
     }
-    end
+    None
 }
 
 // A 1 for each block that the first n numbers of the list name, a 0 for the others: of a second list the

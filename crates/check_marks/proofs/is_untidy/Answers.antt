@@ -37,9 +37,9 @@ next_bit-requires c =
     let shape = lengths c.requires.4 in
     (omega arith, sym shape.whole_bytes, omega (arith, shape.length_marks, shape.whole_bytes), shape.blocks_max)
 
-pub returns-then-next_bit-blocks : goal.returns-then-next_bit-blocks
-returns-then-next_bit-blocks c =
-    for_all c.requires.4 (remains_marked _ _ c.if-list-blocks-ne1.true c.next_bit.ensures c.if-next_bit-blocks.true)
+pub returns-then-is_some : goal.returns-then-is_some
+returns-then-is_some c =
+    for_all c.requires.4 (remains_marked _ _ c.if-list-blocks-ne1.true _ c.next_bit.ensures (sym c.is_some.ensures ∙ c.if-is_some.true))
 
 pub overflow_add-blocks : goal.overflow_add-blocks
 overflow_add-blocks c =
@@ -52,7 +52,7 @@ has_number-requires c =
 pub returns-then-list-blocks-ne1 : goal.returns-then-list-blocks-ne1
 returns-then-list-blocks-ne1 c =
     for_all c.requires.4
-    (remains_listed _ _ c.if-list-blocks-ne1.true c.next_bit.ensures (omega (arith, c.if-next_bit-blocks.false))
+    (remains_listed _ _ c.if-list-blocks-ne1.true _ c.next_bit.ensures (sym c.is_some.ensures ∙ c.if-is_some.false)
     c.has_number.ensures)
 
 pub read_list-requires : goal.read_list-requires
