@@ -2,13 +2,15 @@
 -- refuse.
 use mathlib.Core.Path.{◌≡◌, refl, sym, ap, ◌∙◌}
 use mathlib.Core.Logic.{◌≢◌}
-use mathlib.Core.Bool.{Bool, true, not, ◌||◌}
+use mathlib.Core.Bool.{Bool, true, false, not, ◌||◌, false≢true}
 use mathlib.Core.List.{List}
-use Prim.Native.Nat.{ℕ, ◌+◌, ◌≤◌, ◌<◌}
+use Prim.Native.Nat.{ℕ, ◌+◌, ◌-◌, ◌<◌}
 use native.Mathlib.Omega.{arith}
 use lib.Dec.{eqb}
 use lib.ListN.{get_or}
 use borrow.Author.Tests.{ne_eqb}
+use Rattle.std.proofs.Common.{Option, None, Some}
+use Rattle.std.specs.Option.{is_some}
 use Rattle.rules.specs.Tools.{some_below}
 use Rattle.rules.specs.Heap.{Memory, lent_memory, is_first}
 use Rattle.rules_steps.specs.Steps.{names, is_marked, is_listed, bad_next, bad_place, stray_mark, root_missed, cell_missed, is_untidy}
@@ -40,18 +42,20 @@ unread N h counts waiting sections = refl
 -- ---- none is open: no mark and no number of the list is left
 
 module _ (N : ℕ) (h : Memory) (shut : get_or h.list N 0 ≢ 1) where
-  pub remains_marked : {r : ℕ} → NextBit h.marks 0 N r → r < N → true ≡ is_untidy N h
+  pub remains_marked : (r : Option ℕ) → NextBit h.marks 0 N r → is_some r ≡ true → true ≡ is_untidy N h
   unfolding is_untidy
-  remains_marked {r} next l =
+  remains_marked None none some = absurd (false≢true some)
+  remains_marked (Some r) next some =
       rw (ne_eqb (get_or h.list N 0) 1 shut, is_untidy)
       (ap (λ (t : Bool). t || some_below (λ k. not (eqb (get_or h.list k 0) 0)) (N + 1))
-      (sym (true_some (is_marked h) N r l (next.found l))))
+      (sym (true_some (is_marked h) N r next.below next.found)))
 
   pub remains_listed :
-      {r : ℕ} → NextBit h.marks 0 N r → N ≤ r → {t : Bool}
+      (r : Option ℕ) → NextBit h.marks 0 N r → is_some r ≡ false → {t : Bool}
       → t ≡ some_below (λ k. not (eqb (get_or h.list k 0) 0)) (N + 1) → t ≡ is_untidy N h
   unfolding is_untidy
-  remains_listed next l e =
+  remains_listed (Some r) next none e = absurd (false≢true (sym none))
+  remains_listed None next none e =
       rw (ne_eqb (get_or h.list N 0) 1 shut, is_untidy)
       (e ∙ ap (λ (t : Bool). t || some_below (λ k. not (eqb (get_or h.list k 0) 0)) (N + 1))
-      (sym (false_some (is_marked h) N (λ i u. next.clear i (omega arith) (omega arith)))))
+      (sym (false_some (is_marked h) N (λ i u. next.clear i (omega arith) u))))

@@ -161,7 +161,7 @@ pub fn is_untidy(
         d.now marks.now list.now) }
 {
     if list[blocks] != 1 {
-        return step_list::next_bit(marks, 0, blocks) < blocks || has_number(list);
+        return step_list::next_bit(marks, 0, blocks).is_some() || has_number(list);
     }
     let mut map = [0u8; MAX_BLOCKS / 8];
     !read_list(blocks, list, &mut map)

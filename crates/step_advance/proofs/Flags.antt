@@ -1,7 +1,7 @@
 -- What flags say as blocks are listed and taken, and a search by them.
 use mathlib.Core.Path.{◌≡◌, sym, ap, ◌∙◌}
 use mathlib.Core.Logic.{◌≢◌}
-use mathlib.Core.Bool.{false}
+use mathlib.Core.Bool.{true, false, false≢true}
 use mathlib.Core.List.{List}
 use Prim.Native.Nat.{ℕ, ◌+◌, ◌-◌, ◌*◌, ◌/◌, ◌≤◌, ◌<◌}
 use native.Mathlib.Decide.{ℕ_discrete, dec_lt}
@@ -12,7 +12,9 @@ use lib.Seq.{get_or-set_same, get_or-set_other}
 use Rattle.bitmap.specs.Bit.{bit_at, set_bit}
 use Rattle.rules.specs.Heap.{size_from}
 use Rattle.rules_stores.specs.Store.{naming_cells}
-use Rattle.step_list.specs.Lists.{is_set, NextBit}
+use Rattle.std.proofs.Common.{Option, None, Some}
+use Rattle.std.specs.Option.{is_some}
+use Rattle.step_list.specs.Lists.{is_set, NoBit}
 use Rattle.step_list.specs.Naming.{named_from, cell_names}
 use Rattle.step_list.proofs.Bits.{made_clear, others_same}
 use Rattle.step_advance.proofs.Shades.{shade_none, shade_past, shade_marked, shade_new, shaded_start, shaded_more, stepped_at}
@@ -126,30 +128,17 @@ section_at some within short all = record {
 }
 
 module _ {N from end : ℕ} {listed flags : List ℕ} (s : Section N from end) (f : Flagged N listed flags) where
-  pub looked_none : get_or flags (from / 256) 0 ≡ 0 → Looked N from end listed flags end
+  pub looked_none : get_or flags (from / 256) 0 ≡ 0 → Looked N from end listed flags None
   looked_none z = record {
-    next = record {
-      from_le = omega (arith, s.some);
-      end_le = omega arith;
-      clear = λ i l u. f.clear i (omega (arith, s.within)) (ap (λ (k : ℕ). get_or flags k 0) (s.inside i l u) ∙ z);
-      found = λ l. absurd (omega arith);
-    };
+    next = record { clear = λ i l u. f.clear i (omega (arith, s.within)) (ap (λ (k : ℕ). get_or flags k 0) (s.inside i l u) ∙ z) };
     flagged = f;
   }
 
-  pub looked_found : {x : ℕ} → NextBit listed from end x → Looked N from end listed flags x
-  looked_found n = record { next = n; flagged = f }
-
   -- the flag is lowered
   pub looked_all :
-      Clear listed from → {x : ℕ} → NextBit listed from end x → end ≤ x → Looked N from end listed (set flags (from / 256) 0) end
-  looked_all below {x} n l = record {
-    next = record {
-      from_le = omega (arith, s.some);
-      end_le = omega arith;
-      clear = λ i u v. n.clear i u (omega arith);
-      found = λ u. absurd (omega arith);
-    };
+      Clear listed from → NoBit listed from end → Looked N from end listed (set flags (from / 256) 0) None
+  looked_all below n = record {
+    next = n;
     flagged = record {
       clear = λ i u z. elim (ℕ_discrete (i / 256) (from / 256)) [
         | yes q ↦ elim (dec_lt i from) [ yes v ↦ below i v | no v ↦ n.clear i (omega arith) (omega (arith, s.last i u q)) ]
@@ -168,21 +157,28 @@ module _ {N : ℕ} {listed flags : List ℕ} where
   pub sought_start : {low : ℕ} → low ≤ N → Clear listed low → Flagged N listed flags → Sought N listed flags low
   sought_start within clear f = record { within = within; clear = clear; flagged = f }
 
-  module _ {from end r : ℕ} {flags' : List ℕ} (s : Sought N listed flags from) (p : Section N from end) (k : Looked N from end listed flags' r) where
-    past : (i : ℕ) → i < r → is_set listed i ≡ false
-    past i l = elim (dec_lt i from) [ yes u ↦ s.clear i u | no u ↦ k.next.clear i (omega arith) l ]
+  module _ {from end : ℕ} {flags' : List ℕ} (s : Sought N listed flags from) (p : Section N from end) where
+    pub sought_found : (r : Option ℕ) → Looked N from end listed flags' r → is_some r ≡ true → Looked N 0 N listed flags' r
+    sought_found None k some = absurd (false≢true some)
+    sought_found (Some x) k some =
+        let below = k.next.below in
+        record {
+          next = record {
+            from_le = omega arith;
+            below = omega (arith, p.within);
+            clear = λ i u v. elim (dec_lt i from) [ yes l ↦ s.clear i l | no l ↦ k.next.clear i (omega arith) v ];
+            found = k.next.found;
+          };
+          flagged = k.flagged;
+        }
 
-    pub sought_found : r < end → Looked N 0 N listed flags' r
-    sought_found l = record {
-      next = record { from_le = omega arith; end_le = omega (arith, p.within); clear = λ i u v. past i v; found = λ u. k.next.found l };
+    pub sought_next : (r : Option ℕ) → Looked N from end listed flags' r → is_some r ≡ false → Sought N listed flags' end
+    sought_next (Some x) k none = absurd (false≢true (sym none))
+    sought_next None k none = record {
+      within = p.within;
+      clear = λ i u. elim (dec_lt i from) [ yes l ↦ s.clear i l | no l ↦ k.next.clear i (omega arith) u ];
       flagged = k.flagged;
     }
 
-    pub sought_next : end ≤ r → Sought N listed flags' end
-    sought_next l = record { within = p.within; clear = λ i u. past i (omega arith); flagged = k.flagged }
-
-  pub sought_all : {from : ℕ} → Sought N listed flags from → N ≤ from → Looked N 0 N listed flags N
-  sought_all s l = record {
-    next = record { from_le = omega arith; end_le = omega arith; clear = λ i u v. s.clear i (omega arith); found = λ u. absurd (omega arith) };
-    flagged = s.flagged;
-  }
+  pub sought_all : {from : ℕ} → Sought N listed flags from → N ≤ from → Looked N 0 N listed flags None
+  sought_all s l = record { next = record { clear = λ i u v. s.clear i (omega arith) }; flagged = s.flagged }

@@ -8,7 +8,7 @@ use native.Mathlib.Omega.{arith}
 use lib.Dec.{eqb}
 use Rattle.rules.specs.Tools.{tabulate}
 use Rattle.rules.proofs.Tabulate.{get_d_tabulate}
-use Rattle.step_list.specs.Lists.{is_set, NextBit}
+use Rattle.step_list.specs.Lists.{is_set, NoBit, LowestBit}
 use Rattle.rules_steps.specs.Steps.{Progress, progress, lowest, StepsTaken, taken}
 use Rattle.step_advance.specs.Steps.{progress_in, scanned_by, steps_by, Stepped, Went}
 
@@ -83,12 +83,12 @@ module _ {N : ℕ} {names : ℕ → ℕ → Bool} {budget : ℕ} where
       }
 
   module _ {whole : StepsTaken} {made : ℕ} {marks listed : List ℕ} (g : Going N names budget whole made marks listed) where
-    pub going_next : made < budget → {x : ℕ} → NextBit listed 0 N x → x < N → {marks' listed' : List ℕ}
+    pub going_next : made < budget → {x : ℕ} → LowestBit listed 0 N x → {marks' listed' : List ℕ}
         → Stepped N (names x) x marks listed marks' listed' → Going N names budget whole (made + 1) marks' listed'
     unfolding progress_in
-    going_next room {x} n l {marks'} {listed'} s =
+    going_next room {x} n {marks'} {listed'} s =
         let found : lowest (tabulate N (is_set listed)) 0 ≡ some x =
-        lowest_at N (is_set listed) 0 x l (n.found l) (λ i u. n.clear i (omega arith) u) ∙ ap some (omega arith) in
+        lowest_at N (is_set listed) 0 x n.below n.found (λ i u. n.clear i (omega arith) u) ∙ ap some (omega arith) in
         let p : Progress = progress_in N marks listed in
         let rest : ℕ = budget - (made + 1) in
         let less : budget - made - 1 ≡ rest = omega arith in
@@ -104,10 +104,10 @@ module _ {N : ℕ} {names : ℕ → ℕ → Bool} {budget : ℕ} where
         }
 
     -- none is listed any more
-    pub going_empty : {x : ℕ} → NextBit listed 0 N x → N ≤ x → Went N whole made marks listed
+    pub going_empty : NoBit listed 0 N → Went N whole made marks listed
     unfolding progress_in
-    going_empty {x} n l =
-        let gone : lowest (tabulate N (is_set listed)) 0 ≡ none = lowest_none N (is_set listed) 0 (λ i u. n.clear i (omega arith) (omega arith)) in
+    going_empty n =
+        let gone : lowest (tabulate N (is_set listed)) 0 ≡ none = lowest_none N (is_set listed) 0 (λ i u. n.clear i (omega arith) u) in
         let ended = steps_none N names (budget - made) (progress_in N marks listed) gone in
         record {
           steps_are = omega (arith, g.steps_are, ap (λ (t : StepsTaken). t.steps) ended);
@@ -115,7 +115,7 @@ module _ {N : ℕ} {names : ℕ → ℕ → Bool} {budget : ℕ} where
         }
 
     -- the budget is spent
-    pub going_spent : budget ≤ made → Went N whole made marks listed
+    pub going_spent : budget ≤ made → Went N whole budget marks listed
     unfolding steps_by
     going_spent l =
         let end : budget - made ≡ 0 = omega (arith, g.within) in

@@ -1,24 +1,29 @@
 -- The lent mark map and second list, and what they hold of a collection's progress.
 use mathlib.Core.Path.{◌≡◌, refl, sym, ap, ◌∙◌}
-use mathlib.Core.Logic.{◌⊎◌, inl, inr}
-use mathlib.Core.Bool.{Bool, true, false, not, ◌&&◌}
+use mathlib.Core.Logic.{inl, inr}
+use mathlib.Core.Bool.{Bool, true, false, not, false≢true}
 use mathlib.Core.List.{List}
 use Prim.Native.Nat.{ℕ, ◌+◌, ◌*◌, ◌/◌, ◌≤◌, ◌<◌}
 use native.Mathlib.Decide.{dec_lt}
 use native.Mathlib.Omega.{arith}
-use lib.Dec.{eqb, leb, ltb}
-use lib.ListN.{length, get_or}
-use borrow.Author.Tests.{leb-true, leb-false, ne_eqb}
+use lib.Dec.{eqb, ltb}
+use lib.ListN.{length, get_or, take, length-take}
+use borrow.Author.Tests.{lt-ltb, le-ltb, ltb-true, eqb-true, ne_eqb}
 use Rattle.bitmap.specs.Bit.{Bytes}
-use mathlib.Core.Option.{Option}
-use Rattle.rules.specs.Tools.{some_below, is_some, tabulate}
+use Rattle.rules.specs.Tools.{some_below, tabulate}
+use Rattle.rules.specs.Tools
 use Rattle.rules_stores.specs.Collection.{marked}
 use Rattle.rules.proofs.Tests.{test_cases_lem, some_true, true_some, some_false, false_some}
 use Rattle.rules.proofs.Tabulate.{get_d_tabulate}
+use Rattle.std.proofs.Common.{Option, None, Some}
+use Rattle.std.specs.Option.{is_some, unwrap_or}
+use Rattle.std.specs.List.{position, position_or_len}
+use Rattle.std.proofs.lemmas.List.{get_or-take}
+use Rattle.std.proofs.lemmas.List.Sums.{passes_at_first}
 use Rattle.step_list.specs.Lists.{is_set, listed_in, Shows, NextBit}
 use Rattle.step_list.proofs.Rising.{list_same}
 use Rattle.step_list.proofs.MapOf.{map_of_lem}
-use Rattle.rules_steps.specs.Steps.{list_of, Progress, progress, lowest, StepsTaken, closes}
+use Rattle.rules_steps.specs.Steps.{list_of, Progress, progress, StepsTaken, closes}
 use Rattle.step_advance.specs.Steps.{progress_in, progress_at, steps_by, Went, Holding, Ended, Holds}
 use Rattle.step_advance.proofs.Goings.{tabulate_same, lowest_at, lowest_none}
 
@@ -46,6 +51,21 @@ ended_at {N} {list} {n} ended within first = record {
       ];
 }
 
+-- .. as the search for that 0 tells it
+pub ended_first : {N : ℕ} {list : List ℕ} → length list ≡ N + 1 → Ended N list → Holds N list (unwrap_or (position (λ v. eqb v 0) (take N list)) N)
+ended_first {N} {list} long ended =
+    let is_end : ℕ → Bool = λ v. eqb v 0 in
+    let xs : List ℕ = take N list in
+    let at : ℕ = position_or_len is_end xs in
+    let all : length xs ≡ N = omega (arith, length-take N list) in
+    elim (test_cases_lem (ltb at (length xs))) [
+      | inl e ↦
+          let inside = ltb-true at (length xs) e in
+          rw e
+          (ended_at ended (omega arith) (λ l. sym (get_or-take N list at 0 l) ∙ eqb-true (get_or xs at 0) 0 (passes_at_first is_end xs 0 inside)))
+      | inr e ↦ rw e (ended_at ended (omega arith) (λ l. absurd (omega arith)))
+    ]
+
 -- the list read into a map
 pub progress_read : (N : ℕ) (marks list : List ℕ) {map : List ℕ} → Shows N (listed_in N list) map → progress_in N marks map ≡ progress_at N marks list
 unfolding progress_in progress_at
@@ -66,37 +86,34 @@ holding_written {N} {p} {old} {marks} {list} map whole was had bytes long e writ
 
 -- ---- the close
 
-pub done_is : (budget : ℕ) (marks : List ℕ) {N first : ℕ} {p : Progress} {map : List ℕ} → progress_in N marks map ≡ p → NextBit map 0 N first
-    → (ltb 0 budget && leb N first) ≡ closes budget p
-unfolding closes progress_in is_some
-done_is budget marks {N} {first} {p} {map} e n =
-    ap (λ (t : Bool). ltb 0 budget && t) (here (test_cases_lem (leb N first)))
-    ∙ ap (λ (q : Progress). ltb 0 budget && not (is_some (lowest q.list 0))) e
-  where
-    here : (leb N first ≡ true) ⊎ (leb N first ≡ false) → leb N first ≡ not (is_some (lowest (tabulate N (is_set map)) 0))
-    here (inl q) =
-        q ∙ sym
-        (ap (λ (o : Option ℕ). not (is_some o))
-        (lowest_none N (is_set map) 0 (λ i l. n.clear i (omega arith) (omega (arith, leb-true N first q)))))
-    here (inr q) =
-        let below : first < N = leb-false N first q in
-        q ∙ sym
-        (ap (λ (o : Option ℕ). not (is_some o))
-        (lowest_at N (is_set map) 0 first below (n.found below) (λ i l. n.clear i (omega arith) l)))
+-- without a budget
+pub done_never : (budget : ℕ) (p : Progress) → budget ≤ 0 → ltb 0 budget ≡ closes budget p
+unfolding closes
+done_never budget p l = rw (le-ltb 0 budget l)
+
+-- with one
+pub done_is : (budget N : ℕ) (marks map : List ℕ) → 0 < budget → (r : Option ℕ) → NextBit map 0 N r → (done : Bool) → is_some r ≡ not done
+    → done ≡ closes budget (progress_in N marks map)
+unfolding closes progress_in Tools.is_some
+done_is budget N marks map l None n true e = rw (lt-ltb 0 budget l, lowest_none N (is_set map) 0 (λ i u. n.clear i (omega arith) u))
+done_is budget N marks map l (Some x) n false e =
+    rw (lt-ltb 0 budget l, lowest_at N (is_set map) 0 x n.below n.found (λ i u. n.clear i (omega arith) u))
+done_is budget N marks map l None n false e = absurd (false≢true e)
+done_is budget N marks map l (Some x) n true e = absurd (false≢true (sym e))
 
 -- ---- a call's steps
 
-pub advanced : (N budget : ℕ) (names : ℕ → ℕ → Bool) (marks list : List ℕ) {map marks' map' list' : List ℕ} {steps first : ℕ} {done : Bool}
+pub advanced : (N budget : ℕ) (names : ℕ → ℕ → Bool) (marks list : List ℕ) {map marks' map' list' : List ℕ} {steps : ℕ} {done : Bool}
     → N ≡ 8 * (N / 8) → {n : ℕ} → Holds N list n → Shows N (listed_in n list) map → Went N (steps_by budget N names (progress_in N marks map)) steps marks' map'
-    → Bytes marks → length marks ≡ N / 8 → Bytes marks' → length marks' ≡ N / 8 → list' ≡ list_of N (is_set map') → NextBit map' 0 N first → done ≡ (ltb 0 budget && leb N first)
+    → Bytes marks → length marks ≡ N / 8 → Bytes marks' → length marks' ≡ N / 8 → list' ≡ list_of N (is_set map') → done ≡ closes budget (progress_in N marks' map')
     → (steps ≡ (steps_by budget N names (progress_at N marks list)).steps)
     × (done ≡ closes budget (steps_by budget N names (progress_at N marks list)).reached)
     × Holding N (steps_by budget N names (progress_at N marks list)).reached marks marks' list'
-advanced N budget names marks list {map} {marks'} {map'} whole h s w was had bytes long written n e =
+advanced N budget names marks list {map} {marks'} {map'} whole h s w was had bytes long written e =
     let read : Shows N (listed_in N list) map = record { bits = λ i l. s.bits i l ∙ h.same i } in
     let same = ap (steps_by budget N names) (progress_read N marks list read) in
     let reached = w.reached_is ∙ ap (λ (t : StepsTaken). t.reached) same in (
       w.steps_are ∙ ap (λ (t : StepsTaken). t.steps) same,
-      e ∙ done_is budget marks' reached n,
+      e ∙ ap (closes budget) reached,
       holding_written map' whole was had bytes long reached written,
     )

@@ -1,5 +1,5 @@
 -- Flags of 256 blocks each: where one is 0, none of its blocks is listed.
-use Rattle.std.specs.Prelude.{ℕ, ◌/◌, ◌≤◌, ◌<◌, ◌≡◌, Bool, false, List, get_or}
+use Rattle.std.specs.Prelude.{ℕ, ◌/◌, ◌≤◌, ◌<◌, ◌≡◌, Bool, false, List, get_or, Option}
 use Rattle.step_list.specs.Lists.{is_set, NextBit}
 use Rattle.step_advance.specs.Steps.{Shaded, Stepped}
 
@@ -18,7 +18,7 @@ pub record Section (N from end : ℕ) : Type 0 where
   pub last : (i : ℕ) → i < N → i / 256 ≡ from / 256 → i < end
 
 -- the lowest in it, if any
-pub record Looked (N from end : ℕ) (listed flags : List ℕ) (r : ℕ) : Type 0 where
+pub record Looked (N from end : ℕ) (listed flags : List ℕ) (r : Option ℕ) : Type 0 where
   pub next : NextBit listed from end r
   pub flagged : Flagged N listed flags
 

@@ -3,7 +3,7 @@
 
 #![tactic(auto)]
 
-ghost use Rattle.std.specs.Prelude.{◌≡◌, ◌+◌, ◌-◌, ◌*◌, ◌/◌, ◌<◌, ◌≤◌, eqb, leb, ltb, length, ◌&&◌};
+ghost use Rattle.std.specs.Prelude.{◌≡◌, ◌+◌, ◌-◌, ◌*◌, ◌/◌, ◌<◌, ◌≤◌, eqb, length};
 ghost use Rattle.rules.specs.Heap.{max_blocks};
 ghost use Rattle.rules_steps.specs.Steps.{closes};
 ghost use Rattle.step_list.specs.Naming.{named_from, cell_names};
@@ -11,16 +11,6 @@ ghost use Rattle.step_advance.specs.Steps.{progress_in, progress_at, steps_by, W
 ghost use Rattle.step_advance.specs.Flags.{Flagged, Clear, Section, Looked, Flying, Flown};
 
 use types::{MAX_BLOCKS, Ref};
-
-// The lower of two blocks.
-fn lower(i: usize, low: usize) -> usize
-    ensures { (result ≤ i) × (result ≤ low) }
-{
-    if i < low {
-        return i;
-    }
-    low
-}
 
 // The block that v names, if any, is marked, and listed where it was not marked. No block below `low` is
 // listed; the bound that holds then.
@@ -36,11 +26,8 @@ fn shade_one(
     ensures { Flying blocks (λ i. eqb v (i + 1)) marks.old listed.old flags.old low
         marks.new listed.new flags.new result }
 {
-    if v == 0 {
-        return low;
-    }
-    // Past the last block: it names no object.
-    if blocks < v as usize {
+    // Past the last block it names no object.
+    if v == 0 || blocks < v as usize {
         return low;
     }
     let i = v as usize - 1;
@@ -50,7 +37,7 @@ fn shade_one(
     bitmap::set_bit(marks, i, 1);
     bitmap::set_bit(listed, i, 1);
     flags[i / 256] = 1;
-    lower(i, low)
+    i.min(low)
 }
 
 // The same for the n cells from cell j on.
@@ -70,10 +57,8 @@ fn shade_cells(
         marks.new listed.new flags.new result }
 {
     let mut bound = low;
-    let mut k = 0;
-    while k < n {
-        bound = shade_one(blocks, marks, listed, flags, cells[j + k], bound);
-        k += 1;
+    for &v in &cells[j..j + n] {
+        bound = shade_one(blocks, marks, listed, flags, v, bound);
     }
     bound
 }
@@ -106,32 +91,28 @@ fn section_end(blocks: usize, from: usize) -> usize
     requires { (from < blocks) × (blocks ≡ 8 * (blocks / 8)) × (blocks ≤ max_blocks) }
     ensures { Section blocks from result × (result ≡ 8 * (result / 8)) }
 {
-    let end = (from / 256 + 1) * 256;
-    if end < blocks {
-        return end;
-    }
-    blocks
+    ((from / 256 + 1) * 256).min(blocks)
 }
 
-// The lowest listed block from `from` on among those of its flag, or `end`. Below `from` none is listed.
-fn look_in(blocks: usize, listed: &[u8], flags: &mut [u8], from: usize, end: usize) -> usize
+// The lowest listed block from `from` on among those of its flag, if any. Below `from` none is listed.
+fn look_in(blocks: usize, listed: &[u8], flags: &mut [u8], from: usize, end: usize) -> Option<usize>
     requires { Section blocks from end × (end ≡ 8 * (end / 8)) × (blocks ≤ max_blocks) × (blocks ≤ 8 * length listed.now)
         × (blocks ≤ 256 * length flags.old) × Flagged blocks listed.now flags.old × Clear listed.now from }
     ensures { Looked blocks from end listed.now flags.new result }
 {
     if flags[from / 256] == 0 {
-        return end;
+        return None;
     }
-    let x = step_list::next_bit(listed, from, end);
-    if x < end {
-        return x;
+    let found = step_list::next_bit(listed, from, end);
+    if found.is_none() {
+        flags[from / 256] = 0;
     }
-    flags[from / 256] = 0;
-    end
+    found
 }
 
-// The lowest listed block, or `blocks`. Below `low` none is listed.
-fn lowest_listed(blocks: usize, listed: &[u8], flags: &mut [u8], low: usize) -> usize
+// The lowest listed block, if any. Below `low` none is listed. A `while`, since its steps are flags, the first
+// of which it may begin inside.
+fn lowest_listed(blocks: usize, listed: &[u8], flags: &mut [u8], low: usize) -> Option<usize>
     requires { (blocks ≡ 8 * (blocks / 8)) × (blocks ≤ max_blocks) × (blocks ≤ 8 * length listed.now)
         × (blocks ≤ 256 * length flags.old) × Flagged blocks listed.now flags.old × Clear listed.now low × (low ≤ blocks) }
     ensures { Looked blocks 0 blocks listed.now flags.new result }
@@ -139,13 +120,13 @@ fn lowest_listed(blocks: usize, listed: &[u8], flags: &mut [u8], low: usize) -> 
     let mut from = low;
     while from < blocks {
         let end = section_end(blocks, from);
-        let x = look_in(blocks, listed, flags, from, end);
-        if x < end {
-            return x;
+        let found = look_in(blocks, listed, flags, from, end);
+        if found.is_some() {
+            return found;
         }
         from = end;
     }
-    blocks
+    None
 }
 
 // At most `budget` steps, each at the lowest listed object. How many were taken.
@@ -168,16 +149,13 @@ fn step_all(
         result marks.new listed.new }
 {
     let mut low = 0;
-    let mut taken: usize = 0;
-    while taken < budget {
-        let x = lowest_listed(blocks, listed, flags, low);
-        if blocks <= x {
+    for taken in 0..budget {
+        let Some(x) = lowest_listed(blocks, listed, flags, low) else {
             return taken;
-        }
+        };
         low = take_one(blocks, b, d, cells, marks, listed, flags, x);
-        taken += 1;
     }
-    taken
+    budget
 }
 
 // The same with flags of its own, at first all 1.
@@ -201,17 +179,6 @@ fn take_steps(
     step_all(blocks, b, d, cells, marks, listed, &mut flags, budget)
 }
 
-// Whether a call with this budget closes the collection, where `first` is the lowest block that it left on
-// the list.
-fn is_done(blocks: usize, budget: usize, first: usize) -> bool
-    ensures { result ≡ (ltb 0 budget && leb blocks first) }
-{
-    if budget == 0 {
-        return false;
-    }
-    blocks <= first
-}
-
 // What a call's steps come to: how many were taken, and whether the collection is to be closed.
 #[derive(Clone, Copy)]
 pub struct Moves {
@@ -224,14 +191,10 @@ fn listed_numbers(blocks: usize, list: &[Ref]) -> usize
     requires { (length list.now ≡ blocks + 1) × Ended blocks list.now }
     ensures { Holds blocks list.now result }
 {
-    let mut k = 0;
-    while k < blocks {
-        if list[k] == 0 {
-            return k;
-        }
-        k += 1;
-    }
-    blocks
+    list[..blocks]
+        .iter()
+        .position(|&v| v == 0)
+        .unwrap_or(blocks)
 }
 
 // At most `budget` steps on the lent mark map and second list.
@@ -262,9 +225,6 @@ pub fn advance(
     step_list::name_all(blocks, list, n, &mut map);
     let steps = take_steps(blocks, b, d, cells, marks, &mut map, budget);
     step_list::write_list(blocks, &map, list);
-    let first = step_list::next_bit(&map, 0, blocks);
-    Moves {
-        steps: steps,
-        done: is_done(blocks, budget, first),
-    }
+    let done = budget > 0 && step_list::next_bit(&map, 0, blocks).is_none();
+    Moves { steps, done }
 }

@@ -4,13 +4,12 @@ use mathlib.Core.Path.{◌≡◌, refl, sym, ap, subst, ◌∙◌}
 use mathlib.Core.Logic.{◌≢◌}
 use mathlib.Core.Bool.{Bool, true, false, ◌||◌, or-false, or-true}
 use mathlib.Core.List.{List}
-use Prim.Native.Nat.{ℕ, zero, ◌+◌, ◌-◌, ◌*◌, ◌/◌, ◌%◌, ◌≤◌, ◌<◌}
+use Prim.Native.Nat.{ℕ, ◌+◌, ◌-◌, ◌*◌, ◌/◌, ◌%◌, ◌≤◌, ◌<◌}
 use native.Mathlib.Numerals.{add-one}
 use native.Mathlib.Decide.{ℕ_discrete, dec_lt}
 use native.Mathlib.Omega.{arith}
 use lib.Dec.{eqb}
-use lib.ListN.{length, get_or, set, replicate}
-use lib.Seq.{get_or-set_same, get_or-set_other}
+use lib.ListN.{length, get_or, replicate}
 use borrow.Author.Tests.{eq-eqb, ne_eqb}
 use Rattle.bitmap.specs.Bit.{bit_of, bit_at, set_bit}
 use Rattle.bitmap.proofs.Bits.{bit_zero}
@@ -19,7 +18,7 @@ use Rattle.rules.specs.Tools.{some_below}
 use Rattle.step_marks.specs.Marks.{mark_one}
 use Rattle.step_marks.proofs.Marked.{mark_none, mark_past, mark_some}
 use Rattle.section_words.specs.Words.{Digits}
-use Rattle.step_list.specs.Lists.{is_set, listed_in, Shows, Gains, Passed, NextBit}
+use Rattle.step_list.specs.Lists.{is_set, listed_in, Shows, Gains, Passed, NoBit, LowestBit}
 
 -- ---- one bit
 
@@ -81,8 +80,8 @@ module _ {map : List ℕ} {from end : ℕ} where
       ];
     }
 
-    pub passed_found : is_set map i ≡ true → NextBit map from end i
-    passed_found e = record { from_le = p.from_le; end_le = p.end_le; clear = p.clear; found = λ u. e }
+    pub passed_found : is_set map i ≡ true → LowestBit map from end i
+    passed_found e = record { from_le = p.from_le; below = l; clear = p.clear; found = e }
 
   -- none up to r
   pub passed_more : {i : ℕ} → Passed map from end i → (r : ℕ) → i ≤ r → r ≤ end → ((j : ℕ) → i ≤ j → j < r → is_set map j ≡ false) → Passed map from end r
@@ -92,13 +91,8 @@ module _ {map : List ℕ} {from end : ℕ} where
     clear = λ j s v. elim (dec_lt j i) [ yes q ↦ p.clear j s q | no q ↦ none j (omega arith) v ];
   }
 
-  pub passed_all : {i : ℕ} → Passed map from end i → end ≤ i → NextBit map from end end
-  passed_all {i} p l = record {
-    from_le = omega (arith, p.from_le, p.end_le);
-    end_le = omega arith;
-    clear = λ j u v. p.clear j u (omega arith);
-    found = λ u. absurd (omega arith);
-  }
+  pub passed_all : {i : ℕ} → Passed map from end i → end ≤ i → NoBit map from end
+  passed_all p l = record { clear = λ j u v. p.clear j u (omega arith) }
 
 -- a byte that is 0, and those behind it that were passed over
 pub passed_bytes : {map : List ℕ} {from end i : ℕ} (r : ℕ) → Passed map from end i → i < end → end ≡ 8 * (end / 8) → get_or map (i / 8) 0 ≡ 0
@@ -170,13 +164,3 @@ shows_more k list s g = record {
       g.bits i l ∙ ap (λ (t : Bool). t || eqb (get_or list k 0) (i + 1)) (s.bits i l)
       ∙ sym (some_more (λ j. eqb (get_or list j 0) (i + 1)) k);
 }
-
--- ---- a map copied
-
-pub copied_more : (from to : List ℕ) (j : ℕ) → j < length to → ((k : ℕ) → k < j → get_or to k 0 ≡ get_or from k 0)
-    → (k : ℕ) → k < j + 1 → get_or (set to j (get_or from j 0)) k 0 ≡ get_or from k 0
-copied_more from to j l h k u =
-    elim (ℕ_discrete k j) [
-      | yes q ↦ ap (λ (m : ℕ). get_or (set to j (get_or from j 0)) m 0) q ∙ get_or-set_same to j (get_or from j 0) 0 l ∙ ap (λ (m : ℕ). get_or from m 0) (sym q)
-      | no n ↦ get_or-set_other to j k (get_or from j 0) 0 n ∙ h k (omega arith)
-    ]

@@ -1,6 +1,6 @@
 -- Request U8, the mark map and the second list over plain lists: a set of blocks as a map's bits, and as the
 -- list's numbers.
-use Rattle.std.specs.Prelude.{ℕ, ◌+◌, ◌-◌, ◌≤◌, ◌<◌, ◌≡◌, Bool, true, false, not, ◌&&◌, ◌||◌, List, [], ◌∷◌, ◌++◌, length, get_or, replicate, eqb}
+use Rattle.std.specs.Prelude.{ℕ, ◌+◌, ◌-◌, ◌≤◌, ◌<◌, ◌≡◌, Bool, true, false, not, ◌&&◌, ◌||◌, List, [], ◌∷◌, ◌++◌, length, get_or, replicate, eqb, Option, MatchOption}
 use Rattle.bitmap.specs.Bit.{bit_at}
 use Rattle.rules.specs.Tools.{some_below}
 use Rattle.rules_steps.specs.Steps.{rising, list_of}
@@ -35,12 +35,20 @@ pub record Passed (map : List ℕ) (from end i : ℕ) : Type 0 where
   pub end_le : i ≤ end
   pub clear : (j : ℕ) → from ≤ j → j < i → is_set map j ≡ false
 
--- r is the lowest 1 bit from `from` on and below `end`, or `end`
-pub record NextBit (map : List ℕ) (from end r : ℕ) : Type 0 where
+-- no bit from `from` on and below `end` is 1
+pub record NoBit (map : List ℕ) (from end : ℕ) : Type 0 where
+  pub clear : (i : ℕ) → from ≤ i → i < end → is_set map i ≡ false
+
+-- r is the lowest 1 bit from `from` on and below `end`
+pub record LowestBit (map : List ℕ) (from end r : ℕ) : Type 0 where
   pub from_le : from ≤ r
-  pub end_le : r ≤ end
+  pub below : r < end
   pub clear : (i : ℕ) → from ≤ i → i < r → is_set map i ≡ false
-  pub found : r < end → is_set map r ≡ true
+  pub found : is_set map r ≡ true
+
+-- r is this bit, if there is one
+abbrev pub NextBit : List ℕ → (from end : ℕ) → Option ℕ → Type 0
+NextBit map from end r = MatchOption r (NoBit map from end) (LowestBit map from end)
 
 -- the blocks below i whose bits are 1 are written, at the first k places; behind them 0s, and the last place
 pub record Written (N : ℕ) (map : List ℕ) (i k : ℕ) (list : List ℕ) : Type 0 where

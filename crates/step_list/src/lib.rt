@@ -10,7 +10,8 @@ ghost use Rattle.step_list.specs.Lists.{is_set, listed_in, relisted, Shows, Pass
 
 use types::{MAX_BLOCKS, Ref};
 
-// A byte from `from` on and up to `end` before which there are only 0s: eight bytes are looked at at once.
+// A byte from `from` on and up to `end` before which there are only 0s: eight bytes are looked at at once. A
+// `while`, since it goes on from any byte, and stops where fewer than eight are left.
 fn pass_zeros(map: &[u8], from: usize, end: usize) -> usize
     requires { (from ≤ end) × (end ≤ length map.now) × (end ≤ max_blocks) }
     ensures { Passed map.now (8 * from) (8 * end) (8 * result) }
@@ -25,9 +26,9 @@ fn pass_zeros(map: &[u8], from: usize, end: usize) -> usize
     k
 }
 
-// The lowest 1 bit of the map from `from` on and below `end`, or `end`. Bytes that are 0 are passed over at
-// once.
-pub fn next_bit(map: &[u8], from: usize, end: usize) -> usize
+// The lowest 1 bit of the map from `from` on and below `end`, if any. Bytes that are 0 are passed over at
+// once: a `while`, since its steps are bits and runs of bytes.
+pub fn next_bit(map: &[u8], from: usize, end: usize) -> Option<usize>
     requires { (from ≤ end) × (end ≡ 8 * (end / 8)) × (end ≤ 8 * length map.now) × (end ≤ max_blocks) }
     ensures { NextBit map.now from end result }
 {
@@ -35,14 +36,13 @@ pub fn next_bit(map: &[u8], from: usize, end: usize) -> usize
     while i < end {
         if map[i / 8] == 0 {
             i = pass_zeros(map, i / 8 + 1, end / 8) * 8;
+        } else if bitmap::get_bit(map, i) == 1 {
+            return Some(i);
         } else {
-            if bitmap::get_bit(map, i) == 1 {
-                return i;
-            }
             i += 1;
         }
     }
-    end
+    None
 }
 
 // A 1 for each block that the first n numbers of the list name, a 0 for the others: of a second list the
@@ -52,10 +52,8 @@ pub fn name_all(blocks: usize, list: &[Ref], n: usize, map: &mut [u8])
     ensures { Shows blocks (listed_in n list.now) map.new }
 {
     bitmap::fill_bytes(map, 0);
-    let mut k = 0;
-    while k < n {
-        step_marks::mark_one(blocks, map, list[k]);
-        k += 1;
+    for &v in &list[..n] {
+        step_marks::mark_one(blocks, map, v);
     }
 }
 
@@ -65,11 +63,12 @@ fn write_byte(blocks: usize, map: &[u8], list: &mut [Ref], j: usize, at: usize) 
     ensures { Written blocks map.now (8 * (j + 1)) result list.new }
 {
     let mut place = at;
+    // It steps over the 1s of the byte.
     let mut left = map[j];
     while left != 0 {
-        list[place] = (8 * j + u8::trailing_zeros(left) as usize + 1) as Ref;
+        list[place] = (8 * j + left.trailing_zeros() as usize + 1) as Ref;
         place += 1;
-        left = left & (left - 1);
+        left &= left - 1;
     }
     place
 }
@@ -83,26 +82,9 @@ pub fn write_list(blocks: usize, map: &[u8], list: &mut [Ref])
     map_objects::lists::clear_all(list);
     list[blocks] = 1;
     let mut place = 0;
-    let mut j = 0;
-    while j < blocks / 8 {
+    for j in 0..blocks / 8 {
         place = write_byte(blocks, map, list, j, place);
-        j += 1;
     }
-}
-
-// Whether the first `bytes` bytes of two maps are equal.
-fn same_bytes(old: &[u8], marks: &[u8], bytes: usize) -> bool
-    requires { (bytes ≤ length old.now) × (bytes ≤ length marks.now) }
-    ensures { result ≡ true → (j : ℕ) → j < bytes → get_or old.now j 0 ≡ get_or marks.now j 0 }
-{
-    let mut j = 0;
-    while j < bytes {
-        if old[j] != marks[j] {
-            return false;
-        }
-        j += 1;
-    }
-    true
 }
 
 // What bit i of the map of listed blocks has to be after a call that made the marks of the old ones.
@@ -112,15 +94,13 @@ fn mix_bit(blocks: usize, old: &[u8], marks: &[u8], map: &mut [u8], i: usize)
 {
     if bitmap::get_bit(marks, i) == 0 {
         bitmap::set_bit(map, i, 0);
-        return;
-    }
-    if bitmap::get_bit(old, i) == 0 {
+    } else if bitmap::get_bit(old, i) == 0 {
         bitmap::set_bit(map, i, 1);
     }
 }
 
 // The map of the blocks that were listed becomes that of those that are listed now. A byte of the marks that
-// did not change is passed over.
+// did not change is passed over: a `while`, since its steps are bits and bytes.
 fn mix(blocks: usize, old: &[u8], marks: &[u8], map: &mut [u8])
     requires { (blocks ≡ 8 * (blocks / 8)) × (blocks ≤ max_blocks) × (blocks ≤ 8 * length old.now) × (blocks ≤ 8 * length marks.now)
         × (blocks ≤ 8 * length map.old)
@@ -148,7 +128,7 @@ pub fn relist(blocks: usize, old: &[u8], marks: &[u8], list: &mut [Ref])
         × (length list.old ≡ blocks + 1) × Listing blocks old.now list.old }
     ensures { list.new ≡ list_of blocks (relisted blocks old.now marks.now list.old) }
 {
-    if same_bytes(old, marks, blocks / 8) {
+    if old[..blocks / 8] == marks[..blocks / 8] {
         return;
     }
     let mut map = [0u8; MAX_BLOCKS / 8];
@@ -162,9 +142,5 @@ pub fn copy_map(from: &[u8], to: &mut [u8])
     requires { length from.now ≤ length to.old }
     ensures { (j : ℕ) → j < length from.now → get_or to.new j 0 ≡ get_or from.now j 0 }
 {
-    let mut j = 0;
-    while j < from.len() {
-        to[j] = from[j];
-        j += 1;
-    }
+    to[..from.len()].copy_from_slice(from);
 }

@@ -40,5 +40,8 @@ pub fn allocate_reply(
     if roots <= r {
         return Err(Refusal::BadRoot);
     }
-    find_place(blocks, a, sections, n).at.ok_or(Refusal::NoChunk)
+    match find_place(blocks, a, sections, n).at {
+        Some(at) => Ok(at),
+        None => Err(Refusal::NoChunk),
+    }
 }

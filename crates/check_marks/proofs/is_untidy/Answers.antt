@@ -48,18 +48,14 @@ next_bit-requires c =
     let shape = lengths c.requires.4 in
     (omega arith, sym shape.whole_bytes, omega (arith, shape.length_marks, shape.whole_bytes), shape.blocks_max)
 
-pub returns-then-next_bit-blocks : goal.returns-then-next_bit-blocks
-returns-then-next_bit-blocks c =
-    for_all c.requires.4
-    (lt-ltb c.next_bit.result c.args.blocks c.if-next_bit-blocks.true
-    ∙ remains_marked _ _ c.if-list-blocks-ne1.true c.next_bit.ensures c.if-next_bit-blocks.true)
+pub returns-then-is_some : goal.returns-then-is_some
+returns-then-is_some c =
+    for_all c.requires.4 (remains_marked _ _ c.if-list-blocks-ne1.true _ c.next_bit.ensures (sym c.is_some.ensures ∙ c.if-is_some.true))
 
-pub returns-else-next_bit-blocks : goal.returns-else-next_bit-blocks
-returns-else-next_bit-blocks c =
+pub returns-else-is_some : goal.returns-else-is_some
+returns-else-is_some c =
     for_all c.requires.4
-    (remains_listed _ _ c.if-list-blocks-ne1.true c.next_bit.ensures (omega (arith, c.if-next_bit-blocks.false))
-    (c.has_number.ensures
-    ∙ ap (some_below (λ k. not (eqb (get_or c.args.list.now k 0) 0))) (lengths c.requires.4).length_list))
+    (remains_listed _ _ c.if-list-blocks-ne1.true _ c.next_bit.ensures (sym c.is_some.ensures ∙ c.if-is_some.false) c.has_number.ensures)
 
 pub read_list-requires : goal.read_list-requires
 read_list-requires c = (

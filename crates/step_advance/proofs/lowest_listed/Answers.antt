@@ -1,5 +1,4 @@
-use mathlib.Core.Path.{refl, ◌∙◌}
-use Prim.Native.Nat.{◌-◌}
+use mathlib.Core.Path.{refl, sym, ◌∙◌}
 use Rattle.step_advance.proofs.Flags.{sought_start, sought_found, sought_next, sought_all}
 use native.Mathlib.Omega.{arith}
 use Rattle.step_advance.proofs.lowest_listed.Goals as goal
@@ -11,20 +10,21 @@ loop-from-init c =
 pub section_end-end-requires : goal.section_end-end-requires
 section_end-end-requires c = (c.loop-from-test.true, c.requires.0, c.requires.1)
 
-pub look_in-x-requires : goal.look_in-x-requires
-look_in-x-requires c =
+pub look_in-found-requires : goal.look_in-found-requires
+look_in-found-requires c =
     (c.section_end-end.ensures.0, c.section_end-end.ensures.1, c.requires.1, c.requires.2, omega (arith, c.requires.3, c.loop-from.invariant.1), c.loop-from.invariant.0.flagged, c.loop-from.invariant.0.clear)
 
-pub returns-then-x-end : goal.returns-then-x-end
-returns-then-x-end c = sought_found c.loop-from.invariant.0 c.section_end-end.ensures.0 c.look_in-x.ensures c.if-x-end.true
+pub returns-then-is_some : goal.returns-then-is_some
+returns-then-is_some c =
+    sought_found c.loop-from.invariant.0 c.section_end-end.ensures.0 _ c.look_in-found.ensures (sym c.is_some.ensures ∙ c.if-is_some.true)
 
 pub loop-from-smaller : goal.loop-from-smaller
 loop-from-smaller c = omega (arith, c.section_end-end.ensures.0.some, c.section_end-end.ensures.0.within)
 
 pub loop-from-preserved : goal.loop-from-preserved
 loop-from-preserved c = (
-  sought_next c.loop-from.invariant.0 c.section_end-end.ensures.0 c.look_in-x.ensures c.if-x-end.false,
-  c.look_in-x.auto.flags ∙ c.loop-from.invariant.1,
+  sought_next c.loop-from.invariant.0 c.section_end-end.ensures.0 _ c.look_in-found.ensures (sym c.is_some.ensures ∙ c.if-is_some.false),
+  c.look_in-found.auto.flags ∙ c.loop-from.invariant.1,
 )
 
 pub returns : goal.returns

@@ -1,6 +1,6 @@
 -- `step_advance::step_all` meets its contract.
 use mathlib.Core.Path.{◌≡◌}
-use Prim.Native.Nat.{◌-◌, ◌≤◌}
+use Prim.Native.Nat.{◌≤◌}
 use lib.ListN.{length}
 use Rattle.step_list.specs.Naming.{cell_names}
 use Rattle.step_advance.specs.Steps.{progress_in, steps_by}
@@ -13,6 +13,3 @@ invariant-loop-taken l =
     Going l.blocks (cell_names l.blocks l.b l.d l.cells) l.budget (steps_by l.budget l.blocks (cell_names l.blocks l.b l.d l.cells) (progress_in l.blocks l.initial.marks l.initial.listed)) l.taken l.marks l.listed
     × (length l.marks ≡ length l.initial.marks) × (length l.listed ≡ length l.initial.listed) × (length l.flags ≡ length l.initial.flags) × Flagged l.blocks l.listed l.flags
     × Clear l.listed l.low × (l.low ≤ l.blocks)
-
-abbrev pub decreases-loop-taken : goal.decreases-loop-taken
-decreases-loop-taken l = l.budget - l.taken

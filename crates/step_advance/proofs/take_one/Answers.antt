@@ -1,5 +1,4 @@
 -- `step_advance::take_one` meets its contract.
-use Prim.Native.Nat.{◌-◌}
 use Rattle.step_advance.proofs.Flags.{flown_at}
 use Rattle.step_advance.proofs.take_one.Goals as goal
 

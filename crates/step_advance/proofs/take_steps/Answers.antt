@@ -1,5 +1,5 @@
 -- `step_advance::take_steps` meets its contract.
-use Prim.Native.Nat.{ℕ, ◌-◌, ◌/◌}
+use Prim.Native.Nat.{ℕ, ◌/◌}
 use lib.ListN.{length-replicate}
 use Rattle.rules.specs.Heap.{max_blocks}
 use Rattle.step_advance.proofs.Flags.{flags_all}

@@ -1,5 +1,4 @@
 use mathlib.Core.Path.{refl, ◌∙◌}
-use Prim.Native.Nat.{◌-◌}
 use Rattle.step_list.proofs.Mixing.{mixing_start, mixing_bit, mixing_byte, mixing_all}
 use native.Mathlib.Omega.{arith}
 use Rattle.step_list.proofs.mix.Goals as goal

@@ -9,8 +9,8 @@ returns-then-get_bit-eq0 c = mixed_clear (sym c.get_bit.ensures.0 ∙ c.if-get_b
 
 pub returns-then-get_bit-eq0-2 : goal.returns-then-get_bit-eq0-2
 returns-then-get_bit-eq0-2 c =
-    mixed_new (omega (arith, c.get_bit.ensures.0, c.get_bit.ensures.1, c.if-get_bit-eq0.false)) (sym c.get_bit-2.ensures.0 ∙ c.if-get_bit-eq0-2.true) (omega arith) c.set_bit-then-get_bit-eq0-2.ensures
+    mixed_new (omega (arith, c.get_bit.ensures.0, c.get_bit.ensures.1, c.if-get_bit-eq0.false)) (sym c.get_bit-else-get_bit-eq0.ensures.0 ∙ c.if-get_bit-eq0-2.true) (omega arith) c.set_bit-then-get_bit-eq0-2.ensures
 
 pub returns-else-get_bit-eq0-2 : goal.returns-else-get_bit-eq0-2
 returns-else-get_bit-eq0-2 c =
-    mixed_kept (omega (arith, c.get_bit.ensures.0, c.get_bit.ensures.1, c.if-get_bit-eq0.false)) (omega (arith, c.get_bit-2.ensures.0, c.get_bit-2.ensures.1, c.if-get_bit-eq0-2.false))
+    mixed_kept (omega (arith, c.get_bit.ensures.0, c.get_bit.ensures.1, c.if-get_bit-eq0.false)) (omega (arith, c.get_bit-else-get_bit-eq0.ensures.0, c.get_bit-else-get_bit-eq0.ensures.1, c.if-get_bit-eq0-2.false))

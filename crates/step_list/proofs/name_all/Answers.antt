@@ -1,17 +1,16 @@
-use mathlib.Core.Path.{◌≡◌, refl, ◌∙◌}
-use Prim.Native.Nat.{◌-◌}
-use lib.ListN.{length}
+use mathlib.Core.Path.{refl, ◌∙◌}
+use Prim.Native.Nat.{◌<◌}
+use lib.ListN.{length, length-take}
+use Rattle.std.proofs.lemmas.List.{get_or-take}
 use Rattle.step_list.proofs.Bits.{shows_none, shows_more, gains_marked}
 use native.Mathlib.Omega.{arith}
 use Rattle.step_list.proofs.name_all.Goals as goal
 
-pub loop-k-init : goal.loop-k-init
-loop-k-init c = (omega arith, shows_none c.args.list.now (length c.args.map.now) c.fill_bytes.ensures, refl)
+pub loop-v-init : goal.loop-v-init
+loop-v-init c = (shows_none c.args.list.now (length c.args.map.now) c.fill_bytes.ensures, refl)
 
-pub loop-k-preserved : goal.loop-k-preserved
-loop-k-preserved c = (omega arith, shows_more c.loop-k.k c.args.list.now c.loop-k.invariant.1 (gains_marked _ _ _ (omega arith) c.mark_one.ensures), c.mark_one.auto.marks ∙ c.loop-k.invariant.2)
-
-pub returns : goal.returns
-returns c =
-    let done : c.loop-k.k ≡ c.args.n = omega arith in
-    rw (← done) c.loop-k.invariant.1
+pub loop-v-preserved : goal.loop-v-preserved
+loop-v-preserved c =
+    let inside : c.loop-v.v-index < c.args.n = omega (arith, length-take c.args.n c.args.list.now) in
+    let marked = rw (get_or-take c.args.n c.args.list.now c.loop-v.v-index 0 inside) at c.mark_one.ensures in
+    (shows_more c.loop-v.v-index c.args.list.now c.loop-v.invariant.0 (gains_marked _ _ _ (omega arith) marked), c.mark_one.auto.marks ∙ c.loop-v.invariant.1)

@@ -1,5 +1,4 @@
 use mathlib.Core.Path.{sym, ◌∙◌}
-use Prim.Native.Nat.{◌-◌}
 use Rattle.step_list.proofs.Bits.{passed_start, passed_bit, passed_bytes, passed_found, passed_all, set_is, clear_is}
 use native.Mathlib.Omega.{arith}
 use Rattle.step_list.proofs.next_bit.Goals as goal

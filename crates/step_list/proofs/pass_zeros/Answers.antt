@@ -1,4 +1,3 @@
-use Prim.Native.Nat.{◌-◌}
 use native.Mathlib.Omega.{arith}
 use Rattle.step_list.proofs.Bits.{passed_start, passed_eight}
 use Rattle.step_list.proofs.pass_zeros.Goals as goal

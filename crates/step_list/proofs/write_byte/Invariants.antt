@@ -1,6 +1,6 @@
 -- `step_list::write_byte` meets its contract: what is left of the byte is still to be written. The measure is that, as a number.
 use mathlib.Core.Path.{◌≡◌}
-use Prim.Native.Nat.{◌+◌, ◌-◌}
+use Prim.Native.Nat.{◌+◌}
 use lib.ListN.{length}
 use Rattle.step_list.proofs.Rising.{Writing}
 use Rattle.step_list.proofs.write_byte.Given as goal

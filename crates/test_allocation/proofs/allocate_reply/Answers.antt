@@ -14,5 +14,8 @@ pub returns-then-roots-r : goal.returns-then-roots-r
 unfolding allocate_reply
 returns-then-roots-r c = grind (arith, nat_tests)
 
-pub returns : goal.returns
-returns c = ?
+pub returns-in-Some : goal.returns-in-Some
+returns-in-Some c = place_found _ (omega arith) (omega arith) (omega arith) c.find_place.ensures.at_is c.in-Some.at c.in-Some.is
+
+pub returns-in-None : goal.returns-in-None
+returns-in-None c = nothing_found _ (omega arith) (omega arith) (omega arith) c.find_place.ensures.at_is c.in-None.is
