@@ -1,13 +1,15 @@
 -- Laws of the count maps of a list of counts: what they say of a block, a count written, and that they are known by their counts.
 use mathlib.Core.Path.{◌≡◌, refl, sym, ap, ◌∙◌}
-use mathlib.Core.Logic.{◌≢◌}
 use mathlib.Core.List.{List}
-use Prim.Native.Nat.{ℕ, zero, suc, ◌+◌, ◌-◌, ◌*◌, ◌/◌, ◌%◌, ◌^◌, ◌≤◌, ◌<◌}
-use native.Mathlib.Decide.{ℕ_discrete, dec_lt}
+use Prim.Native.Nat.{ℕ, zero, suc, ◌+◌, ◌*◌, ◌/◌, ◌%◌, ◌^◌, ◌≤◌, ◌<◌}
+use native.Mathlib.Decide.{ℕ_discrete}
 use native.Mathlib.Omega.{arith}
 use lib.ListN.{length, get_or, set, replicate, length-set, length-replicate}
 use lib.Pow.{pow_pos}
 use lib.Seq.{get_or-set_same, get_or-set_other}
+use borrow.Rule.Slice.PartMut.{put_mid}
+use Rattle.std.proofs.Common.{rules}
+use Rattle.std.proofs.slice.Indexed.{places}
 use Rattle.bitmap.specs.Bit.{bit_of, bit_at, Bytes}
 use Rattle.bitmap.proofs.Bits.{bits_ext}
 use Rattle.bitmap.proofs.Maps.{bytes_replicate, bit_of_byte}
@@ -121,36 +123,38 @@ word_bit at k p word digits hp s l =
     let place : 8 * (8 * k) + (p + 8 * s) ≡ 8 * (8 * k + s) + p = omega arith in
     digits.each (p + 8 * s) (omega arith) ∙ ap (bit_at at) place ∙ bit_of_byte at (8 * k + s) p hp
 
-pub map_start : (at : List ℕ) (from p : ℕ) (counts : List ℕ) → MapWritten at from 0 p counts counts
-map_start at from p counts = record { same_length = refl; bits = λ j s l. absurd (omega arith); kept = λ m l. refl }
-
 -- one byte more
-pub map_more : {at : List ℕ} {from k p : ℕ} {before after : List ℕ} (v : ℕ) → MapWritten at from k p before after → from + k < length after
-    → ((s : ℕ) → s < 8 → bit_of v s ≡ bit_of (get_or at (8 * k + s) 0) p) → MapWritten at from (k + 1) p before (set after (from + k) v)
-map_more {at} {from} {k} {p} {before} {after} v so_far inside digits = record {
-  same_length = length-set after (from + k) v ∙ so_far.same_length;
+pub map_more : {at : List ℕ} {p k : ℕ} {map : List ℕ} (v : ℕ) → MapWritten at p k map → k < length map
+    → ((s : ℕ) → s < 8 → bit_of v s ≡ bit_of (get_or at (8 * k + s) 0) p) → MapWritten at p (k + 1) (set map k v)
+map_more {at} {p} {k} {map} v so_far inside digits = record {
   bits = λ j s l u. elim (ℕ_discrete j k) [
-    | yes e ↦ rw (e, get_or-set_same after (from + k) v 0 inside) (digits s u)
-    | no d ↦ rw (get_or-set_other after (from + k) (from + j) v 0 (λ e. d (omega arith))) (so_far.bits j s (omega arith) u)
+    | yes e ↦ rw (e, get_or-set_same map k v 0 inside) (digits s u)
+    | no d ↦ rw (get_or-set_other map k j v 0 d) (so_far.bits j s (omega arith) u)
   ];
-  kept = λ m l. get_or-set_other after (from + k) m v 0 (λ e. omega arith) ∙ so_far.kept m l;
 }
 
 -- the first p maps are written
 pub record MapsWritten (at : List ℕ) (bytes p : ℕ) (counts : List ℕ) : Type 0 where
   pub bits : (q j s : ℕ) → q < p → j < bytes → s < 8 → bit_of (get_or counts (q * bytes + j) 0) s ≡ bit_of (get_or at (8 * j + s) 0) q
 
+-- a part that is written over, and what stands before it
+part_byte : (from n : ℕ) (counts part : List ℕ) (j : ℕ) → from ≤ length counts → j < length part
+    → get_or (put_mid from n counts part) (from + j) 0 ≡ get_or part j 0
+part_byte from n counts part j h l = search (rules, places)
+
+byte_before : (from n : ℕ) (counts part : List ℕ) (j : ℕ) → from ≤ length counts → j < from
+    → get_or (put_mid from n counts part) j 0 ≡ get_or counts j 0
+byte_before from n counts part j h l = search (rules, places)
+
 -- one map more
-pub maps_more : {at : List ℕ} {bytes p from : ℕ} {before after : List ℕ} → from ≡ p * bytes → MapsWritten at bytes p before
-    → MapWritten at from bytes p before after → MapsWritten at bytes (p + 1) after
-maps_more {at} {bytes} {p} {from} {before} {after} place so_far map = record {
+pub maps_more : {at : List ℕ} {bytes p : ℕ} {counts part : List ℕ} (n : ℕ) → p * bytes ≤ length counts → length part ≡ bytes
+    → MapsWritten at bytes p counts → MapWritten at p (length part) part → MapsWritten at bytes (p + 1) (put_mid (p * bytes) n counts part)
+maps_more {at} {bytes} {p} {counts} {part} n inside long so_far map = record {
   bits = λ q j s l u v. elim (ℕ_discrete q p) [
-    | yes e ↦
-        let there : q * bytes + j ≡ from + j = omega (arith, ap (λ (y : ℕ). y * bytes) e) in
-        ap (λ (y : ℕ). bit_of (get_or after y 0) s) there ∙ map.bits j s u v ∙ ap (bit_of (get_or at (8 * j + s) 0)) (sym e)
+    | yes e ↦ rw (e, part_byte (p * bytes) n counts part j inside (omega arith)) (map.bits j s (omega arith) v)
     | no d ↦
-        let below : q * bytes + j < from = omega (arith, plane_inside bytes q p (omega arith)) in
-        ap (λ (y : ℕ). bit_of y s) (map.kept (q * bytes + j) below) ∙ so_far.bits q j s (omega arith) u v
+        rw (byte_before (p * bytes) n counts part (q * bytes + j) inside (omega (arith, plane_inside bytes q p (omega arith))))
+        (so_far.bits q j s (omega arith) u v)
   ];
 }
 

@@ -1,11 +1,11 @@
 -- One bit of each of eight bytes, moved together by shifts.
 use mathlib.Core.Path.{◌≡◌, refl, sym, ap, ap₂, ◌∙◌}
-use Prim.Native.Nat.{ℕ, zero, suc, ◌+◌, ◌-◌, ◌*◌, ◌/◌, ◌%◌, ◌^◌, ◌≤◌, ◌<◌, min, max}
+use Prim.Native.Nat.{ℕ, zero, suc, ◌+◌, ◌*◌, ◌/◌, ◌^◌, ◌<◌, min, max}
 use native.Mathlib.Omega.{arith}
 use lib.Bits.{bit_and, bit_or}
 use Rattle.bitmap.specs.Bit.{bit_of}
 use Rattle.bitmap.proofs.Bits.{bit_lt, bit_from}
-use Rattle.bitmap.proofs.Digits.{digit_and, digit_or, digit_mod}
+use Rattle.bitmap.proofs.Digits.{digit_and, digit_or}
 
 abbrev eights : ℕ
 eights = 72340172838076673

@@ -17,8 +17,6 @@ maps_below bytes w at (suc n) = set_count bytes w (maps_below bytes w at n) n (g
 unfoldable pub count_maps : (N w : ℕ) → (at : List ℕ) → List ℕ
 count_maps N w at = maps_below (N / 8) w at N
 
--- the n bytes from place `from` on have bit p of the counts of their blocks, and what stands before them is as it was
-pub record MapWritten (at : List ℕ) (from n p : ℕ) (before after : List ℕ) : Type 0 where
-  pub same_length : length after ≡ length before
-  pub bits : (j s : ℕ) → j < n → s < 8 → bit_of (get_or after (from + j) 0) s ≡ bit_of (get_or at (8 * j + s) 0) p
-  pub kept : (m : ℕ) → m < from → get_or after m 0 ≡ get_or before m 0
+-- each of the first n bytes has bit p of the counts of its eight blocks
+pub record MapWritten (at : List ℕ) (p n : ℕ) (map : List ℕ) : Type 0 where
+  pub bits : (j s : ℕ) → j < n → s < 8 → bit_of (get_or map j 0) s ≡ bit_of (get_or at (8 * j + s) 0) p

@@ -23,16 +23,13 @@ fn gather(x: u64, p: usize) -> u8
     (eight % 256) as u8
 }
 
-// Writes map p of the counts in `at`, whose bytes stand from place `from` on.
-fn write_map(counts: &mut [u8], from: usize, bytes: usize, at: &[u8], p: usize)
-    requires { (from + bytes ≤ length counts.old) × (8 * bytes ≤ length at.now) × (8 * bytes ≤ max_blocks) × (p < 8) }
-    ensures { MapWritten at.now from bytes p counts.old counts.new }
+// Writes map p of the counts in `at`.
+fn write_map(map: &mut [u8], at: &[u8], p: usize)
+    requires { (8 * length map.old ≤ length at.now) × (8 * length map.old ≤ max_blocks) × (p < 8) }
+    ensures { MapWritten at.now p (length map.new) map.new }
 {
-    let mut k = 0;
-    while k < bytes {
-        let eight = section_words::eight_bytes(at, 8 * k);
-        counts[from + k] = gather(eight, p);
-        k += 1;
+    for (k, byte) in map.iter_mut().enumerate() {
+        *byte = gather(section_words::eight_bytes(at, 8 * k), p);
     }
 }
 
@@ -42,11 +39,7 @@ pub fn write_counts(blocks: usize, width: usize, counts: &mut [u8], at: &[u8])
     ensures { counts.new ≡ count_maps blocks width at.now }
 {
     let bytes = blocks / 8;
-    let mut p = 0;
-    let mut from = 0;
-    while p < width {
-        write_map(counts, from, bytes, at, p);
-        from += bytes;
-        p += 1;
+    for p in 0..width {
+        write_map(&mut counts[p * bytes..(p + 1) * bytes], at, p);
     }
 }

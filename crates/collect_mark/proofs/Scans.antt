@@ -107,11 +107,6 @@ mark_parts N w h e visited =
 
 -- ---- the start, with every count 0
 
-pub zero_places : (n i : ℕ) → ◌≡◌ {A = ℕ} (get_or (replicate n 0) i 0) 0
-zero_places zero i = refl
-zero_places (suc n) zero = refl
-zero_places (suc n) (suc i) = zero_places n i
-
 pub counted_none : {N w : ℕ} {b counts cells waiting d : List ℕ} (at : List ℕ) → Markable N w b counts cells waiting d → N ≤ length at
     → ((i : ℕ) → get_or at i 0 ≡ 0) → Counted N w at waiting 0
 counted_none {N} {w} at m long none = record {

@@ -15,7 +15,7 @@ use Rattle.rules_stores.specs.Store.{freed, clear_cells}
 use Rattle.rules.proofs.Tests.{and_true}
 use Rattle.section_figures.specs.Figures.{Coherent}
 use Rattle.count_up.specs.Ready.{part_memory}
-use Rattle.collect_sweep.specs.Sweep.{is_unmarked, NextUnmarked, sweep_one, sweep_one_blocks, sweep, sweep_blocks}
+use Rattle.collect_sweep.specs.Sweep.{is_unmarked, LowestUnmarked, sweep_one, sweep_one_blocks, sweep, sweep_blocks}
 
 -- what the code has to show of block i: the memory that it leaves, the number of blocks that it frees, and that no figure of a section is
 -- wrong
@@ -71,11 +71,16 @@ module _ (N w : ℕ) (start : Memory) {h : Memory} where
   ]
 
 -- a search for the next unmarked object reads the A-map, the B-map and the counts alone
-pub sweep_to_next : (N w : ℕ) (start : Memory) {a b counts cells d : List ℕ} {i r : ℕ}
-    → NextUnmarked N w (part_memory a b counts [] [] []) i r → part_memory a b counts cells [] d ≡ sweep N w start i
-    → (part_memory a b counts cells [] d ≡ sweep N w start r) × (sweep_blocks N w start i ≡ sweep_blocks N w start r)
-unfolding is_unmarked
-sweep_to_next N w start {i = i} {r} next swept = sweep_to N w start i r next.from next.none_before swept
+module _ (N w : ℕ) (start : Memory) {a b counts cells d : List ℕ} {i : ℕ} (swept : part_memory a b counts cells [] d ≡ sweep N w start i) where
+  pub sweep_to_next : {r : ℕ} → LowestUnmarked N w (part_memory a b counts [] [] []) i r
+      → (part_memory a b counts cells [] d ≡ sweep N w start r) × (sweep_blocks N w start i ≡ sweep_blocks N w start r)
+  unfolding is_unmarked
+  sweep_to_next {r} next = sweep_to N w start i r next.from next.none_before swept
+
+  pub sweep_to_end : i ≤ N → ((j : ℕ) → i ≤ j → j < N → is_unmarked N w (part_memory a b counts [] [] []) j ≡ false)
+      → (part_memory a b counts cells [] d ≡ sweep N w start N) × (sweep_blocks N w start i ≡ sweep_blocks N w start N)
+  unfolding is_unmarked
+  sweep_to_end within none = sweep_to N w start i N within none swept
 
 -- a turn of the loop, from what stands swept below i
 module _ (N w : ℕ) (start : Memory) (i : ℕ) {h : Memory} (swept : h ≡ sweep N w start i) where

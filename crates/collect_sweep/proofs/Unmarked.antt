@@ -15,7 +15,7 @@ use Rattle.bitmap.proofs.Bits.{bit_lt, bit_from, bit_zero}
 use Rattle.bitmap.proofs.Digits.{each_bit, digit_and, digit_not, digit_past, trailing_lowest}
 use Rattle.rules.specs.Heap.{Memory, is_first, count_of}
 use Rattle.rules.proofs.Stretches.{EightTests}
-use Rattle.collect_sweep.specs.Sweep.{is_unmarked, NextUnmarked}
+use Rattle.collect_sweep.specs.Sweep.{is_unmarked}
 
 -- ---- eight blocks
 

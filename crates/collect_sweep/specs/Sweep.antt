@@ -1,5 +1,5 @@
 -- What the collector's sweep computes: objects of count 0 are freed with no count-downs, and their blocks counted.
-use Rattle.std.specs.Prelude.{ℕ, zero, suc, ◌+◌, ◌≤◌, ◌<◌, ◌≡◌, Bool, true, false, ◌&&◌, eqb}
+use Rattle.std.specs.Prelude.{ℕ, zero, suc, ◌+◌, ◌≤◌, ◌<◌, ◌≡◌, Bool, true, false, ◌&&◌, eqb, Option, Some, None}
 use Rattle.rules.specs.Heap.{Memory, is_first, size_at, count_of}
 use Rattle.rules_stores.specs.Store.{freed}
 
@@ -7,12 +7,17 @@ use Rattle.rules_stores.specs.Store.{freed}
 unfoldable pub is_unmarked : ℕ → ℕ → Memory → ℕ → Bool
 is_unmarked N w h i = is_first N h i && eqb (count_of N w h i) 0
 
--- the lowest such block from block i on is r, or there is none, and r is N
-pub record NextUnmarked (N w : ℕ) (h : Memory) (i r : ℕ) : Type 0 where
+-- r is the lowest such block from block i on
+pub record LowestUnmarked (N w : ℕ) (h : Memory) (i r : ℕ) : Type 0 where
   pub from : i ≤ r
-  pub most : r ≤ N
+  pub inside : r < N
   pub none_before : (j : ℕ) → i ≤ j → j < r → is_unmarked N w h j ≡ false
-  pub here : r < N → is_unmarked N w h r ≡ true
+  pub here : is_unmarked N w h r ≡ true
+
+-- which it is, or that there is none
+abbrev pub NextUnmarked : (N w : ℕ) → Memory → (i : ℕ) → Option ℕ → Type 0
+NextUnmarked N w h i (Some r) = LowestUnmarked N w h i r
+NextUnmarked N w h i None = (j : ℕ) → i ≤ j → j < N → is_unmarked N w h j ≡ false
 
 -- it is freed, if there is one; and how many blocks that frees
 unfoldable pub sweep_one : ℕ → ℕ → Memory → ℕ → Memory

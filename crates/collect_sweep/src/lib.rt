@@ -31,9 +31,16 @@ fn unmarked_byte(blocks: usize, width: usize, a: &[u8], b: &[u8], counts: &[u8],
     first & !planes::some_byte(counts, blocks / 8, width, k)
 }
 
-// The lowest block from block i on at which an object of count 0 starts, or the number of blocks where none does. Most bytes have no such
-// block, and are passed over at once.
-fn next_unmarked(blocks: usize, width: usize, a: &[u8], b: &[u8], counts: &[u8], i: usize) -> usize
+// The lowest block from block i on at which an object of count 0 starts. Most bytes have no such block, and are passed over at once: so the
+// loop is a `while`, whose steps go from byte to byte.
+fn next_unmarked(
+    blocks: usize,
+    width: usize,
+    a: &[u8],
+    b: &[u8],
+    counts: &[u8],
+    i: usize,
+) -> Option<usize>
     requires { Planes blocks width counts.now × (length a.now ≡ blocks / 8) × (length b.now ≡ blocks / 8) × (i ≤ blocks) }
     ensures { NextUnmarked blocks width (part_memory a.now b.now counts.now [] [] []) i result }
 {
@@ -41,11 +48,11 @@ fn next_unmarked(blocks: usize, width: usize, a: &[u8], b: &[u8], counts: &[u8],
     while at < blocks {
         let rest = unmarked_byte(blocks, width, a, b, counts, at / 8) >> (at % 8);
         if rest != 0 {
-            return at + u8::trailing_zeros(rest) as usize;
+            return Some(at + rest.trailing_zeros() as usize);
         }
         at += 8 - at % 8;
     }
-    blocks
+    None
 }
 
 // Frees the object of count 0 that starts at block i: so the count is not written. The number of blocks freed.
@@ -100,11 +107,11 @@ pub fn sweep(
         (part_memory a.old b.old counts.now cells.old [] d.old) blocks)
         × Coherent blocks a.new sections.new }
 {
-    let mut freed: usize = 0;
-    let mut i = next_unmarked(blocks, width, a, b, counts, 0);
-    while i < blocks {
+    let mut freed = 0;
+    let mut from = 0;
+    while let Some(i) = next_unmarked(blocks, width, a, b, counts, from) {
         freed += sweep_one(blocks, width, a, b, counts, cells, sections, d, i);
-        i = next_unmarked(blocks, width, a, b, counts, i + 1);
+        from = i + 1;
     }
     freed
 }

@@ -25,11 +25,8 @@ fn visit_one(
     ensures { VisitedTo blocks width (visit blocks width (work (count_maps blocks width at.old) (top_first waiting.old top)) v)
         (remaining uncounted blocks width (count_maps blocks width at.old) top) at.new waiting.new result }
 {
-    if v == 0 {
-        return top;
-    }
-    // Past the last block: it names no object.
-    if blocks < v as usize {
+    // A number past the last block names no object.
+    if v == 0 || blocks < v as usize {
         return top;
     }
     let block = v as usize - 1;
@@ -37,12 +34,13 @@ fn visit_one(
     if count == 0 {
         at[block] = 1;
         waiting[top] = v - 1;
-        return top + 1;
+        top + 1
+    } else {
+        if count < types::capacity_of(width) {
+            at[block] = count + 1;
+        }
+        top
     }
-    if count < types::capacity_of(width) {
-        at[block] = count + 1;
-    }
-    top
 }
 
 // Visits the n references from place j on.
@@ -61,13 +59,11 @@ pub fn visit_each(
         (visit_each blocks width (work (count_maps blocks width at.old) (top_first waiting.old top)) refs.now j n)
         (remaining uncounted blocks width (count_maps blocks width at.old) top) at.new waiting.new result }
 {
-    let mut t = top;
-    let mut i = 0;
-    while i < n {
-        t = visit_one(blocks, width, at, waiting, refs[j + i], t);
-        i += 1;
+    let mut height = top;
+    for &v in &refs[j..j + n] {
+        height = visit_one(blocks, width, at, waiting, v, height);
     }
-    t
+    height
 }
 
 // Visits what the four cells of block i name. Most blocks have none that is not 0, and are passed over.
@@ -86,9 +82,10 @@ fn visit_block(
         (remaining uncounted blocks width (count_maps blocks width at.old) top) at.new waiting.new result }
 {
     if map_objects::lists::any_of_four(cells, 4 * i) == 0 {
-        return top;
+        top
+    } else {
+        visit_each(blocks, width, at, cells, waiting, 4 * i, 4, top)
     }
-    visit_each(blocks, width, at, cells, waiting, 4 * i, 4, top)
 }
 
 // Visits what the cells of the n blocks from block i on name.
@@ -107,11 +104,9 @@ pub fn visit_blocks(
         (visit_each blocks width (work (count_maps blocks width at.old) (top_first waiting.old top)) cells.now (4 * i) (4 * n))
         (remaining uncounted blocks width (count_maps blocks width at.old) top) at.new waiting.new result }
 {
-    let mut t = top;
-    let mut k = 0;
-    while k < n {
-        t = visit_block(blocks, width, at, cells, waiting, i + k, t);
-        k += 1;
+    let mut height = top;
+    for block in i..i + n {
+        height = visit_block(blocks, width, at, cells, waiting, block, height);
     }
-    t
+    height
 }

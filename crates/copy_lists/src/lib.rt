@@ -10,12 +10,7 @@ ghost use Rattle.refinement_copy.specs.Routed.{Routed, copied_lists, filled_list
 ghost use Rattle.copy_lists.specs.Written.{Fillable, CopyWritten};
 
 use map_objects::lists;
-use types::{MAX_BLOCKS, Ref};
-
-// The places of the short and of the longer arrays: enough for first heaps of 1,024 and of 8,192 blocks.
-pub const SMALL_ROOM: usize = MAX_BLOCKS / 64;
-
-const MIDDLE_ROOM: usize = MAX_BLOCKS / 8;
+use types::{MAX_BLOCKS, MIDDLE_ROOM, Ref, SMALL_ROOM};
 
 // Writes the lists of the second heap that objects and roots stand in, by the plan. Counts are left stuck.
 fn fill_lists(
@@ -84,20 +79,21 @@ fn write_in(
         (copied_lists a2.new b2.new counts2.new cells2.new roots2.new d2.new) result }
 {
     let met = walk_objects::trace_all(blocks, a, b, d, cells, roots, order, numbers, owners, vias);
-    if !copy_plan::plan(blocks, b, order, numbers, met, blocks2) {
-        return false;
+    if copy_plan::plan(blocks, b, order, numbers, met, blocks2) {
+        fill_lists(
+            blocks, a, b, d, cells, roots, order, numbers, met, blocks2, width2, a2, b2, counts2,
+            cells2, roots2, d2,
+        );
+        true
+    } else {
+        false
     }
-    fill_lists(
-        blocks, a, b, d, cells, roots, order, numbers, met, blocks2, width2, a2, b2, counts2,
-        cells2, roots2, d2,
-    );
-    true
 }
 
-// .. in short arrays.
-// Not inlined, like the two after it: its arrays are on the stack only while it runs.
+// .. in arrays of so many places. Not inlined: they are on the stack only while this runs, so that a small heap does not take the stack of the
+// largest.
 #[inline(never)]
-fn write_in_small(
+fn write_in_arrays<const PLACES: usize>(
     blocks: usize,
     a: &[u8],
     b: &[u8],
@@ -115,15 +111,15 @@ fn write_in_small(
 ) -> bool
     requires { Walkable blocks a.now b.now d.now cells.now roots.now
         × Fillable blocks2 width2 (length roots.now) a2.old b2.old counts2.old cells2.old roots2.old d2.old
-        × (blocks ≤ max_blocks / 64) }
+        × (blocks ≤ PLACES) × (PLACES ≤ max_blocks) }
     ensures { CopyWritten blocks (walked_heap a.now b.now d.now cells.now roots.now)
         blocks2 width2 (copied_lists a2.old b2.old counts2.old cells2.old roots2.old d2.old)
         (copied_lists a2.new b2.new counts2.new cells2.new roots2.new d2.new) result }
 {
-    let mut order = [0 as Ref; SMALL_ROOM];
-    let mut numbers = [0 as Ref; SMALL_ROOM];
-    let mut owners = [0 as Ref; SMALL_ROOM];
-    let mut vias = [0 as Ref; SMALL_ROOM];
+    let mut order = [0 as Ref; PLACES];
+    let mut numbers = [0 as Ref; PLACES];
+    let mut owners = [0 as Ref; PLACES];
+    let mut vias = [0 as Ref; PLACES];
     write_in(
         blocks,
         a,
@@ -146,60 +142,8 @@ fn write_in_small(
     )
 }
 
-// .. in longer arrays.
-#[inline(never)]
-fn write_in_middle(
-    blocks: usize,
-    a: &[u8],
-    b: &[u8],
-    d: &[u8],
-    cells: &[Ref],
-    roots: &[Ref],
-    blocks2: usize,
-    width2: usize,
-    a2: &mut [u8],
-    b2: &mut [u8],
-    counts2: &mut [u8],
-    cells2: &mut [Ref],
-    roots2: &mut [Ref],
-    d2: &mut [u8],
-) -> bool
-    requires { Walkable blocks a.now b.now d.now cells.now roots.now
-        × Fillable blocks2 width2 (length roots.now) a2.old b2.old counts2.old cells2.old roots2.old d2.old
-        × (blocks ≤ max_blocks / 8) }
-    ensures { CopyWritten blocks (walked_heap a.now b.now d.now cells.now roots.now)
-        blocks2 width2 (copied_lists a2.old b2.old counts2.old cells2.old roots2.old d2.old)
-        (copied_lists a2.new b2.new counts2.new cells2.new roots2.new d2.new) result }
-{
-    let mut order = [0 as Ref; MIDDLE_ROOM];
-    let mut numbers = [0 as Ref; MIDDLE_ROOM];
-    let mut owners = [0 as Ref; MIDDLE_ROOM];
-    let mut vias = [0 as Ref; MIDDLE_ROOM];
-    write_in(
-        blocks,
-        a,
-        b,
-        d,
-        cells,
-        roots,
-        blocks2,
-        width2,
-        a2,
-        b2,
-        counts2,
-        cells2,
-        roots2,
-        d2,
-        &mut order,
-        &mut numbers,
-        &mut owners,
-        &mut vias,
-    )
-}
-
-// .. in the longest arrays.
-#[inline(never)]
-fn write_in_largest(
+// Plans, and where each object has its place writes. Whether it has.
+pub fn write_lists(
     blocks: usize,
     a: &[u8],
     b: &[u8],
@@ -221,88 +165,18 @@ fn write_in_largest(
         blocks2 width2 (copied_lists a2.old b2.old counts2.old cells2.old roots2.old d2.old)
         (copied_lists a2.new b2.new counts2.new cells2.new roots2.new d2.new) result }
 {
-    let mut order = [0 as Ref; MAX_BLOCKS];
-    let mut numbers = [0 as Ref; MAX_BLOCKS];
-    let mut owners = [0 as Ref; MAX_BLOCKS];
-    let mut vias = [0 as Ref; MAX_BLOCKS];
-    write_in(
-        blocks,
-        a,
-        b,
-        d,
-        cells,
-        roots,
-        blocks2,
-        width2,
-        a2,
-        b2,
-        counts2,
-        cells2,
-        roots2,
-        d2,
-        &mut order,
-        &mut numbers,
-        &mut owners,
-        &mut vias,
-    )
-}
-
-// .. in arrays of so many places, or in longer ones where the first heap has more blocks. What calls itself is not built into its caller, nor
-// are large arrays into what calls itself: so a small heap does not take the stack of the largest.
-pub fn write_in_room(
-    places: usize,
-    blocks: usize,
-    a: &[u8],
-    b: &[u8],
-    d: &[u8],
-    cells: &[Ref],
-    roots: &[Ref],
-    blocks2: usize,
-    width2: usize,
-    a2: &mut [u8],
-    b2: &mut [u8],
-    counts2: &mut [u8],
-    cells2: &mut [Ref],
-    roots2: &mut [Ref],
-    d2: &mut [u8],
-) -> bool
-    requires { Walkable blocks a.now b.now d.now cells.now roots.now
-        × Fillable blocks2 width2 (length roots.now) a2.old b2.old counts2.old cells2.old roots2.old d2.old
-        × (1 ≤ places) }
-    ensures { CopyWritten blocks (walked_heap a.now b.now d.now cells.now roots.now)
-        blocks2 width2 (copied_lists a2.old b2.old counts2.old cells2.old roots2.old d2.old)
-        (copied_lists a2.new b2.new counts2.new cells2.new roots2.new d2.new) result }
-{
-    if places < blocks {
-        return write_in_room(
-            8 * places,
-            blocks,
-            a,
-            b,
-            d,
-            cells,
-            roots,
-            blocks2,
-            width2,
-            a2,
-            b2,
-            counts2,
-            cells2,
-            roots2,
-            d2,
-        );
-    }
-    if places == SMALL_ROOM {
-        return write_in_small(
+    // The arrays are the shortest of three that have a place for each block of the first heap, since they are cleared in every call.
+    if blocks <= SMALL_ROOM {
+        write_in_arrays::<SMALL_ROOM>(
             blocks, a, b, d, cells, roots, blocks2, width2, a2, b2, counts2, cells2, roots2, d2,
-        );
-    }
-    if places == MIDDLE_ROOM {
-        return write_in_middle(
+        )
+    } else if blocks <= MIDDLE_ROOM {
+        write_in_arrays::<MIDDLE_ROOM>(
             blocks, a, b, d, cells, roots, blocks2, width2, a2, b2, counts2, cells2, roots2, d2,
-        );
+        )
+    } else {
+        write_in_arrays::<MAX_BLOCKS>(
+            blocks, a, b, d, cells, roots, blocks2, width2, a2, b2, counts2, cells2, roots2, d2,
+        )
     }
-    write_in_largest(
-        blocks, a, b, d, cells, roots, blocks2, width2, a2, b2, counts2, cells2, roots2, d2,
-    )
 }

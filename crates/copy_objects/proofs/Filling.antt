@@ -2,10 +2,16 @@
 use mathlib.Core.Path.{◌≡◌, refl, sym, ap, ap₂, ◌∙◌}
 use mathlib.Core.Logic.{◌≢◌}
 use mathlib.Core.List.{List}
-use Prim.Native.Nat.{ℕ, zero, suc, ◌+◌, ◌-◌, ◌<◌}
+use Prim.Native.Nat.{ℕ, zero, suc, ◌+◌, ◌-◌, ◌≤◌, ◌<◌}
 use native.Mathlib.Numerals.{add-one}
 use native.Mathlib.Omega.{arith}
-use lib.ListN.{get_or, set}
+use lib.ListN.{length, get_or, set}
+use lib.Seq.{paste, paste-zero, paste-suc}
+use borrow.Rule.Slice.PartMut.{put_mid}
+use Rattle.std.proofs.Common.{rules, slice_range}
+use Rattle.std.proofs.slice.Indexed.{places}
+use Rattle.std.proofs.lemmas.Slice.{put_mid-paste}
+use Rattle.std.proofs.lemmas.List.Edits.{get_or-between}
 use borrow.Author.Tests.{eq-eqb, ne_eqb}
 use Rattle.rules_copy.specs.Copy.{fill_cells}
 use Rattle.copy_objects.specs.Copying.{moved_to, moved_cells}
@@ -23,6 +29,24 @@ unfolding fill_cells
 fill_same f g cells p zero e = refl
 fill_same f g cells p (suc n) e =
     ap₂ (λ (l : List ℕ) (x : ℕ). set l (p + n) x) (fill_same f g cells p n (λ j l. e j (omega arith))) (e n (omega arith))
+
+-- a part copied over, as places filled in turn
+pasted : (cells : List ℕ) (p : ℕ) (part : List ℕ) (n : ℕ) → p + n ≤ length cells → n ≤ length part
+    → paste cells p part n ≡ fill_cells (λ i. get_or part i 0) cells p n
+unfolding fill_cells
+pasted cells p part zero h l = sym (paste-zero cells p part)
+pasted cells p part (suc n) h l =
+    sym (paste-suc cells p part n 0 (omega arith) (omega arith))
+    ∙ ap (λ (x : List ℕ). set x (p + n) (get_or part n 0)) (pasted cells p part n (omega arith) (omega arith))
+
+pub part_copied : (cells : List ℕ) (j : ℕ) (cells2 : List ℕ) (p n : ℕ) → j + n ≤ length cells → p + n ≤ length cells2 → {part : List ℕ}
+    → part ≡ slice_range cells j (j + n)
+    → put_mid p (p + n - p) cells2 part ≡ fill_cells (λ i. get_or cells (j + i) 0) cells2 p n
+part_copied cells j cells2 p n h l {part} e =
+    let long : n ≡ length (slice_range cells j (j + n)) = search (rules, places) in
+    put_mid-paste p (p + n - p) cells2 part (slice_range cells j (j + n)) n e (omega arith) long
+    ∙ pasted cells2 p (slice_range cells j (j + n)) n l (omega (arith, long))
+    ∙ fill_same _ _ cells2 p n (λ i u. get_or-between cells j (j + n) i 0 (omega arith))
 
 -- ---- one reference
 

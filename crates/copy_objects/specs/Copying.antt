@@ -1,5 +1,5 @@
 -- The writing of the second heap as code has it: from the maps and cells of the first and the local arrays. For contracts of inner functions.
-use Rattle.std.specs.Prelude.{ℕ, zero, suc, ◌+◌, ◌-◌, ◌*◌, ◌/◌, ◌≤◌, ◌<◌, ◌≡◌, ◌≢◌, true, false, List, length, get_or, eqb}
+use Rattle.std.specs.Prelude.{ℕ, zero, suc, ◌+◌, ◌-◌, ◌*◌, ◌≤◌, ◌<◌, ◌≡◌, ◌≢◌, true, false, List, length, get_or, eqb}
 use Rattle.bitmap.specs.Bit.{bit_at}
 use Rattle.rules.specs.Heap.{Memory, max_blocks, capacity, size_from}
 use Rattle.rules_stores.specs.Store.{made_at}

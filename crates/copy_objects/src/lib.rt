@@ -16,10 +16,7 @@ fn moved_to(moved: &[Ref], v: Ref) -> Ref
     requires { v ≤ length moved.now }
     ensures { result ≡ moved_to moved.now v }
 {
-    if v == 0 {
-        return 0;
-    }
-    moved[v as usize - 1]
+    if v == 0 { 0 } else { moved[v as usize - 1] }
 }
 
 // Writes from place j2 on the references to the copies of what the n references from place j on name.
@@ -36,26 +33,12 @@ pub fn move_references(
     ensures { refs2.new
         ≡ fill_cells (λ i. moved_to moved.now (get_or refs.now (j + i) 0)) refs2.old j2 n }
 {
-    let mut i = 0;
-    while i < n {
-        refs2[j2 + i] = moved_to(moved, refs[j + i]);
-        i += 1;
+    for (i, &v) in refs[j..j + n].iter().enumerate() {
+        refs2[j2 + i] = moved_to(moved, v);
     }
 }
 
-// Writes from place j2 on the n numbers from place j on, as they stand.
-fn copy_numbers(cells: &[Ref], j: usize, cells2: &mut [Ref], j2: usize, n: usize)
-    requires { (j + n ≤ length cells.now) × (j2 + n ≤ length cells2.old) }
-    ensures { cells2.new ≡ fill_cells (λ i. get_or cells.now (j + i) 0) cells2.old j2 n }
-{
-    let mut i = 0;
-    while i < n {
-        cells2[j2 + i] = cells[j + i];
-        i += 1;
-    }
-}
-
-// Writes from place j2 on the n cells from place j on of an object of this D bit.
+// Writes from place j2 on the n cells from place j on of an object of this D bit: the numbers of data as they stand, references moved.
 fn copy_cells(
     bit: u8,
     moved: &[Ref],
@@ -70,10 +53,10 @@ fn copy_cells(
     ensures { cells2.new ≡ fill_cells (moved_cells bit moved.now cells.now j) cells2.old j2 n }
 {
     if bit == 1 {
-        copy_numbers(cells, j, cells2, j2, n);
-        return;
+        cells2[j2..j2 + n].copy_from_slice(&cells[j..j + n]);
+    } else {
+        move_references(moved, cells, j, cells2, j2, n);
     }
-    move_references(moved, cells, j, cells2, j2, n);
 }
 
 // Writes the object at block `at` of the first heap at its place in the second.
@@ -131,15 +114,14 @@ pub fn copy_objects(
         ≡ copy_objects blocks b.now d.now cells.now order.now moved.now blocks2 width2
         (part_memory a2.old b2.old counts2.old cells2.old [] d2.old) met }
 {
-    let mut k = 0;
-    while k < met {
+    for &reference in &order[..met] {
         copy_object(
             blocks,
             b,
             d,
             cells,
             moved,
-            order[k] as usize - 1,
+            reference as usize - 1,
             blocks2,
             width2,
             a2,
@@ -148,6 +130,5 @@ pub fn copy_objects(
             cells2,
             d2,
         );
-        k += 1;
     }
 }

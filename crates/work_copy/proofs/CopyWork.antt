@@ -15,7 +15,7 @@ use Rattle.rules_stores.specs.Collection.{collected}
 use Rattle.rules_steps.specs.Steps.{is_open}
 use Rattle.rules_output.specs.Walk.{block_at, number_in, references_of, followed, numbered}
 use Rattle.rules_copy.specs.Copy.{Laid, lay_all, all_laid, places_in, new_reference, new_cell, copy_one, copy_first, copy_all, copied}
-use Rattle.rules_calls.specs.Calls.{collect, copy_from, Answer, reply, settled, freeing, answer}
+use Rattle.rules_calls.specs.Calls.{collect, copy_from, Answer, reply, settled, freeing}
 use Rattle.rules_calls.specs.Promise.{Promise}
 use Rattle.rules.proofs.Shape.{Shaped, shape_facts, shaped_blocks}
 use Rattle.rules_stores.proofs.FormattedShape.{formatted_shaped}
@@ -28,7 +28,7 @@ use Rattle.theory_copies.proofs.Copies.Accepted.{there_laid}
 use Rattle.theory_copies.proofs.Copies.Copied.{filled_usable, filled_shut, filled_collected}
 use Rattle.walk_objects.specs.Walking.{walked_heap}
 use Rattle.walk_objects.proofs.Beginning.{walkable}
-use Rattle.refinement_copy.specs.Routed.{copied_lists, lists_of}
+use Rattle.refinement_copy.specs.Routed.{lists_of}
 use Rattle.refinement_copy.proofs.Filled.{all_written}
 use Rattle.refinement_copy.proofs.CopyAnswer.{copy_nowhere, copy_done}
 use Rattle.copy_lists.specs.Written.{Fillable, CopyWritten}
@@ -56,7 +56,7 @@ unfolding lay_all numbered followed references_of
 laid_read N h M = refl
 
 module _ {N w : ℕ} {h : Memory} (u : Undamaged N w h) (M v : ℕ) (g : Memory) (fits : shaped M v g ≡ true) (as_many : length h.roots ≡ length g.roots) where
-  pub second_shape : Shaped M v g
+  second_shape : Shaped M v g
   second_shape = shape_facts M v g fits
 
   pub fillable : Fillable M v (length h.roots) g.a g.b g.counts g.cells g.roots g.d

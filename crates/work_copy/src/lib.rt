@@ -21,11 +21,7 @@ fn find_figures(blocks: usize, a: &[u8], sections: &mut [Ref])
     requires { (is_blocks blocks ≡ true) × (blocks ≤ 8 * length a.now) × (length sections.old ≡ section_count blocks) }
     ensures { sections.new ≡ figures blocks a.now }
 {
-    let mut s = 0;
-    while s < sections.len() {
-        sections[s] = UNKNOWN;
-        s += 1;
-    }
+    sections.fill(UNKNOWN);
     section_figures::renew(blocks, a, sections);
 }
 
@@ -66,22 +62,8 @@ pub fn copy(
         (before a2.old b2.old counts2.old cells2.old roots2.old waiting2.old sections2.old d2.old marks2.old list2.old) result
         (after a2.new b2.new counts2.new cells2.new roots2.new waiting2.new sections2.new d2.new marks2.new list2.new) }
 {
-    if !copy_lists::write_in_room(
-        copy_lists::SMALL_ROOM,
-        blocks,
-        a,
-        b,
-        d,
-        cells,
-        roots,
-        blocks2,
-        width2,
-        a2,
-        b2,
-        counts2,
-        cells2,
-        roots2,
-        d2,
+    if !copy_lists::write_lists(
+        blocks, a, b, d, cells, roots, blocks2, width2, a2, b2, counts2, cells2, roots2, d2,
     ) {
         return replies::refusal(17);
     }

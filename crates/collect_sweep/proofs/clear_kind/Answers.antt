@@ -12,9 +12,5 @@ zero-there : (d : List ℕ) (i : ℕ) → get_or d (i / 8) 0 ≡ 0 → bit_at d 
 unfolding bit_at
 zero-there d i e = ap (λ (x : ℕ). bit_of x (i % 8)) e ∙ bit_zero (i % 8)
 
-pub returns-then-d-i-ne0 : goal.returns-then-d-i-ne0
-returns-then-d-i-ne0 c =
-    c.set_bit.ensures
-
 pub returns-else-d-i-ne0 : goal.returns-else-d-i-ne0
 returns-else-d-i-ne0 c = sym (set_bit_there _ _ 0 (zero-there _ _ c.if-d-i-ne0.false))

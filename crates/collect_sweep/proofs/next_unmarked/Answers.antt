@@ -45,10 +45,10 @@ returns-then-rest-ne0 c =
     let inside = rest_inside (test (goal.at.returns-then-rest-ne0 c).After-unmarked_byte) c.loop-at.at x (omega arith) c.unmarked_byte.ensures c.if-rest-ne0.true in
     record {
       from = omega arith;
-      most = omega (arith, inside, c.requires.0.eighths);
+      inside = omega (arith, inside, c.requires.0.eighths);
       none_before =
           passed (goal.at.returns-then-rest-ne0 c).After-unmarked_byte (c.loop-at.at + count_trailing_zeros 8 (rest_at x c.loop-at.at)) (rest_before (test (goal.at.returns-then-rest-ne0 c).After-unmarked_byte) c.loop-at.at x (omega arith) c.unmarked_byte.ensures c.if-rest-ne0.true);
-      here = λ _. rest_here (test (goal.at.returns-then-rest-ne0 c).After-unmarked_byte) c.loop-at.at x (omega arith) c.unmarked_byte.ensures c.if-rest-ne0.true;
+      here = rest_here (test (goal.at.returns-then-rest-ne0 c).After-unmarked_byte) c.loop-at.at x (omega arith) c.unmarked_byte.ensures c.if-rest-ne0.true;
     }
 
 pub overflow_add-at : goal.overflow_add-at
@@ -64,10 +64,4 @@ loop-at-preserved c = (
 )
 
 pub returns : goal.returns
-returns c =
-    record {
-      from = omega arith;
-      most = omega arith;
-      none_before = λ j p q. c.loop-at.invariant.2 j p (omega arith);
-      here = λ less. absurd (omega arith);
-    }
+returns c = λ j p q. c.loop-at.invariant.2 j p (omega arith)

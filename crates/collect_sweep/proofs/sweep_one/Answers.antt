@@ -1,4 +1,4 @@
--- `collect_sweep::sweep_one` meets its contract: what it does is a law of `sweepOne`.
+-- `collect_sweep::sweep_one` meets its contract: what it does is a law of `sweep_one`.
 use native.Mathlib.Omega.{arith}
 use Rattle.collect_sweep.specs.Sweep.{is_unmarked}
 use Rattle.collect_sweep.proofs.Sweeps.{sweep_unmarked}

@@ -2,22 +2,14 @@
 use mathlib.Core.Path.{refl}
 use native.Mathlib.Omega.{arith}
 use Rattle.collect_visit.proofs.Visits.{to_none, to_past, to_room, to_first, to_again, to_stuck}
+use Rattle.collect_visit.proofs.visit_one.Goals.{then-v-eq0-via-then-v-eq0, then-v-eq0-via-else-v-eq0+then-blocks-v}
 use Rattle.collect_visit.proofs.visit_one.Goals as goal
 
 pub returns-then-v-eq0 : goal.returns-then-v-eq0
-returns-then-v-eq0 c = search to_none
-
-pub returns-then-blocks-v : goal.returns-then-blocks-v
-returns-then-blocks-v c =
-    to_past c.requires c.if-v-eq0.false c.if-blocks-v.true
-
-pub bounds-at-block : goal.bounds-at-block
-bounds-at-block c =
-    omega (arith, c.requires.counting.long)
-
-pub bounds-at-block-then-count-eq0 : goal.bounds-at-block-then-count-eq0
-bounds-at-block-then-count-eq0 c =
-    omega (arith, c.requires.counting.long)
+returns-then-v-eq0 c = elim c.then-v-eq0.branch [
+  | then-v-eq0-via-then-v-eq0 w ↦ to_none c.requires w.if-v-eq0.true
+  | then-v-eq0-via-else-v-eq0+then-blocks-v w ↦ to_past c.requires w.if-v-eq0.false w.if-blocks-v.true
+]
 
 pub bounds-waiting-top : goal.bounds-waiting-top
 bounds-waiting-top c =

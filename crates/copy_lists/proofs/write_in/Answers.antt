@@ -34,17 +34,17 @@ laid : (c : After-trace_all-met) → lay_first c.args.blocks2 (sizes_in c.args.b
 laid c =
     plan_is _ _ _ _ _ _ c.requires.0 (met c) c.args.blocks2
 
-pub returns-then-not-plan : goal.returns-then-not-plan
-returns-then-not-plan c =
-    left_unwritten c.plan.ensures (laid (goal.at.returns-then-not-plan c).After-trace_all-met) c.if-not-plan.true
+pub returns-else-plan : goal.returns-else-plan
+returns-else-plan c =
+    left_unwritten c.plan.ensures (laid (goal.at.returns-else-plan c).After-trace_all-met) c.if-plan.false
 
 pub fill_lists-requires : goal.fill_lists-requires
 fill_lists-requires c = (
   c.requires.0,
-  routed _ _ _ _ _ _ c.requires.0 (met (goal.at.fill_lists-requires c).After-trace_all-met) c.plan.ensures c.if-not-plan.false c.plan.auto.numbers,
+  routed _ _ _ _ _ _ c.requires.0 (met (goal.at.fill_lists-requires c).After-trace_all-met) c.plan.ensures c.if-plan.true c.plan.auto.numbers,
   c.requires.1,
 )
 
-pub returns : goal.returns
-returns c =
-    lists_filled c.plan.ensures (laid (goal.at.returns c).After-trace_all-met) c.if-not-plan.false c.fill_lists.ensures
+pub returns-then-plan : goal.returns-then-plan
+returns-then-plan c =
+    lists_filled c.plan.ensures (laid (goal.at.returns-then-plan c).After-trace_all-met) c.if-plan.true c.fill_lists.ensures

@@ -1,17 +1,12 @@
 -- `copy_objects` meets its contract.
 use mathlib.Core.Path.{◌≡◌}
 use mathlib.Core.List.{[]}
-use Prim.Native.Nat.{◌-◌, ◌≤◌}
 use Rattle.count_up.specs.Ready.{Planes, Extents, part_memory}
 use Rattle.copy_objects.specs.Copying.{copy_objects}
 use Rattle.copy_objects.proofs.copy_objects.Given as goal
 
-abbrev pub invariant-loop-k : goal.invariant-loop-k
-invariant-loop-k l =
-    (l.k ≤ l.met) × Planes l.blocks2 l.width2 l.counts2 × Extents l.blocks2 l.a2 l.b2 l.cells2 l.d2
+abbrev pub invariant-loop-reference : goal.invariant-loop-reference
+invariant-loop-reference l =
+    Planes l.blocks2 l.width2 l.counts2 × Extents l.blocks2 l.a2 l.b2 l.cells2 l.d2
     × (part_memory l.a2 l.b2 l.counts2 l.cells2 [] l.d2
-    ≡ copy_objects l.blocks l.b l.d l.cells l.order l.moved l.blocks2 l.width2 (part_memory l.initial.a2 l.initial.b2 l.initial.counts2 l.initial.cells2 [] l.initial.d2) l.k)
-
-abbrev pub decreases-loop-k : goal.decreases-loop-k
-decreases-loop-k l =
-    l.met - l.k
+    ≡ copy_objects l.blocks l.b l.d l.cells l.order l.moved l.blocks2 l.width2 (part_memory l.initial.a2 l.initial.b2 l.initial.counts2 l.initial.cells2 [] l.initial.d2) l.reference-index)
