@@ -28,8 +28,7 @@ const BLOCK: &[u8] = b" block ";
 fn digits_of(n: u64) -> usize
     ensures { (result ≡ length (decimal n)) × (result ≤ 20) }
 {
-    let mut digits = [0u8; 20];
-    io::decimal(n, &mut digits)
+    n.max(1).ilog10() as usize + 1
 }
 
 // Writes a text and a number at place `at`. The place behind them.
