@@ -1,8 +1,8 @@
 -- What the walk begins with: arrays of zeros, and a heap without damage.
-use mathlib.Core.Path.{◌≡◌, refl}
-use Prim.Native.Nat.{ℕ, zero, suc, ◌*◌, ◌≤◌}
+use Prim.Native.Nat.{ℕ, ◌≤◌}
 use native.Mathlib.Omega.{arith}
-use lib.ListN.{length, get_or, replicate, length-replicate}
+use lib.ListN.{replicate, length-replicate}
+use Rattle.std.proofs.lemmas.List.{get_or-replicate}
 use Rattle.rules.specs.Heap.{Memory, max_blocks}
 use Rattle.rules_output.specs.Walk.{number_in}
 use Rattle.theory_memories.specs.Heaps.{Undamaged}
@@ -11,11 +11,6 @@ use Rattle.theory_walks.proofs.Walks.Numbers.{none}
 use Rattle.theory_walks.proofs.Walks.Steps.{nil}
 use Rattle.theory_walks.proofs.Walks.Reached.{Named, intact_named}
 use Rattle.walk_objects.specs.Walking.{Walkable, Walking, Tracing, walked_heap, last_first}
-
-zeros_at : (n i : ℕ) → ◌≡◌ {A = ℕ} (get_or (replicate n 0) i 0) 0
-zeros_at zero i = refl
-zeros_at (suc n) zero = refl
-zeros_at (suc n) (suc i) = zeros_at n i
 
 walk_begins : (N n : ℕ) → N ≤ max_blocks → N ≤ n → Walking N (replicate n 0) (replicate n 0) 0
 unfolding last_first number_in
@@ -26,7 +21,7 @@ walk_begins N n small room =
       long_numbers = omega (arith, length-replicate {A = ℕ} n 0);
       distinct = none;
       below = nil;
-      numbers_are = λ b l. zeros_at n b;
+      numbers_are = λ b l. get_or-replicate n b 0 0 (omega arith);
     }
 
 pub trace_begins : (N n : ℕ) → N ≤ max_blocks → N ≤ n → Tracing N (replicate n 0) (replicate n 0) (replicate n 0) (replicate n 0) 0

@@ -6,8 +6,9 @@ use mathlib.Core.List.{List, [], ◌∷◌, ◌++◌}
 use Prim.Native.Nat.{ℕ, zero, suc, ◌+◌, ◌-◌, ◌*◌, ◌≤◌, ◌<◌}
 use native.Mathlib.Decide.{ℕ_discrete}
 use native.Mathlib.Omega.{arith}
-use lib.ListN.{length, get_or, length-append, get_or-append}
-use lib.Seq.{ext_get_or, get_or-append-add}
+use lib.ListN.{length, get_or, take, drop, length-append, length-drop, get_or-append}
+use lib.Seq.{ext_get_or, get_or-append-add, length-take-le}
+use Rattle.std.proofs.lemmas.List.{get_or-take, get_or-drop}
 use Rattle.rules.specs.Heap.{Memory, max_blocks, is_first, size_at, is_data}
 use Rattle.rules_stores.specs.Store.{naming_cells}
 use Rattle.rules_output.specs.Walk.{object_at, walk, references_of, followed}
@@ -39,6 +40,17 @@ part_at l j (suc n) i h = elim (ℕ_discrete i n) [
       ∙ ap (λ (x : ℕ). get_or l (j + x) 0) (sym e)
   | no d ↦ get_or-append (part l j n) (get_or l (j + n) 0 ∷ []) 0 i (omega (arith, part_length l j n)) ∙ part_at l j n i (omega arith)
 ]
+
+-- a subslice
+pub part_slice : (l : List ℕ) (j n : ℕ) → j + n ≤ length l → take n (drop j l) ≡ part l j n
+part_slice l j n room =
+    ext_get_or 0 (take n (drop j l)) (part l j n) (long ∙ sym (part_length l j n))
+    (λ i h.
+    let inside : i < n = omega (arith, long) in
+    get_or-take n (drop j l) i 0 inside ∙ get_or-drop j l i 0 ∙ sym (part_at l j n i inside))
+  where
+    long : length (take n (drop j l)) ≡ n
+    long = length-take-le n (drop j l) (omega (arith, length-drop j l))
 
 pub part_whole : (l : List ℕ) → part l 0 (length l) ≡ l
 part_whole l =

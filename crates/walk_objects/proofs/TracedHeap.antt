@@ -20,7 +20,7 @@ use Rattle.walk_objects.specs.Walking.{Walked, walked_heap, part}
 use Rattle.walk_objects.specs.Walking.{entries, Traced}
 use Rattle.walk_objects.proofs.Tracing.{entries_met}
 use Rattle.walk_objects.proofs.Linking.{entries_length, later}
-use Rattle.walk_objects.proofs.Numbering.{part_whole, Taken, taken, data_zeros, cells_list, cells_count}
+use Rattle.walk_objects.proofs.Numbering.{Taken, taken, data_zeros, cells_list, cells_count}
 
 each_zeros_at : (l : List Entry) (p j : ℕ) (vs : List ℕ) → ((i : ℕ) → i < length vs → get_or vs i 0 ≡ 0) → meet_each_at l p j vs ≡ l
 unfolding meet_each_at
@@ -66,11 +66,11 @@ module _ (N : ℕ) (a b d cells roots : List ℕ) (named : Named N (walked_heap 
   ]
 
   pub start_at : (order order₀ numbers owners owners₀ vias vias₀ : List ℕ) (met : ℕ)
-      → Traced N (meet_each_at (entries order₀ owners₀ vias₀ 0) 0 0 (part roots 0 (length roots))) order numbers owners vias met
+      → Traced N (meet_each_at (entries order₀ owners₀ vias₀ 0) 0 0 roots) order numbers owners vias met
       → Traced N (turns 0) order numbers owners vias met
   unfolding trail entries
   start_at order order₀ numbers owners owners₀ vias vias₀ met t =
-      record { is = t.is ∙ ap (meet_each_at [] 0 0) (part_whole roots); tracing = t.tracing }
+      record { is = t.is; tracing = t.tracing }
 
   pub next_at :
       (order numbers owners vias order' numbers' owners' vias' : List ℕ) (met met' k n : ℕ) → Traced N (turns k) order numbers owners vias met → k < met

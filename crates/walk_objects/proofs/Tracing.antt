@@ -5,22 +5,16 @@ use mathlib.Core.List.{List, [], ◌∷◌, ◌++◌}
 use Prim.Native.Nat.{ℕ, zero, suc, ◌+◌, ◌-◌, ◌≤◌, ◌<◌}
 use native.Mathlib.Numerals.{add-one}
 use native.Mathlib.Omega.{arith}
-use lib.ListN.{length, get_or, set, length-set}
-use lib.Seq.{get_or-set_same, get_or-set_other}
+use lib.ListN.{length, get_or, set, take, length-set}
+use lib.Seq.{get_or-set_same, get_or-set_other, length-take-le}
+use Rattle.std.proofs.lemmas.List.{take_more}
+use Rattle.rules.specs.Heap.{max_blocks}
 use Rattle.rules_output.specs.Walk.{number_in}
 use Rattle.theory_walks.specs.Trail.{Entry, entry, met_in, meet_at, meet_each_at}
 use Rattle.theory_walks.proofs.Walks.Trails.{MetAt, nothing, again, new, met_at_cases}
-use Rattle.walk_objects.specs.Walking.{last_first, part}
-use Rattle.walk_objects.specs.Walking.{entries, Tracing, Traced}
-use Rattle.walk_objects.proofs.Meeting.{room, walks_on}
-use Rattle.walk_objects.proofs.Numbering.{part_length}
-
--- the arrays are as long as they were
-pub record AsLong (order₀ numbers₀ owners₀ vias₀ order numbers owners vias : List ℕ) : Type 0 where
-  pub of_order : length order ≡ length order₀
-  pub of_numbers : length numbers ≡ length numbers₀
-  pub of_owners : length owners ≡ length owners₀
-  pub of_vias : length vias ≡ length vias₀
+use Rattle.walk_objects.specs.Walking.{last_first, entries, Tracing, Traced}
+use Rattle.walk_objects.proofs.Meeting.{walks_on}
+use Rattle.walk_objects.proofs.Meeting as meeting
 
 pub entries_met : (order owners vias : List ℕ) (n : ℕ) → met_in (entries order owners vias n) ≡ last_first order n
 unfolding entries met_in last_first
@@ -77,8 +71,8 @@ module _ (N : ℕ) (order numbers owners vias : List ℕ) (met v p j : ℕ) (t :
       same (new d e) = absurd (some (known (v - 1) (omega arith) ∙ ap (number_in (met_in so_far)) whole ∙ e))
 
   module _ (s : v ≢ 0) (l : v ≤ N) (unmet : get_or numbers (v - 1) 0 ≡ 0) where
-    pub space : met < N
-    space = room N order numbers met v t.walking s l unmet
+    space : met < N
+    space = meeting.room N order numbers met v t.walking s l unmet
 
     pub trace_new : Traced N (meet_at so_far p j v) (set order met v) (set numbers (v - 1) (met + 1)) (set owners met p) (set vias met j) (met + 1)
     trace_new =
@@ -105,6 +99,26 @@ module _ (N : ℕ) (order numbers owners vias : List ℕ) (met v p j : ℕ) (t :
             absurd (omega (arith, zero_is))
         same (new d e) = refl
 
+-- there is a place for one more
+pub record Room (N : ℕ) (order owners vias : List ℕ) (met : ℕ) : Type 0 where
+  pub below : met < N
+  pub small : N ≤ max_blocks
+  pub of_order : met < length order
+  pub of_owners : met < length owners
+  pub of_vias : met < length vias
+
+pub room : {N : ℕ} {order numbers owners vias : List ℕ} {met : ℕ} (v : ℕ) → Tracing N order numbers owners vias met → v ≢ 0 → v ≤ N
+    → get_or numbers (v - 1) 0 ≡ 0 → Room N order owners vias met
+room {N} {order} {numbers} {owners} {vias} {met} v t s l unmet =
+    let below : met < N = space N order numbers owners vias met v 0 0 t s l unmet in
+    record {
+      below = below;
+      small = t.walking.small;
+      of_order = omega (arith, below, t.walking.long_order);
+      of_owners = omega (arith, below, t.long_owners);
+      of_vias = omega (arith, below, t.long_vias);
+    }
+
 -- one more at the end
 each_end : (l : List Entry) (p j : ℕ) (vs : List ℕ) (v : ℕ) → meet_each_at l p j (vs ++ (v ∷ [])) ≡ meet_at (meet_each_at l p j vs) p (j + length vs) v
 unfolding meet_each_at
@@ -113,23 +127,23 @@ each_end l p j (x ∷ vs) v =
     let place : suc j + length vs ≡ j + suc (length vs) = omega arith in
     each_end (meet_at l p j x) p (suc j) vs v ∙ ap (λ (i : ℕ). meet_at (meet_each_at (meet_at l p j x) p (suc j) vs) p i v) place
 
-pub trace_start : (N : ℕ) (order numbers owners vias refs : List ℕ) (met p j : ℕ) → Tracing N order numbers owners vias met
-    → Traced N (meet_each_at (entries order owners vias met) p 0 (part refs j 0)) order numbers owners vias met
-unfolding part meet_each_at
-trace_start N order numbers owners vias refs met p j t = record { is = refl; tracing = t }
+pub trace_start : (N : ℕ) (order numbers owners vias refs : List ℕ) (met p : ℕ) → Tracing N order numbers owners vias met
+    → Traced N (meet_each_at (entries order owners vias met) p 0 (take 0 refs)) order numbers owners vias met
+unfolding meet_each_at
+trace_start N order numbers owners vias refs met p t = record { is = refl; tracing = t }
 
 pub trace_more :
-    (N : ℕ) (l : List Entry) (p : ℕ) (refs : List ℕ) (j i : ℕ) (order numbers owners vias order' numbers' owners' vias' : List ℕ) (met met' : ℕ)
-    → Traced N (meet_each_at l p 0 (part refs j i)) order numbers owners vias met
-    → Traced N (meet_at (entries order owners vias met) p i (get_or refs (j + i) 0)) order' numbers' owners' vias' met'
-    → Traced N (meet_each_at l p 0 (part refs j (i + 1))) order' numbers' owners' vias' met'
-unfolding part
-trace_more N l p refs j i order numbers owners vias order' numbers' owners' vias' met met' before next =
-    let place : 0 + length (part refs j i) ≡ i = omega (arith, part_length refs j i) in
+    (N : ℕ) (l : List Entry) (p : ℕ) (refs : List ℕ) (i : ℕ) (order numbers owners vias order' numbers' owners' vias' : List ℕ) (met met' : ℕ)
+    → i < length refs
+    → Traced N (meet_each_at l p 0 (take i refs)) order numbers owners vias met
+    → Traced N (meet_at (entries order owners vias met) p i (get_or refs i 0)) order' numbers' owners' vias' met'
+    → Traced N (meet_each_at l p 0 (take (i + 1) refs)) order' numbers' owners' vias' met'
+trace_more N l p refs i order numbers owners vias order' numbers' owners' vias' met met' inside before next =
+    let place : 0 + length (take i refs) ≡ i = omega (arith, length-take-le i refs (omega arith)) in
     record {
       is =
-          next.is ∙ ap (λ (x : List Entry). meet_at x p i (get_or refs (j + i) 0)) before.is
-          ∙ sym (rw (add-one i) (each_end l p 0 (part refs j i) (get_or refs (j + i) 0)
-          ∙ ap (λ (k : ℕ). meet_at (meet_each_at l p 0 (part refs j i)) p k (get_or refs (j + i) 0)) place));
+          next.is ∙ ap (λ (x : List Entry). meet_at x p i (get_or refs i 0)) before.is
+          ∙ sym (rw (take_more refs i 0 inside) (each_end l p 0 (take i refs) (get_or refs i 0)
+          ∙ ap (λ (k : ℕ). meet_at (meet_each_at l p 0 (take i refs)) p k (get_or refs i 0)) place));
       tracing = next.tracing;
     }

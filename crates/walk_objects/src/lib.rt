@@ -5,15 +5,16 @@
 
 #![tactic(auto)]
 
-ghost use Rattle.std.specs.Prelude.{◌≡◌, ℕ, ◌+◌, ◌*◌, ◌≤◌, ◌<◌, [], length, get_or, take};
+ghost use Rattle.std.specs.Prelude.{◌≡◌, ℕ, ◌*◌, ◌≤◌, ◌<◌, [], length, get_or, take};
 ghost use Rattle.rules.specs.Heap.{max_blocks};
 ghost use Rattle.rules_output.specs.Walk.{followed};
 ghost use Rattle.theory_walks.specs.Trail.{meet_at, meet_each_at, trail, links_to};
-ghost use Rattle.walk_objects.specs.Walking.{part, walked_heap, entries, Walkable, Tracing, Traced};
+ghost use Rattle.walk_objects.specs.Walking.{walked_heap, entries, Walkable, Tracing, Traced};
 
 use types::Ref;
 
 // Meets what v names, if anything, in that cell of that owner. How many are met then.
+#[tactic(auto, using(crate::proofs::Tracing::room))]
 fn meet_at(
     blocks: usize,
     order: &mut [Ref],
@@ -29,21 +30,17 @@ fn meet_at(
     ensures { Traced blocks (meet_at (entries order.old owners.old vias.old met) owner cell v)
         order.new numbers.new owners.new vias.new result }
 {
-    if v == 0 {
-        return met;
-    }
-    let block = v as usize - 1;
-    if numbers[block] != 0 {
+    if v == 0 || numbers[v as usize - 1] != 0 {
         return met;
     }
     order[met] = v;
-    numbers[block] = (met + 1) as Ref;
+    numbers[v as usize - 1] = (met + 1) as Ref;
     owners[met] = owner as Ref;
     vias[met] = cell as Ref;
     met + 1
 }
 
-// Meets what the n references from place j on name, in their order: the cells, or the roots, of an owner.
+// Meets what the references name, in their order: the cells, or the roots, of an owner.
 fn meet_each_at(
     blocks: usize,
     order: &mut [Ref],
@@ -51,33 +48,18 @@ fn meet_each_at(
     owners: &mut [Ref],
     vias: &mut [Ref],
     refs: &[Ref],
-    j: usize,
-    n: usize,
     owner: usize,
-    met: usize,
+    mut met: usize,
 ) -> usize
-    requires { Tracing blocks order.old numbers.old owners.old vias.old met × (j + n ≤ length refs.now) × (n ≤ 4 * max_blocks)
-        × (owner ≤ blocks) × ((i : ℕ) → i < n → get_or refs.now (j + i) 0 ≤ blocks) }
-    ensures { Traced blocks (meet_each_at (entries order.old owners.old vias.old met) owner 0 (part refs.now j n))
+    requires { Tracing blocks order.old numbers.old owners.old vias.old met × (length refs.now ≤ 4 * max_blocks)
+        × (owner ≤ blocks) × ((i : ℕ) → i < length refs.now → get_or refs.now i 0 ≤ blocks) }
+    ensures { Traced blocks (meet_each_at (entries order.old owners.old vias.old met) owner 0 refs.now)
         order.new numbers.new owners.new vias.new result }
 {
-    let mut m = met;
-    let mut i = 0;
-    while i < n {
-        m = meet_at(
-            blocks,
-            order,
-            numbers,
-            owners,
-            vias,
-            owner,
-            i,
-            refs[j + i],
-            m,
-        );
-        i += 1;
+    for (cell, &v) in refs.iter().enumerate() {
+        met = meet_at(blocks, order, numbers, owners, vias, owner, cell, v, met);
     }
-    m
+    met
 }
 
 // Numbers all objects that the roots lead to, and notes where each was first met. How many they are.
@@ -99,36 +81,16 @@ pub fn trace_all(
         (followed blocks (walked_heap a.now b.now d.now cells.now roots.now)) blocks)
         order.new numbers.new owners.new vias.new result }
 {
-    let mut met = meet_each_at(
-        blocks,
-        order,
-        numbers,
-        owners,
-        vias,
-        roots,
-        0,
-        roots.len(),
-        0,
-        0,
-    );
+    let mut met = meet_each_at(blocks, order, numbers, owners, vias, roots, 0, 0);
     let mut k = 0;
+    // A `while`: what is met in its turns is taken in later ones.
     while k < met {
         let at = order[k] as usize - 1;
         let size = map_objects::objects::object_size(blocks, b, at);
         let n = map_objects::objects::naming_cells(d, at, size);
-        met = meet_each_at(
-            blocks,
-            order,
-            numbers,
-            owners,
-            vias,
-            cells,
-            4 * at,
-            n,
-            k + 1,
-            met,
-        );
+        let named = &cells[4 * at..4 * at + n];
         k += 1;
+        met = meet_each_at(blocks, order, numbers, owners, vias, named, k, met);
     }
     met
 }
@@ -139,12 +101,13 @@ pub fn links_to(owners: &[Ref], vias: &[Ref], links: &mut [Ref], n: usize) -> us
         × ((i : ℕ) → i < n → get_or owners.now i 0 ≤ i) }
     ensures { (take result links.new ≡ links_to (entries [] owners.now vias.now n) n) × (result ≤ n) }
 {
-    let mut m = n;
-    let mut t = 0;
-    while m != 0 {
-        links[t] = vias[m - 1];
-        t += 1;
-        m = owners[m - 1] as usize;
+    let mut object = n;
+    let mut count = 0;
+    // A `while`: it goes back from an object to the owner of the cell where it was met.
+    while object != 0 {
+        links[count] = vias[object - 1];
+        count += 1;
+        object = owners[object - 1] as usize;
     }
-    t
+    count
 }

@@ -2,6 +2,7 @@
 use mathlib.Core.Path.{◌≡◌, refl, sym, ap, ◌∙◌}
 use mathlib.Core.Logic.{◌≢◌}
 use mathlib.Core.Bool.{true, false, not}
+use Rattle.std.specs.Prelude.{Some, None}
 use mathlib.Core.List.{List, [], ◌∷◌, ◌++◌, reverse, reverse_aux, append-nil, append_assoc}
 use mathlib.Core.Option.{some}
 use Prim.Native.Nat.{ℕ, zero, suc, ◌-◌, ◌≤◌, ◌<◌}
@@ -20,7 +21,6 @@ use Rattle.rules_calls.specs.Promise.{ReasonPromise}
 use Rattle.rules.proofs.Tests.{first_past, first_found}
 use Rattle.rules_calls.proofs.Replies.{Passed}
 use Rattle.types.specs.declared.Reply.{Reply}
-use Rattle.text.specs.Text.{Put}
 use Rattle.text.proofs.Writing.{put_as}
 use Rattle.theory_memories.specs.Heaps.{Intact, Undamaged}
 use Rattle.theory_walks.specs.Trail.{trail, links_to}
@@ -33,7 +33,7 @@ use Rattle.theory_walks.proofs.Walks.Reached.{Named, intact_named, led_met}
 use Rattle.walk_objects.specs.Walking.{walked_heap, last_first, entries, Traced}
 use Rattle.walk_objects.proofs.Meeting.{top_length}
 use Rattle.walk_objects.proofs.TracedHeap.{all_walked, owners_before, links_found_lem}
-use Rattle.walk_reason.specs.Telling.{reason_in, walked_reason, Found, Told}
+use Rattle.walk_reason.specs.Telling.{reason_in, walked_reason, Told}
 
 -- ---- links from their end
 
@@ -76,6 +76,12 @@ walked_is N w h u at = elim (ℕ_discrete (number_in (numbered N h) (suc at)) 0)
 ]
 
 -- ---- what the walk leaves in the arrays
+
+-- the first t links are those of the reason
+pub record Found (N : ℕ) (h : Memory) (at : ℕ) (links : List ℕ) (t : ℕ) : Type 0 where
+  pub few : t ≤ max_blocks
+  pub long : t ≤ length links
+  pub is : reason_in (take t links) ≡ walked_reason N h at
 
 module _ (N : ℕ) (a b d cells roots : List ℕ) (named : Named N (walked_heap a b d cells roots)) (order numbers owners vias : List ℕ) (met at : ℕ)
     (traced : Traced N (trail roots (followed N (walked_heap a b d cells roots)) N) order numbers owners vias met) (inside : at < N) where
@@ -136,27 +142,22 @@ module _ {N w : ℕ} {h : Memory} (u : Undamaged N w h) (at : ℕ) where
       output_refused N w h u (write_reason at (length out)) refl (sentence_for N h at) out r 6 (omega arith)
       (first_found 6 (not (is_first N h at)) _ (ap not other)) reply
 
-  module _ (first : is_first N h at ≡ true) {out left : List ℕ} {n : ℕ}
-      (told : Told N (walked_heap h.a h.b h.d h.cells h.roots) at out left n) where
-    made : sentence (walked_reason N (walked_heap h.a h.b h.d h.cells h.roots) at) at ≡ sentence_for N h at
-    unfolding sentence_for
-    made = ap (λ (x : Reason). sentence x at) (same_walk ∙ walked_is N w h u.intact at)
+  made : sentence (walked_reason N (walked_heap h.a h.b h.d h.cells h.roots) at) at ≡ sentence_for N h at
+  unfolding sentence_for
+  made = ap (λ (x : Reason). sentence x at) (same_walk ∙ walked_is N w h u.intact at)
 
-    number_is_length : n ≡ length (sentence_for N h at)
-    number_is_length = told.number ∙ ap length made
-
-    pub refused_short : (r : Reply) → length out < n → r ≡ reply 15 0 0 → ReasonPromise N w at h out r h left
+  module _ (first : is_first N h at ≡ true) {out left : List ℕ} where
+    pub refused_short : (r : Reply) → Told N (walked_heap h.a h.b h.d h.cells h.roots) at out left None → r ≡ reply 15 0 0 → ReasonPromise N w at h out r h left
     unfolding own_refusals
-    refused_short r short reply =
-        let long : length out < length (sentence_for N h at) = omega (arith, number_is_length) in
-        rw (told.short short)
+    refused_short r (short, same) reply =
+        let long : length out < length (sentence_for N h at) = omega (arith, ap length made) in
+        rw same
         (output_refused N w h u (write_reason at (length out)) refl (sentence_for N h at) out r 15 (omega arith)
         (first_past 6 (not (is_first N h at)) _ (ap not first)
         ∙ first_found 15 (ltb (length out) (length (sentence_for N h at))) [] (lt-ltb (length out) (length (sentence_for N h at)) long)) reply)
 
-    pub accepted_long : (r : Reply) → n ≤ length out → r ≡ reply 0 n 0 → ReasonPromise N w at h out r h left
+    pub accepted_long : {n : ℕ} (r : Reply) → Told N (walked_heap h.a h.b h.d h.cells h.roots) at out left (Some n) → r ≡ reply 0 n 0 → ReasonPromise N w at h out r h left
     unfolding outcome Passed
-    accepted_long r long reply =
-        let passed : length (sentence_for N h at) ≤ length out = omega (arith, number_is_length) in
-        output_accepted N w h u (write_reason at (length out)) refl (sentence_for N h at) out r left n (first, passed) refl (put_as made refl (told.long long))
-        reply
+    accepted_long {n} r (long, put) reply =
+        let passed : length (sentence_for N h at) ≤ length out = omega (arith, ap length made) in
+        output_accepted N w h u (write_reason at (length out)) refl (sentence_for N h at) out r left n (first, passed) refl (put_as made refl put) reply

@@ -2,12 +2,14 @@
 use mathlib.Core.Path.{◌≡◌, refl, sym, ap, ◌∙◌, subst}
 use mathlib.Core.Logic.{◌≢◌, inl, inr}
 use mathlib.Core.Bool.{true, false}
+use Rattle.std.specs.Prelude.{Some, None}
 use mathlib.Core.List.{List, [], ◌∷◌, ◌++◌, map}
 use Prim.Native.Nat.{ℕ, suc, ◌+◌, ◌-◌, ◌*◌, ◌≤◌, ◌<◌}
 use native.Mathlib.Decide.{ℕ_discrete}
 use native.Mathlib.Omega.{arith}
-use lib.ListN.{length, get_or}
-use lib.Seq.{ext_get_or}
+use lib.ListN.{length, get_or, take}
+use lib.Seq.{ext_get_or, length-take-le}
+use Rattle.std.proofs.lemmas.List.{get_or-take}
 use lib.Dec.{ltb}
 use borrow.Author.Tests.{lt-ltb}
 use Rattle.bitmap.specs.Bit.{bit_at}
@@ -19,7 +21,6 @@ use Rattle.rules_calls.specs.Promise.{ShapePromise}
 use Rattle.rules.proofs.Tests.{test_cases_lem, first_found}
 use Rattle.rules_calls.proofs.Replies.{Passed}
 use Rattle.types.specs.declared.Reply.{Reply}
-use Rattle.text.specs.Text.{Put}
 use Rattle.text.proofs.Writing.{put_as}
 use Rattle.theory_memories.specs.Words.{Leads}
 use Rattle.theory_memories.specs.Heaps.{Undamaged}
@@ -132,42 +133,55 @@ module _ (N : ℕ) (a b d cells roots : List ℕ) (named : Named N (walked_heap 
           ] in
           same ∙ ap (described N heap (numbered N heap)) place
 
-    pub list_is : shape_up_to N b d cells roots order numbers met ≡ shape_of N heap
+    -- the array's first places alone
+    long : length (take met order) ≡ met
+    long = length-take-le met order (omega (arith, few, w.walking.long_order))
+
+    at_place : (k : ℕ) → k < length (take met order) → (k < met) × (get_or (take met order) k 0 ≡ get_or order k 0)
+    at_place k h = let inside : k < met = omega (arith, long) in (inside, get_or-take met order k 0 inside)
+
+    pub list_is : shape_up_to N b d cells roots (take met order) numbers (length (take met order)) ≡ shape_of N heap
     unfolding shape_up_to shape_of
     list_is =
-        let count : met ≡ length (numbered N heap) = sym (top_length order met) ∙ ap length w.is in
-        let each : ℕ → List ℕ = λ i. described_in N b d cells numbers (get_or order i 0 - 1) in
+        let count : length (take met order) ≡ length (numbered N heap) = long ∙ sym (top_length order met) ∙ ap length w.is in
+        let each : ℕ → List ℕ = λ i. described_in N b d cells numbers (get_or (take met order) i 0 - 1) in
         let each' : ℕ → List ℕ = λ i. described N heap (numbered N heap) (block_at (numbered N heap) (suc i)) in
         let heads : map (number_of numbers) roots ≡ map (number_in (numbered N heap)) roots =
         map_same (number_of numbers) (number_in (numbered N heap)) roots (λ i l. number_is (get_or roots i 0) (roots_below N heap named i)) in
-        let rest : joined each met ≡ joined each' (length (numbered N heap)) = joined_same each each' met described_is ∙ ap (joined each') count in
-        ap (λ (l : List ℕ). length roots ∷ (l ++ joined each met)) heads
+        let rest : joined each (length (take met order)) ≡ joined each' (length (numbered N heap)) =
+        joined_same each each' (length (take met order)) (λ k h. let (inside, same) = at_place k h in rw same (described_is k inside)) ∙ ap (joined each') count in
+        ap (λ (l : List ℕ). length roots ∷ (l ++ joined each (length (take met order)))) heads
         ∙ ap (λ (l : List ℕ). length roots ∷ (map (number_in (numbered N heap)) roots ++ l)) rest
 
-    pub listed : N ≤ 8 * length b → N ≤ 8 * length d → length cells ≡ 4 * N → length roots ≤ 64 → Listed N b d cells roots order numbers met
+    pub listed : N ≤ 8 * length b → N ≤ 8 * length d → length cells ≡ 4 * N → length roots ≤ 64 → Listed N b d cells roots (take met order) numbers
     listed long_b long_d long_cells few_roots =
         record {
-          small = w.walking.small;
-          long_b = long_b;
+          ordered = record {
+            small = w.walking.small;
+            long_b = long_b;
+            few = omega (arith, long, few);
+            some = λ k h. let (inside, same) = at_place k h in rw same (led k inside).0;
+            below = λ k h. let (inside, same) = at_place k h in rw same (below k inside);
+          };
           long_d = long_d;
           long_cells = long_cells;
           few_roots = few_roots;
-          few = few;
-          long_order = omega (arith, few, w.walking.long_order);
           of_roots = λ i l. known (get_or roots i 0) (roots_below N heap named i);
-          some = λ k h. (led k h).0;
-          below = below;
-          of_cells = λ k h other i l. known (get_or cells (4 * (get_or order k 0 - 1) + i) 0) (cells_fit_other k h other i l);
+          of_cells = λ k h. let (inside, same) = at_place k h in rw same
+              (λ other i l. known (get_or cells (4 * (get_or order k 0 - 1) + i) 0) (cells_fit_other k inside other i l));
         }
 
 -- ---- the call
 
 module _ {N : ℕ} {a b d cells roots : List ℕ} (fits : Walkable N a b d cells roots) {order numbers : List ℕ} {met : ℕ}
     (walked : Walked N (numbered N (walked_heap a b d cells roots)) order numbers met) where
-  pub list_ready : Listed N b d cells roots order numbers met
+  pub met_few : met ≤ N
+  met_few = few N a b d cells roots fits.named order numbers met walked
+
+  pub list_ready : Listed N b d cells roots (take met order) numbers
   list_ready = listed N a b d cells roots fits.named order numbers met walked fits.long_b fits.long_d fits.long_cells fits.few_roots
 
-  pub shape_written : shape_up_to N b d cells roots order numbers met ≡ shape_of N (walked_heap a b d cells roots)
+  pub shape_written : shape_up_to N b d cells roots (take met order) numbers (length (take met order)) ≡ shape_of N (walked_heap a b d cells roots)
   shape_written = list_is N a b d cells roots fits.named order numbers met walked
 
 module _ {N w : ℕ} {h : Memory} (u : Undamaged N w h) where
@@ -175,20 +189,17 @@ module _ {N w : ℕ} {h : Memory} (u : Undamaged N w h) where
   unfolding shape_of numbered followed references_of described cells_of
   same_shape = refl
 
-  module _ {out left : List ℕ} {n : ℕ} (shaped : Shaped N (walked_heap h.a h.b h.d h.cells h.roots) out left n) where
-    number_is_length : n ≡ length (shape_of N h)
-    number_is_length = shaped.number ∙ ap length same_shape
-
-    pub refused_short : (r : Reply) → length out < n → r ≡ reply 16 0 0 → ShapePromise N w h out r h left
+  module _ {out left : List ℕ} where
+    pub refused_short : (r : Reply) → Shaped N (walked_heap h.a h.b h.d h.cells h.roots) out left None → r ≡ reply 16 0 0 → ShapePromise N w h out r h left
     unfolding own_refusals
-    refused_short r short reply =
-        let long : length out < length (shape_of N h) = omega (arith, number_is_length) in
-        rw (shaped.short short)
+    refused_short r (short, same) reply =
+        let long : length out < length (shape_of N h) = omega (arith, ap length same_shape) in
+        rw same
         (output_refused N w h u (write_shape (length out)) refl (shape_of N h) out r 16 (omega arith)
         (first_found 16 (ltb (length out) (length (shape_of N h))) [] (lt-ltb (length out) (length (shape_of N h)) long)) reply)
 
-    pub accepted_long : (r : Reply) → n ≤ length out → r ≡ reply 0 n 0 → ShapePromise N w h out r h left
+    pub accepted_long : {n : ℕ} (r : Reply) → Shaped N (walked_heap h.a h.b h.d h.cells h.roots) out left (Some n) → r ≡ reply 0 n 0 → ShapePromise N w h out r h left
     unfolding outcome Passed
-    accepted_long r long reply =
-        let passed : length (shape_of N h) ≤ length out = omega (arith, number_is_length) in
-        output_accepted N w h u (write_shape (length out)) refl (shape_of N h) out r left n passed refl (put_as same_shape refl (shaped.long long)) reply
+    accepted_long {n} r (long, put) reply =
+        let passed : length (shape_of N h) ≤ length out = omega (arith, ap length same_shape) in
+        output_accepted N w h u (write_shape (length out)) refl (shape_of N h) out r left n passed refl (put_as same_shape refl put) reply

@@ -5,16 +5,18 @@ use mathlib.Core.List.{List, [], ◌∷◌, ◌++◌, map, append-nil, append_as
 use Prim.Native.Nat.{ℕ, zero, suc, ◌+◌, ◌-◌, ◌*◌, ◌≤◌, ◌<◌}
 use native.Mathlib.Numerals.{add-one}
 use native.Mathlib.Omega.{arith}
-use lib.ListN.{length, get_or, set, length-map, length-append}
+use borrow.Rule.Slice.PartMut.{put_mid}
+use lib.ListN.{length, get_or, set, take, drop, length-map, length-append}
 use borrow.Author.Tests.{eq-eqb, ne_eqb}
 use Rattle.bitmap.specs.Bit.{bit_at}
 use Rattle.rules.specs.Heap.{size_from, is_data}
 use Rattle.rules_output.specs.Shape.{joined}
 use Rattle.rules.proofs.Tests.{test_cases_lem}
 use Rattle.text.specs.Text.{Put}
-use Rattle.text.proofs.Writing.{put_both, put_as, put_length, put_none, put_one, put_more}
+use Rattle.text.proofs.Writing.{put_both, put_as, put_length, put_one, put_more}
 use Rattle.walk_objects.specs.Walking.{part}
-use Rattle.walk_objects.proofs.Numbering.{part_length, part_whole}
+use Rattle.walk_objects.proofs.Numbering.{part_length, part_slice}
+use Rattle.walk_shape.proofs.Numbers.{put_part}
 use Rattle.walk_shape.specs.Listing.{number_of, cells_from, described_in, shape_up_to}
 
 -- ---- one number
@@ -50,28 +52,34 @@ module _ (N : ℕ) (b d cells numbers : List ℕ) (at : ℕ) where
         (omega (arith, length-map (cells_from N b cells at) (number_of numbers), part_length cells (4 * at) (4 * size)))
   ]
 
-  -- size and D bit, and the cells behind them
-  module _ (out out' : List ℕ) (to n bit end : ℕ) (room : to + length (described_in N b d cells numbers at) ≤ length out) (n-is : n ≡ size) (bit_is : bit ≡ bit_at d at) where
+  -- size and D bit, and the k cells behind them
+  module _ (out : List ℕ) (to n bit k : ℕ) (room : to + length (described_in N b d cells numbers at) ≤ length out) (n-is : n ≡ size) (bit_is : bit ≡ bit_at d at)
+      (many : k ≡ 4 * n) where
     front : Put out to (n ∷ bit ∷ []) (set (set out to n) (to + 1) bit) (to + 1 + 1)
     front = put_more bit (omega (arith, described_length)) (put_one out to n (omega (arith, described_length)))
 
-    whole : (rest : List ℕ) → Put (set (set out to n) (to + 1) bit) (to + 2) rest out' end → Put out to (size ∷ bit_at d at ∷ rest) out' end
-    whole rest put =
-        put_as (ap (λ (x : ℕ). x ∷ bit ∷ rest) n-is ∙ ap (λ (x : ℕ). size ∷ x ∷ rest) bit_is) refl
-        (put_both (omega (arith, described_length)) (put_as refl (omega arith) front) put)
+    whole : (rest : List ℕ) → length rest ≡ 4 * size → Put out to (size ∷ bit_at d at ∷ rest) (put_mid (to + 2) k (set (set out to n) (to + 1) bit) rest) (to + 2 + 4 * n)
+    whole rest long =
+        put_as (ap (λ (x : ℕ). x ∷ bit ∷ rest) n-is ∙ ap (λ (x : ℕ). size ∷ x ∷ rest) bit_is) (ap (λ (i : ℕ). to + 2 + i) many)
+        (put_both (omega (arith, described_length)) (put_as refl (omega arith) front)
+        (put_part (set (set out to n) (to + 1) bit) rest (to + 2) k (omega arith)))
 
-    pub object_data : bit ≡ 1 → Put (set (set out to n) (to + 1) bit) (to + 2) (part cells (4 * at) (4 * n)) out' end
-        → Put out to (described_in N b d cells numbers at) out' end
-    object_data one put =
-        put_as (sym (described_data (sym bit_is ∙ one))) refl
-        (whole (cells_from N b cells at) (put_as (ap (λ (k : ℕ). part cells (4 * at) (4 * k)) n-is) refl put))
+    own : (m : ℕ) → m ≡ 4 * n → 4 * at + 4 * n ≤ length cells → take m (drop (4 * at) cells) ≡ cells_from N b cells at
+    own m all inside = rw all (part_slice cells (4 * at) (4 * n) inside ∙ ap (λ (i : ℕ). part cells (4 * at) (4 * i)) n-is)
 
-    pub object_other : bit ≢ 1 → Put (set (set out to n) (to + 1) bit) (to + 2) (map (number_of numbers) (part cells (4 * at) (4 * n))) out' end
-        → Put out to (described_in N b d cells numbers at) out' end
-    object_other one put =
-        put_as (sym (described_other (λ e. one (bit_is ∙ e)))) refl
+    pub object_data : (m : ℕ) (text : List ℕ) → m ≡ 4 * n → 4 * at + 4 * n ≤ length cells → text ≡ take m (drop (4 * at) cells) → bit ≡ 1
+        → Put out to (described_in N b d cells numbers at) (put_mid (to + 2) k (set (set out to n) (to + 1) bit) text) (to + 2 + 4 * n)
+    object_data m text all inside is one =
+        rw (is, own m all inside)
+        (put_as (sym (described_data (sym bit_is ∙ one))) refl (whole (cells_from N b cells at) (part_length cells (4 * at) (4 * size))))
+
+    pub object_other : (m : ℕ) (text : List ℕ) → m ≡ 4 * n → 4 * at + 4 * n ≤ length cells → text ≡ map (number_of numbers) (take m (drop (4 * at) cells)) → bit ≢ 1
+        → Put out to (described_in N b d cells numbers at) (put_mid (to + 2) k (set (set out to n) (to + 1) bit) text) (to + 2 + 4 * n)
+    object_other m text all inside is other =
+        rw (is, own m all inside)
+        (put_as (sym (described_other (λ e. other (bit_is ∙ e)))) refl
         (whole (map (number_of numbers) (cells_from N b cells at))
-        (put_as (ap (λ (k : ℕ). map (number_of numbers) (part cells (4 * at) (4 * k))) n-is) refl put))
+        (length-map (cells_from N b cells at) (number_of numbers) ∙ part_length cells (4 * at) (4 * size))))
 
 -- ---- the whole list
 
@@ -106,69 +114,31 @@ module _ (N : ℕ) (b d cells roots order numbers : List ℕ) where
   pub shape_upto : (k m : ℕ) → k ≤ m → length (up_to k) ≤ length (up_to m)
   shape_upto k m l = let place : k + (m - k) ≡ m = omega arith in rw (← place) (shape_le k (m - k))
 
-  pub put_start : (out out' : List ℕ) (n to : ℕ) → n ≡ length roots → 0 < length out
-      → Put (set out 0 n) 1 (map (number_of numbers) (part roots 0 (length roots))) out' to → Put out 0 (up_to 0) out' to
+  pub put_start : (out text : List ℕ) (n k : ℕ) → n ≡ length roots → 0 < length out → k ≡ length roots → text ≡ map (number_of numbers) roots
+      → Put out 0 (up_to 0) (put_mid 1 k (set out 0 n) text) (1 + length roots)
   unfolding shape_up_to joined
-  put_start out out' n to is some put =
-      put_as
-      (ap (λ (x : ℕ). x ∷ map (number_of numbers) (part roots 0 (length roots))) is
-      ∙ ap (λ (l : List ℕ). length roots ∷ map (number_of numbers) l) (part_whole roots)
+  put_start out text n k is some many same =
+      rw same
+      (put_as
+      (ap (λ (x : ℕ). x ∷ map (number_of numbers) roots) is
       ∙ ap (λ (l : List ℕ). length roots ∷ l) (sym (append-nil (map (number_of numbers) roots))))
-      refl
-      (put_both (omega arith) (put_one out 0 n some) put)
+      (ap (λ (i : ℕ). 1 + i) many)
+      (put_both (omega arith) (put_one out 0 n some)
+      (put_part (set out 0 n) (map (number_of numbers) roots) 1 k (length-map roots (number_of numbers) ∙ sym many))))
 
-  -- ---- the objects, behind the roots
+  -- ---- one object more
 
-  abbrev objects : ℕ → List ℕ
-  objects k = joined object k
-
-  objects_next : (k : ℕ) → objects k ++ object k ≡ objects (k + 1)
-  unfolding joined
-  objects_next k = rw (add-one k)
-
-  whole_list : (k : ℕ) → up_to 0 ++ objects k ≡ up_to k
-  unfolding shape_up_to joined
-  whole_list k =
-      ap (λ (l : List ℕ). length roots ∷ (l ++ objects k)) (append-nil (map (number_of numbers) roots))
-
-  objects_length : (k : ℕ) → length (up_to 0) + length (objects k) ≡ length (up_to k)
-  objects_length k = sym (length-append (up_to 0) (objects k)) ∙ ap length (whole_list k)
-
-  module _ (out out₀ : List ℕ) (to₀ met : ℕ) (room : length (up_to met) ≤ length out) (first : Put out 0 (up_to 0) out₀ to₀) where
-    start_kept : length out₀ ≡ length out
-    start_kept = put_length {before = out} {text = up_to 0} {after = out₀} {at = 0} {end = to₀} (omega (arith, shape_upto 0 met (omega arith))) first
-
-    start_room : (k : ℕ) → k ≤ met → to₀ + length (objects k) ≤ length out₀
-    start_room k l = omega (arith, start_kept, first.end_is, objects_length k, shape_upto k met l)
-
-    pub objects_kept : (out' : List ℕ) (k to : ℕ) → k ≤ met → Put out₀ to₀ (objects k) out' to → length out' ≡ length out
-    objects_kept out' k to l put =
-        put_length {before = out₀} {text = objects k} {after = out'} {at = to₀} {end = to} (start_room k l) put ∙ start_kept
-
-    -- there is room for the next object
-    pub object_room : (out' : List ℕ) (k to : ℕ) → k < met → Put out₀ to₀ (objects k) out' to → to + length (object k) ≤ length out'
-    object_room out' k to l put =
+  module _ {out out' : List ℕ} {k m to : ℕ} (room : length (up_to m) ≤ length out) (more : k < m) (put : Put out 0 (up_to k) out' to) where
+    pub object_room : to + length (object k) ≤ length out'
+    object_room =
         omega (
           arith,
           put.end_is,
-          start_kept,
-          objects_kept out' k to (omega arith) put,
-          start_room (k + 1) (omega arith),
-          ap length (objects_next k),
-          length-append (objects k) (object k),
+          put_length {before = out} {text = up_to k} {after = out'} {at = 0} {end = to} (omega (arith, shape_upto k m (omega arith))) put,
+          shape_upto (k + 1) m (omega arith),
+          ap length (shape_next k),
+          length-append (up_to k) (object k),
         )
 
-    pub put_next : (out' out'' : List ℕ) (k to to' : ℕ) → k < met → Put out₀ to₀ (objects k) out' to → Put out' to (object k) out'' to'
-        → Put out₀ to₀ (objects (k + 1)) out'' to'
-    put_next out' out'' k to to' l put more =
-        put_as (objects_next k) refl (put_both {s = objects k} {t = object k} (start_room k (omega arith)) put more)
-
-    pub put_end : (out' : List ℕ) (k to : ℕ) → met ≤ k → k ≤ met → Put out₀ to₀ (objects k) out' to → Put out 0 (up_to met) out' to
-    put_end out' k to l m put =
-        let done : k ≡ met = omega arith in
-        put_as (whole_list k ∙ ap up_to done) refl
-        (put_both {s = up_to 0} {t = objects k} (omega (arith, shape_upto 0 met (omega arith))) first put)
-
-pub put_none_objects : (f : ℕ → List ℕ) (out : List ℕ) (to : ℕ) → Put out to (joined f 0) out to
-unfolding joined
-put_none_objects f out to = put_as refl (omega arith) (put_none out to)
+    pub put_next : {out'' : List ℕ} {to' : ℕ} → Put out' to (object k) out'' to' → Put out 0 (up_to (k + 1)) out'' to'
+    put_next next = put_as (shape_next k) refl (put_both {s = up_to k} {t = object k} (omega (arith, shape_upto k m (omega arith))) put next)

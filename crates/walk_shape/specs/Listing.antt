@@ -1,5 +1,5 @@
 -- The list of request U13 as code has it: from the maps, the cells, the roots and the arrays of the walk.
-use Rattle.std.specs.Prelude.{ℕ, ◌+◌, ◌-◌, ◌*◌, ◌≤◌, ◌<◌, ◌≡◌, ◌≢◌, true, false, List, ◌∷◌, ◌++◌, map, length, get_or, eqb}
+use Rattle.std.specs.Prelude.{Option, Some, None, ℕ, ◌+◌, ◌-◌, ◌*◌, ◌≤◌, ◌<◌, ◌≡◌, ◌≢◌, true, false, List, ◌∷◌, ◌++◌, map, length, get_or, eqb}
 use Rattle.bitmap.specs.Bit.{bit_at}
 use Rattle.rules.specs.Heap.{Memory, max_blocks, size_from, is_data}
 use Rattle.rules_output.specs.Shape.{joined, shape_of}
@@ -28,23 +28,25 @@ unfoldable pub shape_up_to : ℕ → (b d cells roots order numbers : List ℕ) 
 shape_up_to N b d cells roots order numbers k =
     length roots ∷ (map (number_of numbers) roots ++ joined (λ i. described_in N b d cells numbers (get_or order i 0 - 1)) k)
 
--- what the writing loops ask of the lists: lengths, and that what is followed lies in the heap
-pub record Listed (N : ℕ) (b d cells roots order numbers : List ℕ) (met : ℕ) : Type 0 where
+-- the list has references to objects of the heap
+pub record Ordered (N : ℕ) (b order : List ℕ) : Type 0 where
   pub small : N ≤ max_blocks
   pub long_b : N ≤ 8 * length b
+  pub few : length order ≤ N
+  pub some : (k : ℕ) → k < length order → get_or order k 0 ≢ 0
+  pub below : (k : ℕ) → k < length order → get_or order k 0 ≤ N
+
+-- what the writing loops ask of the lists: lengths, and that what is followed lies in the heap
+pub record Listed (N : ℕ) (b d cells roots order numbers : List ℕ) : Type 0 where
+  pub ordered : Ordered N b order
   pub long_d : N ≤ 8 * length d
   pub long_cells : length cells ≡ 4 * N
   pub few_roots : length roots ≤ 64
-  pub few : met ≤ N
-  pub long_order : met ≤ length order
   pub of_roots : (i : ℕ) → i < length roots → Known numbers (get_or roots i 0)
-  pub some : (k : ℕ) → k < met → get_or order k 0 ≢ 0
-  pub below : (k : ℕ) → k < met → get_or order k 0 ≤ N
-  pub of_cells : (k : ℕ) → k < met → is_data d (get_or order k 0 - 1) ≡ false
+  pub of_cells : (k : ℕ) → k < length order → is_data d (get_or order k 0 - 1) ≡ false
       → (i : ℕ) → i < 4 * size_from (N - (get_or order k 0 - 1)) b (get_or order k 0 - 1) → Known numbers (get_or cells (4 * (get_or order k 0 - 1) + i) 0)
 
--- the shape written where it fits: `n` is how many numbers it has
-pub record Shaped (N : ℕ) (h : Memory) (out left : List ℕ) (n : ℕ) : Type 0 where
-  pub number : n ≡ length (shape_of N h)
-  pub short : length out < n → left ≡ out
-  pub long : n ≤ length out → Put out 0 (shape_of N h) left n
+-- the shape written where it fits, with how many numbers it has
+abbrev pub Shaped : ℕ → Memory → (out left : List ℕ) → Option ℕ → Type 0
+Shaped N h out left None = (length out < length (shape_of N h)) × (left ≡ out)
+Shaped N h out left (Some n) = (length (shape_of N h) ≤ length out) × Put out 0 (shape_of N h) left n

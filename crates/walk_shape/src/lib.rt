@@ -3,64 +3,34 @@
 
 #![tactic(auto)]
 
-ghost use Rattle.std.specs.Prelude.{◌≡◌, false, map, ℕ, ◌+◌, ◌-◌, ◌*◌, ◌/◌, ◌≤◌, ◌<◌, length, get_or};
+ghost use Rattle.std.specs.Prelude.{◌≡◌, false, List, map, ℕ, ◌+◌, ◌-◌, ◌*◌, ◌≤◌, ◌<◌, length, get_or};
 ghost use Rattle.rules.specs.Heap.{max_blocks, size_from, is_data};
 ghost use Rattle.rules.specs.Lent.{before, after, lent};
 ghost use Rattle.rules_calls.specs.Promise.{ShapePromise};
 ghost use Rattle.text.specs.Text.{Put};
 ghost use Rattle.theory_memories.specs.Heaps.{Undamaged};
-ghost use Rattle.walk_objects.specs.Walking.{part, walked_heap, Walkable, Tracing};
-ghost use Rattle.walk_shape.specs.Listing.{number_of, Known, described_in, shape_up_to, Listed, Shaped};
+ghost use Rattle.walk_objects.specs.Walking.{walked_heap, Walkable};
+ghost use Rattle.walk_shape.specs.Listing.{number_of, Known, described_in, shape_up_to, Ordered, Listed, Shaped};
 
-use types::{MAX_BLOCKS, Ref, Reply, replies};
-
-// The places of the short and of the longer arrays: enough for heaps of 1,024 and of 8,192 blocks.
-const SMALL_ROOM: usize = MAX_BLOCKS / 64;
-
-const MIDDLE_ROOM: usize = MAX_BLOCKS / 8;
+use types::{MAX_BLOCKS, MIDDLE_ROOM, Ref, Reply, SMALL_ROOM, replies};
 
 // The number of what v names, or 0.
+#[tactic(auto, unfolding(crate::specs::Listing::number_of))]
 fn number_of(numbers: &[Ref], v: Ref) -> u32
     requires { Known numbers.now v }
     ensures { result ≡ number_of numbers.now v }
 {
-    if v == 0 {
-        return 0;
-    }
-    numbers[v as usize - 1]
+    if v == 0 { 0 } else { numbers[v as usize - 1] }
 }
 
-// Writes the numbers of what the n references from place j on name to place `at`. The place behind them.
-fn put_numbers(
-    numbers: &[Ref],
-    refs: &[Ref],
-    j: usize,
-    n: usize,
-    out: &mut [u32],
-    at: usize,
-) -> usize
-    requires { (at + n ≤ length out.old) × (j + n ≤ length refs.now) × ((i : ℕ) → i < n → Known numbers.now (get_or refs.now (j + i) 0)) }
-    ensures { Put out.old at (map (number_of numbers.now) (part refs.now j n)) out.new result }
+// Writes the numbers of what the references name.
+fn put_numbers(numbers: &[Ref], refs: &[Ref], out: &mut [u32])
+    requires { (length out.old ≡ length refs.now) × ((i : ℕ) → i < length refs.now → Known numbers.now (get_or refs.now i 0)) }
+    ensures { out.new ≡ map (number_of numbers.now) refs.now }
 {
-    let mut i = 0;
-    while i < n {
-        out[at + i] = number_of(numbers, refs[j + i]);
-        i += 1;
+    for (i, &v) in refs.iter().enumerate() {
+        out[i] = number_of(numbers, v);
     }
-    at + n
-}
-
-// Writes the n cells from place j on to place `at`, as they stand. The place behind them.
-fn put_cells(cells: &[Ref], j: usize, n: usize, out: &mut [u32], at: usize) -> usize
-    requires { (at + n ≤ length out.old) × (j + n ≤ length cells.now) }
-    ensures { Put out.old at (part cells.now j n) out.new result }
-{
-    let mut i = 0;
-    while i < n {
-        out[at + i] = cells[j + i];
-        i += 1;
-    }
-    at + n
 }
 
 // Writes the object at block `at` to place `to`: size, D bit and cells. The place behind it.
@@ -83,31 +53,25 @@ fn write_object(
     let bit = bitmap::get_bit(d, at);
     out[to] = size as u32;
     out[to + 1] = bit as u32;
+    let own = &cells[4 * at..4 * at + 4 * size];
+    let end = to + 2 + 4 * size;
+    let place = &mut out[to + 2..end];
     if bit == 1 {
-        return put_cells(cells, 4 * at, 4 * size, out, to + 2);
+        place.copy_from_slice(own);
+    } else {
+        put_numbers(numbers, own, place);
     }
-    put_numbers(numbers, cells, 4 * at, 4 * size, out, to + 2)
+    end
 }
 
-// How many numbers the list has. It has as many whatever `numbers` holds.
-fn shape_length(
-    blocks: usize,
-    b: &[u8],
-    d: &[u8],
-    cells: &[Ref],
-    roots: &[Ref],
-    order: &[Ref],
-    numbers: &[Ref],
-    met: usize,
-) -> usize
-    requires { Listed blocks b.now d.now cells.now roots.now order.now numbers.now met }
-    ensures { result ≡ length (shape_up_to blocks b.now d.now cells.now roots.now order.now numbers.now met) }
+// How many numbers the list has. It has as many whatever D bits, cells and objects' numbers are.
+fn shape_length(blocks: usize, b: &[u8], roots: &[Ref], order: &[Ref]) -> usize
+    requires { Ordered blocks b.now order.now × (length roots.now ≤ 64) }
+    ensures { (d cells numbers : List ℕ) → result ≡ length (shape_up_to blocks b.now d cells roots.now order.now numbers (length order.now)) }
 {
     let mut n = 1 + roots.len();
-    let mut k = 0;
-    while k < met {
-        n += 2 + 4 * map_objects::objects::object_size(blocks, b, order[k] as usize - 1);
-        k += 1;
+    for &reference in order {
+        n += 2 + 4 * map_objects::objects::object_size(blocks, b, reference as usize - 1);
     }
     n
 }
@@ -121,26 +85,73 @@ fn write_shape(
     roots: &[Ref],
     order: &[Ref],
     numbers: &[Ref],
-    met: usize,
     out: &mut [u32],
 ) -> usize
-    requires { Listed blocks b.now d.now cells.now roots.now order.now numbers.now met
-        × (length (shape_up_to blocks b.now d.now cells.now roots.now order.now numbers.now met) ≤ length out.old) }
+    requires { Listed blocks b.now d.now cells.now roots.now order.now numbers.now
+        × (length (shape_up_to blocks b.now d.now cells.now roots.now order.now numbers.now (length order.now)) ≤ length out.old) }
     ensures { Put out.old 0
-        (shape_up_to blocks b.now d.now cells.now roots.now order.now numbers.now met)
+        (shape_up_to blocks b.now d.now cells.now roots.now order.now numbers.now (length order.now))
         out.new result }
 {
     out[0] = roots.len() as u32;
-    let mut to = put_numbers(numbers, roots, 0, roots.len(), out, 1);
-    let mut k = 0;
-    while k < met {
-        to = write_object(blocks, b, d, cells, numbers, order[k] as usize - 1, out, to);
-        k += 1;
+    let mut to = 1 + roots.len();
+    put_numbers(numbers, roots, &mut out[1..to]);
+    for &reference in order {
+        to = write_object(
+            blocks,
+            b,
+            d,
+            cells,
+            numbers,
+            reference as usize - 1,
+            out,
+            to,
+        );
     }
     to
 }
 
-// Writes the heap's shape into `out` where it fits, else nothing. How many numbers it has.
+// Writes the heap's shape into `out`, by a walk in arrays of so many places. How many numbers it has; None, and nothing is written, where it
+// doesn't fit.
+// Not inlined: its arrays are on the stack only while it runs, so a small heap does not take the stack of the largest.
+#[inline(never)]
+fn shape_in_arrays<const PLACES: usize>(
+    blocks: usize,
+    a: &[u8],
+    b: &[u8],
+    d: &[u8],
+    cells: &[Ref],
+    roots: &[Ref],
+    out: &mut [u32],
+) -> Option<usize>
+    requires { Walkable blocks a.now b.now d.now cells.now roots.now × (blocks ≤ PLACES) × (PLACES ≤ max_blocks) }
+    ensures { Shaped blocks (walked_heap a.now b.now d.now cells.now roots.now) out.old
+        out.new result }
+{
+    let mut order = [0 as Ref; PLACES];
+    let mut numbers = [0 as Ref; PLACES];
+    let mut owners = [0 as Ref; PLACES];
+    let mut vias = [0 as Ref; PLACES];
+    let met = walk_objects::trace_all(
+        blocks,
+        a,
+        b,
+        d,
+        cells,
+        roots,
+        &mut order,
+        &mut numbers,
+        &mut owners,
+        &mut vias,
+    );
+    let order = &order[..met];
+    if out.len() < shape_length(blocks, b, roots, order) {
+        return None;
+    }
+    Some(write_shape(blocks, b, d, cells, roots, order, &numbers, out))
+}
+
+// .. in the shortest of three that have a place for each block.
 fn shape_in(
     blocks: usize,
     a: &[u8],
@@ -148,154 +159,19 @@ fn shape_in(
     d: &[u8],
     cells: &[Ref],
     roots: &[Ref],
-    order: &mut [Ref],
-    numbers: &mut [Ref],
-    owners: &mut [Ref],
-    vias: &mut [Ref],
     out: &mut [u32],
-) -> usize
-    requires { Walkable blocks a.now b.now d.now cells.now roots.now
-        × Tracing blocks order.old numbers.old owners.old vias.old 0 }
-    ensures { Shaped blocks (walked_heap a.now b.now d.now cells.now roots.now) out.old
-        out.new result }
-{
-    let met = walk_objects::trace_all(blocks, a, b, d, cells, roots, order, numbers, owners, vias);
-    let n = shape_length(blocks, b, d, cells, roots, order, numbers, met);
-    if out.len() < n {
-        return n;
-    }
-    write_shape(blocks, b, d, cells, roots, order, numbers, met, out)
-}
-
-// .. in short arrays.
-// Not inlined, like the two after it: its arrays are on the stack only while it runs.
-#[inline(never)]
-fn shape_in_small(
-    blocks: usize,
-    a: &[u8],
-    b: &[u8],
-    d: &[u8],
-    cells: &[Ref],
-    roots: &[Ref],
-    out: &mut [u32],
-) -> usize
-    requires { Walkable blocks a.now b.now d.now cells.now roots.now × (blocks ≤ max_blocks / 64) }
-    ensures { Shaped blocks (walked_heap a.now b.now d.now cells.now roots.now) out.old
-        out.new result }
-{
-    let mut order = [0 as Ref; SMALL_ROOM];
-    let mut numbers = [0 as Ref; SMALL_ROOM];
-    let mut owners = [0 as Ref; SMALL_ROOM];
-    let mut vias = [0 as Ref; SMALL_ROOM];
-    shape_in(
-        blocks,
-        a,
-        b,
-        d,
-        cells,
-        roots,
-        &mut order,
-        &mut numbers,
-        &mut owners,
-        &mut vias,
-        out,
-    )
-}
-
-// .. in longer arrays.
-#[inline(never)]
-fn shape_in_middle(
-    blocks: usize,
-    a: &[u8],
-    b: &[u8],
-    d: &[u8],
-    cells: &[Ref],
-    roots: &[Ref],
-    out: &mut [u32],
-) -> usize
-    requires { Walkable blocks a.now b.now d.now cells.now roots.now × (blocks ≤ max_blocks / 8) }
-    ensures { Shaped blocks (walked_heap a.now b.now d.now cells.now roots.now) out.old
-        out.new result }
-{
-    let mut order = [0 as Ref; MIDDLE_ROOM];
-    let mut numbers = [0 as Ref; MIDDLE_ROOM];
-    let mut owners = [0 as Ref; MIDDLE_ROOM];
-    let mut vias = [0 as Ref; MIDDLE_ROOM];
-    shape_in(
-        blocks,
-        a,
-        b,
-        d,
-        cells,
-        roots,
-        &mut order,
-        &mut numbers,
-        &mut owners,
-        &mut vias,
-        out,
-    )
-}
-
-// .. in the longest arrays.
-#[inline(never)]
-fn shape_in_largest(
-    blocks: usize,
-    a: &[u8],
-    b: &[u8],
-    d: &[u8],
-    cells: &[Ref],
-    roots: &[Ref],
-    out: &mut [u32],
-) -> usize
+) -> Option<usize>
     requires { Walkable blocks a.now b.now d.now cells.now roots.now }
     ensures { Shaped blocks (walked_heap a.now b.now d.now cells.now roots.now) out.old
         out.new result }
 {
-    let mut order = [0 as Ref; MAX_BLOCKS];
-    let mut numbers = [0 as Ref; MAX_BLOCKS];
-    let mut owners = [0 as Ref; MAX_BLOCKS];
-    let mut vias = [0 as Ref; MAX_BLOCKS];
-    shape_in(
-        blocks,
-        a,
-        b,
-        d,
-        cells,
-        roots,
-        &mut order,
-        &mut numbers,
-        &mut owners,
-        &mut vias,
-        out,
-    )
-}
-
-// .. in arrays of so many places, or in longer ones where the heap has more blocks. What calls itself is not built into its caller, nor
-// are large arrays into what calls itself: so a small heap does not take the stack of the largest.
-fn shape_in_room(
-    places: usize,
-    blocks: usize,
-    a: &[u8],
-    b: &[u8],
-    d: &[u8],
-    cells: &[Ref],
-    roots: &[Ref],
-    out: &mut [u32],
-) -> usize
-    requires { Walkable blocks a.now b.now d.now cells.now roots.now × (1 ≤ places) }
-    ensures { Shaped blocks (walked_heap a.now b.now d.now cells.now roots.now) out.old
-        out.new result }
-{
-    if places < blocks {
-        return shape_in_room(8 * places, blocks, a, b, d, cells, roots, out);
+    if blocks <= SMALL_ROOM {
+        shape_in_arrays::<SMALL_ROOM>(blocks, a, b, d, cells, roots, out)
+    } else if blocks <= MIDDLE_ROOM {
+        shape_in_arrays::<MIDDLE_ROOM>(blocks, a, b, d, cells, roots, out)
+    } else {
+        shape_in_arrays::<MAX_BLOCKS>(blocks, a, b, d, cells, roots, out)
     }
-    if places == SMALL_ROOM {
-        return shape_in_small(blocks, a, b, d, cells, roots, out);
-    }
-    if places == MIDDLE_ROOM {
-        return shape_in_middle(blocks, a, b, d, cells, roots, out);
-    }
-    shape_in_largest(blocks, a, b, d, cells, roots, out)
 }
 
 // The heap's shape as a list of numbers, written into `out`.
@@ -319,9 +195,8 @@ pub fn shape(
         (before a.now b.now counts.now cells.now roots.now waiting.now sections.now d.now marks.now list.now) out.old result
         (after a.now b.now counts.now cells.now roots.now waiting.now sections.now d.now marks.now list.now) out.new }
 {
-    let length = shape_in_room(SMALL_ROOM, blocks, a, b, d, cells, roots, out);
-    if out.len() < length {
-        return replies::refusal(16);
+    match shape_in(blocks, a, b, d, cells, roots, out) {
+        Some(length) => replies::acceptance(length),
+        None => replies::refusal(16),
     }
-    replies::acceptance(length)
 }

@@ -1,15 +1,10 @@
 -- `walk_objects::meet_each_at` meets its contract.
-use Prim.Native.Nat.{◌≤◌, ◌-◌}
+use lib.ListN.{take}
 use Rattle.theory_walks.specs.Trail.{meet_each_at}
-use Rattle.walk_objects.specs.Walking.{part}
 use Rattle.walk_objects.specs.Walking.{entries, Traced}
-use Rattle.walk_objects.proofs.Tracing.{AsLong}
 use Rattle.walk_objects.proofs.meet_each_at.Given as goal
 
-abbrev pub invariant-loop-i : goal.invariant-loop-i
-invariant-loop-i l =
-    (l.i ≤ l.n) × Traced l.blocks (meet_each_at (entries l.initial.order l.initial.owners l.initial.vias l.met) l.owner 0 (part l.refs l.j l.i)) l.order l.numbers l.owners l.vias l.m
-    × AsLong l.initial.order l.initial.numbers l.initial.owners l.initial.vias l.order l.numbers l.owners l.vias
-
-abbrev pub decreases-loop-i : goal.decreases-loop-i
-decreases-loop-i l = l.n - l.i
+abbrev pub invariant-loop-cell : goal.invariant-loop-cell
+invariant-loop-cell l =
+    Traced l.blocks (meet_each_at (entries l.initial.order l.initial.owners l.initial.vias l.initial.met) l.owner 0 (take l.cell l.refs)) l.order l.numbers l.owners
+    l.vias l.met

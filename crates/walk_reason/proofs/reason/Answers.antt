@@ -1,6 +1,5 @@
 -- `walk_reason::reason` meets its contract.
 use mathlib.Core.Path.{sym, ◌∙◌}
-use native.Mathlib.Omega.{arith}
 use Rattle.rules.proofs.Objects.{first_facts}
 use Rattle.walk_objects.proofs.Beginning.{walkable}
 use Rattle.walk_reason.proofs.Reasons.{refused_six, refused_short, accepted_long}
@@ -15,17 +14,15 @@ pub returns-then-not-is_first : goal.returns-then-not-is_first
 returns-then-not-is_first c =
     refused_six c.requires c.args.at _ _ (sym c.is_first.ensures ∙ c.if-not-is_first.true) c.refusal.ensures
 
-pub reason_in_room-length-requires : goal.reason_in_room-length-requires
-reason_in_room-length-requires c =
+pub reason_in-requires : goal.reason_in-requires
+reason_in-requires c =
     let first = sym c.is_first.ensures ∙ c.if-not-is_first.false in
-    (walkable c.requires, (first_facts c.args.blocks c.args.a.now c.args.b.now c.args.at first).inside, omega arith)
+    (walkable c.requires, (first_facts c.args.blocks c.args.a.now c.args.b.now c.args.at first).inside)
 
-pub returns-then-out-length : goal.returns-then-out-length
-returns-then-out-length c =
-    refused_short c.requires c.args.at (sym c.is_first.ensures ∙ c.if-not-is_first.false) c.reason_in_room-length.ensures _ (omega arith)
-    c.refusal-then-out-length.ensures
+pub returns-in-None : goal.returns-in-None
+returns-in-None c =
+    refused_short c.requires c.args.at (sym c.is_first.ensures ∙ c.if-not-is_first.false) _ c.in-None.ensures c.refusal-in-None.ensures
 
-pub returns : goal.returns
-returns c =
-    accepted_long c.requires c.args.at (sym c.is_first.ensures ∙ c.if-not-is_first.false) c.reason_in_room-length.ensures _ (omega arith)
-    c.acceptance.ensures
+pub returns-in-Some : goal.returns-in-Some
+returns-in-Some c =
+    accepted_long c.requires c.args.at (sym c.is_first.ensures ∙ c.if-not-is_first.false) _ c.in-Some.ensures c.acceptance.ensures

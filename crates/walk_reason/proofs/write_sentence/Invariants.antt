@@ -1,11 +1,8 @@
 -- `walk_reason::write_sentence` meets its contract.
-use Prim.Native.Nat.{◌-◌, ◌<◌}
-use lib.ListN.{length}
+use Rattle.rules_output.specs.Sentence.{sentence}
+use Rattle.walk_reason.specs.Telling.{reason_in}
 use Rattle.walk_reason.proofs.Sentences.{Written, left}
 use Rattle.walk_reason.proofs.write_sentence.Given as goal
 
 abbrev pub invariant-loop-i : goal.invariant-loop-i
-invariant-loop-i l = (l.i < length l.links) × Written (left l.links l.at l.initial.i) (left l.links l.at l.i) l.initial.out l.initial.to l.out l.to
-
-abbrev pub decreases-loop-i : goal.decreases-loop-i
-decreases-loop-i l = l.i
+invariant-loop-i l = Written (sentence (reason_in l.links) l.at) (left l.at l.cells l.i) l.fn.out l.out l.to
