@@ -55,7 +55,9 @@ returns-then-is_some c =
 pub returns-else-is_some : goal.returns-else-is_some
 returns-else-is_some c =
     for_all c.requires.4
-    (remains_listed _ _ c.if-list-blocks-ne1.true _ c.next_bit.ensures (sym c.is_some.ensures ∙ c.if-is_some.false) c.has_number.ensures)
+    (remains_listed _ _ c.if-list-blocks-ne1.true _ c.next_bit.ensures (sym c.is_some.ensures ∙ c.if-is_some.false)
+    (c.has_number.ensures
+    ∙ ap (some_below (λ k. not (eqb (get_or c.args.list.now k 0) 0))) (lengths c.requires.4).length_list))
 
 pub read_list-requires : goal.read_list-requires
 read_list-requires c = (
