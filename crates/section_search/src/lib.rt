@@ -13,7 +13,7 @@ use search_chunk::{Searched, lowest_chunk};
 use section_figures::{GROUP, group_bound, section_length};
 use types::Ref;
 
-// The lowest section whose figure is `size` or more. Groups in which none is are passed over at once.
+// The lowest section whose figure is `size` or more. Groups in which none is are passed over at once, so `s` goes up by groups.
 fn lowest_section(sections: &[Ref], size: usize) -> Option<usize>
     ensures { result ≡ answered (suffices_from (length sections.now) sections.now size 0) }
 {
