@@ -46,4 +46,4 @@ pub returns : goal.returns
 returns c =
     close_doomed c.args.marks.now c.args.i c.requires.0
     (sym c.is_first.ensures ∙ c.if-not-is_first.false) (λ e. c.if-get_bit-eq1.false (c.get_bit.ensures.0 ∙ e))
-    c.object_size-n.ensures.0 c.object_size-n.ensures.2 c.clear_extent.ensures.0 c.clear_extent.ensures.1 c.set_count.ensures c.drop_doomed-top.ensures.0 c.drop_doomed-top.ensures.1 c.drop_doomed-top.ensures.2 c.clear_extent.ensures.2
+    c.object_size-n.ensures.0 c.object_size-n.ensures.2 c.write_extent.ensures.0 c.write_extent.ensures.1 c.set_count.ensures c.drop_doomed-top.ensures.0 c.drop_doomed-top.ensures.1 c.drop_doomed-top.ensures.2 c.write_extent.ensures.2
