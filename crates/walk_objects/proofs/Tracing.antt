@@ -147,3 +147,8 @@ trace_more N l p refs i order numbers owners vias order' numbers' owners' vias' 
           ∙ ap (λ (k : ℕ). meet_at (meet_each_at l p 0 (take i refs)) p k (get_or refs i 0)) place));
       tracing = next.tracing;
     }
+
+pub same_arrays : {N : ℕ} {l : List Entry} {order numbers owners vias order' numbers' owners' vias' : List ℕ} {met : ℕ}
+    → order' ≡ order → numbers' ≡ numbers → owners' ≡ owners → vias' ≡ vias
+    → Traced N l order numbers owners vias met → Traced N l order' numbers' owners' vias' met
+same_arrays a b c d t = rw (a, b, c, d) t

@@ -13,53 +13,53 @@ ghost use Rattle.walk_objects.specs.Walking.{walked_heap, entries, Walkable, Tra
 
 use types::Ref;
 
-// Meets what v names, if anything, in that cell of that owner. How many are met then.
-#[tactic(auto, using(crate::proofs::Tracing::room))]
-fn meet_at(
-    blocks: usize,
-    order: &mut [Ref],
-    numbers: &mut [Ref],
-    owners: &mut [Ref],
-    vias: &mut [Ref],
-    owner: usize,
-    cell: usize,
-    v: Ref,
+// The walk as far as it has come. The clauses `same_..` of its methods say that its arrays stay those that were lent.
+#[derive(Drop)]
+struct Trail<'a> {
+    order: &'a mut [Ref],
+    numbers: &'a mut [Ref],
+    owners: &'a mut [Ref],
+    vias: &'a mut [Ref],
     met: usize,
-) -> usize
-    requires { Tracing blocks order.old numbers.old owners.old vias.old met × (v ≤ blocks) × (owner ≤ blocks) × (cell < 4 * max_blocks) }
-    ensures { Traced blocks (meet_at (entries order.old owners.old vias.old met) owner cell v)
-        order.new numbers.new owners.new vias.new result }
-{
-    if v == 0 || numbers[v as usize - 1] != 0 {
-        return met;
-    }
-    order[met] = v;
-    numbers[v as usize - 1] = (met + 1) as Ref;
-    owners[met] = owner as Ref;
-    vias[met] = cell as Ref;
-    met + 1
 }
 
-// Meets what the references name, in their order: the cells, or the roots, of an owner.
-fn meet_each_at(
-    blocks: usize,
-    order: &mut [Ref],
-    numbers: &mut [Ref],
-    owners: &mut [Ref],
-    vias: &mut [Ref],
-    refs: &[Ref],
-    owner: usize,
-    mut met: usize,
-) -> usize
-    requires { Tracing blocks order.old numbers.old owners.old vias.old met × (length refs.now ≤ 4 * max_blocks)
-        × (owner ≤ blocks) × ((i : ℕ) → i < length refs.now → get_or refs.now i 0 ≤ blocks) }
-    ensures { Traced blocks (meet_each_at (entries order.old owners.old vias.old met) owner 0 refs.now)
-        order.new numbers.new owners.new vias.new result }
-{
-    for (cell, &v) in refs.iter().enumerate() {
-        met = meet_at(blocks, order, numbers, owners, vias, owner, cell, v, met);
+impl Trail<'_> {
+    // Meets what v names, if anything, in that cell of that owner.
+    #[tactic(auto, using(crate::proofs::Tracing::room))]
+    fn meet_at(&mut self, blocks: usize, owner: usize, cell: usize, v: Ref)
+        requires { Tracing blocks self.old.order.now self.old.numbers.now self.old.owners.now self.old.vias.now self.old.met × (v ≤ blocks) × (owner ≤ blocks) × (cell < 4 * max_blocks) }
+        ensures same_order { self.new.order.ghost_name ≡ self.old.order.ghost_name }
+        ensures same_numbers { self.new.numbers.ghost_name ≡ self.old.numbers.ghost_name }
+        ensures same_owners { self.new.owners.ghost_name ≡ self.old.owners.ghost_name }
+        ensures same_vias { self.new.vias.ghost_name ≡ self.old.vias.ghost_name }
+        ensures traced { Traced blocks (meet_at (entries self.old.order.now self.old.owners.now self.old.vias.now self.old.met) owner cell v)
+            self.new.order.now self.new.numbers.now self.new.owners.now self.new.vias.now self.new.met }
+    {
+        if v == 0 || self.numbers[v as usize - 1] != 0 {
+            return;
+        }
+        self.order[self.met] = v;
+        self.numbers[v as usize - 1] = (self.met + 1) as Ref;
+        self.owners[self.met] = owner as Ref;
+        self.vias[self.met] = cell as Ref;
+        self.met += 1;
     }
-    met
+
+    // Meets what the references name, in their order: the cells, or the roots, of an owner.
+    fn meet_each_at(&mut self, blocks: usize, refs: &[Ref], owner: usize)
+        requires { Tracing blocks self.old.order.now self.old.numbers.now self.old.owners.now self.old.vias.now self.old.met × (length refs.now ≤ 4 * max_blocks)
+            × (owner ≤ blocks) × ((i : ℕ) → i < length refs.now → get_or refs.now i 0 ≤ blocks) }
+        ensures same_order { self.new.order.ghost_name ≡ self.old.order.ghost_name }
+        ensures same_numbers { self.new.numbers.ghost_name ≡ self.old.numbers.ghost_name }
+        ensures same_owners { self.new.owners.ghost_name ≡ self.old.owners.ghost_name }
+        ensures same_vias { self.new.vias.ghost_name ≡ self.old.vias.ghost_name }
+        ensures traced { Traced blocks (meet_each_at (entries self.old.order.now self.old.owners.now self.old.vias.now self.old.met) owner 0 refs.now)
+            self.new.order.now self.new.numbers.now self.new.owners.now self.new.vias.now self.new.met }
+    {
+        for (cell, &v) in refs.iter().enumerate() {
+            self.meet_at(blocks, owner, cell, v);
+        }
+    }
 }
 
 // Numbers all objects that the roots lead to, and notes where each was first met. How many they are.
@@ -81,18 +81,25 @@ pub fn trace_all(
         (followed blocks (walked_heap a.now b.now d.now cells.now roots.now)) blocks)
         order.new numbers.new owners.new vias.new result }
 {
-    let mut met = meet_each_at(blocks, order, numbers, owners, vias, roots, 0, 0);
+    let mut walk = Trail {
+        order,
+        numbers,
+        owners,
+        vias,
+        met: 0,
+    };
+    walk.meet_each_at(blocks, roots, 0);
     let mut k = 0;
     // A `while`: what is met in its turns is taken in later ones.
-    while k < met {
-        let at = order[k] as usize - 1;
+    while k < walk.met {
+        let at = walk.order[k] as usize - 1;
         let size = map_objects::objects::object_size(blocks, b, at);
         let n = map_objects::objects::naming_cells(d, at, size);
         let named = &cells[4 * at..4 * at + n];
         k += 1;
-        met = meet_each_at(blocks, order, numbers, owners, vias, named, k, met);
+        walk.meet_each_at(blocks, named, k);
     }
-    met
+    walk.met
 }
 
 // Writes the links by which object n was first met, the last one first and the root last. How many they are.
