@@ -50,7 +50,7 @@ next_bit-requires c =
 
 pub returns-then-is_some : goal.returns-then-is_some
 returns-then-is_some c =
-    for_all c.requires.4 (remains_marked _ _ c.if-list-blocks-ne1.true _ c.next_bit.ensures (sym c.is_some.ensures ∙ c.if-is_some.true))
+    for_all c.requires.4 (c.if-is_some.true ∙ remains_marked _ _ c.if-list-blocks-ne1.true _ c.next_bit.ensures (sym c.is_some.ensures ∙ c.if-is_some.true))
 
 pub returns-else-is_some : goal.returns-else-is_some
 returns-else-is_some c =

@@ -23,8 +23,8 @@ pub object_size-n-requires : goal.object_size-n-requires
 object_size-n-requires c =
     omega (arith, c.requires.0.extents.b_length, c.requires.0.planes.eighths, c.requires.2)
 
-pub clear_extent-requires : goal.clear_extent-requires
-clear_extent-requires c =
+pub write_extent-requires : goal.write_extent-requires
+write_extent-requires c =
     (c.requires.0.coherent, c.requires.0.extents.a_length, c.requires.0.extents.b_length, c.object_size-n.ensures.1, c.object_size-n.ensures.2)
 
 pub set_count-requires : goal.set_count-requires
