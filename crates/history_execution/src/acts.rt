@@ -6,6 +6,7 @@ ghost use Rattle.history_turns.specs.Turns.{turn_of};
 ghost use Rattle.history_turns.specs.Steps.{Acted};
 
 use history_plans::Plan;
+use history_turns::outcome;
 use history_turns::outcome::Done;
 use types::Ref;
 
@@ -33,7 +34,7 @@ pub(crate) fn act(
 {
     match plan {
         Plan::Stop(number) => Done {
-            number: number,
+            number,
             allocated: 0,
             collected: false,
             freed: 0,
@@ -43,55 +44,20 @@ pub(crate) fn act(
             blocks, width, a, b, counts, cells, roots, waiting, sections, d, marks, list, as_data,
             n, r,
         ),
-        Plan::StoreRoot { r, v } => {
-            let done = work_tested::store_root(
-                blocks, width, a, b, counts, cells, roots, waiting, sections, d, marks, list, r, v,
-            );
-            Done {
-                number: done.number,
-                allocated: 0,
-                collected: false,
-                freed: done.freed,
-                stuck: done.stuck,
-            }
-        }
-        Plan::StoreCell { at, j, v } => {
-            let done = work_tested::store_cell(
-                blocks, width, a, b, counts, cells, roots, waiting, sections, d, marks, list, at,
-                j, v,
-            );
-            Done {
-                number: done.number,
-                allocated: 0,
-                collected: false,
-                freed: done.freed,
-                stuck: done.stuck,
-            }
-        }
-        Plan::Collect => {
-            let done = work_tested::collect(
-                blocks, width, a, b, counts, cells, roots, waiting, sections, d, marks, list,
-            );
-            Done {
-                number: done.number,
-                allocated: 0,
-                collected: done.number == 0,
-                freed: done.freed,
-                stuck: false,
-            }
-        }
-        Plan::WriteNumber { at, j, x } => {
-            let done = work_tested::write_number(
-                blocks, width, a, b, counts, cells, roots, waiting, sections, d, marks, list, at,
-                j, x,
-            );
-            Done {
-                number: done.number,
-                allocated: 0,
-                collected: false,
-                freed: done.freed,
-                stuck: done.stuck,
-            }
-        }
+        Plan::StoreRoot { r, v } => work_tested::store_root(
+            blocks, width, a, b, counts, cells, roots, waiting, sections, d, marks, list, r, v,
+        )
+        .into(),
+        Plan::StoreCell { at, j, v } => work_tested::store_cell(
+            blocks, width, a, b, counts, cells, roots, waiting, sections, d, marks, list, at, j, v,
+        )
+        .into(),
+        Plan::Collect => outcome::done_by_collection(work_tested::collect(
+            blocks, width, a, b, counts, cells, roots, waiting, sections, d, marks, list,
+        )),
+        Plan::WriteNumber { at, j, x } => work_tested::write_number(
+            blocks, width, a, b, counts, cells, roots, waiting, sections, d, marks, list, at, j, x,
+        )
+        .into(),
     }
 }

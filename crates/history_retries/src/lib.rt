@@ -42,8 +42,7 @@ pub fn allocate(
     let first = work_tested::allocate(
         blocks, width, a, b, counts, cells, roots, waiting, sections, d, marks, list, as_data, n, r,
     );
-    let number = first.number;
-    if number != 5 {
+    if !outcome::found_no_chunk(first) {
         return outcome::done_after(first, n, false, 0);
     }
     let forced = work_tested::collect(
@@ -52,5 +51,5 @@ pub fn allocate(
     let second = work_tested::allocate(
         blocks, width, a, b, counts, cells, roots, waiting, sections, d, marks, list, as_data, n, r,
     );
-    outcome::done_after(second, n, forced.number == 0, forced.freed)
+    outcome::done_after_collection(forced, second, n)
 }

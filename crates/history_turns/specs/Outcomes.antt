@@ -14,6 +14,10 @@ abbrev pub done : (number allocated : ℕ) → (collected : Bool) → (freed : �
 done number allocated collected freed stuck =
     record { number = number; allocated = allocated; collected = collected; freed = freed; stuck = stuck }
 
+-- what came of a call that is neither an allocation nor a collection
+abbrev pub done_by : Came → Done
+done_by came = done came.number 0 false came.freed came.stuck
+
 -- what came of an allocation of n blocks: of its last try, and of a collection before that, if one was made, which freed so many blocks
 unfoldable pub done_after : Came → (n : ℕ) → (collected : Bool) → (freed : ℕ) → Done
 done_after last n collected freed =

@@ -4,12 +4,13 @@
 #![tactic(auto)]
 
 ghost use Rattle.std.specs.Prelude.{length};
+ghost use Rattle.types.specs.Told.{tested};
 ghost use Rattle.rules.specs.Heap.{shape};
 ghost use Rattle.rules.specs.Lent.{before, after};
 ghost use Rattle.rules_calls.specs.Promise.{CopyPromise};
 ghost use Rattle.public_copy.specs.Gated.{CopyGated};
 
-use types::{Ref, Reply, replies};
+use types::{Ref, Refusal, Reply};
 
 // The tests of a copy but the last, whether each object finds a chunk. Of the second heap only the lengths are known.
 fn test(
@@ -37,18 +38,18 @@ fn test(
     d2: usize,
     marks2: usize,
     list2: usize,
-) -> Reply
+) -> Result<(), Refusal>
     ensures { CopyGated blocks width
         (before a.now b.now counts.now cells.now roots.now waiting.now sections.now d.now marks.now list.now) blocks2 width2
-        (shape blocks2 width2 a2 b2 counts2 cells2 roots2 waiting2 sections2 d2 marks2 list2) roots2 result }
+        (shape blocks2 width2 a2 b2 counts2 cells2 roots2 waiting2 sections2 d2 marks2 list2) roots2 (tested result) }
 {
     if !check_shape::is_shaped(
         blocks2, width2, a2, b2, counts2, cells2, roots2, waiting2, sections2, d2, marks2, list2,
     ) {
-        return replies::refusal(1);
+        return Err(Refusal::Misshapen);
     }
     if roots.len() != roots2 {
-        return replies::refusal(1);
+        return Err(Refusal::Misshapen);
     }
     test_calls::none_open(
         blocks, width, a, b, counts, cells, roots, waiting, sections, d, marks, list,
@@ -88,7 +89,7 @@ pub fn copy(
         (after a.now b.now counts.now cells.now roots.now waiting.now sections.now d.now marks.now list.now)
         (after a2.new b2.new counts2.new cells2.new roots2.new waiting2.new sections2.new d2.new marks2.new list2.new) }
 {
-    let tested = test(
+    if let Err(refusal) = test(
         blocks,
         width,
         a,
@@ -113,10 +114,8 @@ pub fn copy(
         d2.len(),
         marks2.len(),
         list2.len(),
-    );
-    let number = tested.number;
-    if number != 0 {
-        return tested;
+    ) {
+        return refusal.into();
     }
     work_copy::copy(
         blocks, width, a, b, counts, cells, roots, waiting, sections, d, marks, list, blocks2,

@@ -7,7 +7,7 @@ ghost use Rattle.theory_memories.specs.Heaps.{Usable};
 ghost use Rattle.replay_call.specs.Dispatched.{Dispatched};
 
 use test_arguments::{collecting, looking, numbers};
-use types::{MAX_NUMBER, Ref, Reply, replies};
+use types::{MAX_NUMBER, Ref, Refusal, Reply, replies};
 
 // The call that the four words stand for. All else is answered 9.
 pub fn step(
@@ -38,78 +38,55 @@ pub fn step(
             blocks, width, a, b, counts, cells, roots, waiting, sections, d, marks, list,
         ),
         1 => replies::acceptance(0),
-        2 => {
-            let done = work_tested::allocate(
+        2 => work_tested::allocate(
                 blocks, width, a, b, counts, cells, roots, waiting, sections, d, marks, list,
                 false, x as usize, y as usize,
-            );
-            done.reply()
-        }
-        3 => {
-            let done = work_tested::store_root(
+            ).into(),
+        3 => work_tested::store_root(
                 blocks, width, a, b, counts, cells, roots, waiting, sections, d, marks, list,
                 x as usize, y as usize,
-            );
-            done.reply()
-        }
-        4 => {
-            let done = work_tested::store_cell(
+            ).into(),
+        4 => work_tested::store_cell(
                 blocks, width, a, b, counts, cells, roots, waiting, sections, d, marks, list,
                 x as usize, y as usize, z as usize,
-            );
-            done.reply()
-        }
-        5 => {
-            let done = work_tested::collect(
+            ).into(),
+        5 => work_tested::collect(
                 blocks, width, a, b, counts, cells, roots, waiting, sections, d, marks, list,
-            );
-            done.reply()
-        }
+            ).into(),
         6 => looking::look_reply(blocks, width, a, b, counts, x as usize),
         7 => replies::acceptance(bitmap::count_zeros(a)),
-        8 => {
-            let done = work_return::return_roots(
+        8 => work_return::return_roots(
                 blocks, width, a, b, counts, cells, roots, waiting, sections, d, marks, list, x,
-            );
-            done.reply()
-        }
-        9 => {
-            let done = work_tested::allocate(
+            ).into(),
+        9 => work_tested::allocate(
                 blocks, width, a, b, counts, cells, roots, waiting, sections, d, marks, list, true,
                 x as usize, y as usize,
-            );
-            done.reply()
-        }
+            ).into(),
         10 => {
             if (MAX_NUMBER as u64) < z {
-                return replies::refusal(9);
+                return Refusal::NoCall.into();
             }
-            let done = work_tested::write_number(
+            work_tested::write_number(
                 blocks, width, a, b, counts, cells, roots, waiting, sections, d, marks, list,
                 x as usize, y as usize, z as Ref,
-            );
-            done.reply()
+            ).into()
         }
-        11 => numbers::read_reply(blocks, a, b, cells, d, x as usize, y as usize),
+        11 => numbers::read_reply(blocks, a, b, cells, d, x as usize, y as usize).into(),
         12 => {
-            let test = collecting::shut_test(blocks, list);
-            let number = test.number;
-            if number != 0 {
-                return test;
+            if let Err(refusal) = collecting::shut_test(blocks, list) {
+                return refusal.into();
             }
             work_open::open_collection(blocks, roots, marks, list)
         }
         13 => {
-            let test = collecting::open_test(blocks, list);
-            let number = test.number;
-            if number != 0 {
-                return test;
+            if let Err(refusal) = collecting::open_test(blocks, list) {
+                return refusal.into();
             }
             work_step::take_steps(
                 blocks, width, a, b, counts, cells, roots, waiting, sections, d, marks, list,
                 x as usize,
             )
         }
-        _ => replies::refusal(9),
+        _ => Refusal::NoCall.into(),
     }
 }

@@ -3,7 +3,8 @@
 
 #![tactic(auto)]
 
-ghost use Rattle.std.specs.Prelude.{◌≡◌, ◌<◌, length};
+ghost use Rattle.std.specs.Prelude.{Ok, ◌≡◌, ◌<◌, length};
+ghost use Rattle.types.specs.Told.{came_of};
 ghost use Rattle.rules.specs.Lent.{before, after, lent};
 ghost use Rattle.rules_calls.specs.Calls.{Call};
 ghost use Rattle.test_arguments.specs.Replies.{return_test};
@@ -12,7 +13,7 @@ ghost use Rattle.theory.specs.Usable.{Worked};
 ghost use Rattle.work_return.specs.Returns.{ClearedIfChosen};
 
 use test_arguments::returning;
-use types::{Outcome, Ref};
+use types::{Outcome, Ref, Refusal};
 
 // Clears root r where it is one of the set. The number of blocks freed.
 fn clear_chosen(
@@ -68,7 +69,7 @@ pub fn clear_roots(
     requires { Usable blocks width (lent a.old b.old counts.old cells.old roots.old waiting.old sections.old d.old marks.old list.old)
         × ((return_test (length roots.old) chosen).number ≡ 0) }
     ensures { Worked blocks width (Call.return_roots chosen)
-        (before a.old b.old counts.old cells.old roots.old waiting.old sections.old d.old marks.old list.old) result
+        (before a.old b.old counts.old cells.old roots.old waiting.old sections.old d.old marks.old list.old) (came_of (Ok result))
         (after a.new b.new counts.new cells.new roots.new waiting.new sections.new d.new marks.new list.new) }
 {
     let mut freed = 0;
@@ -79,7 +80,6 @@ pub fn clear_roots(
         freed += more;
     }
     Outcome {
-        number: 0,
         value: freed,
         freed,
         stuck: false,
@@ -101,22 +101,14 @@ pub fn return_roots(
     marks: &mut [u8],
     list: &mut [Ref],
     chosen: u64,
-) -> Outcome
+) -> Result<Outcome, Refusal>
     requires { Usable blocks width (lent a.old b.old counts.old cells.old roots.old waiting.old sections.old d.old marks.old list.old) }
     ensures { Worked blocks width (Call.return_roots chosen)
-        (before a.old b.old counts.old cells.old roots.old waiting.old sections.old d.old marks.old list.old) result
+        (before a.old b.old counts.old cells.old roots.old waiting.old sections.old d.old marks.old list.old) (came_of result)
         (after a.new b.new counts.new cells.new roots.new waiting.new sections.new d.new marks.new list.new) }
 {
-    let test = returning::return_test(roots.len(), chosen);
-    if test.number != 0 {
-        return Outcome {
-            number: test.number,
-            value: 0,
-            freed: 0,
-            stuck: false,
-        };
-    }
-    clear_roots(
+    returning::return_test(roots.len(), chosen)?;
+    Ok(clear_roots(
         blocks, width, a, b, counts, cells, roots, waiting, sections, d, marks, list, chosen,
-    )
+    ))
 }

@@ -1,23 +1,20 @@
 -- `copy` meets its contract: a refusal of the tests, or the work; and what is promised of the second heap is promised of both.
 use mathlib.Core.Path.{refl}
-use Rattle.rules.specs.Heap.{Memory, lent_memory}
+use Rattle.types.proofs.Refused.{number_ne0}
+use Rattle.rules.specs.Heap.{lent_memory}
 use Rattle.rules_calls.proofs.Promised.{copy_promised}
 use Rattle.public_copy.proofs.copy.Goals as goal
 
--- the second heap
-abbrev second : (c : goal.Then-number-ne0) → Memory
-second c =
-    lent_memory c.args.a2.now c.args.b2.now c.args.counts2.now c.args.cells2.now c.args.roots2.now c.args.waiting2.now
-    c.args.sections2.now c.args.d2.now c.args.marks2.now c.args.list2.now
-
-pub returns-then-number-ne0 : goal.returns-then-number-ne0
-returns-then-number-ne0 c =
-    copy_promised _ _ _ _ _ _ _ _ (c.test-tested.ensures.refused c.if-number-ne0.true (second c) refl refl)
+pub returns-in-Err : goal.returns-in-Err
+returns-in-Err c =
+    let x = c.args in
+    let second =
+    lent_memory x.a2.now x.b2.now x.counts2.now x.cells2.now x.roots2.now x.waiting2.now x.sections2.now x.d2.now x.marks2.now x.list2.now in
+    rw c.into.ensures (copy_promised _ _ _ _ _ _ _ _ (c.in-Err.ensures.refused (number_ne0 _) second refl refl))
 
 pub copy-requires : goal.copy-requires
 copy-requires c =
-    let passes = c.if-number-ne0.false in
-    (c.test-tested.ensures.fit passes, c.test-tested.ensures.shut passes, c.test-tested.ensures.fits passes, c.test-tested.ensures.as_many passes)
+    (c.in_default.ensures.fit refl, c.in_default.ensures.shut refl, c.in_default.ensures.fits refl, c.in_default.ensures.as_many refl)
 
 pub returns : goal.returns
 returns c =
