@@ -73,7 +73,7 @@ fn sweep_one(
         × Coherent blocks a.new sections.new }
 {
     let n = map_objects::objects::object_size(blocks, b, i);
-    section_extents::clear_extent(blocks, a, b, sections, i, n);
+    section_extents::write_extent(blocks, a, b, sections, i, n, false);
     map_extents::clear_cells(cells, 4 * i, 4 * n);
     clear_kind(d, i);
     n

@@ -101,7 +101,7 @@ fn copy_object(
     let n = map_objects::objects::object_size(blocks, b, at);
     let bit = bitmap::get_bit(d, at);
     let to = moved[at] as usize - 1;
-    map_extents::mark_extent(a2, b2, to, n);
+    map_extents::write_extent(a2, b2, to, n, true);
     planes::set_count(counts2, blocks2 / 8, width2, to, types::capacity_of(width2));
     copy_cells(bit, moved, cells, 4 * at, cells2, 4 * to, 4 * n);
     bitmap::set_bit(d2, to, bit);

@@ -56,7 +56,7 @@ pub fn release_all(
         let i = waiting[t] as usize;
         waiting[t] = 0;
         let n = map_objects::objects::object_size(blocks, b, i);
-        section_extents::clear_extent(blocks, a, b, sections, i, n);
+        section_extents::write_extent(blocks, a, b, sections, i, n, false);
         t = count_down::drop_object(
             blocks, width, counts, cells, waiting, d, marks, i, n, t, shade,
         );

@@ -158,7 +158,7 @@ fn close_one(
         return Pass { top: top, freed: 0 };
     }
     let n = map_objects::objects::object_size(blocks, b, i);
-    section_extents::clear_extent(blocks, a, b, sections, i, n);
+    section_extents::write_extent(blocks, a, b, sections, i, n, false);
     planes::set_count(counts, blocks / 8, width, i, 0);
     let t = drop_doomed(blocks, width, counts, cells, waiting, d, marks, i, n, top);
     Pass { top: t, freed: n }

@@ -59,7 +59,7 @@ pub fn place(
         × Coherent blocks a.new sections.new
         × (marks.new ≡ born_marks blocks marks.old list.now i) }
 {
-    section_extents::mark_extent(blocks, a, b, sections, i, n);
+    section_extents::write_extent(blocks, a, b, sections, i, n, true);
     planes::set_count(counts, blocks / 8, width, i, 1);
     map_extents::clear_cells(cells, 4 * i, 4 * n);
     set_kind(d, i, as_data);

@@ -11,5 +11,5 @@ clear_kind-requires c =
 pub returns : goal.returns
 unfolding is_unmarked
 returns c =
-    sweep_unmarked _ _ _ _ c.object_size-n.ensures.0 c.object_size-n.ensures.2 c.requires.4 c.clear_extent.ensures.0 c.clear_extent.ensures.1 c.clear_cells.ensures
-    c.clear_kind.ensures c.clear_extent.ensures.2
+    sweep_unmarked _ _ _ _ c.object_size-n.ensures.0 c.object_size-n.ensures.2 c.requires.4 c.write_extent.ensures.0 c.write_extent.ensures.1 c.clear_cells.ensures
+    c.clear_kind.ensures c.write_extent.ensures.2

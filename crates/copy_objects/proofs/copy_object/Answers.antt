@@ -22,4 +22,4 @@ set_bit-requires c =
 pub returns : goal.returns
 returns c =
     object_copied _ _ _ _ _ _ _ _ _ _ _ _ _ c.object_size-n.ensures.0 c.get_bit-bit.ensures.0 c.capacity_of.ensures.0
-    c.mark_extent.ensures.0 c.mark_extent.ensures.1 c.set_count.ensures c.copy_cells.ensures c.set_bit.ensures
+    c.write_extent.ensures.0 c.write_extent.ensures.1 c.set_count.ensures c.copy_cells.ensures c.set_bit.ensures

@@ -17,8 +17,8 @@ pub object_size-n-requires : goal.object_size-n-requires
 object_size-n-requires c =
     (omega (arith, c.loop-t.invariant.0.extents.b_length, c.loop-t.invariant.0.planes.eighths), c.loop-t.invariant.0.stack.blocks (c.loop-t.t - 1) (omega arith))
 
-pub clear_extent-requires : goal.clear_extent-requires
-clear_extent-requires c = (
+pub write_extent-requires : goal.write_extent-requires
+write_extent-requires c = (
   c.loop-t.invariant.1.coherent,
   c.loop-t.invariant.0.extents.a_length,
   c.loop-t.invariant.0.extents.b_length,
@@ -49,8 +49,8 @@ loop-t-smaller c =
 pub loop-t-preserved : goal.loop-t-preserved
 loop-t-preserved c = (
   releasing_step c.loop-t-test.true refl c.object_size-n.ensures.0 c.object_size-n.ensures.2
-      c.clear_extent.ensures.0 c.clear_extent.ensures.1 c.drop_object-t.ensures.1 c.drop_object-t.ensures.0 c.drop_object-t.ensures.2 c.drop_object-t.ensures.3 c.loop-t.invariant.0,
-  record { coherent = c.clear_extent.ensures.2; untouched = λ none. absurd (omega (arith, none, c.object_size-n.ensures.1)) },
+      c.write_extent.ensures.0 c.write_extent.ensures.1 c.drop_object-t.ensures.1 c.drop_object-t.ensures.0 c.drop_object-t.ensures.2 c.drop_object-t.ensures.3 c.loop-t.invariant.0,
+  record { coherent = c.write_extent.ensures.2; untouched = λ none. absurd (omega (arith, none, c.object_size-n.ensures.1)) },
 )
 
 pub returns : goal.returns

@@ -24,8 +24,8 @@ pub object_size-n-requires : goal.object_size-n-requires
 object_size-n-requires c =
     omega (arith, c.requires.0.extents.b_length, c.requires.0.planes.eighths, c.requires.2)
 
-pub clear_extent-requires : goal.clear_extent-requires
-clear_extent-requires c =
+pub write_extent-requires : goal.write_extent-requires
+write_extent-requires c =
     (c.requires.0.coherent, c.requires.0.extents.a_length, c.requires.0.extents.b_length, c.object_size-n.ensures.1, c.object_size-n.ensures.2)
 
 pub set_count-requires : goal.set_count-requires
@@ -47,4 +47,4 @@ pub returns : goal.returns
 returns c =
     close_doomed c.args.marks.now c.args.i c.requires.0
     (sym c.is_first.ensures ∙ c.if-not-is_first.false) (λ e. c.if-get_bit-eq1.false (c.get_bit.ensures.0 ∙ e))
-    c.object_size-n.ensures.0 c.object_size-n.ensures.2 c.clear_extent.ensures.0 c.clear_extent.ensures.1 c.set_count.ensures c.drop_doomed-t.ensures.0 c.drop_doomed-t.ensures.1 c.drop_doomed-t.ensures.2 c.clear_extent.ensures.2
+    c.object_size-n.ensures.0 c.object_size-n.ensures.2 c.write_extent.ensures.0 c.write_extent.ensures.1 c.set_count.ensures c.drop_doomed-t.ensures.0 c.drop_doomed-t.ensures.1 c.drop_doomed-t.ensures.2 c.write_extent.ensures.2

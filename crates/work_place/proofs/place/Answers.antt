@@ -7,7 +7,7 @@ use Rattle.work_place.proofs.place.Goals as goal
 pub returns : goal.returns
 unfolding placed
 returns c = (
-  λ k. part_memory (c.mark_extent.ensures.0 k) (c.mark_extent.ensures.1 k) (c.set_count.ensures k) (c.clear_cells.ensures k) [] (c.set_kind.ensures k),
-  c.mark_extent.ensures.2,
+  λ k. part_memory (c.write_extent.ensures.0 k) (c.write_extent.ensures.1 k) (c.set_count.ensures k) (c.clear_cells.ensures k) [] (c.set_kind.ensures k),
+  c.write_extent.ensures.2,
   c.mark_born.ensures,
 )
