@@ -55,7 +55,8 @@ fn plane_byte(counts: &[u8], bytes: usize, width: usize, p: usize, k: usize) -> 
     if p < width { counts[p * bytes + k] } else { 0 }
 }
 
-// The counts of the eight blocks of byte k as the bytes of a word.
+// The counts of the eight blocks of byte k as the bytes of a word. Written out: a loop over the maps takes up to
+// twice as long.
 fn count_lanes(counts: &[u8], bytes: usize, width: usize, k: usize) -> u64
     requires { (length counts.now ≡ width * bytes) × (k < bytes) × (8 * bytes ≤ max_blocks) × (1 ≤ width) × (width ≤ 4) }
     ensures { result ≡ pack (λ s. count_at bytes width counts.now (8 * k + s)) 8 }

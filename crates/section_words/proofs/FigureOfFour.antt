@@ -76,9 +76,6 @@ four_exact k a i low high =
     ] in
     sym (among.figure_is ∙ ap (λ (x : ℕ). 2 ^ x) same)
 
-pub less_than_six : (k : ℕ) → 2 ^ k < 64 → k < 6
-less_than_six k l = elim (dec_le 6 k) [ yes m ↦ absurd (omega (arith, pow_mono {i = 6} {j = k} m)) | no m ↦ omega arith ]
-
 -- ---- words that are free throughout
 
 module _ (a : List ℕ) (i lower upper : ℕ) (f : FreeChunks 6 a i lower) (g : FreeChunks 6 a (i + 64) upper) where

@@ -31,7 +31,7 @@ count_zeros-requires c =
 -- a number that no cell can hold
 pub returns-then-z : goal.returns-then-z
 returns-then-z c =
-    stepped_none (wide_call _ _ c.in-10.is (omega (arith, c.if-z.true))) c.refusal.ensures
+    stepped_none (wide_call _ _ c.in-10.is (omega (arith, c.if-z.true))) c.into-Z.ensures
 
 pub read_reply-requires : goal.read_reply-requires
 read_reply-requires c =
@@ -43,8 +43,8 @@ read_reply-requires c =
       shape.length_cells,
     )
 
-pub shut_test-test-requires : goal.shut_test-test-requires
-shut_test-test-requires c =
+pub shut_test-requires : goal.shut_test-requires
+shut_test-requires c =
     omega (arith, (usable_healthy c.requires).shape.length_list)
 
 -- an opening where one is open
@@ -58,8 +58,8 @@ open_collection-requires c =
     let shape = (usable_healthy c.requires).shape in
     (sym shape.whole_bytes, shape.blocks_max, shape.length_marks, shape.length_list)
 
-pub open_test-test-requires : goal.open_test-test-requires
-open_test-test-requires c =
+pub open_test-requires : goal.open_test-requires
+open_test-requires c =
     omega (arith, (usable_healthy c.requires).shape.length_list)
 
 -- steps where none is open
@@ -86,22 +86,22 @@ returns-in-1 c =
 pub returns-in-2 : goal.returns-in-2
 unfolding decoded is_call
 returns-in-2 c =
-    stepped_worked 2 refl c.in-2.is c.allocate-done.ensures c.reply.ensures
+    stepped_worked 2 refl c.in-2.is c.allocate.ensures c.into.ensures
 
 pub returns-in-3 : goal.returns-in-3
 unfolding decoded is_call
 returns-in-3 c =
-    stepped_worked 3 refl c.in-3.is c.store_root-done.ensures c.reply-in-3.ensures
+    stepped_worked 3 refl c.in-3.is c.store_root.ensures c.into-in-3.ensures
 
 pub returns-in-4 : goal.returns-in-4
 unfolding decoded is_call
 returns-in-4 c =
-    stepped_worked 4 refl c.in-4.is c.store_cell-done.ensures c.reply-in-4.ensures
+    stepped_worked 4 refl c.in-4.is c.store_cell.ensures c.into-in-4.ensures
 
 pub returns-in-5 : goal.returns-in-5
 unfolding decoded is_call
 returns-in-5 c =
-    stepped_worked 5 refl c.in-5.is c.collect-done.ensures c.reply-in-5.ensures
+    stepped_worked 5 refl c.in-5.is c.collect.ensures c.into-in-5.ensures
 
 pub returns-in-6 : goal.returns-in-6
 unfolding decoded is_call
@@ -118,18 +118,18 @@ returns-in-7 c =
 pub returns-in-8 : goal.returns-in-8
 unfolding decoded is_call
 returns-in-8 c =
-    stepped_worked 8 refl c.in-8.is c.return_roots-done.ensures c.reply-in-8.ensures
+    stepped_worked 8 refl c.in-8.is c.return_roots.ensures c.into-in-8.ensures
 
 pub returns-in-9 : goal.returns-in-9
 unfolding decoded is_call
 returns-in-9 c =
-    stepped_worked 9 refl c.in-9.is c.allocate-done-in-9.ensures c.reply-in-9.ensures
+    stepped_worked 9 refl c.in-9.is c.allocate-in-9.ensures c.into-in-9.ensures
 
 pub returns-else-z : goal.returns-else-z
 unfolding decoded
 returns-else-z c =
-    stepped_worked 10 (narrow_call _ (omega (arith, c.if-z.false))) c.in-10.is c.write_number-done.ensures
-    c.reply-in-10.ensures
+    stepped_worked 10 (narrow_call _ (omega (arith, c.if-z.false))) c.in-10.is c.write_number.ensures
+    c.into-in-10.ensures
 
 pub returns-in-11 : goal.returns-in-11
 unfolding decoded is_call
