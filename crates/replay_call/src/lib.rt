@@ -39,29 +39,35 @@ pub fn step(
         ),
         1 => replies::acceptance(0),
         2 => work_tested::allocate(
-                blocks, width, a, b, counts, cells, roots, waiting, sections, d, marks, list,
-                false, x as usize, y as usize,
-            ).into(),
+            blocks, width, a, b, counts, cells, roots, waiting, sections, d, marks, list, false,
+            x as usize, y as usize,
+        )
+        .into(),
         3 => work_tested::store_root(
-                blocks, width, a, b, counts, cells, roots, waiting, sections, d, marks, list,
-                x as usize, y as usize,
-            ).into(),
+            blocks, width, a, b, counts, cells, roots, waiting, sections, d, marks, list,
+            x as usize, y as usize,
+        )
+        .into(),
         4 => work_tested::store_cell(
-                blocks, width, a, b, counts, cells, roots, waiting, sections, d, marks, list,
-                x as usize, y as usize, z as usize,
-            ).into(),
+            blocks, width, a, b, counts, cells, roots, waiting, sections, d, marks, list,
+            x as usize, y as usize, z as usize,
+        )
+        .into(),
         5 => work_tested::collect(
-                blocks, width, a, b, counts, cells, roots, waiting, sections, d, marks, list,
-            ).into(),
+            blocks, width, a, b, counts, cells, roots, waiting, sections, d, marks, list,
+        )
+        .into(),
         6 => looking::look_reply(blocks, width, a, b, counts, x as usize),
         7 => replies::acceptance(bitmap::count_zeros(a)),
         8 => work_return::return_roots(
-                blocks, width, a, b, counts, cells, roots, waiting, sections, d, marks, list, x,
-            ).into(),
+            blocks, width, a, b, counts, cells, roots, waiting, sections, d, marks, list, x,
+        )
+        .into(),
         9 => work_tested::allocate(
-                blocks, width, a, b, counts, cells, roots, waiting, sections, d, marks, list, true,
-                x as usize, y as usize,
-            ).into(),
+            blocks, width, a, b, counts, cells, roots, waiting, sections, d, marks, list, true,
+            x as usize, y as usize,
+        )
+        .into(),
         10 => {
             if (MAX_NUMBER as u64) < z {
                 return Refusal::NoCall.into();
@@ -69,7 +75,8 @@ pub fn step(
             work_tested::write_number(
                 blocks, width, a, b, counts, cells, roots, waiting, sections, d, marks, list,
                 x as usize, y as usize, z as Ref,
-            ).into()
+            )
+            .into()
         }
         11 => numbers::read_reply(blocks, a, b, cells, d, x as usize, y as usize).into(),
         12 => {

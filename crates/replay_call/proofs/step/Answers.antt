@@ -2,6 +2,7 @@
 use mathlib.Core.Path.{refl, sym, ap, ◌∙◌}
 use Prim.Native.Nat.{ℕ}
 use native.Mathlib.Omega.{arith}
+use Rattle.types.proofs.Refused.{number_ne0}
 use Rattle.rules_calls.specs.Calls.{reply}
 use Rattle.theory.proofs.Usable.UsableHeap.{usable_healthy}
 use Rattle.replay_words.specs.Encoding.{decoded, is_call}
@@ -31,7 +32,7 @@ count_zeros-requires c =
 -- a number that no cell can hold
 pub returns-then-z : goal.returns-then-z
 returns-then-z c =
-    stepped_none (wide_call _ _ c.in-10.is (omega (arith, c.if-z.true))) c.into-Z.ensures
+    stepped_none (wide_call _ _ c.in-10.is (omega (arith, c.if-z.true))) c.into-then-z.ensures
 
 pub read_reply-requires : goal.read_reply-requires
 read_reply-requires c =
@@ -48,10 +49,11 @@ shut_test-requires c =
     omega (arith, (usable_healthy c.requires).shape.length_list)
 
 -- an opening where one is open
-pub returns-then-number-ne0 : goal.returns-then-number-ne0
+pub returns-in-Err : goal.returns-in-Err
 unfolding decoded is_call
-returns-then-number-ne0 c =
-    stepped_as 12 refl c.in-12.is (opening_refused c.requires c.shut_test-test.ensures c.if-number-ne0.true)
+returns-in-Err c =
+    rw c.into-in-Err.ensures
+    (stepped_as 12 refl c.in-12.is (opening_refused c.requires c.in-Err.ensures (number_ne0 _)))
 
 pub open_collection-requires : goal.open_collection-requires
 open_collection-requires c =
@@ -63,14 +65,15 @@ open_test-requires c =
     omega (arith, (usable_healthy c.requires).shape.length_list)
 
 -- steps where none is open
-pub returns-then-number-ne0-2 : goal.returns-then-number-ne0-2
+pub returns-in-Err-open_test : goal.returns-in-Err-open_test
 unfolding decoded is_call
-returns-then-number-ne0-2 c =
-    stepped_as 13 refl c.in-13.is (steps_refused c.requires c.open_test-test.ensures c.if-number-ne0-2.true)
+returns-in-Err-open_test c =
+    rw c.into-in-Err-open_test.ensures
+    (stepped_as 13 refl c.in-13.is (steps_refused c.requires c.in-Err-open_test.ensures (number_ne0 _)))
 
 pub take_steps-requires : goal.take_steps-requires
 take_steps-requires c =
-    steps_allowed c.requires c.open_test-test.ensures c.if-number-ne0-2.false
+    steps_allowed c.requires c.in_default-open_test.ensures refl
 
 pub returns-in-0 : goal.returns-in-0
 unfolding decoded is_call
@@ -134,17 +137,17 @@ returns-else-z c =
 pub returns-in-11 : goal.returns-in-11
 unfolding decoded is_call
 returns-in-11 c =
-    stepped_as 11 refl c.in-11.is (read_promise c.requires c.read_reply.ensures)
+    rw c.into-in-11.ensures (stepped_as 11 refl c.in-11.is (read_promise c.requires c.read_reply.ensures))
 
-pub returns-else-number-ne0 : goal.returns-else-number-ne0
+pub returns-in_default-shut_test : goal.returns-in_default-shut_test
 unfolding decoded is_call
-returns-else-number-ne0 c =
+returns-in_default-shut_test c =
     stepped_as 12 refl c.in-12.is
-    (opening_made c.requires c.shut_test-test.ensures c.if-number-ne0.false c.open_collection.ensures)
+    (opening_made c.requires c.in_default-shut_test.ensures refl c.open_collection.ensures)
 
-pub returns-else-number-ne0-2 : goal.returns-else-number-ne0-2
+pub returns-in_default-open_test : goal.returns-in_default-open_test
 unfolding decoded is_call
-returns-else-number-ne0-2 c =
+returns-in_default-open_test c =
     stepped_as 13 refl c.in-13.is c.take_steps.ensures
 
 pub returns-in_default : goal.returns-in_default
@@ -152,4 +155,4 @@ returns-in_default c =
     let past =
     past_codes _ (omega arith) (omega arith) (omega arith) (omega arith) (omega arith) (omega arith) (omega arith) (omega arith)
     (omega arith) (omega arith) (omega arith) (omega arith) (omega arith) (omega arith) in
-    stepped_none (past_call _ _ past) c.refusal-in_default.ensures
+    stepped_none (past_call _ _ past) c.into-in_default.ensures
