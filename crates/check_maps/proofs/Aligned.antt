@@ -1,6 +1,6 @@
 -- Kind 3 within a byte: objects of up to four blocks are told by its bits.
 use mathlib.Core.Path.{◌≡◌, refl, sym, ap, ap₂, ◌∙◌}
-use mathlib.Core.Logic.{◌≢◌, inl, inr}
+use mathlib.Core.Logic.{◌≢◌}
 use mathlib.Core.Bool.{true}
 use mathlib.Core.List.{List}
 use Prim.Native.Nat.{ℕ, zero, suc, ◌+◌, ◌-◌, ◌*◌, ◌/◌, ◌%◌, ◌^◌, ◌≤◌, ◌<◌, min, max}
@@ -19,7 +19,8 @@ use Rattle.rules.specs.Heap.{exponent_from, exponent, size_from}
 use Rattle.rules.specs.Tools.{some_below}
 use Rattle.rules.proofs.Chunks.{exponent_covers}
 use Rattle.rules.proofs.Objects.{size_some, size_next, size_is}
-use Rattle.rules.proofs.Tests.{test_cases_lem, some_true, true_some, some_false, false_some}
+use Rattle.rules.proofs.Tests.{true_some}
+use Rattle.check_maps.proofs.Chains.{some_same}
 use Rattle.check_maps.specs.Chunks.{off_chunk}
 
 -- ---- a chunk of two or four blocks, or of more
@@ -313,10 +314,4 @@ module _ (N : ℕ) (b : List ℕ) (k first : ℕ) (inside : 8 * (k + 1) ≤ N) w
   ]
 
   pub byte_straight : crooked ≡ 0 → some_below (off_chunk measured k N b) 8 ≡ some_below (off_chunk first k N b) 8
-  byte_straight straight = elim (test_cases_lem (some_below (off_chunk first k N b) 8)) [
-    | inl e ↦
-        let found = some_true (off_chunk first k N b) 8 e in
-        true_some (off_chunk measured k N b) 8 found.0 found.1 (same_test straight found.0 found.1 ∙ found.2) ∙ sym e
-    | inr e ↦
-        false_some (off_chunk measured k N b) 8 (λ s l. same_test straight s l ∙ some_false (off_chunk first k N b) 8 e s l) ∙ sym e
-  ]
+  byte_straight straight = some_same (off_chunk measured k N b) (off_chunk first k N b) 8 (same_test straight)

@@ -1,4 +1,5 @@
--- What `any` finds among the numbers of a range, and a search by eights, as a search by `some_below`; the items of a slice's front.
+-- Chains of iterators as searches by `some_below`: `any` over a range, over a slice and over a part of one; a search by eights; the
+-- items at a slice's front.
 use mathlib.Core.Path.{◌≡◌, refl, sym, ap, ◌∙◌}
 use mathlib.Core.Logic.{◌⊎◌, inl, inr}
 use mathlib.Core.Bool.{Bool, true, false}
@@ -47,6 +48,10 @@ any_range test m n u f r ran call l none =
     any_from_yields_List test u f r ran (YieldsList-from_range m n (n - m) refl refl) call
     ∙ numbers_from test m (n - m) none
     ∙ ap (some_below test) whole
+
+-- what is found below m is found below n
+pub found_further : (test : ℕ → Bool) (m n : ℕ) (r : Bool) → m ≤ n → r ≡ some_below test m → r ≡ true → r ≡ some_below test n
+found_further test m n r l e found = found ∙ sym (some_further test m n l (sym e ∙ found))
 
 -- the items of a slice
 pub items : (test : ℕ → Bool) (l : List ℕ) → list_any test l ≡ some_below (λ k. test (get_or l k 0)) (length l)

@@ -9,7 +9,6 @@ ghost use Rattle.rules.specs.Heap.{max_blocks, lent_memory};
 ghost use Rattle.rules_steps.specs.Steps.{is_untidy};
 ghost use Rattle.theory_memories.specs.Heaps.{Intact};
 ghost use Rattle.step_list.specs.Lists.{is_set, listed_in, Shows};
-ghost use Rattle.step_list.specs.Naming.{named_from};
 ghost use Rattle.check_marks.specs.Tidy.{root_missed_in, Read, missed_at, missed_of, missed_apart};
 
 use map_objects::objects;
@@ -78,14 +77,6 @@ fn is_missed(blocks: usize, marks: &[u8], v: Ref) -> bool
     v != 0 && v as usize <= blocks && bitmap::get_bit(marks, v as usize - 1) != 1
 }
 
-// One of the n cells from cell j on names an unmarked block.
-fn misses_any(blocks: usize, cells: &[Ref], marks: &[u8], j: usize, n: usize) -> bool
-    requires { (blocks ≤ 8 * length marks.now) × (j + n ≤ length cells.now) }
-    ensures { result ≡ some_below (λ i. named_from cells.now j n i && not (is_set marks.now i)) blocks }
-{
-    cells[j..j + n].iter().any(|v| is_missed(blocks, marks, *v))
-}
-
 // The object at block x names an unmarked one. Its kind is looked at once.
 fn misses_at(blocks: usize, b: &[u8], d: &[u8], cells: &[Ref], marks: &[u8], x: usize) -> bool
     requires { (blocks ≤ 8 * length b.now) × (blocks ≤ 8 * length d.now) × (length cells.now ≡ 4 * blocks) × (blocks ≤ max_blocks)
@@ -93,7 +84,10 @@ fn misses_at(blocks: usize, b: &[u8], d: &[u8], cells: &[Ref], marks: &[u8], x: 
     ensures { result ≡ missed_at blocks b.now d.now cells.now marks.now x }
 {
     let n = objects::object_size(blocks, b, x);
-    misses_any(blocks, cells, marks, 4 * x, objects::naming_cells(d, x, n))
+    let named = objects::naming_cells(d, x, n);
+    cells[4 * x..4 * x + named]
+        .iter()
+        .any(|v| is_missed(blocks, marks, *v))
 }
 
 // One of the objects that start at the blocks of byte k which are the bits of `these` names an unmarked one.

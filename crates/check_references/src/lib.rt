@@ -81,7 +81,7 @@ fn read_cell(cells: &[Ref], k: usize, made: u8, j: usize) -> usize
     }
 }
 
-// Tallies v, to 255 at most; whether it is wild. It stands in a free block or not.
+// Tallies v, to 255 at most, where it is not wild; whether it is: not 0, and in a free block or beyond the heap.
 fn tally_one(blocks: usize, free: bool, v: usize, at: &mut [u8]) -> bool
     requires { (blocks ≤ length at.old) × Room at.old }
     ensures { Answered (λ j. wild blocks free v) (λ j. v) 1 at.old at.new result }

@@ -7,8 +7,7 @@ use Rattle.std.proofs.Common.{rules}
 use borrow.Author.Tests.{tests}
 use Rattle.rules.specs.Heap.{memory}
 use Rattle.rules.specs.Damage.{open_end}
-use Rattle.rules.proofs.Stretches.{some_further}
-use Rattle.check_maps.proofs.Chains.{any_range}
+use Rattle.check_maps.proofs.Chains.{found_further, any_range}
 use Rattle.check_maps.proofs.has_open_end.Goals as goal
 
 -- the rule's test, on what is lent
@@ -17,10 +16,7 @@ test blocks a b = open_end blocks (memory a b [] [] [] [])
 
 pub returns-then-open_end_in : goal.returns-then-open_end_in
 returns-then-open_end_in c =
-    c.if-open_end_in.true
-    ∙ sym
-    (some_further (test c.args.blocks c.args.a.now c.args.b.now) (8 * c.saturating_sub-bytes.result) c.args.blocks (omega arith)
-    (sym c.open_end_in.ensures ∙ c.if-open_end_in.true))
+    found_further (test c.args.blocks c.args.a.now c.args.b.now) (8 * c.saturating_sub-bytes.result) c.args.blocks c.open_end_in.result (omega arith) c.open_end_in.ensures c.if-open_end_in.true
 
 pub returns-else-open_end_in : goal.returns-else-open_end_in
 unfolding open_end

@@ -7,8 +7,7 @@ use Rattle.std.proofs.Common.{rules}
 use borrow.Author.Tests.{tests}
 use Rattle.rules.specs.Heap.{memory}
 use Rattle.rules.specs.Damage.{unaligned}
-use Rattle.rules.proofs.Stretches.{some_further}
-use Rattle.check_maps.proofs.Chains.{any_range}
+use Rattle.check_maps.proofs.Chains.{found_further, any_range}
 use Rattle.check_maps.proofs.has_unaligned.Goals as goal
 
 -- the rule's test, on what is lent
@@ -17,10 +16,7 @@ test blocks a b = unaligned blocks (memory a b [] [] [] [])
 
 pub returns-then-has_unaligned_in : goal.returns-then-has_unaligned_in
 returns-then-has_unaligned_in c =
-    c.if-has_unaligned_in.true
-    ∙ sym
-    (some_further (test c.args.blocks c.args.a.now c.args.b.now) (8 * (c.args.blocks / 8)) c.args.blocks (omega arith)
-    (sym c.has_unaligned_in.ensures ∙ c.if-has_unaligned_in.true))
+    found_further (test c.args.blocks c.args.a.now c.args.b.now) (8 * (c.args.blocks / 8)) c.args.blocks c.has_unaligned_in.result (omega arith) c.has_unaligned_in.ensures c.if-has_unaligned_in.true
 
 pub returns-else-has_unaligned_in : goal.returns-else-has_unaligned_in
 unfolding unaligned
