@@ -97,16 +97,8 @@ fn write_shape(
     let mut to = 1 + roots.len();
     put_numbers(numbers, roots, &mut out[1..to]);
     for &reference in order {
-        to = write_object(
-            blocks,
-            b,
-            d,
-            cells,
-            numbers,
-            reference as usize - 1,
-            out,
-            to,
-        );
+        let at = reference as usize - 1;
+        to = write_object(blocks, b, d, cells, numbers, at, out, to);
     }
     to
 }
