@@ -1,7 +1,7 @@
 // The walk of requests U11 and U13: objects as first met, breadth first, in lent arrays with a place for each block. `order` has their
 // references in the order of their numbers, `numbers` at place b the number of the object at block b, or 0;
 // `owners` has at place n - 1 the number of the object in whose cell object n was first met, 0 for a root, and
-// `vias` that cell or root.
+// `vias` that cell or root. They hold 0 for none, as cells do: an `Option` would make them twice as large.
 
 #![tactic(auto)]
 
@@ -13,7 +13,8 @@ ghost use Rattle.walk_objects.specs.Walking.{walked_heap, entries, Walkable, Tra
 
 use types::Ref;
 
-// The walk as far as it has come. The clauses `same_..` of its methods say that its arrays stay those that were lent.
+// The walk as far as it has come. The clauses `same_..` of its methods say that its arrays stay those that were
+// lent.
 #[derive(Drop)]
 struct Trail<'a> {
     order: &'a mut [Ref],

@@ -2,18 +2,17 @@
 use mathlib.Core.Path.{◌≡◌, refl, sym, ap, ◌∙◌}
 use mathlib.Core.Logic.{◌≢◌}
 use mathlib.Core.List.{List, [], ◌∷◌, ◌++◌, append-nil, append_assoc}
-use Prim.Native.Nat.{ℕ, max, zero, suc, ◌+◌, ◌-◌, ◌*◌, ◌/◌, ◌%◌, ◌^◌, ◌≤◌, ◌<◌}
+use Prim.Native.Nat.{ℕ, zero, suc, ◌+◌, ◌-◌, ◌/◌, ◌%◌, ◌^◌, ◌≤◌, ◌<◌}
 use native.Mathlib.Omega.{arith}
 use native.Mathlib.Numerals.{add-one}
-use native.Mathlib.Nat.{pow-suc, one-le-pow}
 use lib.ListN.{length, get_or, length-append}
 use Rattle.std.proofs.lemmas.List.{length_push, get_or_at, get_or_append_left}
 use borrow.Author.Tests.{eq-eqb, ne_eqb}
 use Rattle.rules_output.specs.Reason.{Reason, kept_by, no_chain}
 use Rattle.rules_output.specs.Sentence.{root_text, cell_text, block_text, no_root_text, links, sentence}
-use Rattle.io.specs.Digits.{hex_digit_ascii, last_digits}
+use Rattle.io.specs.Digits.{hex_digit_ascii, last_digits, IsDigitCount}
 use Rattle.text.specs.Text.{decimal, Put}
-use Rattle.text.proofs.Decimals.{decimal_is}
+use Rattle.text.proofs.Decimals.{decimal_is, decimal_short}
 use Rattle.text.proofs.Writing.{put_both, put_as, put_length, put_none}
 use Rattle.walk_objects.specs.Walking.{last_first}
 use Rattle.walk_reason.specs.Telling.{reason_in}
@@ -22,19 +21,11 @@ digits_length : (k n : ℕ) → length (last_digits 10 k n) ≡ k
 digits_length zero n = refl
 digits_length (suc k) n = length-append (last_digits 10 k (n / 10)) (hex_digit_ascii (n % 10) ∷ []) ∙ omega (arith, digits_length k (n / 10))
 
--- a number is as long as the power of ten below it says
-pub decimal_long : (r n m : ℕ) → m ≡ max n 1 → 10 ^ r ≤ m → m < 10 * 10 ^ r → r < 20 → (r + 1 ≡ length (decimal n)) × (r + 1 ≤ 20)
-decimal_long r n m is low high short =
-    let below : n < 10 ^ suc r = omega (arith, pow-suc 10 r) in
-    let digits : length (last_digits 10 (suc r) n) ≡ length (decimal n) = ap length (decimal_is (suc r) n (omega arith, below, least r low)) in
-    (omega (arith, digits, digits_length (suc r) n), omega arith)
-  where
-    least : (k : ℕ) → 10 ^ k ≤ m → 1 < suc k → 10 ^ (suc k - 1) ≤ n
-    least zero l some = absurd (omega arith)
-    least (suc k) l some =
-        let place : suc (suc k) - 1 ≡ suc k = omega arith in
-        let many : 10 ≤ 10 ^ suc k = omega (arith, pow-suc 10 k, one-le-pow k 10 (omega arith)) in
-        rw place (omega arith)
+-- what the kit writes is as long as `decimal`
+pub decimal_long : (k n : ℕ) → IsDigitCount 10 1 n k → n < 2 ^ 64 → (k ≡ length (decimal n)) × (k ≤ 20)
+decimal_long k n few below =
+    let is : k ≡ length (decimal n) = sym (digits_length k n) ∙ ap length (decimal_is k n few) in
+    (is, omega (arith, is, decimal_short n below))
 
 -- ---- part of a text is written, and `rest` is left of it
 

@@ -28,12 +28,14 @@ fn put_numbers(numbers: &[Ref], refs: &[Ref], out: &mut [u32])
     requires { (length out.old ≡ length refs.now) × ((i : ℕ) → i < length refs.now → Known numbers.now (get_or refs.now i 0)) }
     ensures { out.new ≡ map (number_of numbers.now) refs.now }
 {
+    // By an index: of what is written through `out.iter_mut().zip(refs)` a proof knows nothing.
     for (i, &v) in refs.iter().enumerate() {
         out[i] = number_of(numbers, v);
     }
 }
 
-// Writes the object at block `at` to place `to`: size, D bit and cells. The place behind it.
+// Writes the object at block `at` to place `to`: size, D bit and cells. The place behind it: `out` goes with a
+// place, as in `text`, whose `Put` says what is written.
 fn write_object(
     blocks: usize,
     b: &[u8],
@@ -97,23 +99,16 @@ fn write_shape(
     let mut to = 1 + roots.len();
     put_numbers(numbers, roots, &mut out[1..to]);
     for &reference in order {
-        to = write_object(
-            blocks,
-            b,
-            d,
-            cells,
-            numbers,
-            reference as usize - 1,
-            out,
-            to,
-        );
+        let at = reference as usize - 1;
+        to = write_object(blocks, b, d, cells, numbers, at, out, to);
     }
     to
 }
 
-// Writes the heap's shape into `out`, by a walk in arrays of so many places. How many numbers it has; None, and nothing is written, where it
-// doesn't fit.
-// Not inlined: its arrays are on the stack only while it runs, so a small heap does not take the stack of the largest.
+// Writes the heap's shape into `out`, by a walk in arrays of so many places. How many numbers it has; None, and
+// nothing is written, where it doesn't fit.
+// Not inlined: its arrays are on the stack only while it runs, so a small heap does not take the stack of the
+// largest.
 #[inline(never)]
 fn shape_in_arrays<const PLACES: usize>(
     blocks: usize,
