@@ -46,8 +46,8 @@ pub fn count_down(
     }
 }
 
-// Clears the four cells of a block, from cell j on, and counts down what they named. Where they are 0, as most are, they named nothing,
-// and nothing is written.
+// Clears the four cells of a block, from cell j on, and counts down what they named. Where they are 0, as most
+// are, they named nothing, and nothing is written.
 fn drop_four(
     blocks: usize,
     width: usize,

@@ -8,5 +8,7 @@ pub fn named_block(blocks: usize, v: Ref) -> Option<usize>
     ensures some { IfSome result (λ block. (block + 1 ≡ v) × (block < blocks)) }
     ensures none { IsNone result → 1 ≤ v → blocks < v }
 {
-    (v as usize).checked_sub(1).filter(|&block| block < blocks)
+    // Of 0 it is the largest number, past every block: one comparison serves both.
+    let block = (v as usize).wrapping_sub(1);
+    (block < blocks).then_some(block)
 }

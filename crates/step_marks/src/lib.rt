@@ -10,7 +10,7 @@ ghost use Rattle.step_marks.specs.Marks.{mark_one, mark_named, freed_marks, mark
 use map_objects::names::named_block;
 use types::Ref;
 
-// Bit i of the map becomes 1.
+// Bit i of the map becomes 1: by one `or`, where `bitmap::set_bit` takes the old bit out first.
 pub fn set_mark(marks: &mut [u8], i: usize)
     requires { i < 8 * length marks.old }
     ensures { marks.new ≡ set_bit marks.old i 1 }

@@ -42,6 +42,7 @@ pub fn let_go(
         sections.new d.new marks.new list.new)
         result }
 {
+    // Returns here, so that no map is cleared where no collection is open.
     if list[blocks] != 1 {
         return release::let_go(
             blocks, width, a, b, counts, cells, waiting, sections, d, marks, old, false,
