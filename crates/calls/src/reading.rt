@@ -27,9 +27,12 @@ pub fn read_entry(input: &mut impl Read, start: usize) -> Entry
     requires { start ≤ 32 }
 {
     let mut bytes = [0u8; 32];
-    let piece = history_input::read_piece(input, &mut bytes[start..]);
+    // A read that fails ends the entry, as the end of the input does.
+    let length = history_input::read_piece(input, &mut bytes[start..]).unwrap_or_else(
+        |failed| failed.length,
+    );
     Entry {
-        bytes: piece.length,
+        bytes: length,
         kind: word(&bytes, 0),
         x: word(&bytes, 8),
         y: word(&bytes, 16),

@@ -2,36 +2,28 @@
 
 #![tactic(auto)]
 
+ghost use Rattle.std.specs.Prelude.{MatchResult};
 ghost use Rattle.io.specs.Counts.{IsPrefixLen};
 
 use std::io::Read;
 
-// The bytes of a piece, at the start of the buffer, and whether a read failed.
+// A read failed. The bytes that had come before stand at the start of the buffer.
 #[derive(Clone, Copy)]
-pub struct Piece {
+pub struct ReadFailed {
     pub length: usize,
-    pub failed: bool,
 }
 
-// Reads until the buffer is full or the input ends. A read gives what has come so far, which may be less.
-pub fn read_piece(input: &mut impl Read, buffer: &mut [u8]) -> Piece
-    ensures { IsPrefixLen result.length buffer.new }
+// Reads until the buffer is full or the input ends: how many bytes came. A read gives what has come so far, which may be less.
+pub fn read_piece(input: &mut impl Read, buffer: &mut [u8]) -> Result<usize, ReadFailed>
+    ensures { MatchResult result (λ length. IsPrefixLen length buffer.new) (λ failed. IsPrefixLen failed.length buffer.new) }
 {
-    let mut n = 0;
-    while n < buffer.len() {
-        let Ok(more) = input.read(&mut buffer[n..]) else {
-            return Piece {
-                length: n,
-                failed: true,
-            };
-        };
-        if more == 0 {
-            break;
+    let mut length = 0;
+    while length < buffer.len() {
+        match input.read(&mut buffer[length..]) {
+            Ok(0) => break,
+            Ok(more) => length += more,
+            Err(_) => return Err(ReadFailed { length }),
         }
-        n += more;
     }
-    Piece {
-        length: n,
-        failed: false,
-    }
+    Ok(length)
 }

@@ -11,7 +11,7 @@ use borrow.Author.Tests.{eq-eqb, ne_eqb}
 use Rattle.rules.specs.Heap.{Memory}
 use Rattle.rules_stores.specs.Store.{formatted}
 use Rattle.history_records.specs.declared.Fields.{Fields}
-use Rattle.history_records.specs.Records.{record_length, fields_at, wide, old}
+use Rattle.history_records.specs.Records.{record_length, wide, old}
 use Rattle.history_plans.specs.Asked.{asked}
 use Rattle.history_figures.specs.declared.tally.Run.{Run}
 use Rattle.history_figures.specs.Figures.{run, new_run, most_records}

@@ -1,15 +1,14 @@
 -- An old history that is given unwidened: its first record stops the run with 9, or the file ends inside it.
-use mathlib.Core.Path.{◌≡◌, refl, sym, ap, ◌∙◌, subst}
+use mathlib.Core.Path.{◌≡◌, refl, sym, ap, ◌∙◌}
 use mathlib.Core.Logic.{◌≢◌, inl, inr}
-use mathlib.Core.Bool.{Bool, true, false, true≢false}
+use mathlib.Core.Bool.{true}
 use mathlib.Core.List.{List, [], ◌∷◌, map}
-use Prim.Native.Nat.{ℕ, suc, ◌+◌, ◌-◌, ◌*◌, ◌≤◌, ◌<◌}
+use Prim.Native.Nat.{ℕ, suc, ◌+◌, ◌-◌, ◌*◌, ◌≤◌}
 use native.Mathlib.Decide.{ℕ_discrete, dec_lt}
 use native.Mathlib.Omega.{arith}
 use lib.Dec.{eqb}
 use lib.ListN.{length, get_or, length-replicate, get_or-replicate}
 use borrow.Author.Tests.{eqb-true}
-use Rattle.rules.specs.Tools.{all}
 use Rattle.rules.specs.Heap.{Memory}
 use Rattle.rules_stores.specs.Store.{formatted}
 use Rattle.rules_calls.specs.Calls.{Call, allocate, allocate_data, answer}
@@ -19,11 +18,10 @@ use Rattle.history_records.specs.declared.Fields.{Fields}
 use Rattle.history_records.specs.Records.{record_length, number, fields_at, wide, old, unnamed_by, unnamed, are_zero}
 use Rattle.history_plans.specs.Asked.{Asked, makes, stops, root, allocating, allocating_data, writing_number, operations, asked}
 use Rattle.history_plans.proofs.Plans.{number_target, number_empty, nonzero_asked, known_asked, unknown_asked}
-use Rattle.history_figures.specs.declared.tally.Run.{Run}
 use Rattle.history_figures.specs.Figures.{run, new_run, no_figures, noted_all}
 use Rattle.history_turns.specs.Turns.{Turn, tried_again, turn_of, after_turn}
 use Rattle.history_turns.proofs.Turns.{turn_once, turn_again}
-use Rattle.history_runs.specs.Runs.{Came, ran_from, whole_records, ended, ran}
+use Rattle.history_runs.specs.Runs.{Came, ran_from, whole_records, ended}
 use Rattle.history_runs.proofs.Ends.{ended_stopped, ended_past}
 use Rattle.history_runs.proofs.WholeRecords.{joined, ran_going}
 use Rattle.history_widening.specs.Claims.{OldIsStopped, OldIsCutOff}

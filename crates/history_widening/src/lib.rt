@@ -41,16 +41,11 @@ pub fn widen(bytes: &[u8], out: &mut [u8]) -> usize
     ensures { Widens bytes.now out.old out.new result }
 {
     let records = bytes.len() / OLD_RECORD;
-    if out.len() < bytes.len() {
+    if out.len() < bytes.len() || out.len() - bytes.len() < (RECORD - OLD_RECORD) * records {
         return 0;
     }
-    if out.len() - bytes.len() < (RECORD - OLD_RECORD) * records {
-        return 0;
-    }
-    let mut i = 0;
-    while i < records {
+    for i in 0..records {
         widen_record(bytes, out, i);
-        i += 1;
     }
     let tail = OLD_RECORD * records;
     text::put_text(out, RECORD * records, &bytes[tail..])

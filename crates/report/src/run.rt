@@ -92,11 +92,9 @@ pub fn run_input(input: &mut impl Read) -> Outcome
     let mut run = tally::new_run();
     let mut buffer = [0u8; PIECE];
     loop {
-        let piece = history_input::read_piece(input, &mut buffer);
-        if piece.failed {
+        let Ok(n) = history_input::read_piece(input, &mut buffer) else {
             return Outcome::ReadFailed;
-        }
-        let n = piece.length;
+        };
         let came = run_piece(
             run,
             &mut a,

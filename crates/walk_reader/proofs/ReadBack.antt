@@ -1,14 +1,14 @@
 -- What is written is read back.
 use mathlib.Core.Path.{◌≡◌, refl, sym, ap, ◌∙◌}
 use mathlib.Core.Bool.{Bool, true, false}
-use mathlib.Core.List.{List, [], ◌∷◌}
+use mathlib.Core.List.{List}
 use mathlib.Core.Option.{Option, none, some}
 use Prim.Native.Nat.{ℕ, ◌-◌, ◌*◌, ◌≤◌, ◌<◌}
 use native.Mathlib.Omega.{arith}
 use lib.ListN.{length}
 use borrow.Author.Tests.{lt-ltb}
 use Rattle.rules.specs.Heap.{Memory, max_blocks}
-use Rattle.rules_output.specs.Reason.{Reason, kept_by, no_chain, reason_from, chain_to, reason_of}
+use Rattle.rules_output.specs.Reason.{Reason, reason_from, chain_to, reason_of}
 use Rattle.rules_output.specs.Sentence.{sentence, sentence_for, read_back}
 use Rattle.rules.proofs.Tests.{true_and}
 use Rattle.rules.proofs.Objects.{size_le}

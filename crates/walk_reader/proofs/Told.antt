@@ -1,50 +1,34 @@
 -- What is told of a text, once its parts are read.
 use mathlib.Core.Path.{◌≡◌, refl, sym, ap, ◌∙◌}
-use mathlib.Core.Logic.{◌≢◌}
 use mathlib.Core.List.{List, [], ◌∷◌, ◌++◌}
 use mathlib.Core.Option.{Option, none, some}
-use Prim.Native.Nat.{ℕ, ◌+◌, ◌-◌, ◌≤◌, ◌<◌}
+use Prim.Native.Nat.{ℕ, ◌≤◌, ◌<◌}
 use native.Mathlib.Omega.{arith}
-use lib.ListN.{length, get_or, drop, length-drop}
+use lib.ListN.{length, get_or, drop}
 use borrow.Author.Tests.{eq-eqb, ne_eqb, le-leb, lt-leb}
 use Rattle.rules_output.specs.Reason.{kept_by, no_chain}
 use Rattle.rules_output.specs.Sentence.{root_text, no_root_text, behind, ended}
-use Rattle.text.specs.Text.{Put}
 use Rattle.walk_reader.specs.declared.Reading.{Reading}
 use Rattle.walk_reader.specs.Reader.{small_back, reading, reading_of, cells_after, small_at, links_in, counted, links_found}
-use Rattle.walk_reader.proofs.Laws.{drop_one, drop_all_lem}
 use Rattle.walk_reader.proofs.Fits.{chained, unreached, back_no_root, back_other, back_chain, back_no_number}
 
 -- ---- a number and its line end
 
-pub end_no_number : (m : List ℕ) → small_at m ≡ none → ended (small_at m) ≡ none
+pub ended_nothing : (l : List ℕ) → small_at l ≡ none → ended (small_at l) ≡ none
 unfolding ended
-end_no_number m e = ap ended e
+ended_nothing l e = ap ended e
 
-module _ (text : List ℕ) (at v q : ℕ) (number : small_at (drop at text) ≡ some (v, drop q text)) where
-  pub end_other_length : length text - q ≢ 1 → ended (small_at (drop at text)) ≡ none
-  unfolding ended
-  end_other_length n = ap ended number ∙ other (drop q text) (λ e. n (sym (length-drop q text) ∙ e))
-    where
-      other : (l : List ℕ) → length l ≢ 1 → ended (some (v, l)) ≡ none
-      other [] n = refl
-      other (c ∷ []) n = absurd (n refl)
-      other (c ∷ d ∷ l) n = refl
+pub ended_line : (v : ℕ) (l : List ℕ) → length l ≡ 1 → get_or l 0 0 ≡ 10 → ended (some (v, l)) ≡ some v
+unfolding ended
+ended_line v [] n e = absurd (omega arith)
+ended_line v (c ∷ []) n e = rw (eq-eqb c 10 e, ended) refl
+ended_line v (c ∷ d ∷ l) n e = absurd (omega arith)
 
-  -- one byte is left
-  module _ (one : length text - q ≡ 1) where
-    left : small_at (drop at text) ≡ some (v, get_or text q 0 ∷ [])
-    left =
-        number
-        ∙ ap (λ (l : List ℕ). some (v, l)) (drop_one text q (omega arith) ∙ ap (λ (l : List ℕ). get_or text q 0 ∷ l) (drop_all_lem text (q + 1) (omega arith)))
-
-    pub end_other_byte : get_or text q 0 ≢ 10 → ended (small_at (drop at text)) ≡ none
-    unfolding ended
-    end_other_byte n = ap ended left ∙ rw (ne_eqb (get_or text q 0) 10 n, ended) refl
-
-    pub end_line : get_or text q 0 ≡ 10 → ended (small_at (drop at text)) ≡ some v
-    unfolding ended
-    end_line e = ap ended left ∙ rw (eq-eqb (get_or text q 0) 10 e, ended) refl
+pub ended_other : (v : ℕ) (l : List ℕ) → (length l ≡ 1 → get_or l 0 0 ≡ 10 → ⊥) → ended (some (v, l)) ≡ none
+unfolding ended
+ended_other v [] n = refl
+ended_other v (c ∷ []) n = rw (ne_eqb c 10 (λ e. n refl e), ended) refl
+ended_other v (c ∷ d ∷ l) n = refl
 
 -- ---- links and block
 
@@ -109,15 +93,14 @@ module _ (text lent : List ℕ) (r : Reading) where
               rw (says, lt-leb (length found-cells.0) (length lent) few, reading_of, cells_after)
               (is ∙ ap (λ (k : ℕ). reading 3 v k at) (sym found-cells.2), refl)
 
-          pub all_told : (after : List ℕ) → n ≤ length lent → Put lent 0 (links_found (links_in rest)) after n → r ≡ reading 1 v n at → Told after
+          pub all_told : (after : List ℕ) → n ≤ length lent → after ≡ links_found (links_in rest) ++ drop n lent → r ≡ reading 1 v n at → Told after
           unfolding reading_of cells_after links_found
           all_told after long put is =
               let fits : length found-cells.0 ≤ length lent = omega (arith, found-cells.2) in
-              let plain : 0 + length found-cells.0 ≡ length found-cells.0 = omega arith in
               let same : links_found (links_in rest) ≡ found-cells.0 = ap links_found found-cells.1 in
               rw (says, le-leb (length found-cells.0) (length lent) fits, reading_of, cells_after) (
                 is ∙ ap (λ (k : ℕ). reading 1 v k at) (sym found-cells.2),
-                put.written ∙ ap (λ (l : List ℕ). l ++ drop (0 + length l) lent) same ∙ ap (λ (k : ℕ). found-cells.0 ++ drop k lent) plain,
+                put ∙ ap (λ (l : List ℕ). l ++ drop n lent) same ∙ ap (λ (k : ℕ). found-cells.0 ++ drop k lent) (sym found-cells.2),
               )
 
 -- how many cells there are to write

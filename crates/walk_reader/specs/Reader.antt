@@ -1,6 +1,7 @@
 -- Reading a sentence of request U11 back: `read_back` of the rules with numbers of 32 bits, which are all that a
 -- sentence can have.
-use Rattle.std.specs.Prelude.{ℕ, zero, suc, ◌≡◌, Bool, true, false, ◌&&◌, List, [], ◌∷◌, ◌++◌, length, drop, leb, ltb}
+use Rattle.std.specs.Prelude.{Option as Answer, None, Some, ℕ, zero, suc, Bool, true, false, ◌&&◌, List, [], ◌∷◌, ◌++◌, length, drop, leb, ltb}
+use Rattle.std.specs.Borrow.{Bor}
 use Rattle.std.proofs.Math.Option.{Option, none, some, map}
 use Rattle.rules_output.specs.Reason.{Reason, kept_by, no_chain}
 use Rattle.rules_output.specs.Sentence.{cell_text, block_text, behind, number_at, ended, read_back}
@@ -49,10 +50,14 @@ cells_after (some (kept_by r cells, at)) lent =
 
 -- ---- parts of a text
 
--- whether a part was found, and what was found then
-pub record Found {A : Type 0} (part : Option A) (found : Bool) (x : A) : Type 0 where
-  pub there : found ≡ true → part ≡ some x
-  pub missing : found ≡ false → part ≡ none
+-- what a function found, in the words of the rules; with the text behind it
+abbrev pub seen : {A : Type 0} → Answer A → Option A
+seen None = none
+seen (Some x) = some x
+
+abbrev pub seen_in : Answer (ℕ × Bor (List ℕ)) → Option (ℕ × List ℕ)
+seen_in None = none
+seen_in (Some x) = some (x.0, x.1.now)
 
 -- `number_at` of the rules, where the number is below 2 ^ 32
 unfoldable pub limited : Option (ℕ × List ℕ) → Option (ℕ × List ℕ)
@@ -61,6 +66,10 @@ limited (some x) = when (is_small x.0) x
 
 unfoldable pub small_at : List ℕ → Option (ℕ × List ℕ)
 small_at l = limited (number_at l)
+
+-- a link: its cell, and what stands behind it
+unfoldable pub link_at : List ℕ → Option (ℕ × List ℕ)
+link_at l = elim (behind cell_text l) [ some m ↦ small_at m | none ↦ none ]
 
 -- `links_of` of the rules, with such numbers
 unfoldable pub small_links : (most : ℕ) → List ℕ → Option (List ℕ × ℕ)

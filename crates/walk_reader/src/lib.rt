@@ -2,13 +2,15 @@
 
 #![tactic(auto)]
 
-ghost use Rattle.std.specs.Prelude.{◌≡◌, ◌+◌, ◌≤◌, ◌<◌, length, drop};
-ghost use Rattle.rules_output.specs.Sentence.{behind, ended};
-ghost use Rattle.text.specs.Text.{Put};
-ghost use Rattle.walk_reader.specs.Reader.{small_back, reading, reading_of, cells_after, Found, small_at, links_in, counted, links_found};
+ghost use Rattle.std.specs.Prelude.{◌≡◌, ◌+◌, ◌-◌, ◌*◌, ◌^◌, ◌<◌, ◌≤◌, length, SomeIff};
+ghost use Rattle.std.specs.Option.{unwrap_or};
+ghost use Rattle.std.proofs.Math.Option.{some};
+ghost use Rattle.rules_output.specs.Sentence.{ended, number_from};
+ghost use Rattle.walk_reader.specs.Reader.{small_back, reading, reading_of, cells_after, limited, small_at, link_at, links_in, counted, links_found, seen, seen_in};
 
 // What a text says: kind 0 is no sentence, 1 a chain, 2 that no root reaches the block, 3 a chain of more links
-// than there was room for. A chain has its root, how many links were followed, and the block.
+// than there was room for. A chain has its root, how many links were followed, and the block. It is what C
+// reads, so that its kind is a number.
 #[repr(C)]
 #[derive(Clone, Copy)]
 pub struct Reading {
@@ -18,196 +20,116 @@ pub struct Reading {
     pub block: usize,
 }
 
-// A number that was found or not, its value, and the place behind it.
-#[derive(Clone, Copy)]
-struct Number {
-    found: bool,
-    value: usize,
-    next: usize,
-}
-
-// The end of a chain's sentence, found or not: how many links, and the block.
-#[derive(Clone, Copy)]
-struct Rest {
-    found: bool,
-    links: usize,
-    block: usize,
-}
-
-// Whether the words stand in the text at a place.
-fn stands_at(text: &[u8], at: usize, words: &[u8]) -> bool
-    requires { at ≤ length text.now }
-    ensures { Found (behind words.now (drop at text.now)) result (drop (at + length words.now) text.now) }
+// A number with one digit more, if it is below 2 ^ 32.
+fn with_digit(value: u32, digit: u8) -> Option<u32>
+    requires { 48 ≤ digit }
+    ensures { SomeIff result (value * 10 + (digit - 48) < 2 ^ 32) (value * 10 + (digit - 48)) }
 {
-    let mut i = 0;
-    while i < words.len() {
-        if text.len() - at <= i {
-            return false;
-        }
-        if text[at + i] != words[i] {
-            return false;
-        }
-        i += 1;
-    }
-    true
+    value.checked_mul(10)?.checked_add(u32::from(digit - b'0'))
 }
 
-// The number that stands in the text at a place, with no leading zeros and below 2 ^ 32.
-fn number_at(text: &[u8], at: usize) -> Number
-    requires { at ≤ length text.now }
-    ensures { Found (small_at (drop at text.now)) result.found (result.value, drop result.next text.now)
-        × (at ≤ result.next) × (result.next ≤ length text.now) × (result.value < 4294967296) }
+// The number whose digits stand in front of a text, if it is below 2 ^ 32, and what stands behind it.
+fn digits_at(text: &[u8]) -> Option<(u32, &[u8])>
+    ensures { seen_in result ≡ limited (some (number_from 0 text.now)) }
 {
-    if text.len() <= at {
-        return Number {
-            found: false,
-            value: 0,
-            next: at,
-        };
+    let mut value = 0u32;
+    let mut rest = text;
+    while let [digit @ b'0'..=b'9', after @ ..] = rest {
+        value = with_digit(value, *digit)?;
+        rest = after;
     }
-    let first = text[at];
-    if first == 48 {
-        return Number {
-            found: true,
-            value: 0,
-            next: at + 1,
-        };
-    }
-    if first < 48 {
-        return Number {
-            found: false,
-            value: 0,
-            next: at,
-        };
-    }
-    if 57 < first {
-        return Number {
-            found: false,
-            value: 0,
-            next: at,
-        };
-    }
-    let mut value = 0usize;
-    let mut i = at;
-    while i < text.len() {
-        let c = text[i];
-        if c < 48 {
-            return Number {
-                found: true,
-                value: value,
-                next: i,
-            };
-        }
-        if 57 < c {
-            return Number {
-                found: true,
-                value: value,
-                next: i,
-            };
-        }
-        value = value * 10 + (c - 48) as usize;
-        if 4294967295 < value {
-            return Number {
-                found: false,
-                value: 0,
-                next: at,
-            };
-        }
-        i += 1;
-    }
-    Number {
-        found: true,
-        value: value,
-        next: i,
+    Some((value, rest))
+}
+
+// The number in front of a text, with no leading zeros and below 2 ^ 32, and what stands behind it.
+fn number_at(text: &[u8]) -> Option<(u32, &[u8])>
+    ensures { seen_in result ≡ small_at text.now }
+{
+    let [first, rest @ ..] = text else {
+        return None;
+    };
+    if *first == b'0' {
+        Some((0, rest))
+    } else if first.is_ascii_digit() {
+        digits_at(text)
+    } else {
+        None
     }
 }
 
-// The number at a place, where a line end follows it and nothing else.
-fn ending_at(text: &[u8], at: usize) -> Number
-    requires { at ≤ length text.now }
-    ensures { Found (ended (small_at (drop at text.now))) result.found result.value }
+// The number in front of a text, where a line end follows it and nothing else.
+fn ending_at(text: &[u8]) -> Option<u32>
+    ensures { seen result ≡ ended (small_at text.now) }
 {
-    let n = number_at(text, at);
-    if !n.found {
-        return n;
+    match number_at(text)? {
+        (value, [b'\n']) => Some(value),
+        _ => None,
     }
-    let next = n.next;
-    if text.len() - next != 1 {
-        return Number {
-            found: false,
-            value: 0,
-            next: at,
-        };
-    }
-    if text[next] != 10 {
-        return Number {
-            found: false,
-            value: 0,
-            next: at,
-        };
-    }
-    n
 }
 
-// What stands at a place behind the root's number: the links, how many they are, and the block.
-fn rest_at(text: &[u8], at: usize) -> Rest
-    requires { at ≤ length text.now }
-    ensures { Found (counted (links_in (drop at text.now))) result.found (result.links, result.block) }
+// The cell of the link in front of a text, and what stands behind it.
+fn link_at(text: &[u8]) -> Option<(u32, &[u8])>
+    ensures { seen_in result ≡ link_at text.now }
 {
-    let mut p = at;
+    number_at(text.strip_prefix(b" cell ")?)
+}
+
+// What stands behind the root's number: how many links, and the block.
+fn rest_at(text: &[u8]) -> Option<(usize, u32)>
+    ensures { seen result ≡ counted (links_in text.now) }
+{
     let mut links = 0;
-    while stands_at(text, p, b" cell ") {
-        let cell = number_at(text, p + 6);
-        if !cell.found {
-            return Rest {
-                found: false,
-                links: 0,
-                block: 0,
-            };
-        }
-        p = cell.next;
+    let mut rest = text;
+    while let Some((_, after)) = link_at(rest) {
+        rest = after;
         links += 1;
     }
-    if !stands_at(text, p, b" block ") {
-        return Rest {
-            found: false,
-            links: 0,
-            block: 0,
+    let block = ending_at(rest.strip_prefix(b" block ")?)?;
+    Some((links, block))
+}
+
+// Writes the cells of the links that stand in front of a text.
+fn put_links(text: &[u8], cells: &mut [u32])
+    requires { length cells.old ≡ length (links_found (links_in text.now)) }
+    ensures { cells.new ≡ links_found (links_in text.now) }
+{
+    let mut rest = text;
+    for cell in cells.iter_mut() {
+        let Some((value, after)) = link_at(rest) else {
+            return;
         };
-    }
-    let end = ending_at(text, p + 7);
-    Rest {
-        found: end.found,
-        links: links,
-        block: end.value,
+        *cell = value;
+        rest = after;
     }
 }
 
-// Writes the cells of the n links that stand at a place.
-fn put_links(text: &[u8], at: usize, cells: &mut [u32], n: usize)
-    requires { (at ≤ length text.now) × (n ≡ length (links_found (links_in (drop at text.now)))) × (n ≤ length cells.old) }
-    ensures { Put cells.old 0 (links_found (links_in (drop at text.now))) cells.new n }
+// What a text says, if it is a sentence.
+fn sentence_in(text: &[u8], cells: &mut [u32]) -> Option<Reading>
+    ensures { (unwrap_or result (reading 0 0 0 0) ≡ reading_of (length cells.old) (small_back text.now))
+        × (cells.new ≡ cells_after (small_back text.now) cells.old) }
 {
-    let mut p = at;
-    let mut i = 0;
-    while i < n {
-        let cell = number_at(text, p + 6);
-        cells[i] = cell.value as u32;
-        p = cell.next;
-        i += 1;
+    if let Some(rest) = text.strip_prefix(b"no root reaches block ") {
+        let block = ending_at(rest)? as usize;
+        return Some(Reading {
+            kind: 2,
+            root: 0,
+            links: 0,
+            block,
+        });
     }
-}
-
-// No sentence.
-fn no_sentence() -> Reading
-    ensures { result ≡ reading 0 0 0 0 }
-{
-    Reading {
-        kind: 0,
-        root: 0,
-        links: 0,
-        block: 0,
+    let (root, rest) = number_at(text.strip_prefix(b"root ")?)?;
+    let (links, block) = rest_at(rest)?;
+    let chain = Reading {
+        kind: 1,
+        root: root as usize,
+        links,
+        block: block as usize,
+    };
+    if cells.len() < links {
+        return Some(Reading { kind: 3, ..chain });
     }
+    put_links(rest, &mut cells[..links]);
+    Some(chain)
 }
 
 // Reads a text. The cells of a chain are written to `cells`, where there is room for all; of any other text
@@ -216,42 +138,10 @@ pub fn read_reason(text: &[u8], cells: &mut [u32]) -> Reading
     ensures { (result ≡ reading_of (length cells.old) (small_back text.now))
         × (cells.new ≡ cells_after (small_back text.now) cells.old) }
 {
-    if stands_at(text, 0, b"no root reaches block ") {
-        let end = ending_at(text, 22);
-        if !end.found {
-            return no_sentence();
-        }
-        return Reading {
-            kind: 2,
-            root: 0,
-            links: 0,
-            block: end.value,
-        };
-    }
-    if !stands_at(text, 0, b"root ") {
-        return no_sentence();
-    }
-    let root = number_at(text, 5);
-    if !root.found {
-        return no_sentence();
-    }
-    let rest = rest_at(text, root.next);
-    if !rest.found {
-        return no_sentence();
-    }
-    if cells.len() < rest.links {
-        return Reading {
-            kind: 3,
-            root: root.value,
-            links: rest.links,
-            block: rest.block,
-        };
-    }
-    put_links(text, root.next, cells, rest.links);
-    Reading {
-        kind: 1,
-        root: root.value,
-        links: rest.links,
-        block: rest.block,
-    }
+    sentence_in(text, cells).unwrap_or(Reading {
+        kind: 0,
+        root: 0,
+        links: 0,
+        block: 0,
+    })
 }

@@ -14,7 +14,7 @@ const PIECE: usize = RECORDS * OLD_RECORD;
 const WIDE_PIECE: usize = RECORDS * RECORD;
 
 // More full pieces than any input has: together they are longer than 2^64 bytes.
-const MOST: usize = 562949953421312;
+const MOST: usize = 1 << 49;
 
 // A complaint that can't be made either is let go.
 pub fn complain(rt: &impl Eprint, text: &str) {
@@ -25,11 +25,11 @@ pub fn complain(rt: &impl Eprint, text: &str) {
 fn hand_on(rt: &(impl Print + Eprint), piece: &[u8], text: &[u8]) -> bool
     requires { WidenedPiece piece.now text.now }
 {
-    if rt.write_all(text).is_ok() {
-        return true;
+    let handed_on = rt.write_all(text).is_ok();
+    if !handed_on {
+        complain(rt, "widen: a write to standard output failed\n");
     }
-    complain(rt, "widen: a write to standard output failed\n");
-    false
+    handed_on
 }
 
 // Widens a piece. Whether there may be more: it was full, and was handed on.
@@ -39,26 +39,19 @@ fn widen_piece(rt: &(impl Print + Eprint), piece: &[u8]) -> bool
 {
     let mut out = [0u8; WIDE_PIECE];
     let n = history_widening::widen(piece, &mut out);
-    if !hand_on(rt, piece, &out[..n]) {
-        return false;
-    }
-    piece.len() == PIECE
+    hand_on(rt, piece, &out[..n]) && piece.len() == PIECE
 }
 
 // Widens the pieces of an input, until it ends or a read or a write fails.
 pub fn widen_input(rt: &(impl Print + Eprint), input: &mut impl Read) {
     let mut buffer = [0u8; PIECE];
-    let mut k = 0;
-    while k < MOST {
-        let piece = history_input::read_piece(input, &mut buffer);
-        if piece.failed {
+    for _ in 0..MOST {
+        let Ok(n) = history_input::read_piece(input, &mut buffer) else {
             complain(rt, "widen: a read of standard input failed\n");
             return;
-        }
-        let n = piece.length;
+        };
         if !widen_piece(rt, &buffer[..n]) {
             return;
         }
-        k += 1;
     }
 }

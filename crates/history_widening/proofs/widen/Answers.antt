@@ -1,5 +1,4 @@
 use mathlib.Core.Path.{refl}
-use Prim.Native.Nat.{◌-◌}
 use native.Mathlib.Omega.{arith}
 use lib.ListN.{length-take, length-drop}
 use Rattle.history_widening.proofs.Output.{too_short, none_written, one_more, all_written}
@@ -7,9 +6,6 @@ use Rattle.history_widening.proofs.widen.Goals as goal
 
 pub returns-then-out-bytes : goal.returns-then-out-bytes
 returns-then-out-bytes c = too_short (omega arith) refl
-
-pub returns-then-out-bytes-2 : goal.returns-then-out-bytes-2
-returns-then-out-bytes-2 c = too_short (omega arith) refl
 
 pub loop-i-init : goal.loop-i-init
 loop-i-init c = none_written (omega arith)

@@ -1,28 +1,26 @@
 -- `walk_reader::ending_at` meets its contract.
-use mathlib.Core.Path.{sym, ◌∙◌}
-use mathlib.Core.Bool.{false≢true}
-use borrow.Author.Tests.{not-true, not-false}
-use Rattle.walk_reader.proofs.Laws.{not_found}
-use Rattle.walk_reader.proofs.Told.{end_no_number, end_other_length, end_other_byte, end_line}
+use mathlib.Core.Path.{sym, ap, ◌∙◌}
+use native.Mathlib.Omega.{arith}
+use Rattle.rules_output.specs.Sentence.{ended}
+use Rattle.walk_reader.specs.Reader.{seen}
+use Rattle.walk_reader.proofs.Told.{ended_nothing, ended_line, ended_other}
 use Rattle.walk_reader.proofs.ending_at.Goals as goal
 
-pub returns-then-not-n : goal.returns-then-not-n
-returns-then-not-n c =
-    let none = not-true _ c.if-not-n.true in
-    record { there = λ e. absurd (false≢true (sym none ∙ e)); missing = λ _. end_no_number _ (c.number_at-n.ensures.0.missing none) }
+pub returns-in_err-number_at : goal.returns-in_err-number_at
+returns-in_err-number_at c = let h = c.in_err-number_at.was in let k = c.in_err-number_at.ensures in ap seen c.from_residual.ensures ∙ sym (ended_nothing _ (sym k))
 
-pub returns-then-text-next-ne1 : goal.returns-then-text-next-ne1
-returns-then-text-next-ne1 c =
-    not_found (end_other_length c.args.text.now c.args.at _ _ (c.number_at-n.ensures.0.there (not-false _ c.if-not-n.false)) c.if-text-next-ne1.true)
+pub returns-in_default-eq10 : goal.returns-in_default-eq10
+returns-in_default-eq10 c = let k = c.in_ok-number_at.ensures in
+    sym (ap ended (sym k) ∙ ended_line c.in_ok-number_at.field-0.0 c.in_ok-number_at.field-0.1.now (omega arith) (omega arith))
 
-pub returns-then-text-next-ne10 : goal.returns-then-text-next-ne10
-returns-then-text-next-ne10 c =
-    not_found (end_other_byte c.args.text.now c.args.at _ _ (c.number_at-n.ensures.0.there (not-false _ c.if-not-n.false)) c.if-text-next-ne1.false c.if-text-next-ne10.true)
+pub returns-in_default : goal.returns-in_default
+returns-in_default c = let k = c.in_ok-number_at.ensures in
+    sym (ap ended (sym k) ∙ ended_other c.in_ok-number_at.field-0.0 c.in_ok-number_at.field-0.1.now (λ one ten. absurd (omega arith)))
 
-pub returns : goal.returns
-returns c =
-    let is = not-false _ c.if-not-n.false in
-    record {
-      there = λ _. end_line c.args.text.now c.args.at _ _ (c.number_at-n.ensures.0.there is) c.if-text-next-ne1.false c.if-text-next-ne10.false;
-      missing = λ z. absurd (false≢true (sym z ∙ is));
-    }
+pub returns-in_default-2 : goal.returns-in_default-2
+returns-in_default-2 c = let k = c.in_ok-number_at.ensures in
+    sym (ap ended (sym k) ∙ ended_other c.in_ok-number_at.field-0.0 c.in_ok-number_at.field-0.1.now (λ one ten. absurd (omega arith)))
+
+pub returns-in_default-3 : goal.returns-in_default-3
+returns-in_default-3 c = let k = c.in_ok-number_at.ensures in
+    sym (ap ended (sym k) ∙ ended_other c.in_ok-number_at.field-0.0 c.in_ok-number_at.field-0.1.now (λ one ten. absurd (omega arith)))

@@ -10,10 +10,10 @@ use Rattle.report.specs.Meaning.{full_piece}
 use Rattle.report.proofs.Pieces.{Kept}
 use Rattle.report.proofs.run.run_input.Given as goal
 
-abbrev pub invariant-loop-a : goal.invariant-loop-a
-invariant-loop-a g l =
+abbrev pub invariant-loop-n : goal.invariant-loop-n
+invariant-loop-n g l =
     (length l.buffer ≡ full_piece) × (bytes : List ℕ) × Kept bytes (lent_memory l.a l.b l.counts l.cells l.roots l.waiting l.sections l.d l.marks l.list) l.run
 
-abbrev pub decreases-loop-a : goal.decreases-loop-a
-decreases-loop-a g l =
+abbrev pub decreases-loop-n : goal.decreases-loop-n
+decreases-loop-n g l =
     most_records - l.run.records
