@@ -94,7 +94,14 @@ fn is_off(first: u8, counts: &[u8], bytes: usize, width: usize, k: usize, at: &[
 }
 
 // The kind that the tally tells: 4 where a block is named and no object starts, else 5 where a count is damage.
-fn late_kind(blocks: usize, width: usize, a: &[u8], b: &[u8], counts: &[u8], at: &[u8]) -> Option<Damage>
+fn late_kind(
+    blocks: usize,
+    width: usize,
+    a: &[u8],
+    b: &[u8],
+    counts: &[u8],
+    at: &[u8],
+) -> Option<Damage>
     requires { (blocks ≤ max_blocks) × (blocks ≡ 8 * (blocks / 8)) × (blocks ≤ 8 * length a.now) × (blocks ≤ 8 * length b.now)
         × (length counts.now ≡ width * (blocks / 8)) × (1 ≤ width) × (width ≤ 4) × (blocks ≤ length at.now)
         × Room at.now }
@@ -111,11 +118,7 @@ fn late_kind(blocks: usize, width: usize, a: &[u8], b: &[u8], counts: &[u8], at:
         }
         off |= is_off(first, counts, bytes, width, k, at);
     }
-    if off {
-        Some(Damage::WrongCount)
-    } else {
-        None
-    }
+    if off { Some(Damage::WrongCount) } else { None }
 }
 
 // Kinds 4 and 5, tallied in `at`.

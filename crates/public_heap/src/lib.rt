@@ -75,7 +75,7 @@ pub fn allocate(
         blocks, width, a, b, counts, cells, roots, waiting, sections, d, marks, list, n, r,
     ) {
         Ok(at) => at,
-        Err(refusal) => return refusal.into(),
+        Err(refusal) => return refusal.into(), // nothing is allocated
     };
     lists::clear_all(waiting);
     work_allocate::allocate(
@@ -106,16 +106,16 @@ pub fn allocate_data(
         (before a.old b.old counts.old cells.old roots.old waiting.old sections.old d.old marks.old list.old) result
         (after a.new b.new counts.new cells.new roots.new waiting.new sections.new d.new marks.new list.new) }
 {
-    let at = match test_calls::allocate(
+    let place = match test_calls::allocate(
         blocks, width, a, b, counts, cells, roots, waiting, sections, d, marks, list, n, r,
     ) {
-        Ok(at) => at,
+        Ok(place) => place,
         Err(refusal) => return refusal.into(),
     };
     lists::clear_all(waiting);
     work_allocate::allocate(
         blocks, width, a, b, counts, cells, roots, waiting, sections, d, marks, list, true, n, r,
-        at,
+        place,
     )
     .into()
 }
@@ -143,7 +143,7 @@ pub fn collect(
     if let Err(refusal) = test_calls::none_open(
         blocks, width, a, b, counts, cells, roots, waiting, sections, d, marks, list,
     ) {
-        return refusal.into();
+        return refusal.into(); // nothing is collected
     }
     lists::clear_all(waiting);
     work_collect::collect(

@@ -32,7 +32,7 @@ pub fn reason(
     if let Err(refusal) = public_read::test_heap(
         blocks, width, a, b, counts, cells, roots, waiting, sections, d, marks, list,
     ) {
-        return refusal.into();
+        return refusal.into(); // no sentence is written
     }
     walk_reason::reason(
         blocks, width, a, b, counts, cells, roots, waiting, sections, d, marks, list, at, out,
@@ -62,7 +62,7 @@ pub fn shape(
     if let Err(refusal) = public_read::test_heap(
         blocks, width, a, b, counts, cells, roots, waiting, sections, d, marks, list,
     ) {
-        return refusal.into();
+        return refusal.into(); // no shape is written
     }
     walk_shape::shape(
         blocks, width, a, b, counts, cells, roots, waiting, sections, d, marks, list, out,

@@ -105,7 +105,7 @@ pub fn free_blocks(
     if let Err(refusal) = test_heap(
         blocks, width, a, b, counts, cells, roots, waiting, sections, d, marks, list,
     ) {
-        return refusal.into();
+        return refusal.into(); // nothing is counted
     }
     replies::acceptance(bitmap::count_zeros(a))
 }
@@ -133,7 +133,7 @@ pub fn look(
     if let Err(refusal) = test_heap(
         blocks, width, a, b, counts, cells, roots, waiting, sections, d, marks, list,
     ) {
-        return refusal.into();
+        return refusal.into(); // nothing is looked at
     }
     looking::look_reply(blocks, width, a, b, counts, at)
 }

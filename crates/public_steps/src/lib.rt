@@ -33,7 +33,7 @@ pub fn open_collection(
     if let Err(refusal) = test_calls::none_open(
         blocks, width, a, b, counts, cells, roots, waiting, sections, d, marks, list,
     ) {
-        return refusal.into();
+        return refusal.into(); // nothing is opened
     }
     work_open::open_collection(blocks, roots, marks, list)
 }
@@ -62,7 +62,7 @@ pub fn step_collection(
     if let Err(refusal) = test_calls::one_open(
         blocks, width, a, b, counts, cells, roots, waiting, sections, d, marks, list,
     ) {
-        return refusal.into();
+        return refusal.into(); // no step is taken
     }
     lists::clear_all(waiting);
     work_step::take_steps(
