@@ -13,7 +13,7 @@ ghost use Rattle.theory_memories.specs.Heaps.{Undamaged};
 ghost use Rattle.walk_objects.specs.Walking.{walked_heap, Walkable};
 ghost use Rattle.walk_reason.specs.Telling.{reason_in, Told};
 
-use types::{MAX_BLOCKS, MIDDLE_ROOM, Ref, Reply, SMALL_ROOM, replies};
+use types::{MAX_BLOCKS, MIDDLE_ROOM, Ref, Refusal, Reply, SMALL_ROOM, replies};
 
 // The words of a sentence, each before its number.
 const NO_ROOT: &[u8] = b"no root reaches block ";
@@ -167,10 +167,10 @@ pub fn reason(
         (after a.now b.now counts.now cells.now roots.now waiting.now sections.now d.now marks.now list.now) out.new }
 {
     if !map_objects::objects::is_first(blocks, a, b, at) {
-        return replies::refusal(6);
+        return Refusal::NoObject.into();
     }
     match reason_in(blocks, a, b, d, cells, roots, at, out) {
         Some(length) => replies::acceptance(length),
-        None => replies::refusal(15),
+        None => Refusal::ShortReason.into(),
     }
 }

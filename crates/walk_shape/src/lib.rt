@@ -12,7 +12,7 @@ ghost use Rattle.theory_memories.specs.Heaps.{Undamaged};
 ghost use Rattle.walk_objects.specs.Walking.{walked_heap, Walkable};
 ghost use Rattle.walk_shape.specs.Listing.{number_of, Known, described_in, shape_up_to, Ordered, Listed, Shaped};
 
-use types::{MAX_BLOCKS, MIDDLE_ROOM, Ref, Reply, SMALL_ROOM, replies};
+use types::{MAX_BLOCKS, MIDDLE_ROOM, Ref, Refusal, Reply, SMALL_ROOM, replies};
 
 // The number of what v names, or 0.
 #[tactic(auto, unfolding(crate::specs::Listing::number_of))]
@@ -192,6 +192,6 @@ pub fn shape(
 {
     match shape_in(blocks, a, b, d, cells, roots, out) {
         Some(length) => replies::acceptance(length),
-        None => replies::refusal(16),
+        None => Refusal::ShortShape.into(),
     }
 }

@@ -14,7 +14,7 @@ ghost use Rattle.theory_memories.specs.Heaps.{Undamaged};
 
 use map_objects::lists;
 use section_figures::UNKNOWN;
-use types::{Ref, Reply, replies};
+use types::{Ref, Refusal, Reply, replies};
 
 // Finds the figures of all sections.
 fn find_figures(blocks: usize, a: &[u8], sections: &mut [Ref])
@@ -65,7 +65,7 @@ pub fn copy(
     if !copy_lists::write_lists(
         blocks, a, b, d, cells, roots, blocks2, width2, a2, b2, counts2, cells2, roots2, d2,
     ) {
-        return replies::refusal(17);
+        return Refusal::NoPlace.into();
     }
     lists::clear_all(waiting2);
     bitmap::fill_bytes(marks2, 0);

@@ -12,7 +12,7 @@ is_first-requires c =
 
 pub returns-then-not-is_first : goal.returns-then-not-is_first
 returns-then-not-is_first c =
-    refused_six c.requires c.args.at _ _ (sym c.is_first.ensures ∙ c.if-not-is_first.true) c.refusal.ensures
+    refused_six c.requires c.args.at _ _ (sym c.is_first.ensures ∙ c.if-not-is_first.true) c.into.ensures
 
 pub reason_in-requires : goal.reason_in-requires
 reason_in-requires c =
@@ -21,7 +21,7 @@ reason_in-requires c =
 
 pub returns-in-None : goal.returns-in-None
 returns-in-None c =
-    refused_short c.requires c.args.at (sym c.is_first.ensures ∙ c.if-not-is_first.false) _ c.in-None.ensures c.refusal-in-None.ensures
+    refused_short c.requires c.args.at (sym c.is_first.ensures ∙ c.if-not-is_first.false) _ c.in-None.ensures c.into-in-None.ensures
 
 pub returns-in-Some : goal.returns-in-Some
 returns-in-Some c =

@@ -7,7 +7,7 @@ pub shape_in-requires : goal.shape_in-requires
 shape_in-requires c = walkable c.requires
 
 pub returns-in-None : goal.returns-in-None
-returns-in-None c = refused_short c.requires _ c.in-None.ensures c.refusal.ensures
+returns-in-None c = refused_short c.requires _ c.in-None.ensures c.into.ensures
 
 pub returns-in-Some : goal.returns-in-Some
 returns-in-Some c = accepted_long c.requires _ c.in-Some.ensures c.acceptance.ensures

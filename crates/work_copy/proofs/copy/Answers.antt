@@ -16,7 +16,7 @@ write_lists-requires c =
 
 pub returns-then-not-write_lists : goal.returns-then-not-write_lists
 returns-then-not-write_lists c =
-    copy_unplaced c.requires.0 _ _ _ c.requires.2 c.requires.3 c.requires.1 c.write_lists.ensures c.if-not-write_lists.true c.refusal.ensures
+    copy_unplaced c.requires.0 _ _ _ c.requires.2 c.requires.3 c.requires.1 c.write_lists.ensures c.if-not-write_lists.true c.into.ensures
 
 pub find_figures-requires : goal.find_figures-requires
 find_figures-requires c =
