@@ -1,13 +1,14 @@
 // What is done with the lent buffers. Here alone they are all lent on.
 use crate::{Entry, outputs};
-use types::{MAX_NUMBER, Ref, Reply, replies};
+use types::{MAX_NUMBER, Ref, Refusal, Reply, replies};
 
 // What came of an entry that is no call, as a reply: the number is 0 where it was done.
 fn outcome(done: bool) -> Reply {
     if done {
-        return replies::acceptance(0);
+        replies::acceptance(0)
+    } else {
+        Refusal::Misshapen.into()
     }
-    replies::refusal(1)
 }
 
 // What only reads the buffers: check, look, free blocks, the read of a number, what writes an output, and the copy into a second heap; of a

@@ -85,7 +85,8 @@ pub fn allocate(
     .into()
 }
 
-// Allocates n blocks of data into root r (request U6). The value is the first block.
+// Allocates n blocks of data into root r (request U6). The value is the first block. It differs from `allocate` in what it hands on alone; one
+// function for both would hand all lists on once more.
 pub fn allocate_data(
     blocks: usize,
     width: usize,

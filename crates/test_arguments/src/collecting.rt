@@ -16,7 +16,7 @@ pub fn shut_test(blocks: usize, list: &[Ref]) -> Result<(), Refusal>
     Ok(())
 }
 
-// The test of steps: one has to be open.
+// The test of steps: one has to be open. It stands beside the other, since each is a line, and a flag for both would be read twice.
 pub fn open_test(blocks: usize, list: &[Ref]) -> Result<(), Refusal>
     requires { blocks < length list.now }
     ensures { tested result ≡ open_test blocks list.now }

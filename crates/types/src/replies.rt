@@ -1,4 +1,4 @@
-// The replies as they are built: a refusal, and acceptance with one value.
+// The replies as they are made: of what a test or a call answers, and acceptance with one value.
 ghost use Rattle.std.specs.Prelude.{◌≡◌, Ok};
 ghost use Rattle.types.specs.Told.{refused, replied, tested, came_of, reply_of};
 
@@ -12,7 +12,7 @@ impl From<Refusal> for Reply {
         Reply {
             number: refusal.number(),
             value: refusal.value(),
-            second: 0,
+            second: 0, // in every refusal
         }
     }
 }
@@ -62,24 +62,13 @@ impl From<Result<Outcome, Refusal>> for Reply {
     }
 }
 
-// A refusal.
-pub fn refusal(number: usize) -> Reply
-    ensures { result ≡ record { number = number; value = 0; second = 0 } }
-{
-    Reply {
-        number: number,
-        value: 0,
-        second: 0, // in every refusal
-    }
-}
-
 // Acceptance with one value.
 pub fn acceptance(value: usize) -> Reply
     ensures { result ≡ record { number = 0; value = value; second = 0 } }
 {
     Reply {
         number: 0,
-        value: value,
+        value,
         second: 0,
     }
 }
