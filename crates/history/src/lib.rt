@@ -5,13 +5,14 @@
 
 ghost use Rattle.std.specs.Prelude.{◌≡◌};
 ghost use Rattle.rules.specs.Lent.{before, after};
+ghost use Rattle.types.specs.Told.{tested};
 ghost use Rattle.history_runs.specs.Promised.{run_reply, refusal, Promised};
 
 use history_figures::tally;
 use history_figures::tally::Run;
 use history_runs::Ran;
 use map_objects::lists;
-use types::{Ref, Reply, replies};
+use types::{Ref, Refusal, Reply, replies};
 
 mod run;
 
@@ -19,15 +20,14 @@ mod run;
 fn refused(reply: Reply) -> Ran
     ensures { result ≡ refusal reply }
 {
-    let run = tally::new_run();
     Ran {
-        reply: reply,
-        run: run,
+        reply,
+        run: tally::new_run(),
     }
 }
 
-// The reply of a run of records, which depends on the heap and on the run handed in alone: that of the check, whose refusals are 1, 2, 11 and 13,
-// then 19 for a run out of range.
+// Whether records can be run, which depends on the heap and on the run handed in alone: the check, whose refusals are 1, 2, 11 and 13, then
+// 19 for a run out of range.
 fn run_reply(
     blocks: usize,
     width: usize,
@@ -42,21 +42,17 @@ fn run_reply(
     marks: &[u8],
     list: &[Ref],
     run: Run,
-) -> Reply
-    ensures { result ≡ run_reply blocks width
+) -> Result<(), Refusal>
+    ensures { tested result ≡ run_reply blocks width
         (before a.now b.now counts.now cells.now roots.now waiting.now sections.now d.now marks.now list.now) run }
 {
-    let checked = public_read::check(
+    public_read::test_heap(
         blocks, width, a, b, counts, cells, roots, waiting, sections, d, marks, list,
-    );
-    let number = checked.number;
-    if number != 0 {
-        return checked;
-    }
+    )?;
     if !tally::in_range(run) {
-        return replies::refusal(19);
+        return Err(Refusal::BadRun);
     }
-    replies::acceptance(0)
+    Ok(())
 }
 
 // Runs the records of a piece of a history, from where the run stands, and answers where it stands then. Only the last piece may end inside
@@ -81,19 +77,17 @@ pub fn run_records(
         (before a.old b.old counts.old cells.old roots.old waiting.old sections.old d.old marks.old list.old) run result
         (after a.new b.new counts.new cells.new roots.new waiting.new sections.new d.new marks.new list.new) }
 {
-    let reply = run_reply(
+    if let Err(refusal) = run_reply(
         blocks, width, a, b, counts, cells, roots, waiting, sections, d, marks, list, run,
-    );
-    let number = reply.number;
-    if number != 0 {
-        return refused(reply);
+    ) {
+        return refused(refusal.into());
     }
     lists::clear_all(waiting);
-    let after = run::run_piece(
+    let run = run::run_piece(
         blocks, width, a, b, counts, cells, roots, waiting, sections, d, marks, list, bytes, run,
     );
     Ran {
-        reply: reply,
-        run: after,
+        reply: replies::acceptance(0),
+        run,
     }
 }

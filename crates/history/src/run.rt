@@ -40,17 +40,14 @@ fn run_whole(
         (after a.new b.new counts.new cells.new roots.new waiting.new sections.new d.new marks.new list.new) }
 {
     let mut state = start;
-    let mut i = 0;
-    while i < n {
+    for i in 0..n {
         let f = history_records::fields_at(bytes, i);
         state = history_execution::step(
             blocks, width, a, b, counts, cells, roots, waiting, sections, d, marks, list, f, state,
         );
-        let number = state.run.number;
-        if number != 0 {
+        if state.run.number != 0 {
             return state.run;
         }
-        i += 1;
     }
     state.run
 }
@@ -60,12 +57,7 @@ fn whole_records(length: usize, records: usize) -> usize
     requires { records ≤ most_records }
     ensures { result ≡ min (length / record_length wide) (most_records - records) }
 {
-    let n = length / RECORD;
-    let most = MAX_RECORDS - records;
-    if most < n {
-        return most;
-    }
-    n
+    (length / RECORD).min(MAX_RECORDS - records)
 }
 
 // The run at the end of a piece of so many bytes with n whole records: stopped with 10 where the bytes go on behind them.
@@ -73,18 +65,10 @@ fn end_piece(run: Run, length: usize, n: usize) -> Run
     requires { record_length wide * n ≤ length }
     ensures { result ≡ ended wide length n run }
 {
-    let number = run.number;
-    if number != 0 {
-        return run;
-    }
-    if length == RECORD * n {
-        return run;
-    }
-    let t = run.tally;
-    Run {
-        number: 10,
-        records: run.records,
-        tally: t,
+    if run.number == 0 && length != RECORD * n {
+        Run { number: 10, ..run }
+    } else {
+        run
     }
 }
 
@@ -111,16 +95,12 @@ pub(crate) fn run_piece(
         (before a.old b.old counts.old cells.old roots.old waiting.old sections.old d.old marks.old list.old) run) result
         (after a.new b.new counts.new cells.new roots.new waiting.new sections.new d.new marks.new list.new) }
 {
-    let number = run.number;
-    if number != 0 {
+    if run.number != 0 {
         return run;
     }
     let n = whole_records(bytes.len(), run.records);
     let used = blocks - bitmap::count_zeros(a);
-    let state = Running {
-        run: run,
-        used: used,
-    };
+    let state = Running { run, used };
     let last = run_whole(
         blocks, width, a, b, counts, cells, roots, waiting, sections, d, marks, list, bytes, n,
         state,

@@ -4,4 +4,4 @@ use Rattle.history_figures.specs.declared.tally.Run.{Run}
 use Rattle.history.proofs.refused.Goals as goal
 
 pub returns : goal.returns
-returns c = ap (λ (r : Run). record { reply = c.args.reply; run = r }) c.new_run-run.ensures
+returns c = ap (λ (r : Run). record { reply = c.args.reply; run = r }) c.new_run.ensures

@@ -7,9 +7,9 @@ use Rattle.history_figures.proofs.Ranges.{in_range_within}
 use Rattle.history_runs.proofs.Pieces.{whole_room, whole_going, piece_stopped, piece_ran}
 use Rattle.history.proofs.run.run_piece.Goals as goal
 
-pub returns-then-number-ne0 : goal.returns-then-number-ne0
-returns-then-number-ne0 c =
-    piece_stopped _ c.requires.0 c.requires.1 c.if-number-ne0.true
+pub returns-then-run-ne0 : goal.returns-then-run-ne0
+returns-then-run-ne0 c =
+    piece_stopped _ c.requires.0 c.requires.1 c.if-run-ne0.true
 
 pub whole_records-n-requires : goal.whole_records-n-requires
 whole_records-n-requires c = (in_range_within _ c.requires.1).few
@@ -28,7 +28,7 @@ pub run_whole-last-requires : goal.run_whole-last-requires
 run_whole-last-requires c =
     let used = ap (λ (k : ℕ). c.args.blocks - k) c.count_zeros.ensures.0 in (
       c.requires.0,
-      whole_going _ _ c.args.bytes.now c.args.run _ c.whole_records-n.ensures c.if-number-ne0.false c.requires.1 _ used,
+      whole_going _ _ c.args.bytes.now c.args.run _ c.whole_records-n.ensures c.if-run-ne0.false c.requires.1 _ used,
       whole_room c.args.bytes.now c.args.run _ c.whole_records-n.ensures,
     )
 
@@ -38,4 +38,4 @@ end_piece-requires c =
 
 pub returns : goal.returns
 returns c =
-    piece_ran _ _ _ c.if-number-ne0.false c.whole_records-n.ensures c.run_whole-last.ensures c.end_piece.ensures
+    piece_ran _ _ _ c.if-run-ne0.false c.whole_records-n.ensures c.run_whole-last.ensures c.end_piece.ensures
