@@ -1,5 +1,5 @@
 -- `public_steps::open_collection` meets its contract: the gate, and then the work on the lent heap as it is.
-use mathlib.Core.Path.{sym}
+use mathlib.Core.Path.{refl, sym}
 use Rattle.types.proofs.Refused.{number_ne0}
 use Rattle.rules.specs.Heap.{Memory, lent_memory}
 use Rattle.theory_memories.proofs.Memories.Fit.{undamaged_fit}

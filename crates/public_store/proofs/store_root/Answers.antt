@@ -9,8 +9,8 @@ use Rattle.public_store.proofs.store_root.Goals as goal
 pub returns-in-Err : goal.returns-in-Err
 returns-in-Err c = rw c.into.ensures (c.in-Err.ensures.refused (number_ne0 _))
 
-pub store_root-requires : goal.store_root-requires
-store_root-requires c = (
+pub store_root-requires-2 : goal.store_root-requires-2
+store_root-requires-2 c = (
   cleared_usable (c.in_default.ensures.fit refl) c.clear_all.ensures,
   goes_on (root_tested (c.in_default.ensures.tested refl)) refl,
 )
@@ -19,4 +19,4 @@ pub returns : goal.returns
 unfolding freeing outcome
 returns c =
     worked_back (c.in_default.ensures.fit refl) c.clear_all.ensures refl
-    (goes_on (root_tested (c.in_default.ensures.tested refl)) refl) refl c.store_root.ensures c.into-2.ensures
+    (goes_on (root_tested (c.in_default.ensures.tested refl)) refl) refl c.store_root-2.ensures c.into-2.ensures

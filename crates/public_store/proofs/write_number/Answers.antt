@@ -11,28 +11,21 @@ use Rattle.public_store.proofs.write_number.Goals as goal
 pub returns-in-Err : goal.returns-in-Err
 returns-in-Err c = rw c.into.ensures (c.in-Err.ensures.refused (number_ne0 _))
 
--- the lent heap
-abbrev lent-After-write_number-arg-1 : (c : goal.After-write_number-arg-1) → Memory
-lent-After-write_number-arg-1 c =
+pub write_number-requires-2 : goal.write_number-requires-2
+write_number-requires-2 c =
+    let heap =
     lent_memory c.args.a.now c.args.b.now c.args.counts.now c.args.cells.now c.args.roots.now c.args.waiting.now
-    c.args.sections.now c.args.d.now c.args.marks.now c.args.list.now
-
-pub write_number-requires : goal.write_number-requires
-write_number-requires c =
-    let shape = (undamaged_fit _ _ (lent-After-write_number-arg-1 c) (c.in_default.ensures.fit refl)).healthy.shape in
+    c.args.sections.now c.args.d.now c.args.marks.now c.args.list.now in
+    let shape = (undamaged_fit _ _ heap (c.in_default.ensures.fit refl)).healthy.shape in
     let passed = number_passed (ap (λ (y : Reply). y.number) (sym (c.in_default.ensures.tested refl)) ∙ refl) in
     (omega (arith, passed.cell_inside, shape.length_cells), omega (arith, shape.length_cells, shape.blocks_max))
 
--- the lent heap
-abbrev lent-After-reply : (c : goal.After-reply) → Memory
-lent-After-reply c =
-    lent_memory c.args.a.now c.args.b.now c.args.counts.now c.args.cells.now c.args.roots.now c.args.waiting.now
-    c.args.sections.now c.args.d.now c.args.marks.now c.args.list.now
-
 pub returns : goal.returns
 returns c =
-    let heap = lent-After-reply c in
+    let heap =
+    lent_memory c.args.a.now c.args.b.now c.args.counts.now c.args.cells.now c.args.roots.now c.args.waiting.now
+    c.args.sections.now c.args.d.now c.args.marks.now c.args.list.now in
     let promise =
-    (c.write_number.ensures.worked _ _ heap (c.in_default.ensures.fit refl) refl
+    (c.write_number-2.ensures.worked _ _ heap (c.in_default.ensures.fit refl) refl
     (goes_on (number_tested {h = heap} (c.in_default.ensures.tested refl)) refl)).promise in
     record { reply_is = c.into-2.ensures ∙ promise.reply_is; after_is = promise.after_is }
