@@ -55,28 +55,18 @@ pub fn fields_at(bytes: &[u8], i: usize) -> Fields
 fn are_zero(w: usize, x: usize, y: usize, z: usize) -> bool
     ensures { result ≡ are_zero (w ∷ x ∷ y ∷ z ∷ []) }
 {
-    if w != 0 {
-        return false;
-    }
-    if x != 0 {
-        return false;
-    }
-    if y != 0 {
-        return false;
-    }
-    z == 0
+    w == 0 && x == 0 && y == 0 && z == 0
 }
 
 // Whether the fields that the operation doesn't name are 0.
 pub fn unnamed_are_zero(f: Fields) -> bool
     ensures { result ≡ are_zero (unnamed f) }
 {
-    let unused = f.unused;
-    if unused != 0 {
+    if f.unused != 0 {
         return false;
     }
-    let operation = f.operation;
-    match operation {
+    // The arms of 3 and 4, and of 1 and 7, stay apart: a line for each operation, as in document 01.
+    match f.operation {
         1 => are_zero(f.s, f.c, 0, 0),
         2 => are_zero(f.c, f.size, 0, 0),
         3 => are_zero(f.size, 0, 0, 0),
