@@ -2,7 +2,7 @@
 
 #![tactic(auto)]
 
-ghost use Rattle.std.specs.Prelude.{◌≡◌, [], ◌∷◌, ◌+◌, ◌*◌, ◌≤◌, ◌<◌, length};
+ghost use Rattle.std.specs.Prelude.{◌≡◌, [], ◌∷◌, ◌+◌, ◌*◌, ◌≤◌, length};
 ghost use Rattle.rules.specs.Heap.{max_number};
 ghost use Rattle.history_records.specs.Records.{wide, record_length, number, fields_at, are_zero, unnamed};
 
@@ -20,19 +20,12 @@ pub struct Fields {
 // The bytes of a record.
 pub const RECORD: usize = 12;
 
-fn word(byte: u8) -> usize
-    ensures { (result ≡ byte) × (result < 256) }
-{
-    byte as usize
-}
-
 // The number that four bytes make, from place `at` on.
 fn number_at(bytes: &[u8], at: usize) -> usize
     requires { at + wide.number_bytes ≤ length bytes.now }
     ensures { (result ≡ number wide.number_bytes bytes.now at) × (result ≤ max_number) }
 {
-    word(bytes[at])
-        + 256 * (word(bytes[at + 1]) + 256 * (word(bytes[at + 2]) + 256 * word(bytes[at + 3])))
+    u32::from_le_bytes([bytes[at], bytes[at + 1], bytes[at + 2], bytes[at + 3]]) as usize
 }
 
 // Record number i. Its size is a number that a cell holds.
@@ -42,10 +35,10 @@ pub fn fields_at(bytes: &[u8], i: usize) -> Fields
 {
     let at = RECORD * i;
     Fields {
-        operation: word(bytes[at]),
-        d: word(bytes[at + 1]),
-        s: word(bytes[at + 2]),
-        unused: word(bytes[at + 3]),
+        operation: bytes[at] as usize,
+        d: bytes[at + 1] as usize,
+        s: bytes[at + 2] as usize,
+        unused: bytes[at + 3] as usize,
         c: number_at(bytes, at + 4),
         size: number_at(bytes, at + 8),
     }
