@@ -1,9 +1,12 @@
 -- Laws of a run in range.
 use mathlib.Core.Path.{◌≡◌, sym, ap, ◌∙◌}
-use mathlib.Core.Bool.{true}
+use mathlib.Core.Bool.{true, not}
 use Prim.Native.Nat.{ℕ, ◌+◌, ◌*◌, ◌≤◌}
-use lib.Dec.{leb}
+use native.Mathlib.Decide.{ℕ_discrete}
+use native.Mathlib.Omega.{arith}
+use lib.Dec.{leb, eqb}
 use borrow.Author.Tests.{leb-true, le-leb, eq-eqb, ne_eqb}
+use mir.Val.{bool_byte}
 use Rattle.rules.specs.Tools.{all}
 use Rattle.rules.specs.Heap.{max_blocks}
 use Rattle.rules.proofs.Tests.{done, also, all_at, all_one, all_passed}
@@ -48,6 +51,14 @@ module _ (r : Run) where
   pub stopped_collections : (r.number ≡ 0 → ⊥) → most_collections r ≡ r.records + 1
   unfolding most_collections
   stopped_collections stopped = rw (ne_eqb r.number 0 stopped, most_collections)
+
+  -- both at once, as the code counts it
+  pub most_told : most_collections r ≡ r.records + bool_byte (not (eqb r.number 0))
+  unfolding most_collections
+  most_told = elim (ℕ_discrete r.number 0) [
+    | yes goes_on ↦ rw (eq-eqb r.number 0 goes_on, most_collections) (omega arith)
+    | no stopped ↦ rw (ne_eqb r.number 0 stopped, most_collections)
+  ]
 
   -- past the first four tests the last one decides
   pub last_decides :

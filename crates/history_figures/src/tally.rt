@@ -20,7 +20,8 @@ pub struct Tally {
     pub stuck: u64,
 }
 
-// A run so far: the number that stopped it or 0, the records run, the figures.
+// A run so far: the number that stopped it or 0, the records run, the figures. The number is no Option of a refusal: it is handed in and out as
+// C lays it out, and printed.
 #[repr(C)]
 #[derive(Clone, Copy)]
 pub struct Run {
@@ -35,11 +36,9 @@ impl Tally {
         requires { (self.allocations + 1 < 2 ^ 64) × (self.blocks + n < 2 ^ 64) }
         ensures { result ≡ Figures·allocated n self }
     {
-        self.allocations = self.allocations + 1;
-        self.blocks = self.blocks + n;
-        if self.largest < n {
-            self.largest = n;
-        }
+        self.allocations += 1;
+        self.blocks += n;
+        self.largest = self.largest.max(n);
         self
     }
 
@@ -48,7 +47,7 @@ impl Tally {
         requires { self.collections + 1 < 2 ^ 64 }
         ensures { result ≡ Figures·collected self }
     {
-        self.collections = self.collections + 1;
+        self.collections += 1;
         self
     }
 
@@ -56,9 +55,7 @@ impl Tally {
     pub fn used(mut self, n: u64) -> Tally
         ensures { result ≡ Figures·used n self }
     {
-        if self.peak < n {
-            self.peak = n;
-        }
+        self.peak = self.peak.max(n);
         self
     }
 
@@ -67,7 +64,7 @@ impl Tally {
         requires { self.stuck + 1 < 2 ^ 64 }
         ensures { result ≡ became_stuck self }
     {
-        self.stuck = self.stuck + 1;
+        self.stuck += 1;
         self
     }
 }
@@ -76,42 +73,28 @@ impl Tally {
 pub fn new_run() -> Run
     ensures { result ≡ new_run }
 {
-    let none = Tally {
-        allocations: 0,
-        blocks: 0,
-        largest: 0,
-        collections: 0,
-        peak: 0,
-        stuck: 0,
-    };
     Run {
         number: 0,
         records: 0,
-        tally: none,
+        tally: Tally {
+            allocations: 0,
+            blocks: 0,
+            largest: 0,
+            collections: 0,
+            peak: 0,
+            stuck: 0,
+        },
     }
 }
 
-// Whether a run is one that a run can leave.
+// Whether a run is one that a run can leave. The record that stopped it may have forced a collection.
 pub fn in_range(run: Run) -> bool
     ensures { result ≡ in_range run }
 {
-    let number = run.number;
-    let records = run.records;
-    if MAX_RECORDS < records {
-        return false;
-    }
-    let tally = run.tally;
-    if (records as u64) < tally.allocations {
-        return false;
-    }
-    if ((MAX_BLOCKS * records) as u64) < tally.blocks {
-        return false;
-    }
-    if (records as u64) < tally.stuck {
-        return false;
-    }
-    if number == 0 {
-        return tally.collections <= records as u64;
-    }
-    tally.collections <= records as u64 + 1
+    let records = run.records as u64;
+    run.records <= MAX_RECORDS
+        && run.tally.allocations <= records
+        && run.tally.blocks <= MAX_BLOCKS as u64 * records
+        && run.tally.stuck <= records
+        && run.tally.collections <= records + (run.number != 0) as u64
 }

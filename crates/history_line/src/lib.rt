@@ -48,10 +48,9 @@ fn put_refusal(out: &mut [u8], number: usize, records: usize) -> usize
 pub fn write_line(run: Run, out: &mut [u8; MAX_LINE]) -> usize
     ensures { (result ≡ length (line run)) × (out.new ≡ line run ++ drop result out.old) × (result ≤ longest_line) }
 {
-    let number = run.number;
-    if number == 0 {
-        let t = run.tally;
-        return put_figures(out, t);
+    if run.number == 0 {
+        put_figures(out, run.tally)
+    } else {
+        put_refusal(out, run.number, run.records)
     }
-    put_refusal(out, number, run.records)
 }

@@ -12,7 +12,7 @@ use history_records::Fields;
 use map_objects::objects;
 use types::Ref;
 
-// What a record asks for: a call, or a number that stops the run.
+// What a record asks for: a call, or a number that stops the run, which is printed as it is.
 #[derive(Clone, Copy)]
 pub enum Plan {
     Stop(usize),
@@ -23,23 +23,11 @@ pub enum Plan {
     WriteNumber { at: usize, j: usize, x: Ref },
 }
 
-// A reference as a whole word.
-fn word(v: Ref) -> usize
-    ensures { result ≡ v }
-{
-    v as usize
-}
-
 // "A root out of range gives 4": whether both roots of an operation that names two are in range.
 fn both_roots(roots: &[Ref], f: Fields) -> bool
     ensures { result ≡ are_roots roots.now f }
 {
-    let d = f.d;
-    if roots.len() <= d {
-        return false;
-    }
-    let s = f.s;
-    s < roots.len()
+    f.d < roots.len() && f.s < roots.len()
 }
 
 // Root s copied to root d.
@@ -49,11 +37,9 @@ fn plan_copy(roots: &[Ref], f: Fields) -> Plan
     if !both_roots(roots, f) {
         return Plan::Stop(4);
     }
-    let d = f.d;
-    let s = f.s;
     Plan::StoreRoot {
-        r: d,
-        v: word(roots[s]),
+        r: f.d,
+        v: roots[f.s] as usize,
     }
 }
 
@@ -64,16 +50,14 @@ fn plan_write(roots: &[Ref], f: Fields) -> Plan
     if !both_roots(roots, f) {
         return Plan::Stop(4);
     }
-    let d = f.d;
-    let s = f.s;
-    let owner = word(roots[d]);
+    let owner = roots[f.d] as usize;
     if owner == 0 {
         return Plan::Stop(6);
     }
     Plan::StoreCell {
         at: owner - 1,
         j: f.c,
-        v: word(roots[s]),
+        v: roots[f.s] as usize,
     }
 }
 
@@ -87,23 +71,20 @@ fn plan_read(blocks: usize, b: &[u8], cells: &[Ref], roots: &[Ref], d: &[u8], f:
     if !both_roots(roots, f) {
         return Plan::Stop(4);
     }
-    let target = f.d;
-    let s = f.s;
-    let owner = word(roots[s]);
+    let owner = roots[f.s] as usize;
     if owner == 0 {
         return Plan::Stop(6);
     }
-    let c = f.c;
     let at = owner - 1;
-    if 4 * objects::object_size(blocks, b, at) <= c {
+    if 4 * objects::object_size(blocks, b, at) <= f.c {
         return Plan::Stop(7);
     }
     if bitmap::get_bit(d, at) == 1 {
         return Plan::Stop(12);
     }
     Plan::StoreRoot {
-        r: target,
-        v: word(cells[4 * at + c]),
+        r: f.d,
+        v: cells[4 * at + f.c] as usize,
     }
 }
 
@@ -111,11 +92,11 @@ fn plan_read(blocks: usize, b: &[u8], cells: &[Ref], roots: &[Ref], d: &[u8], f:
 fn plan_clear(roots: &[Ref], f: Fields) -> Plan
     ensures { meaning result ≡ clearing (memory [] [] [] [] roots.now []) f }
 {
-    let d = f.d;
-    if roots.len() <= d {
-        return Plan::Stop(4);
+    if roots.len() <= f.d {
+        Plan::Stop(4)
+    } else {
+        Plan::StoreRoot { r: f.d, v: 0 }
     }
-    Plan::StoreRoot { r: d, v: 0 }
 }
 
 // The size field's number written into cell c of the data in root d.
@@ -123,20 +104,17 @@ fn plan_number(roots: &[Ref], f: Fields) -> Plan
     requires { f.size ≤ max_number }
     ensures { meaning result ≡ writing_number (memory [] [] [] [] roots.now []) f }
 {
-    let d = f.d;
-    if roots.len() <= d {
+    if roots.len() <= f.d {
         return Plan::Stop(4);
     }
-    let owner = word(roots[d]);
+    let owner = roots[f.d] as usize;
     if owner == 0 {
         return Plan::Stop(6);
     }
-    let at = owner - 1;
-    let x = f.size as Ref;
     Plan::WriteNumber {
-        at: at,
+        at: owner - 1,
         j: f.c,
-        x: x,
+        x: f.size as Ref,
     }
 }
 
@@ -150,8 +128,7 @@ pub fn plan_of(blocks: usize, b: &[u8], cells: &[Ref], roots: &[Ref], d: &[u8], 
     if !history_records::unnamed_are_zero(f) {
         return Plan::Stop(9);
     }
-    let operation = f.operation;
-    match operation {
+    match f.operation {
         1 => Plan::Allocate {
             as_data: false,
             n: f.size,

@@ -2,7 +2,7 @@
 
 #![tactic(auto)]
 
-ghost use Rattle.std.specs.Prelude.{◌≡◌, [], ◌∷◌, ◌+◌, ◌*◌, ◌≤◌, ◌<◌, length};
+ghost use Rattle.std.specs.Prelude.{◌≡◌, [], ◌∷◌, ◌+◌, ◌*◌, ◌≤◌, length};
 ghost use Rattle.rules.specs.Heap.{max_number};
 ghost use Rattle.history_records.specs.Records.{wide, record_length, number, fields_at, are_zero, unnamed};
 
@@ -20,19 +20,12 @@ pub struct Fields {
 // The bytes of a record.
 pub const RECORD: usize = 12;
 
-fn word(byte: u8) -> usize
-    ensures { (result ≡ byte) × (result < 256) }
-{
-    byte as usize
-}
-
 // The number that four bytes make, from place `at` on.
 fn number_at(bytes: &[u8], at: usize) -> usize
     requires { at + wide.number_bytes ≤ length bytes.now }
     ensures { (result ≡ number wide.number_bytes bytes.now at) × (result ≤ max_number) }
 {
-    word(bytes[at])
-        + 256 * (word(bytes[at + 1]) + 256 * (word(bytes[at + 2]) + 256 * word(bytes[at + 3])))
+    u32::from_le_bytes([bytes[at], bytes[at + 1], bytes[at + 2], bytes[at + 3]]) as usize
 }
 
 // Record number i. Its size is a number that a cell holds.
@@ -42,10 +35,10 @@ pub fn fields_at(bytes: &[u8], i: usize) -> Fields
 {
     let at = RECORD * i;
     Fields {
-        operation: word(bytes[at]),
-        d: word(bytes[at + 1]),
-        s: word(bytes[at + 2]),
-        unused: word(bytes[at + 3]),
+        operation: bytes[at] as usize,
+        d: bytes[at + 1] as usize,
+        s: bytes[at + 2] as usize,
+        unused: bytes[at + 3] as usize,
         c: number_at(bytes, at + 4),
         size: number_at(bytes, at + 8),
     }
@@ -55,28 +48,18 @@ pub fn fields_at(bytes: &[u8], i: usize) -> Fields
 fn are_zero(w: usize, x: usize, y: usize, z: usize) -> bool
     ensures { result ≡ are_zero (w ∷ x ∷ y ∷ z ∷ []) }
 {
-    if w != 0 {
-        return false;
-    }
-    if x != 0 {
-        return false;
-    }
-    if y != 0 {
-        return false;
-    }
-    z == 0
+    w == 0 && x == 0 && y == 0 && z == 0
 }
 
 // Whether the fields that the operation doesn't name are 0.
 pub fn unnamed_are_zero(f: Fields) -> bool
     ensures { result ≡ are_zero (unnamed f) }
 {
-    let unused = f.unused;
-    if unused != 0 {
+    if f.unused != 0 {
         return false;
     }
-    let operation = f.operation;
-    match operation {
+    // The arms of 3 and 4, and of 1 and 7, stay apart: a line for each operation, as in document 01.
+    match f.operation {
         1 => are_zero(f.s, f.c, 0, 0),
         2 => are_zero(f.c, f.size, 0, 0),
         3 => are_zero(f.size, 0, 0, 0),

@@ -16,9 +16,8 @@ use Rattle.rules_calls.proofs.Replies.{answer_either, outcome_accepts}
 use Rattle.theory_memories.specs.Heaps.{Undamaged}
 use Rattle.theory_memories.proofs.Memories.Fit.{undamaged_fit}
 use Rattle.theory_memories.proofs.Memories.Accepted.{fit_refused}
-use Rattle.history_plans.specs.Asked.{Asked, makes, stops}
+use Rattle.history_plans.specs.Asked.{makes, stops}
 use Rattle.history_figures.specs.declared.tally.Tally.{Tally}
-use Rattle.history_figures.specs.declared.tally.Run.{Run}
 use Rattle.history_figures.specs.Figures.{noted, noted_all, run}
 use Rattle.history_turns.specs.Turns.{made_on, Turn, turn, tried_again, turn_of, after_turn}
 use Rattle.history_turns.specs.Stopped.{Forced, StandsAsBefore, JustStops, StopsWhileOpen}

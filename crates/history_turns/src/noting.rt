@@ -18,10 +18,7 @@ fn with_collection(t: Tally, done: Done) -> Tally
     requires { t.collections + 1 < 2 ^ 64 }
     ensures { result ≡ with_collection done t }
 {
-    if done.collected {
-        return t.collected();
-    }
-    t
+    if done.collected { t.collected() } else { t }
 }
 
 // The figures with an allocation more, where one was accepted.
@@ -29,11 +26,11 @@ fn with_allocation(t: Tally, done: Done) -> Tally
     requires { (t.allocations + 1 < 2 ^ 64) × (t.blocks + done.allocated < 2 ^ 64) }
     ensures { result ≡ with_allocation done t }
 {
-    let n = done.allocated;
-    if n == 0 {
-        return t;
+    if done.allocated == 0 {
+        t
+    } else {
+        t.allocated(done.allocated as u64)
     }
-    t.allocated(n as u64)
 }
 
 // The figures with an object more that became stuck, where one did.
@@ -41,10 +38,7 @@ fn with_moment(t: Tally, done: Done) -> Tally
     requires { t.stuck + 1 < 2 ^ 64 }
     ensures { result ≡ moment_in done.stuck t }
 {
-    if done.stuck {
-        return t.became_stuck();
-    }
-    t
+    if done.stuck { t.became_stuck() } else { t }
 }
 
 // The run with what came of a record noted.
@@ -52,30 +46,22 @@ pub fn noted(state: Running, done: Done) -> Running
     requires { CanNote done state }
     ensures { result ≡ noted_by done state }
 {
-    let run = state.run;
-    let t = run.tally;
-    let t = with_collection(t, done);
+    let t = with_collection(state.run.tally, done);
     let t = with_allocation(t, done);
     let t = with_moment(t, done);
     let used = state.used + done.allocated - done.freed;
-    let number = done.number;
-    if number != 0 {
-        return Running {
-            run: Run {
-                number: number,
-                records: run.records,
-                tally: t,
-            },
-            used: used,
-        };
-    }
-    let t = t.used(used as u64);
-    Running {
-        run: Run {
-            number: 0,
-            records: run.records + 1,
+    let run = if done.number != 0 {
+        Run {
+            number: done.number,
             tally: t,
-        },
-        used: used,
-    }
+            ..state.run
+        }
+    } else {
+        Run {
+            number: 0,
+            records: state.run.records + 1,
+            tally: t.used(used as u64),
+        }
+    };
+    Running { run, used }
 }

@@ -5,8 +5,8 @@ ghost use Rattle.history_turns.specs.Outcomes.{done, done_after, done_by};
 
 use types::{Outcome, Refusal};
 
-// What came of a record's calls: the number that stops the run or 0, the blocks allocated, whether a collection was made, the blocks freed,
-// whether an object became stuck.
+// What came of a record's calls: the number that stops the run or 0, as the run is printed, the blocks allocated, whether a collection was made,
+// the blocks freed, whether an object became stuck.
 #[derive(Clone, Copy)]
 pub struct Done {
     pub number: usize,

@@ -3,10 +3,10 @@ use borrow.Author.Tests.{lt-ltb, le-ltb}
 use Rattle.history_plans.specs.Readable.{are_roots}
 use Rattle.history_plans.proofs.both_roots.Goals as goal
 
-pub returns-then-roots-d : goal.returns-then-roots-d
+pub returns-then-f-roots : goal.returns-then-f-roots
 unfolding are_roots
-returns-then-roots-d c = rw (le-ltb _ _ c.if-roots-d.true, are_roots)
+returns-then-f-roots c = rw (lt-ltb _ _ c.if-f-roots.true, are_roots)
 
-pub returns : goal.returns
+pub returns-else-f-roots : goal.returns-else-f-roots
 unfolding are_roots
-returns c = rw (lt-ltb _ _ c.if-roots-d.false, are_roots)
+returns-else-f-roots c = rw (le-ltb _ _ c.if-f-roots.false, are_roots)

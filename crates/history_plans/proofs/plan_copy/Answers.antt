@@ -7,11 +7,11 @@ use Rattle.history_plans.proofs.plan_copy.Goals as goal
 pub returns-then-not-both_roots : goal.returns-then-not-both_roots
 returns-then-not-both_roots c = sym (copy_out _ _ (sym c.both_roots.ensures ∙ c.if-not-both_roots.true))
 
-pub offset_bounds-roots-s : goal.offset_bounds-roots-s
-offset_bounds-roots-s c = omega (arith, (roots_in _ _ (sym c.both_roots.ensures ∙ c.if-not-both_roots.false)).1)
+pub offset_bounds-roots-f : goal.offset_bounds-roots-f
+offset_bounds-roots-f c = omega (arith, (roots_in _ _ (sym c.both_roots.ensures ∙ c.if-not-both_roots.false)).1)
 
-pub bounds-roots-s : goal.bounds-roots-s
-bounds-roots-s c = (roots_in _ _ (sym c.both_roots.ensures ∙ c.if-not-both_roots.false)).1
+pub bounds-roots-f : goal.bounds-roots-f
+bounds-roots-f c = (roots_in _ _ (sym c.both_roots.ensures ∙ c.if-not-both_roots.false)).1
 
 pub returns : goal.returns
-returns c = rw c.word.ensures (sym (copy_asked _ _ (sym c.both_roots.ensures ∙ c.if-not-both_roots.false)))
+returns c = sym (copy_asked _ _ (sym c.both_roots.ensures ∙ c.if-not-both_roots.false))

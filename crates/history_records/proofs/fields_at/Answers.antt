@@ -4,15 +4,4 @@ use Rattle.history_records.proofs.fields_at.Goals as goal
 
 pub returns : goal.returns
 unfolding fields_at
-returns c = (
-  λ i.
-      record {
-        operation = c.word.ensures.0 i;
-        d = c.word-2.ensures.0 i;
-        s = c.word-3.ensures.0 i;
-        unused = c.word-4.ensures.0 i;
-        c = c.number_at.ensures.0 i;
-        size = c.number_at-2.ensures.0 i;
-      },
-  c.number_at-2.ensures.1,
-)
+returns c = (rw (c.number_at.ensures.0, c.number_at-2.ensures.0, fields_at), c.number_at-2.ensures.1)

@@ -3,6 +3,7 @@ use mathlib.Core.Path.{◌≡◌, ap}
 use Prim.Native.Nat.{ℕ, ◌+◌}
 use native.Mathlib.Omega.{arith}
 use lib.ListN.{get_or}
+use borrow.Author.Rules.{rules}
 use Rattle.history_records.specs.Records.{number}
 use Rattle.history_records.proofs.number_at.Goals as goal
 
@@ -12,6 +13,6 @@ returns c =
     let byte : ℕ → ℕ = λ i. get_or c.args.bytes.now i 0 in
     let two : c.args.at + 1 + 1 ≡ c.args.at + 2 = omega arith in
     let three : c.args.at + 1 + 1 + 1 ≡ c.args.at + 3 = omega arith in (
-      omega (arith, c.word.ensures.0, c.word-2.ensures.0, c.word-3.ensures.0, c.word-4.ensures.0, ap byte two, ap byte three),
-      omega (arith, c.word.ensures.1, c.word-2.ensures.1, c.word-3.ensures.1, c.word-4.ensures.1),
+      omega (arith, c.from_le_bytes.ensures, ap byte two, ap byte three),
+      search rules,
     )

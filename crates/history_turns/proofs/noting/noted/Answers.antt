@@ -33,15 +33,15 @@ with_moment-t-requires c =
       first.3,
     )
 
-pub returns-then-number-ne0 : goal.returns-then-number-ne0
+pub returns-then-done-ne0 : goal.returns-then-done-ne0
 unfolding noted_by
-returns-then-number-ne0 c =
-    rw (ne_eqb _ 0 c.if-number-ne0.true, noted_by)
+returns-then-done-ne0 c =
+    rw (ne_eqb _ 0 c.if-done-ne0.true, noted_by)
     (ap (λ (t : Tally). running (run c.args.done.number c.args.state.run.records t) (c.args.state.used + c.args.done.allocated - c.args.done.freed)) (figures c.args.done c.args.state.run.tally c.with_collection-t.ensures c.with_allocation-t.ensures c.with_moment-t.ensures))
 
-pub returns : goal.returns
+pub returns-else-done-ne0 : goal.returns-else-done-ne0
 unfolding noted_by
-returns c =
+returns-else-done-ne0 c =
     let blocks : ℕ = c.args.state.used + c.args.done.allocated - c.args.done.freed in
-    rw (eq-eqb _ 0 c.if-number-ne0.false, noted_by)
-    (ap (λ (t : Tally). running (run 0 (c.args.state.run.records + 1) t) blocks) (c.used-t.ensures ∙ ap (used blocks) (figures c.args.done c.args.state.run.tally c.with_collection-t.ensures c.with_allocation-t.ensures c.with_moment-t.ensures)))
+    rw (eq-eqb _ 0 c.if-done-ne0.false, noted_by)
+    (ap (λ (t : Tally). running (run 0 (c.args.state.run.records + 1) t) blocks) (c.used.ensures ∙ ap (used blocks) (figures c.args.done c.args.state.run.tally c.with_collection-t.ensures c.with_allocation-t.ensures c.with_moment-t.ensures)))

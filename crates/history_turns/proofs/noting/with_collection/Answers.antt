@@ -6,6 +6,6 @@ pub returns-then-done : goal.returns-then-done
 unfolding with_collection
 returns-then-done c = rw (c.if-done.true, with_collection) c.collected.ensures
 
-pub returns : goal.returns
+pub returns-else-done : goal.returns-else-done
 unfolding with_collection
-returns c = rw (c.if-done.false, with_collection)
+returns-else-done c = rw (c.if-done.false, with_collection)

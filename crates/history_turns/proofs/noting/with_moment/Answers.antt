@@ -6,6 +6,6 @@ pub returns-then-done : goal.returns-then-done
 unfolding moment_in
 returns-then-done c = rw (c.if-done.true, moment_in) c.became_stuck.ensures
 
-pub returns : goal.returns
+pub returns-else-done : goal.returns-else-done
 unfolding moment_in
-returns c = rw (c.if-done.false, moment_in)
+returns-else-done c = rw (c.if-done.false, moment_in)
