@@ -1,9 +1,9 @@
 -- Laws of lists of lengths that are within the largest ones.
-use mathlib.Core.List.{List, [], ◌∷◌}
+use mathlib.Core.List.{[], ◌∷◌}
 use Prim.Native.Nat.{ℕ, zero, suc, ◌+◌, ◌≤◌, ◌*◌, ◌/◌}
 use native.Mathlib.Nat.{mul-le-mul}
 use native.Mathlib.Omega.{arith}
-use lib.ListN.{get_or, set, replicate}
+use lib.ListN.{get_or, replicate}
 use Rattle.rules.specs.Heap.{max_blocks}
 use Rattle.calls_lent.specs.Within.{Within}
 
@@ -35,14 +35,3 @@ none (suc n) (suc i) = none n i
 
 pub within_none : (n : ℕ) → Within (replicate n 0)
 within_none n i = omega (arith, none n i)
-
--- another length of one buffer
-pub within_set :
-    (lengths largest : List ℕ) (k v : ℕ) → ((i : ℕ) → get_or lengths i 0 ≤ get_or largest i 0) → v ≤ get_or largest k 0
-    → (i : ℕ) → get_or (set lengths k v) i 0 ≤ get_or largest i 0
-within_set [] ys k v b l i = b i
-within_set (x ∷ xs) ys zero v b l zero = l
-within_set (x ∷ xs) ys zero v b l (suc i) = b (suc i)
-within_set (x ∷ xs) ys (suc k) v b l zero = b zero
-within_set (x ∷ xs) [] (suc k) v b l (suc i) = within_set xs [] k v (λ j. b (suc j)) l i
-within_set (x ∷ xs) (y ∷ ys) (suc k) v b l (suc i) = within_set xs ys k v (λ j. b (suc j)) l i

@@ -44,13 +44,7 @@ const LARGEST: [usize; BUFFERS] = [
 pub fn is_too_large(blocks: usize, width: usize, roots: usize) -> bool
     ensures { result ≡ false → (blocks ≤ max_blocks) × (width ≤ 5) × (roots ≤ 65) }
 {
-    if MAX_BLOCKS < blocks {
-        return true;
-    }
-    if MAX_WIDTH < width {
-        return true;
-    }
-    MAX_ROOTS < roots
+    blocks > MAX_BLOCKS || width > MAX_WIDTH || roots > MAX_ROOTS
 }
 
 // The number of sections: one where there are fewer blocks than in the longest.
@@ -58,10 +52,7 @@ fn section_count(blocks: usize) -> usize
     requires { blocks ≤ max_blocks }
     ensures { result ≤ max_blocks / 256 }
 {
-    if blocks < MAX_SECTION {
-        return 1;
-    }
-    blocks / MAX_SECTION
+    (blocks / MAX_SECTION).max(1)
 }
 
 // The lengths that belong to a heap's numbers; none where it is too large.
@@ -69,21 +60,21 @@ pub fn lengths(blocks: usize, width: usize, roots: usize) -> [usize; BUFFERS]
     ensures { Within result }
 {
     if is_too_large(blocks, width, roots) {
-        return [0; BUFFERS];
+        [0; BUFFERS]
+    } else {
+        [
+            blocks / 8,
+            blocks / 8,
+            width * blocks / 8,
+            4 * blocks,
+            roots,
+            blocks,
+            section_count(blocks),
+            blocks / 8,
+            blocks / 8,
+            blocks + 1,
+        ]
     }
-    let sections = section_count(blocks);
-    [
-        blocks / 8,
-        blocks / 8,
-        width * blocks / 8,
-        4 * blocks,
-        roots,
-        blocks,
-        sections,
-        blocks / 8,
-        blocks / 8,
-        blocks + 1,
-    ]
 }
 
 // Another length of a buffer; false where that is out of range.
@@ -91,12 +82,9 @@ pub fn set_length(lengths: &mut [usize; BUFFERS], buffer: usize, length: usize) 
     requires { Within lengths.old }
     ensures { Within lengths.new }
 {
-    if BUFFERS <= buffer {
-        return false;
+    let fits = buffer < BUFFERS && length <= LARGEST[buffer];
+    if fits {
+        lengths[buffer] = length;
     }
-    if LARGEST[buffer] < length {
-        return false;
-    }
-    lengths[buffer] = length;
-    true
+    fits
 }

@@ -7,6 +7,7 @@ ghost use Rattle.rules.specs.Lent.{before, after};
 ghost use Rattle.replay.specs.Replay.{Replayed};
 
 use replay_words::tests;
+use types::replies::acceptance;
 use types::{Ref, Reply};
 
 // Formats the heap and runs the calls: four words each, the replies three words each. The value is the number of calls. Refused lists, and
@@ -33,7 +34,7 @@ pub fn replay(
         (after a.new b.new counts.new cells.new roots.new waiting.new sections.new d.new marks.new list.new)
         replies.new }
 {
-    let test = tests::replay_reply(
+    let n = match tests::replay_reply(
         blocks,
         width,
         a.len(),
@@ -48,11 +49,10 @@ pub fn replay(
         list.len(),
         calls,
         replies.len(),
-    );
-    let number = test.number;
-    if number != 0 {
-        return test;
-    }
+    ) {
+        Ok(n) => n,
+        Err(refusal) => return refusal.into(), // nothing is written
+    };
     work_format::format(
         blocks, width, a, b, counts, cells, roots, waiting, sections, d, marks, list,
     );
@@ -60,5 +60,5 @@ pub fn replay(
         blocks, width, a, b, counts, cells, roots, waiting, sections, d, marks, list, calls,
         replies,
     );
-    test
+    acceptance(n)
 }

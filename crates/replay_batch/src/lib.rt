@@ -3,15 +3,17 @@
 #![tactic(auto)]
 
 ghost use Rattle.std.specs.Prelude.{◌≡◌};
+ghost use Rattle.types.specs.Told.{replied};
 ghost use Rattle.rules.specs.Lent.{before, after};
 ghost use Rattle.replay_batch.specs.Batch.{batch_reply, Batch};
 
 use map_objects::lists;
 use replay_words::tests;
-use types::{Ref, Reply};
+use types::replies::acceptance;
+use types::{Ref, Refusal, Reply};
 
-// The reply, from the heap, the calls and the room for their replies: the check's where it refuses (1, 2, 11, 13), else that of a replay
-// (10, 9, 18).
+// The number of calls, or what refuses them, from the heap, the calls and the room for their replies: the test of the heap (1, 2, 11, 13),
+// else that of a replay (10, 9, 18).
 fn batch_reply(
     blocks: usize,
     width: usize,
@@ -27,17 +29,13 @@ fn batch_reply(
     list: &[Ref],
     calls: &[u64],
     room: usize,
-) -> Reply
-    ensures { result ≡ batch_reply blocks width
+) -> Result<usize, Refusal>
+    ensures { replied result ≡ batch_reply blocks width
         (before a.now b.now counts.now cells.now roots.now waiting.now sections.now d.now marks.now list.now) calls.now room }
 {
-    let checked = public_read::check(
+    public_read::test_heap(
         blocks, width, a, b, counts, cells, roots, waiting, sections, d, marks, list,
-    );
-    let number = checked.number;
-    if number != 0 {
-        return checked;
-    }
+    )?;
     tests::replay_reply(
         blocks,
         width,
@@ -80,7 +78,7 @@ pub fn make_calls(
         (after a.new b.new counts.new cells.new roots.new waiting.new sections.new d.new marks.new list.new)
         replies.new }
 {
-    let reply = batch_reply(
+    let n = match batch_reply(
         blocks,
         width,
         a,
@@ -95,15 +93,14 @@ pub fn make_calls(
         list,
         calls,
         replies.len(),
-    );
-    let number = reply.number;
-    if number != 0 {
-        return reply;
-    }
+    ) {
+        Ok(n) => n,
+        Err(refusal) => return refusal.into(), // nothing is written
+    };
     lists::clear_all(waiting);
     replay_run::run_all(
         blocks, width, a, b, counts, cells, roots, waiting, sections, d, marks, list, calls,
         replies,
     );
-    reply
+    acceptance(n)
 }

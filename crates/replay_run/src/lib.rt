@@ -37,14 +37,12 @@ pub fn run_all(
         replies.new }
 {
     let n = calls.len() / 4;
-    let mut i = 0;
-    while i < n {
+    for i in 0..n {
         let call = words::call_at(calls, i);
         let reply = replay_call::step(
             blocks, width, a, b, counts, cells, roots, waiting, sections, d, marks, list,
             call.code, call.x, call.y, call.z,
         );
         words::put_reply(replies, i, reply);
-        i += 1;
     }
 }

@@ -1,25 +1,61 @@
 -- What a list of calls passes, and what an accepted one has passed.
-use mathlib.Core.Path.{◌≡◌, ap}
+use mathlib.Core.Path.{◌≡◌, refl, sym, ap, ◌∙◌}
 use mathlib.Core.Bool.{Bool, true, false, not}
 use mathlib.Core.List.{List}
-use Prim.Native.Nat.{ℕ, ◌*◌, ◌/◌, ◌%◌, ◌≤◌, ◌<◌}
+use Prim.Native.Nat.{ℕ, zero, suc, ◌+◌, ◌*◌, ◌/◌, ◌%◌, ◌≤◌, ◌<◌}
 use native.Mathlib.Omega.{arith}
 use lib.ListN.{length}
 use lib.Dec.{leb, eqb}
+use denote.Param.Members.{Mut}
+use Rattle.std.proofs.Common.{Option}
+use Rattle.std.proofs.iter.Yields.{nat_range_steps}
+use Rattle.std.proofs.lemmas.Iterator.{YieldsList-from_range}
+use Rattle.std.proofs.lemmas.Iterator.Search.{all_from_yields_List}
+use Rattle.std.specs.declared.ops.Range.{Range}
+use Rattle.std.specs.Fn.{Called}
+use Rattle.std.specs.Iterator.{YieldsThen}
+use Rattle.std.specs.List.{range_with_len, list_all, FoldsTo}
+use Rattle.std.specs.Option.{MatchOption}
 use borrow.Author.Tests.{leb-true, not-true, not-false}
 use Rattle.rules.specs.Tools.{some_below}
-use Rattle.rules.proofs.Tests.{true_some, some_false, false_some, first_not}
+use Rattle.rules.proofs.Tests.{true_some, some_false, some_next, first_not}
 use Rattle.replay_words.specs.Encoding.{is_call_at, are_calls}
 use Rattle.replay_words.specs.Refusals.{list_refusals, reply_on}
 
-pub calls_pass : (words : List ℕ) (n : ℕ) → ((i : ℕ) → i < n → is_call_at words i ≡ true) → are_calls words n ≡ true
-unfolding are_calls
-calls_pass words n each =
-    ap not (false_some (λ i. not (is_call_at words i)) n (λ i l. ap not (each i l)))
+-- the test of each of the numbers from m on, where those before pass
+numbers_pass :
+    (words : List ℕ) (m n : ℕ) → some_below (λ i. not (is_call_at words i)) m ≡ false
+    → list_all (is_call_at words) (range_with_len m n) ≡ not (some_below (λ i. not (is_call_at words i)) (m + n))
+numbers_pass words m zero none =
+    let end : m + 0 ≡ m = omega arith in
+    sym (ap (λ (k : ℕ). not (some_below (λ i. not (is_call_at words i)) k)) end ∙ ap not none)
+numbers_pass words m (suc n) none =
+    let fails = λ (i : ℕ). not (is_call_at words i) in
+    let step : m + 1 + n ≡ m + suc n = omega arith in
+    let here :
+    (t : Bool) → is_call_at words m ≡ t
+    → list_all (is_call_at words) (range_with_len m (suc n)) ≡ not (some_below fails (m + suc n)) =
+    λ t. elim t as (λ (t : Bool).
+    is_call_at words m ≡ t → list_all (is_call_at words) (range_with_len m (suc n)) ≡ not (some_below fails (m + suc n))) [
+      | true ↦ λ e.
+          rw e
+          (numbers_pass words (m + 1) n (some_next fails m none ∙ ap not e) ∙ ap (λ (k : ℕ). not (some_below fails k)) step)
+      | false ↦ λ e. rw e (sym (ap not (true_some fails (m + suc n) m (omega arith) (ap not e))))
+    ] in
+    here (is_call_at words m) refl
 
-pub calls_fail : (words : List ℕ) (n i : ℕ) → i < n → is_call_at words i ≡ false → are_calls words n ≡ false
-unfolding are_calls
-calls_fail words n i l e = ap not (true_some (λ i. not (is_call_at words i)) n i l (ap not e))
+-- `all` over the numbers of the calls
+pub all_calls :
+    {F : Type 0} {g : Mut F (ℕ × Unit {0}) Bool} (words : List ℕ) (n : ℕ) (u : Range ℕ) (f : F) (r : Bool)
+    → ((xs : List ℕ) × (o : Option ℕ) × (j : F) × YieldsThen nat_range_steps (record { start = 0; end = n }) xs o u
+    × FoldsTo (λ p x q. Called g p (x, tt) true q) f xs j × MatchOption o (r ≡ true) (λ x. (r ≡ false) × ((h : F) × Called g j (x, tt) false h)))
+    → ((x : ℕ) (b : Bool) (q : F) → Called g f (x, tt) b q → (q ≡ f) × (b ≡ is_call_at words x)) → r ≡ are_calls words n
+unfolding are_calls some_below
+all_calls words n u f r ran call =
+    let whole : 0 + n ≡ n = omega arith in
+    all_from_yields_List (is_call_at words) u f r ran (YieldsList-from_range 0 n n refl (omega arith)) call
+    ∙ numbers_pass words 0 n refl
+    ∙ ap (λ (k : ℕ). not (some_below (λ i. not (is_call_at words i)) k)) whole
 
 pub call_at : (words : List ℕ) (n : ℕ) → are_calls words n ≡ true → (i : ℕ) → i < n → is_call_at words i ≡ true
 unfolding are_calls

@@ -1,20 +1,21 @@
 // What can be refused before anything is written.
 ghost use Rattle.std.specs.Prelude.{◌≡◌, ◌*◌, ◌≤◌, length};
+ghost use Rattle.types.specs.Told.{replied};
 ghost use Rattle.rules.specs.Heap.{shape};
 ghost use Rattle.replay_words.specs.Encoding.{is_call, are_calls};
 ghost use Rattle.replay_words.specs.Refusals.{reply_on};
 
-use types::replies::{acceptance, refusal};
-use types::{MAX_NUMBER, Reply};
+use types::{MAX_NUMBER, Refusal};
 
 // Whether a code, with the third argument, is a call. All else is answered 9.
 fn is_call(code: u64, z: u64) -> bool
     ensures { result ≡ is_call code z }
 {
     if code == 10 {
-        return z <= MAX_NUMBER as u64;
+        z <= MAX_NUMBER as u64
+    } else {
+        code <= 13
     }
-    code <= 13
 }
 
 // Whether each of the first n calls is a call.
@@ -22,17 +23,10 @@ fn are_calls(calls: &[u64], n: usize) -> bool
     requires { 4 * n ≤ length calls.now }
     ensures { result ≡ are_calls calls.now n }
 {
-    let mut i = 0;
-    while i < n {
-        if !is_call(calls[4 * i], calls[4 * i + 3]) {
-            return false;
-        }
-        i += 1;
-    }
-    true
+    (0..n).all(|i| is_call(calls[4 * i], calls[4 * i + 3]))
 }
 
-// The reply of a replay, from the lengths and the calls.
+// The number of calls of a replay, or what refuses it, from the lengths and the calls.
 pub fn replay_reply(
     blocks: usize,
     width: usize,
@@ -48,23 +42,23 @@ pub fn replay_reply(
     list: usize,
     calls: &[u64],
     room: usize,
-) -> Reply
-    ensures { result ≡ reply_on (shape blocks width a b counts cells roots waiting sections d marks list) calls.now room }
+) -> Result<usize, Refusal>
+    ensures { replied result ≡ reply_on (shape blocks width a b counts cells roots waiting sections d marks list) calls.now room }
 {
     if !check_shape::is_shaped(
         blocks, width, a, b, counts, cells, roots, waiting, sections, d, marks, list,
     ) {
-        return refusal(1);
+        return Err(Refusal::Misshapen);
     }
     if calls.len() % 4 != 0 {
-        return refusal(10);
+        return Err(Refusal::CutOff);
     }
     let n = calls.len() / 4;
     if !are_calls(calls, n) {
-        return refusal(9);
+        return Err(Refusal::NoCall);
     }
     if room / 3 < n {
-        return refusal(18);
+        return Err(Refusal::ShortReplies);
     }
-    acceptance(n)
+    Ok(n)
 }

@@ -6,8 +6,8 @@ use Rattle.calls_lent.proofs.lengths.Goals as goal
 pub returns-then-is_too_large : goal.returns-then-is_too_large
 returns-then-is_too_large c = within_none 10
 
-pub section_count-sections-requires : goal.section_count-sections-requires
-section_count-sections-requires c =
+pub section_count-requires : goal.section_count-requires
+section_count-requires c =
     let fits = c.is_too_large.ensures c.if-is_too_large.false in
     fits.0
 
@@ -17,8 +17,8 @@ overflow_mul-result c =
     let p = product _ _ fits.1 fits.0 in
     omega (arith, p)
 
-pub overflow_mul-result-2 : goal.overflow_mul-result-2
-overflow_mul-result-2 c =
+pub overflow_mul-result-else-is_too_large : goal.overflow_mul-result-else-is_too_large
+overflow_mul-result-else-is_too_large c =
     let fits = c.is_too_large.ensures c.if-is_too_large.false in
     omega (arith, fits.0)
 
@@ -27,7 +27,7 @@ overflow_add-result c =
     let fits = c.is_too_large.ensures c.if-is_too_large.false in
     omega (arith, fits.0)
 
-pub returns : goal.returns
-returns c =
+pub returns-else-is_too_large : goal.returns-else-is_too_large
+returns-else-is_too_large c =
     let fits = c.is_too_large.ensures c.if-is_too_large.false in
-    within_heap _ _ _ _ fits.0 fits.1 fits.2 c.section_count-sections.ensures
+    within_heap _ _ _ _ fits.0 fits.1 fits.2 c.section_count.ensures

@@ -4,6 +4,7 @@ use mathlib.Core.Bool.{Bool}
 use mathlib.Core.List.{List}
 use Prim.Native.Nat.{ℕ}
 use Rattle.types.specs.declared.Reply.{Reply}
+use Rattle.types.proofs.Refused.{number_ne0}
 use Rattle.replay_words.specs.Refusals.{reply_on}
 use Rattle.replay_words.proofs.Calls.{Passed, accepted_passed}
 use Rattle.replay.proofs.Start.{started_usable, replayed}
@@ -16,27 +17,28 @@ passed :
 passed {shape} {words} {room} tested accepted =
     accepted_passed shape words room (ap (λ (r : Reply). r.number) (sym tested) ∙ accepted)
 
-pub returns-then-number-ne0 : goal.returns-then-number-ne0
-returns-then-number-ne0 c =
-    record {
-      reply_is = c.replay_reply-test.ensures;
+pub returns-in-Err : goal.returns-in-Err
+returns-in-Err c =
+    rw c.into.ensures
+    (record {
+      reply_is = c.in-Err.ensures;
       refused = λ _. (refl, refl);
-      ran = λ e. absurd (c.if-number-ne0.true e);
-    }
+      ran = λ e. absurd (number_ne0 _ e);
+    })
 
 pub format-requires : goal.format-requires
-format-requires c = (passed c.replay_reply-test.ensures c.if-number-ne0.false).right_shape
+format-requires c = (passed c.in-Ok.ensures refl).right_shape
 
 pub run_all-requires : goal.run_all-requires
 run_all-requires c =
-    let ok = passed c.replay_reply-test.ensures c.if-number-ne0.false in
+    let ok = passed c.in-Ok.ensures refl in
     (started_usable _ _ _ ok.right_shape c.format.ensures, ok.calls, ok.enough_room)
 
 pub returns : goal.returns
 returns c =
-    record {
-      reply_is = c.replay_reply-test.ensures;
-      refused = λ n. absurd (n c.if-number-ne0.false);
-      ran = λ _.
-          replayed (passed c.replay_reply-test.ensures c.if-number-ne0.false).right_shape c.format.ensures c.run_all.ensures;
-    }
+    rw c.acceptance.ensures
+    (record {
+      reply_is = c.in-Ok.ensures;
+      refused = λ n. absurd (n refl);
+      ran = λ _. replayed (passed c.in-Ok.ensures refl).right_shape c.format.ensures c.run_all.ensures;
+    })

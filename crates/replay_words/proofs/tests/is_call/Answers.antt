@@ -7,6 +7,6 @@ pub returns-then-code-eq10 : goal.returns-then-code-eq10
 unfolding is_call
 returns-then-code-eq10 c = rw (eq-eqb _ 10 c.if-code-eq10.true, is_call)
 
-pub returns : goal.returns
+pub returns-else-code-eq10 : goal.returns-else-code-eq10
 unfolding is_call
-returns c = rw (ne_eqb _ 10 c.if-code-eq10.false, is_call)
+returns-else-code-eq10 c = rw (ne_eqb _ 10 c.if-code-eq10.false, is_call)
