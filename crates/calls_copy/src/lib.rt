@@ -8,18 +8,16 @@ ghost use Rattle.std.specs.Prelude.{◌≤◌};
 use calls_lent::{MAX_BYTES, MAX_CELLS, MAX_COUNTS, MAX_LIST, MAX_ROOTS, MAX_SECTIONS};
 use types::{MAX_BLOCKS, Ref};
 
-const FULL_BYTE: u8 = 255;
+const FULL_BYTE: u8 = u8::MAX;
 
-const FULL_NUMBER: Ref = 4294967295;
+const FULL_NUMBER: Ref = Ref::MAX;
 
-// A length, and no more than there is.
+// A length, and no more than there is. As a function, since its contract is what the bounds of the parts follow from: of `min` alone the
+// bound of the part of the cells isn't found.
 fn within(length: usize, largest: usize) -> usize
     ensures { result ≤ largest }
 {
-    if length < largest {
-        return length;
-    }
-    largest
+    length.min(largest)
 }
 
 // The lines of a heap's buffers. Whether the last write was made.
@@ -36,16 +34,16 @@ pub fn say_heap(
     marks: &[u8],
     list: &[Ref],
 ) -> bool {
-    calls_output::say_bytes(rt, a);
-    calls_output::say_bytes(rt, b);
-    calls_output::say_bytes(rt, counts);
-    calls_output::say_refs(rt, cells);
-    calls_output::say_refs(rt, roots);
-    calls_output::say_refs(rt, waiting);
-    calls_output::say_refs(rt, sections);
-    calls_output::say_bytes(rt, d);
-    calls_output::say_bytes(rt, marks);
-    calls_output::say_refs(rt, list)
+    calls_output::say_list(rt, a);
+    calls_output::say_list(rt, b);
+    calls_output::say_list(rt, counts);
+    calls_output::say_list(rt, cells);
+    calls_output::say_list(rt, roots);
+    calls_output::say_list(rt, waiting);
+    calls_output::say_list(rt, sections);
+    calls_output::say_list(rt, d);
+    calls_output::say_list(rt, marks);
+    calls_output::say_list(rt, list)
 }
 
 // Copies the first heap into the second. The reply is said, and then the second heap's buffers. Whether the last write was made.

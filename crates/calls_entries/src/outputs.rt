@@ -1,6 +1,4 @@
 // The calls that write an output, which is no buffer of the heap.
-ghost use Rattle.std.specs.Prelude.{◌≤◌};
-
 use types::Ref;
 
 // What stands in each place of an output before the call. No sentence has such a byte; a shape has such a number only where a cell of
@@ -8,16 +6,6 @@ use types::Ref;
 const UNWRITTEN_BYTE: u8 = 255;
 
 const UNWRITTEN_NUMBER: u32 = 4294967295;
-
-// The length that an entry names. One above the largest comes no further than to the reading of its entry.
-fn within(length: usize, largest: usize) -> usize
-    ensures { result ≤ largest }
-{
-    if length < largest {
-        return length;
-    }
-    largest
-}
 
 // The reason why the object at block `at` is kept. The reply is said, and then the output, of the length that an entry names, on a line
 // of its own. Whether the last write was made.
@@ -39,7 +27,7 @@ fn say_reason(
     out: &mut [u8],
     length: usize,
 ) -> bool {
-    let lent = within(length, out.len());
+    let lent = length.min(out.len()); // a greater one comes no further than to the reading of its entry
     let reply = public_output::reason(
         n,
         w,
@@ -57,7 +45,7 @@ fn say_reason(
         &mut out[..lent],
     );
     calls_output::say_reply(rt, reply);
-    calls_output::say_bytes(rt, &out[..lent])
+    calls_output::say_list(rt, &out[..lent])
 }
 
 // The same, with an output in which nothing is written yet.
@@ -104,7 +92,7 @@ fn say_shape(
     out: &mut [u32],
     length: usize,
 ) -> bool {
-    let lent = within(length, out.len());
+    let lent = length.min(out.len()); // a greater one comes no further than to the reading of its entry
     let reply = public_output::shape(
         n,
         w,
@@ -121,7 +109,7 @@ fn say_shape(
         &mut out[..lent],
     );
     calls_output::say_reply(rt, reply);
-    calls_output::say_words(rt, &out[..lent])
+    calls_output::say_list(rt, &out[..lent])
 }
 
 // The same, with an output in which nothing is written yet.
