@@ -1,25 +1,14 @@
 // Entries read from an input, as standard input: four little-endian words of eight bytes each.
-ghost use Rattle.std.specs.Prelude.{◌+◌, ◌^◌, ◌<◌, ◌≤◌};
+ghost use Rattle.std.specs.Prelude.{◌+◌, ◌≤◌};
 
 use calls_entries::Entry;
 use std::io::Read;
-
-// The number of four bytes, the lowest first.
-fn half(bytes: &[u8; 32], at: usize) -> usize
-    requires { at + 4 ≤ 32 }
-    ensures { result < 2 ^ 32 }
-{
-    calls_output::wide(bytes[at])
-        + calls_output::wide(bytes[at + 1]) * 256
-        + calls_output::wide(bytes[at + 2]) * 65536
-        + calls_output::wide(bytes[at + 3]) * 16777216
-}
 
 // The word at a place.
 fn word(bytes: &[u8; 32], at: usize) -> usize
     requires { at + 8 ≤ 32 }
 {
-    half(bytes, at) + half(bytes, at + 4) * 4294967296
+    usize::from_le_bytes(bytes[at..at + 8].try_into().unwrap())
 }
 
 // Reads an entry, until it is whole, the input ends or a read fails, from byte `start` of its 32 on; a header is an entry without the eight bytes of its kind.

@@ -12,7 +12,7 @@ const MOST: usize = 1152921504606846976;
 // What is wrong with an entry.
 fn say_wrong(rt: &(impl Print + Eprint), call: usize, text: &[u8]) -> bool {
     calls_output::say(rt, b"call ");
-    calls_output::say_number(rt, call);
+    calls_output::say_number(rt, call as u64);
     calls_output::say(rt, b": ");
     calls_output::say(rt, text)
 }
@@ -59,7 +59,7 @@ fn next_entry(
         && kind != calls_entries::NEW
     {
         say_wrong(rt, k, b"unknown call ");
-        calls_output::say_number(rt, kind);
+        calls_output::say_number(rt, kind as u64);
         calls_output::end_line(rt);
         e.kind = calls_entries::LENGTH;
     }
