@@ -23,6 +23,16 @@ fn number_of(numbers: &[Ref], v: Ref) -> u32
     if v == 0 { 0 } else { numbers[v as usize - 1] }
 }
 
+// By an index: `copy_from_slice` calls memmove, and where the loader binds that at the first call a walk takes more stack than allowed (.ci/stack.c).
+fn put_cells(refs: &[Ref], out: &mut [u32])
+    requires { length out.old ≡ length refs.now }
+    ensures { out.new ≡ refs.now }
+{
+    for (i, &v) in refs.iter().enumerate() {
+        out[i] = v;
+    }
+}
+
 // Writes the numbers of what the references name.
 fn put_numbers(numbers: &[Ref], refs: &[Ref], out: &mut [u32])
     requires { (length out.old ≡ length refs.now) × ((i : ℕ) → i < length refs.now → Known numbers.now (get_or refs.now i 0)) }
@@ -59,7 +69,7 @@ fn write_object(
     let end = to + 2 + 4 * size;
     let place = &mut out[to + 2..end];
     if bit == 1 {
-        place.copy_from_slice(own);
+        put_cells(own, place);
     } else {
         put_numbers(numbers, own, place);
     }
