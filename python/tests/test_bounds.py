@@ -48,18 +48,14 @@ PLACES = {
 
 #: Files that have such a number which is no bound, and what it is; of the proof of a function, its folder.
 NO_BOUNDS = {
-    "crates/calls/src/reading.rt": "the weight of a word's third byte",
     "crates/history_widening/proofs/OldForm.antt": "the weight of a number's third byte",
-    "crates/check_counts/src/lib.rt": "the weight of a word's third byte",
-    "crates/section_words/src/lib.rt": "the weight of a word's third byte",
     "crates/rules/specs/Evidence/HeapCases.antt": "cases on both sides of the bound",
     "crates/rules_calls/specs/Evidence/WrongAnswers.antt": "a wrong figure",
-    "crates/section_figures/src/lib.rt": "what stands for a figure that is not known, and in the next five",
+    "crates/section_figures/src/lib.rt": "what stands for a figure that is not known, and in the next four",
     "crates/section_figures/specs/Figures.antt": "",
-    "crates/section_figures/proofs/Lists.antt": "",
     "crates/section_extents/specs/Forgotten.antt": "",
     "crates/section_extents/proofs/UnknownFigures.antt": "",
-    "crates/work_copy/proofs/find_figures": "",
+    "crates/section_extents/proofs/forget": "",
     "model/src/history/driver.rs": "the bytes of a pipe's pieces",
     "crates/widen/src/pieces.rt": "the records of a piece",
     "crates/widen/specs/Meaning.antt": "the records of a piece",

@@ -3,7 +3,7 @@ use mathlib.Core.Path.{◌∙◌}
 use Prim.Native.Nat.{◌≤◌, ◌^◌}
 use native.Mathlib.Omega.{arith}
 use lib.Pow.{pow_mono}
-use Rattle.rules.specs.Heap.{exponent}
+use Rattle.rules.specs.Heap.{exponent, max_blocks}
 use Rattle.rules.proofs.Chunks.{exponent_least}
 use Rattle.search_size.proofs.Powers.{power_least}
 use Rattle.search_size.proofs.chunk_size.Goals as goal
@@ -13,5 +13,5 @@ returns c =
     let n = c.args.n in
     let power = c.next_power_of_two.ensures.power in
     let size = power.1 ∙ power_least n power.0 (omega arith) (omega arith) in
-    let most : 2 ^ exponent n ≤ 2 ^ 16 = pow_mono {j = 16} (exponent_least n 16 c.requires) in
+    let most : 2 ^ exponent n ≤ max_blocks = pow_mono {j = 16} (exponent_least n 16 c.requires) in
     (size, omega arith)
