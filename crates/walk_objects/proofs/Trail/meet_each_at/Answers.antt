@@ -1,3 +1,4 @@
+-- `walk_objects::Trail::meet_each_at` meets its contract.
 use mathlib.Core.Path.{refl, ◌∙◌}
 use Rattle.walk_objects.proofs.Tracing.{trace_start, trace_more}
 use Rattle.walk_objects.proofs.Trail.meet_each_at.Goals as goal
